@@ -1,11 +1,12 @@
 #!/usr/bin/env python3
-"""Solves and judges random games from arrays, by libomega, and where a text can hold the game, by the program, in one run.
+"""Solves and judges random games from arrays, by libomega, and where a text can hold the game, by the program, in one
+run.
 
     bench/arrays.py                     400,000 nodes with 2 successors in both ways, 1,000,000 with 3 as arrays alone
     bench/arrays.py --rounds 1
 
-Of each step the least of some rounds, in seconds of wall time and of processor time; the program reads and writes texts,
-the library neither. The games are made by fixed seeds. Winners of both have to be the same.
+Of each step the least of some rounds, in seconds of wall time and of processor time; the program reads and writes
+texts, the library neither. The games are made by fixed seeds. Winners of both have to be the same.
 """
 import argparse
 import array
@@ -16,15 +17,20 @@ import subprocess
 import sys
 import tempfile
 import time
+from collections.abc import Callable
+from typing import Any
 
 ROOT = os.path.dirname(os.path.dirname(os.path.abspath(__file__)))
 sys.path.insert(0, os.path.join(ROOT, "python"))
-import omega
+import omega  # noqa: E402
 
 OMEGA = os.environ.get("OMEGA", os.path.join(ROOT, "crates", "omega_tool", "out", "omega_tool"))
 
+# Priorities, owners, and as flat arrays where each node's successors begin and which they are.
+FlatGame = tuple["array.array[int]", bytes, "array.array[int]", "array.array[int]"]
 
-def game_of(nodes, degree, priorities):
+
+def game_of(nodes: int, degree: int, priorities: int) -> FlatGame:
     """Priorities, owners, and as flat arrays where each node's successors begin and which they are."""
     some = random.Random(1)
     starts = array.array("I", range(0, degree * nodes + 1, degree))
@@ -33,7 +39,7 @@ def game_of(nodes, degree, priorities):
             bytes(some.randrange(2) for _ in range(nodes)), starts, successors)
 
 
-def text_of(game):
+def text_of(game: FlatGame) -> bytes:
     priorities, owners, starts, successors = game
     lines = [f"parity {len(owners) - 1};\n"]
     for at, owner in enumerate(owners):
@@ -42,7 +48,7 @@ def text_of(game):
     return "".join(lines).encode()
 
 
-def timed(rounds, call):
+def timed(rounds: int, call: Callable[[], object]) -> tuple[float, float, Any]:
     """The least wall time and the least processor time of some rounds, children included, and what the last gave."""
     walls, processors = [], []
     for _ in range(rounds):
@@ -55,25 +61,25 @@ def timed(rounds, call):
     return min(walls), min(processors), given
 
 
-def from_text(rounds, game):
+def from_text(rounds: int, game: FlatGame) -> list[int]:
     """What the program takes for the game's text, and the winners that it finds."""
     with tempfile.TemporaryDirectory() as folder:
         path, solution = os.path.join(folder, "game.pg"), os.path.join(folder, "solution")
-        with open(path, "wb") as file:
-            file.write(text_of(game))
+        with open(path, "wb") as made:
+            made.write(text_of(game))
 
-        def program(*words, into=os.devnull):
+        def program(*words: str, into: str = os.devnull) -> None:
             with open(into, "wb") as output:
                 subprocess.run([OMEGA, *words], stdout=output, check=True)
 
         tell("text: check --format pg", timed(rounds, lambda: program("check", "--format", "pg", path)))
         tell("text: solve --search", timed(rounds, lambda: program("solve", "--search", path, into=solution)))
         tell("text: verify", timed(rounds, lambda: program("verify", "--game", path, solution)))
-        with open(solution, "rb") as file:
-            return [int(line.split()[1].rstrip(b";")) for line in file.read().splitlines()[1:]]
+        with open(solution, "rb") as answer:
+            return [int(line.split()[1].rstrip(b";")) for line in answer.read().splitlines()[1:]]
 
 
-def from_arrays(rounds, game):
+def from_arrays(rounds: int, game: FlatGame) -> list[int]:
     """What the library takes for the same, and the winners that it finds."""
     priorities, owners, starts, successors = game
     solved = timed(rounds, lambda: omega.solve(priorities, owners, (starts, successors)))
@@ -87,11 +93,11 @@ def from_arrays(rounds, game):
     return list(answer.winner)
 
 
-def tell(label, measured):
+def tell(label: str, measured: tuple[float, float, Any]) -> None:
     print(f"  {label:26} {measured[0]:7.2f} s {measured[1]:7.2f} processor s", flush=True)
 
 
-def main():
+def main() -> None:
     parser = argparse.ArgumentParser(description=__doc__, formatter_class=argparse.RawDescriptionHelpFormatter)
     parser.add_argument("--priorities", type=int, default=8)
     parser.add_argument("--rounds", type=int, default=3)

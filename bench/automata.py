@@ -1,13 +1,17 @@
 """Families of omega-automata for the benchmark, each a function from its sizes to a text of the Hanoi format."""
 import random
+from collections.abc import Callable, Iterable
 
 from families import DEFAULT_SEED
+
+# The marks of a state, and of each of its edges the label or none, the target and the marks.
+State = tuple[list[int], list[tuple[str | None, int, list[int]]]]
 
 # How many pairs, or parts, the acceptance of the families for the search has.
 PAIRS = 8
 
 
-def header(states, propositions, acceptance, sets, name=None):
+def header(states: int, propositions: int, acceptance: str, sets: int, name: str | None = None) -> str:
     """The header of an automaton that begins in state 0."""
     names = "".join(f' "p{at}"' for at in range(propositions))
     named = f"acc-name: {name}\n" if name else ""
@@ -15,7 +19,7 @@ def header(states, propositions, acceptance, sets, name=None):
             f"Acceptance: {sets} {acceptance}\n--BODY--\n")
 
 
-def body(rows):
+def body(rows: Iterable[State]) -> str:
     """States by their marks and their edges, each a label or none, a target and marks."""
     out = []
     for state, (marks, edges) in enumerate(rows):
@@ -24,17 +28,17 @@ def body(rows):
     return "".join(out) + "--END--\n"
 
 
-def marked(sets):
+def marked(sets: list[int]) -> str:
     """Sets as they stand after a state or an edge."""
     return f" {{{' '.join(map(str, sets))}}}" if sets else ""
 
 
-def valuation(draw, propositions):
+def valuation(draw: random.Random, propositions: int) -> str:
     """A label that says of each proposition whether it holds."""
     return "&".join(f"{'!' if draw.randrange(2) else ''}{at}" for at in range(propositions)) or "t"
 
 
-def expression(draw, propositions, atoms):
+def expression(draw: random.Random, propositions: int, atoms: int) -> str:
     """A random label of so many atoms."""
     if atoms == 1:
         return f"{'!' if draw.randrange(3) == 0 else ''}{draw.randrange(propositions)}"
@@ -44,7 +48,7 @@ def expression(draw, propositions, atoms):
     return f"{'!' if draw.randrange(6) == 0 else ''}({joined})"
 
 
-def buchi(states, edges=4, propositions=4, seed=DEFAULT_SEED):
+def buchi(states: int, edges: int = 4, propositions: int = 4, seed: float = DEFAULT_SEED) -> str:
     """Büchi acceptance by states, one in eight; labels are whole valuations."""
     draw = random.Random(seed)
     return header(states, propositions, "Inf(0)", 1, "Buchi") + body(
@@ -54,7 +58,7 @@ def buchi(states, edges=4, propositions=4, seed=DEFAULT_SEED):
     )
 
 
-def labels(states, edges=4, propositions=12, atoms=24, seed=DEFAULT_SEED):
+def labels(states: int, edges: int = 4, propositions: int = 12, atoms: int = 24, seed: float = DEFAULT_SEED) -> str:
     """Büchi acceptance by edges, one in six; labels are random expressions."""
     draw = random.Random(seed)
     return header(states, propositions, "Inf(0)", 1, "Buchi") + body(
@@ -64,7 +68,7 @@ def labels(states, edges=4, propositions=12, atoms=24, seed=DEFAULT_SEED):
     )
 
 
-def implicit(states, propositions=4, seed=DEFAULT_SEED):
+def implicit(states: int, propositions: int = 4, seed: float = DEFAULT_SEED) -> str:
     """Co-Büchi acceptance by edges, one in five, and an edge without a label for each valuation."""
     draw = random.Random(seed)
     return header(states, propositions, "Fin(0)", 1, "co-Buchi") + body(
@@ -73,12 +77,12 @@ def implicit(states, propositions=4, seed=DEFAULT_SEED):
     )
 
 
-def parity_formula(sets, kind="max even"):
+def parity_formula(sets: int, kind: str = "max even") -> str:
     """The formula of a kind of parity acceptance, of so many sets: the set that decides stands outermost."""
     side, wanted = kind.split()
     if sets == 0:
         return "f" if kind in ("max even", "min odd") else "t"
-    formula = None
+    formula = ""
     for at in range(sets) if side == "max" else reversed(range(sets)):
         good = at % 2 == (wanted == "odd")
         atom = f"{'Inf' if good else 'Fin'}({at})"
@@ -86,7 +90,7 @@ def parity_formula(sets, kind="max even"):
     return formula
 
 
-def parity(states, edges=4, sets=8, seed=DEFAULT_SEED, kind="max even"):
+def parity(states: int, edges: int = 4, sets: int = 8, seed: float = DEFAULT_SEED, kind: str = "max even") -> str:
     """Parity acceptance, with up to two marks on each edge."""
     draw = random.Random(seed)
     return header(states, 2, parity_formula(sets, kind), sets, f"parity {kind} {sets}") + body(
@@ -96,7 +100,7 @@ def parity(states, edges=4, sets=8, seed=DEFAULT_SEED, kind="max even"):
     )
 
 
-def aliases(states, depth=15, chained=False, seed=DEFAULT_SEED):
+def aliases(states: int, depth: int = 15, chained: bool = False, seed: float = DEFAULT_SEED) -> str:
     """Definitions each of which stands for twice the one before it, or for its negation."""
     draw = random.Random(seed)
     definitions = "Alias: @a0 0 & 1\n" + "".join(
@@ -105,14 +109,14 @@ def aliases(states, depth=15, chained=False, seed=DEFAULT_SEED):
     return text + body(([0], [(f"@a{depth - 1}", draw.randrange(states), [])]) for _ in range(states))
 
 
-def stream(count, seed=DEFAULT_SEED):
+def stream(count: int, seed: float = DEFAULT_SEED) -> str:
     """So many small automata, of up to six states."""
     draw = random.Random(seed)
     return "".join(parity(1 + draw.randrange(6), 1 + draw.randrange(3), draw.randrange(5), draw.random())
                    for _ in range(count))
 
 
-def stream_with_aborts(limit=16_777_216, seed=DEFAULT_SEED):
+def stream_with_aborts(limit: int = 16_777_216, seed: float = DEFAULT_SEED) -> str:
     """A stream of nearly the greatest length: small automata, comments between them, and beginnings that are
     aborted."""
     draw = random.Random(seed)
@@ -128,7 +132,8 @@ def stream_with_aborts(limit=16_777_216, seed=DEFAULT_SEED):
     return "".join(parts)
 
 
-def without_lasso(states, sets_of, acceptance, sets, name=None, seed=DEFAULT_SEED):
+def without_lasso(states: int, sets_of: Callable[[int], list[int]], acceptance: str, sets: int,
+                  name: str | None = None, seed: float = DEFAULT_SEED) -> str:
     """Two edges leave each state, without labels, and the automaton is one component for the most part. The marks of
     an edge are those of the pair that is drawn for it."""
     draw = random.Random(seed)
@@ -138,7 +143,7 @@ def without_lasso(states, sets_of, acceptance, sets, name=None, seed=DEFAULT_SEE
     )
 
 
-def rabin(states):
+def rabin(states: int) -> str:
     """Each edge of a set that must come again and again bears the set of its pair that must not: each pair is tried,
     and none accepts."""
     formula = " | ".join(f"(Fin({2 * at}) & Inf({2 * at + 1}))" for at in range(PAIRS))
@@ -146,12 +151,12 @@ def rabin(states):
                          f"Rabin {PAIRS}")
 
 
-def streett(states):
+def streett(states: int) -> str:
     """The first pair forbids its edges, and with them goes all that the second one needs, and so on: a round a pair.
     What is left accepts."""
     formula = " & ".join(f"(Fin({2 * at}) | Inf({2 * at + 1}))" for at in range(PAIRS))
 
-    def sets_of(at):
+    def sets_of(at: int) -> list[int]:
         if at >= PAIRS:
             return []
         return [2 * at, 2 * at + 3] if at + 1 < PAIRS else [2 * at]
@@ -159,11 +164,11 @@ def streett(states):
     return without_lasso(states, sets_of, formula, 2 * PAIRS, f"Streett {PAIRS}")
 
 
-def generalized_rabin(states):
+def generalized_rabin(states: int) -> str:
     """Each part wants two sets again and again, and one of them comes only with the set that it must not have."""
     formula = " | ".join(f"(Fin({3 * at}) & Inf({3 * at + 1}) & Inf({3 * at + 2}))" for at in range(PAIRS))
 
-    def sets_of(at):
+    def sets_of(at: int) -> list[int]:
         if at >= 2 * PAIRS:
             return []
         return [3 * at, 3 * at + 1] if at < PAIRS else [3 * (at - PAIRS) + 2]

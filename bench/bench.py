@@ -54,7 +54,11 @@ SAID = sys.stdout
 ROUNDS = 2_000_000
 
 
-def calibration():
+# A row of the table: family, task, size of the text, seconds of the loop, and figures of each command.
+TableRow = tuple[str, str, int, float, list["Figures"]]
+
+
+def calibration() -> float:
     """How long a plain loop takes, in seconds: that is the same work in each run on each machine."""
     start = time.perf_counter()
     at = 0
@@ -63,7 +67,7 @@ def calibration():
     return time.perf_counter() - start
 
 
-def measured(command, words, path, seconds):
+def measured(command: list[str], words: list[str], path: str, seconds: float) -> tuple[float, int, bytes] | None:
     """One run: its time in seconds, its status and its output; none after so many seconds."""
     with open(path, "rb") as text, tempfile.TemporaryFile() as output:
         start = time.perf_counter()
@@ -80,7 +84,7 @@ def measured(command, words, path, seconds):
         return elapsed, status, output.read()
 
 
-def memory_of(command, words, path):
+def memory_of(command: list[str], words: list[str], path: str) -> int | None:
     """The greatest memory of one run in bytes, by GNU time; none where that is not installed.
 
     A child of this interpreter would be charged with the interpreter's own pages.
@@ -95,7 +99,7 @@ def memory_of(command, words, path):
         return int(report.read()) * 1024
 
 
-def lifts_in(output):
+def lifts_in(output: bytes) -> int | None:
     """The number of lifts that an answer text states, or none."""
     words = output.split(b"\n", 1)[0].split()
     return int(words[3]) if len(words) == 4 and words[2] == b"lifts" else None
@@ -104,16 +108,16 @@ def lifts_in(output):
 class Figures:
     """What the runs of one command on one input gave. A plain command has the words of its task in it."""
 
-    def __init__(self, name, command, status=0, plain=False):
+    def __init__(self, name: str, command: list[str], status: int = 0, plain: bool = False) -> None:
         self.name = name
         self.command = command
         self.status = status
         self.plain = plain
-        self.output = None
-        self.fault = None
-        self.times = []
+        self.output: bytes | None = None
+        self.fault: str | None = None
+        self.times: list[float] = []
 
-    def run(self, words, path, seconds):
+    def run(self, words: list[str], path: str, seconds: float) -> None:
         """One run more, unless one has failed; the first warms up and is not counted."""
         if self.fault:
             return
@@ -127,20 +131,20 @@ class Figures:
         else:
             self.times.append(made[0])
 
-    def words(self, words):
+    def words(self, words: list[str]) -> list[str]:
         """The words that follow the command."""
         return [] if self.plain else words
 
-    def median(self):
+    def median(self) -> float:
         return statistics.median(self.times)
 
-    def line(self, words, path):
+    def line(self, words: list[str], path: str) -> str:
         """The figures as they are printed."""
         if self.fault:
             return f"    {self.name}: {self.fault}"
         seconds = self.median()
         memory = memory_of(self.command, self.words(words), path)
-        lifts = lifts_in(self.output)
+        lifts = lifts_in(self.output or b"")
         line = f"    {self.name}: {seconds * 1000:.1f} ms, {os.path.getsize(path) / seconds / 1e6:.0f} MB/s"
         if memory is not None:
             line += f", {memory / 1e6:.1f} MB at most"
@@ -151,21 +155,20 @@ class Figures:
         return line
 
 
-def compared(figures, words, path, options):
+def compared(figures: list[Figures], words: list[str], path: str, options: argparse.Namespace) -> list[Figures]:
     """Runs the commands on one input turn by turn, and prints their figures. Their figures, if none has failed."""
     for _ in range(options.runs + 1):
         for one in figures:
             one.run(words, path, options.seconds)
     wanted = figures[0].output
     for one in figures:
-        there = one.output is not None and wanted is not None
-        if there and decided(words, one.output) != decided(words, wanted):
+        if one.output is not None and wanted is not None and decided(words, one.output) != decided(words, wanted):
             one.fault = "DIFFERS"
         say(one.line(words, path))
     return [one for one in figures if not one.fault]
 
 
-def decided(words, output):
+def decided(words: list[str], output: bytes) -> object:
     """What of an output two programs must agree on: of a search the winners, or whether there is a lasso."""
     if words not in ANY_ANSWER:
         return without_lifts(output)
@@ -174,17 +177,17 @@ def decided(words, output):
     return [line.rstrip(b";").split()[:2] for line in output.split(b"\n")]
 
 
-def without_lifts(output):
+def without_lifts(output: bytes) -> bytes:
     """The output without its first line, which may state another number of lifts, if it is an answer text."""
     return output.split(b"\n", 1)[-1] if lifts_in(output) is not None else output
 
 
-def say(line):
+def say(line: str) -> None:
     """Tells how far the run has come: beside the table, if there is to be one."""
     print(line, file=SAID, flush=True)
 
 
-def explained(commands, options, table):
+def explained(commands: list[tuple[str, list[str]]], options: argparse.Namespace, table: list[TableRow]) -> bool:
     """Runs the commands on wrong solutions of games, which they explain. Whether all went well."""
     all_well = True
     for family, (quick, full) in EXPLAINED.items():
@@ -203,7 +206,8 @@ def explained(commands, options, table):
     return all_well
 
 
-def row_of(family, task, figures, words, path, options, table):
+def row_of(family: str, task: str, figures: list[Figures], words: list[str], path: str,
+           options: argparse.Namespace, table: list[TableRow]) -> bool:
     """Runs commands on one input for a task, and enters a row into the table. Whether all went well."""
     say(f"  {task}")
     loop = calibration()
@@ -215,9 +219,9 @@ def row_of(family, task, figures, words, path, options, table):
     return len(well) == len(figures)
 
 
-def ratios_of(table):
+def ratios_of(table: list[TableRow]) -> dict[tuple[str, str], list[float]]:
     """By task and by what is compared with: the ratios of the first command to the other."""
-    ratios = {}
+    ratios: dict[tuple[str, str], list[float]] = {}
     for _, task, _, _, figures in table:
         for other in figures[1:]:
             if not figures[0].fault and not other.fault:
@@ -225,11 +229,11 @@ def ratios_of(table):
     return ratios
 
 
-def mean_of(ratios):
+def mean_of(ratios: list[float]) -> float:
     return math.exp(statistics.fmean(map(math.log, ratios)))
 
 
-def in_markdown(table):
+def in_markdown(table: list[TableRow]) -> str:
     """The table by tasks, with the geometric mean and the worst of each ratio below."""
     lines = []
     ratios = ratios_of(table)
@@ -247,8 +251,8 @@ def in_markdown(table):
                 one = by_name.get(name)
                 cells.append("-" if one is None else one.fault or f"{one.median() * 1000:.1f}")
                 if name != names[0]:
-                    there = one is not None and not one.fault and not figures[0].fault
-                    cells.append(f"{figures[0].median() / one.median():.2f}" if there else "-")
+                    is_ratio = one is not None and not one.fault and not figures[0].fault
+                    cells.append(f"{figures[0].median() / one.median():.2f}" if one and is_ratio else "-")
             lines.append(f"| {' | '.join(cells)} |")
         for name in names[1:]:
             of_task = ratios.get((task, name), [])
@@ -259,10 +263,10 @@ def in_markdown(table):
     return "\n".join(lines)
 
 
-def plain_commands(pairs, parser):
+def plain_commands(pairs: list[str], parser: argparse.ArgumentParser) -> dict[str, list[str]]:
     """The plain commands by their tasks, from `TASK=COMMAND`; of one task there may be several."""
     tasks = [" ".join(words) for kind in TASKS.values() for words in kind]
-    plain = {}
+    plain: dict[str, list[str]] = {}
     for pair in pairs:
         task, found, command = pair.partition("=")
         if not found or task not in tasks:
@@ -271,7 +275,7 @@ def plain_commands(pairs, parser):
     return plain
 
 
-def figures_of(task, commands, plain):
+def figures_of(task: str, commands: list[tuple[str, list[str]]], plain: dict[str, list[str]]) -> list[Figures]:
     """Figures for each command that does a task. Plain commands of one task are numbered, if there are several."""
     figures = [Figures(name, command) for name, command in commands]
     given = plain.get(task, [])
@@ -280,7 +284,7 @@ def figures_of(task, commands, plain):
     return figures
 
 
-def asked():
+def asked() -> argparse.Namespace:
     """What the command line asks for."""
     parser = argparse.ArgumentParser(description=__doc__, formatter_class=argparse.RawDescriptionHelpFormatter)
     parser.add_argument("--quick", action="store_true", help="small games")
@@ -307,13 +311,13 @@ def asked():
     return options
 
 
-def main():
+def main() -> int:
     options = asked()
     global SAID
     SAID = sys.stderr if options.table else sys.stdout
     commands = [("omega", shlex.split(options.omega or OMEGA))]
     commands += [(name, shlex.split(words)) for name, words in (pair.split("=", 1) for pair in options.against)]
-    table = []
+    table: list[TableRow] = []
     all_well = True
     for family, (kinds, quick, full) in [*FAMILIES.items(), *AUTOMATA.items()]:
         if options.only and family not in options.only:

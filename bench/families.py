@@ -1,10 +1,14 @@
 """Families of parity games for the benchmark, each a function from its sizes to the text of a game."""
 import random
+from collections.abc import Iterable
 
 DEFAULT_SEED = 20
 
+# Identifier, priority, owner and successors of a node.
+Row = tuple[int, int, int, list[int]]
 
-def text_of(nodes):
+
+def text_of(nodes: Iterable[Row]) -> str:
     """The game text of (identifier, priority, owner, successors) in the order given, without a header."""
     return "".join(
         f"{identifier} {priority} {owner} {','.join(map(str, successors))};\n"
@@ -12,7 +16,7 @@ def text_of(nodes):
     )
 
 
-def random_game(nodes, priorities, degree=2, seed=DEFAULT_SEED):
+def random_game(nodes: int, priorities: int, degree: int = 2, seed: int = DEFAULT_SEED) -> str:
     """Every priority below `priorities`, owner and successor drawn evenly."""
     draw = random.Random(seed)
     return text_of(
@@ -21,7 +25,7 @@ def random_game(nodes, priorities, degree=2, seed=DEFAULT_SEED):
     )
 
 
-def drawn_game(nodes, priorities, degree=3, seed=DEFAULT_SEED):
+def drawn_game(nodes: int, priorities: int, degree: int = 3, seed: int = DEFAULT_SEED) -> str:
     """The same with up to so many successors a node, so that some nodes have one alone."""
     draw = random.Random(seed)
     return text_of(
@@ -31,28 +35,28 @@ def drawn_game(nodes, priorities, degree=3, seed=DEFAULT_SEED):
     )
 
 
-def ladder(steps):
+def ladder(steps: int) -> str:
     """Two rails with rungs: owners and priorities 0 and 1 alternate, each node leads on along both rails."""
     nodes = 2 * steps
     return text_of((v, v % 2, v % 2, [(v + 2) % nodes, (v + 1) % nodes]) for v in range(nodes))
 
 
-def clique(nodes):
+def clique(nodes: int) -> str:
     """Each node leads to each other; priority v at node v, owners alternate."""
     return text_of((v, v, v % 2, [w for w in range(nodes) if w != v]) for v in range(nodes))
 
 
-def chain_up(nodes):
+def chain_up(nodes: int) -> str:
     """A chain to an odd loop at its end: losing for player 0, whose measures climb one step a pass."""
     return text_of((v, 1 if v + 1 == nodes else 0, 0, [min(v + 1, nodes - 1)]) for v in range(nodes))
 
 
-def chain_down(nodes):
+def chain_down(nodes: int) -> str:
     """The same chain with its identifiers turned round, so that the loop is lifted first."""
     return text_of((v, 1 if v == 0 else 0, 0, [max(v - 1, 0)]) for v in range(nodes))
 
 
-def odd_chain(nodes, down=False, seed=DEFAULT_SEED):
+def odd_chain(nodes: int, down: bool = False, seed: int = DEFAULT_SEED) -> str:
     """A chain of odd priorities to an even loop: player 0 wins, and the measure of a node counts how far the loop is.
     Its identifiers rise towards the loop, or fall."""
     draw = random.Random(seed)
@@ -61,7 +65,7 @@ def odd_chain(nodes, down=False, seed=DEFAULT_SEED):
     return text_of((v, int(v != end), draw.randrange(2), [v if v == end else v + step]) for v in range(nodes))
 
 
-def component(nodes, priorities, stretch=4096, seed=DEFAULT_SEED):
+def component(nodes: int, priorities: int, stretch: int = 4096, seed: int = DEFAULT_SEED) -> str:
     """One strongly connected component: a ring with many priorities, the greatest of them, an even one, at the
     beginning of each stretch, and at each node a chord forward within its stretch."""
     draw = random.Random(seed)
@@ -77,7 +81,7 @@ def component(nodes, priorities, stretch=4096, seed=DEFAULT_SEED):
     )
 
 
-def solitaire(nodes, priorities, degree=3, seed=DEFAULT_SEED):
+def solitaire(nodes: int, priorities: int, degree: int = 3, seed: int = DEFAULT_SEED) -> str:
     """Random, and player 0 owns every node."""
     draw = random.Random(seed)
     return text_of(
@@ -86,7 +90,7 @@ def solitaire(nodes, priorities, degree=3, seed=DEFAULT_SEED):
     )
 
 
-def counting(levels, size, player=0):
+def counting(levels: int, size: int, player: int = 0) -> str:
     """A ring of each priority that the player loses, which the player may leave for the next ring, and after the last a
     path to a loop that the player wins. The player wins everywhere, and a measure counts up to that of the way out
     (after Jurdziński 2000)."""
@@ -99,7 +103,7 @@ def counting(levels, size, player=0):
     return text_of(nodes + [(levels * size, player, 1 - player, [levels * size])])
 
 
-def lost_loop(levels, size):
+def lost_loop(levels: int, size: int) -> str:
     """A loop of the least odd priority beside nodes of each odd priority: it counts through all measures."""
     last = levels * size + 1
     priorities = [1] + [2 * level + 1 for level in range(levels) for _ in range(size - (level == 0))]
@@ -107,7 +111,7 @@ def lost_loop(levels, size):
     return text_of(nodes + [(v, 0, 0, [last]) for v in range(len(nodes), last + 1)])
 
 
-def model_checking(rungs, depth):
+def model_checking(rungs: int, depth: int) -> str:
     """A formula of so many alternating fixed points on a ladder: for some j, proposition j holds here and X_j next, in
     some state after one on the left rail, in all states after one on the right."""
     states, each = 2 * rungs, 1 + 2 * depth
@@ -125,18 +129,18 @@ def model_checking(rungs, depth):
     return text_of(nodes + [(true, greatest, 0, [true]), (false, greatest + 1, 0, [false])])
 
 
-def pursuit(width, goal):
+def pursuit(width: int, goal: str) -> str:
     """One who flees and one who pursues move in turn on a square of cells. Player 0 flees: for ever, to a corner, there
     again and again, or so that it is caught no more from some time on."""
     cells = width * width
 
-    def steps(cell):
+    def steps(cell: int) -> list[int]:
         row, column = divmod(cell, width)
         near = [(row > 0, cell - width), (row + 1 < width, cell + width), (column > 0, cell - 1),
                 (column + 1 < width, cell + 1)]
         return [to for inside, to in near if inside]
 
-    def place(flees, pursues, turn):
+    def place(flees: int, pursues: int, turn: int) -> int:
         return (flees * cells + pursues) * 2 + turn
 
     nodes = []
@@ -154,7 +158,7 @@ def pursuit(width, goal):
     return text_of(nodes)
 
 
-def layered_rows(nodes, width, priorities, up, draw):
+def layered_rows(nodes: int, width: int, priorities: int, up: bool, draw: random.Random) -> list[Row]:
     """The rows of a layered game, by place."""
     layers, greatest = nodes // width, priorities + priorities % 2
     crown, step = (layers - 1, 1) if up else (0, -1)
@@ -170,13 +174,13 @@ def layered_rows(nodes, width, priorities, up, draw):
     ]
 
 
-def layered(nodes, width=64, priorities=4, up=False, seed=DEFAULT_SEED):
+def layered(nodes: int, width: int = 64, priorities: int = 4, up: bool = False, seed: int = DEFAULT_SEED) -> str:
     """Layers whose edges lead to the layer below, or above; the layer that leads round to the other end bears the two
     greatest priorities."""
     return text_of(layered_rows(nodes, width, priorities, up, random.Random(seed)))
 
 
-def gaps(nodes, width=64, priorities=4, seed=DEFAULT_SEED):
+def gaps(nodes: int, width: int = 64, priorities: int = 4, seed: int = DEFAULT_SEED) -> str:
     """A layered game whose identifiers have gaps and are drawn evenly, as is the order of its nodes; priorities are far
     apart."""
     draw = random.Random(seed)
@@ -190,7 +194,7 @@ def gaps(nodes, width=64, priorities=4, seed=DEFAULT_SEED):
     )
 
 
-def grid(width, height, seed=DEFAULT_SEED):
+def grid(width: int, height: int, seed: int = DEFAULT_SEED) -> str:
     """A torus of two priorities: steps right and down, owners like a chess board."""
     draw = random.Random(seed)
     return text_of(
@@ -205,7 +209,7 @@ def grid(width, height, seed=DEFAULT_SEED):
     )
 
 
-def torus(width, height, priorities, seed=DEFAULT_SEED):
+def torus(width: int, height: int, priorities: int, seed: int = DEFAULT_SEED) -> str:
     """A torus with steps in all four directions; owners and priorities are drawn."""
     draw = random.Random(seed)
     return text_of(
@@ -221,7 +225,7 @@ def torus(width, height, priorities, seed=DEFAULT_SEED):
     )
 
 
-def sparse(nodes, seed=DEFAULT_SEED):
+def sparse(nodes: int, seed: int = DEFAULT_SEED) -> str:
     """A layered game of three priorities whose identifiers have gaps and come in no order."""
     draw = random.Random(seed)
     identifiers = draw.sample(range(2**31 - 1), nodes)
@@ -238,18 +242,18 @@ def sparse(nodes, seed=DEFAULT_SEED):
     return text_of(rows)
 
 
-def most_nodes(nodes=1_048_576):
+def most_nodes(nodes: int = 1_048_576) -> str:
     """As many nodes as a game may have. Each leads to node 0: longer lists do not fit into the greatest text."""
     return text_of((v, 0, 0, [0]) for v in range(nodes))
 
 
-def most_bytes(limit=16_777_216):
+def most_bytes(limit: int = 16_777_216) -> str:
     """A text of nearly the greatest length: few nodes that list one-digit successors over and over."""
     each = (limit - 200) // 20
     return "".join(f"{v} 0 {v % 2} {','.join(['3'] * each)};\n" for v in range(10))
 
 
-def backward(limit=16_777_216, seed=DEFAULT_SEED):
+def backward(limit: int = 16_777_216, seed: int = DEFAULT_SEED) -> str:
     """A text of nearly the greatest length: nodes with two successors among those before them."""
     draw = random.Random(seed)
     lines, length, v = [], 0, 0

@@ -8,8 +8,8 @@ use Rattle.omega_command.specs.declared.line.Line.{Line}
 use Rattle.omega_command.specs.declared.line.Line.TheVariants.{Fault}
 use Rattle.omega_io.specs.Writing.{Tells}
 use Rattle.omega_run.specs.Obey.{IsObeyed}
-use Rattle.omega_run.specs.Perform.{Streams, streams}
-use Rattle.omega_words.specs.Words.{IsLineAsked}
+use Rattle.omega_run.specs.World.{Streams, World, streams}
+use Rattle.omega_command_line.specs.Words.{IsLineAsked}
 use Rattle.omega_arrays.specs.Room.{laid_over}
 use Rattle.omega.specs.declared.running.Ran.{Ran}
 
@@ -52,12 +52,18 @@ IsAsked words (Err refusal) = refusal ≡ Memory
 
 -- the program obeyed the command line, whatever is left of the input, and however many reads and writes failed
 pub record IsObeyedSomehow (reads : List ℕ → List ℕ → Type 0) (refuses : List ℕ → Refusal → Type 0) (asked : Result Line Refusal) (status : ℕ)
-    (told told' : Option (List ℕ)) (failed_tells : ℕ) (before : Streams) (held : Option (List ℕ)) : Type 0 where
+    (reported reported' : Option (List ℕ)) (failed_tells : ℕ) (before : Streams) (held : Option (List ℕ)) : Type 0 where
   pub unread : Option (List ℕ)
   pub failed_reads : ℕ
   pub failed_writes : ℕ
   pub failed_tells' : ℕ
-  pub obeyed : IsObeyed reads refuses asked status (Tells told told' failed_tells failed_tells') before (streams unread failed_reads held failed_writes)
+  pub obeyed : IsObeyed asked status (record {
+    reads = reads;
+    refuses = refuses;
+    before = before;
+    after = streams unread failed_reads held failed_writes;
+    tells = Tells reported reported' failed_tells failed_tells';
+  })
 
 -- the program obeyed the words, with the input, where each file holds the text; it wrote the output, and told the
 -- errors
@@ -70,9 +76,9 @@ pub record IsProgramRun (words input file : List ℕ) (status : ℕ) (output err
 -- what `omega_run` leaves: of the output and of what was told as much as there was room for, and how long they are
 pub record IsRunOutcome (words input file : List ℕ) (ran : Ran) (output output' errors errors' : List ℕ) : Type 0 where
   pub written : List ℕ
-  pub told : List ℕ
-  pub run : IsProgramRun words input file ran.status written told
+  pub reported : List ℕ
+  pub run : IsProgramRun words input file ran.status written reported
   pub output_length : ran.output ≡ length written
-  pub errors_length : ran.errors ≡ length told
+  pub errors_length : ran.errors ≡ length reported
   pub output_laid : output' ≡ laid_over written output
-  pub errors_laid : errors' ≡ laid_over told errors
+  pub errors_laid : errors' ≡ laid_over reported errors

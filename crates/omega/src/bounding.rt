@@ -10,7 +10,8 @@ use std::alloc::Global;
 /// then.
 #[unsafe(no_mangle)]
 pub extern "C" fn omega_bound(alloc: Global, game: &Game<'_>, bounds: &mut Bounds) -> Outcome
-    ensures { let a = arrays game.now.priorities.now game.now.owners.now game.now.starts.now game.now.successors.now in IsBoundOutcome a result bounds.old bounds.new }
+    ensures { let a = arrays game.now.priorities.now game.now.owners.now game.now.starts.now game.now.successors.now in
+        IsBoundOutcome a result bounds.old bounds.new }
 {
     match bound_arrays(alloc, &game.arrays()) {
         Ok(made) => {

@@ -1,6 +1,6 @@
 //! The program as a function: a command line is obeyed over texts in memory.
 ghost use Rattle.std.specs.Prelude.{◌≡◌, ◌-◌, ◌^◌, ◌<◌, IfOk, IsOkUnless};
-ghost use Rattle.omega_run.specs.Perform.{streams};
+ghost use Rattle.omega_run.specs.World.{streams_of};
 ghost use Rattle.omega_text.specs.declared.refusal.Refusal.TheVariants.{Memory};
 ghost use Rattle.omega_command.specs.Line.{IsRunnable};
 ghost use Rattle.omega.specs.Running.{IsLineOfWords, IsObeyedSomehow, IsProgramRun, IsRunOutcome};
@@ -10,8 +10,8 @@ mod words;
 
 use files::OneFile;
 use omega_arrays::copied;
-use omega_run::{FromRead, GameFiles, Input, Line, Output, Refusal, ToWrite, obey};
-use omega_words::read_words;
+use omega_command_line::read_words;
+use omega_run::{FromRead, Input, InputFiles, Line, Output, Refusal, ToWrite, obey};
 use std::alloc::Global;
 use words::words_in;
 
@@ -85,7 +85,7 @@ fn left_by(alloc: Global, words: &[u8], input: &[u8], file: &[u8]) -> Left
 }
 
 /// The status after a command line is obeyed. What is left of the input, and how often something failed, is not told.
-fn status_of<F: GameFiles, R: Input, W: Output, E: Output>(
+fn status_of<F: InputFiles, R: Input, W: Output, E: Output>(
     alloc: Global,
     asked: Result<Line, Refusal>,
     files: &F,
@@ -99,7 +99,7 @@ fn status_of<F: GameFiles, R: Input, W: Output, E: Output>(
     requires tells { E.failed errors.old < 2 ^ 64 - 1 }
     ensures { IsObeyedSomehow (F.reads files.now) (F.refuses files.now) asked result
         (E.contents errors.old) (E.contents errors.new) (E.failed errors.old)
-        (streams (R.remaining input.old) (R.failed input.old) (W.contents output.old) (W.failed output.old)) (W.contents output.new) }
+        (streams_of R.Input W.Output input.old output.old) (W.contents output.new) }
 {
     obey(alloc, asked, files, input, output, errors)
 }

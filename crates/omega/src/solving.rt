@@ -21,7 +21,9 @@ pub extern "C" fn omega_solve(
     choices: &mut [u32],
     lifts: &mut Lifts,
 ) -> Outcome
-    ensures { let a = arrays game.now.priorities.now game.now.owners.now game.now.starts.now game.now.successors.now in IsSolveOutcome a by_search budget result winners.old winners.new choices.old choices.new lifts.old lifts.new }
+    ensures { let a = arrays game.now.priorities.now game.now.owners.now game.now.starts.now game.now.successors.now in
+        IsSolveOutcome a by_search budget result
+        winners.old winners.new choices.old choices.new lifts.old lifts.new }
 {
     match solve_arrays(
         alloc,

@@ -1,4 +1,4 @@
--- How deep an expression is counted, and what a refusal of one that grows says.
+-- The depth of an expression, and the refusals of one that grows.
 use Rattle.std.specs.Prelude.{◌≡◌, ℕ, min}
 use Rattle.omega_text.specs.declared.refusal.Refusal.{Refusal}
 use Rattle.omega_text.specs.declared.refusal.automaton.AutomatonFault.TheVariants.{TooDeep}
@@ -8,6 +8,6 @@ use Rattle.omega_text.specs.Cases.{never, or_automaton, or_memory}
 abbrev pub counted : ℕ → ℕ
 counted depth = min depth 257
 
--- want of memory, or a depth of which this holds
+-- want of memory, or a depth that this holds of
 abbrev pub IsDeeper : Type 0 → Refusal → Type 0
 IsDeeper deep = or_automaton (λ fault. (fault ≡ TooDeep) × deep) (or_memory never)

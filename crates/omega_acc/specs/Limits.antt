@@ -9,7 +9,7 @@ most_depth = 256
 abbrev pub most_size : ℕ
 most_size = 65536
 
--- the most propositions that a label may mention where it is judged whether it can be true
+-- the most propositions that a label may mention if it is judged whether it can be true
 abbrev pub most_mentioned : ℕ
 most_mentioned = 12
 

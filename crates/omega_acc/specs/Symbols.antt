@@ -9,8 +9,8 @@ use Rattle.omega_text.specs.declared.refusal.Refusal.{Refusal}
 use Rattle.omega_text.specs.declared.refusal.text.TextFault.{TextFault}
 use Rattle.omega_text.specs.declared.refusal.text.TextFault.TheVariants.{Syntax}
 
--- what a grammar sees of a token: a number's value; the bytes of an alias name with its `@`, of an identifier,
--- of a header name with its colon, and of a string with its quotes; and of the others the kind
+-- What a grammar sees of a token. Of a number this is its value. Of an alias name (with its `@`), an identifier, a
+-- header name (with its colon) and a string (with its quotes) it is the bytes. Of the others it is the kind.
 pub data ExpressionSymbol : Type 0 where
   number : ℕ → ExpressionSymbol
   name : List ℕ → ExpressionSymbol
@@ -43,13 +43,13 @@ pub data Rank : Type 0 where
   conjunctive : Rank
   disjunctive : Rank
 
--- an `&` may stand outermost
+-- an `&` may be outermost
 abbrev pub TakesAnd : Rank → Type 0
 TakesAnd unary = ⊥
 TakesAnd conjunctive = Unit {0}
 TakesAnd disjunctive = Unit {0}
 
--- an `|` may stand outermost
+-- an `|` may be outermost
 abbrev pub TakesOr : Rank → Type 0
 TakesOr unary = ⊥
 TakesOr conjunctive = ⊥
@@ -66,11 +66,11 @@ abbrev pub EndsThere : List (Lexeme HoaKind) → Type 0
 EndsThere [] = Unit {0}
 EndsThere (lexeme ∷ rest) = IsNoOperator lexeme.kind
 
--- the fault of a syntax, where this holds
+-- the fault of a syntax, if this holds
 abbrev pub IsSyntax : Type 0 → TextFault → Type 0
 IsSyntax holds (Syntax at) = holds
 IsSyntax holds fault = ⊥
 
--- the refusals of reading, where nothing is read
+-- the refusals of reading, if nothing is read
 abbrev pub IsUnread : Type 0 → Refusal → Type 0
 IsUnread none = or_text (IsSyntax none) (or_memory never)

@@ -1,5 +1,5 @@
--- How expressions are written (docs/formats.md, labels and acceptance formulas): no spaces,
--- and parentheses only where an operator needs them.
+-- How expressions are written (docs/formats.md, labels and acceptance formulas): no spaces, and parentheses only if an
+-- operator needs them.
 use Rattle.std.specs.Prelude.{ℕ, Bool, nat_le, nat_lt, if◌then◌else◌, List, [], ◌∷◌, ◌++◌, codes, decimal}
 use Rattle.omega_acc.specs.formula.Acceptance.{AccTree}
 use Rattle.omega_acc.specs.formula.Acceptance as acc
@@ -10,7 +10,7 @@ pub record Text : Type 0 where
   pub rank : ℕ
   pub bytes : List ℕ
 
--- bytes that stand in parentheses or not
+-- bytes in parentheses or not
 abbrev pub bracketed : Bool → List ℕ → List ℕ
 bracketed within bytes = if within then 40 ∷ (bytes ++ 41 ∷ []) else bytes
 

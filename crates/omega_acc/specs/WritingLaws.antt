@@ -25,7 +25,7 @@ use Rattle.omega_text.specs.Bytes.{is_word_byte}
 abbrev pub grouped : Bool → RawLabelTree → RawLabelTree
 grouped within label = if within then raw.group label else label
 
--- the label as its canonical text has it, with parentheses only where an operator needs them
+-- the label as its canonical text has it, with parentheses only if an operator needs them
 abbrev pub label_written : LabelTree → RawLabelTree
 label_written (constant value) = raw.constant value
 label_written (proposition number) = raw.proposition number
@@ -39,7 +39,7 @@ label_written (disjunction left right) =
 abbrev pub acc_grouped : Bool → RawAccTree → RawAccTree
 acc_grouped within formula = if within then raw_acc.group formula else formula
 
--- the formula as its canonical text has it, with parentheses only where an operator needs them
+-- the formula as its canonical text has it, with parentheses only if an operator needs them
 abbrev pub acc_written : AccTree → RawAccTree
 acc_written (acc.constant value) = raw_acc.constant value
 acc_written (acc.inf negated set) = raw_acc.atom (codes "Inf") negated set
@@ -76,17 +76,17 @@ pub record AreThere (source : List ℕ) (from to : ℕ) (symbols : List Expressi
   pub cuts : Cuts hoa_format source from lexemes to
   pub spells : map expression_symbol_of lexemes ≡ symbols
 
--- where the canonical text of a label stands, apart from what follows,
--- there are the tokens of the label as it is written
+-- the canonical text of a label, if it does not run into what follows, is cut into the tokens of the label as it is
+-- written
 abbrev pub LabelTextsAreLabels : Type 0
-LabelTextsAreLabels = (tree : LabelTree) (source behind : List ℕ) (from : ℕ) → NumbersFit tree → StandsApart behind
-    → drop from source ≡ (label_text tree).bytes ++ behind → AreThere source from (from + length (label_text tree).bytes) (label_symbols (label_written tree))
+LabelTextsAreLabels = (tree : LabelTree) (source following : List ℕ) (from : ℕ) → NumbersFit tree → StandsApart following
+    → drop from source ≡ (label_text tree).bytes ++ following → AreThere source from (from + length (label_text tree).bytes) (label_symbols (label_written tree))
 
--- where the canonical text of a formula stands, apart from what follows,
--- there are the tokens of the formula as it is written
+-- the canonical text of a formula, if it does not run into what follows, is cut into the tokens of the formula as it is
+-- written
 abbrev pub AccTextsAreFormulas : Type 0
-AccTextsAreFormulas = (tree : AccTree) (source behind : List ℕ) (from : ℕ) → SetsFit tree → StandsApart behind
-    → drop from source ≡ (acc_text tree).bytes ++ behind → AreThere source from (from + length (acc_text tree).bytes) (formula_symbols (acc_written tree))
+AccTextsAreFormulas = (tree : AccTree) (source following : List ℕ) (from : ℕ) → SetsFit tree → StandsApart following
+    → drop from source ≡ (acc_text tree).bytes ++ following → AreThere source from (from + length (acc_text tree).bytes) (formula_symbols (acc_written tree))
 
 -- a label as it is written is an or-expression that means the label, whatever aliases there are
 pub record MeansItself (entries : List Entry) (tree : LabelTree) : Type 0 where

@@ -10,22 +10,22 @@ use itoa::Buffer;
 use omega_text::Refusal;
 use std::alloc::Global;
 
-/// The text of an expression, made from its last node to its first and from its last byte to its first: whether a part
-/// stands in parentheses is known where its operator is met, which is before any of its bytes, and so no byte moves.
+/// The text of an expression, made from its last node to its first and from its last byte to its first. Whether a part
+/// needs parentheses is known at its operator, before any of its bytes is written, so no byte moves.
 ///
 /// Up to 128 bytes and 64 signs take no memory.
 #[derive(Drop)]
 pub(crate) struct Backward {
-    /// The bytes so far, which are the end of the text.
+    /// The bytes so far: the end of the text.
     bytes: Leftward,
     waiting: Signs,
-    /// How tightly the part has to bind that comes next, to stand without parentheses: 1 for `|`, 2 for `&`, 3 for the
-    /// rest. None where the text is whole.
+    /// How tightly the next part has to bind to need no parentheses: 1 for `|`, 2 for `&`, 3 for the rest. None if the
+    /// text is whole.
     wanted: Option<u32>,
 }
 
 impl Backward {
-    /// No part has been written.
+    /// Makes a text without any part.
     pub(crate) fn new(alloc: Global) -> Self
         ensures { (texts : List Text) → whole_text result texts ≡ (top_text texts).bytes }
     {
@@ -72,7 +72,7 @@ impl Backward {
         self.turn()
     }
 
-    /// `!` and its part come next.
+    /// Writes `!` before the part that comes next.
     pub(crate) fn negate(&mut self) -> Result<(), Refusal>
         ensures ok { OnOk result ((texts : List Text) → whole_text self.new texts ≡ whole_text self.old (negated_text (top_text texts) ∷ texts_below texts)) }
         ensures err { IfErr result IsMemory }
@@ -83,7 +83,7 @@ impl Backward {
         Ok(())
     }
 
-    /// Two parts joined by `&` come next, the right one first.
+    /// Joins the next two parts by `&`; the right one comes first.
     pub(crate) fn and(&mut self) -> Result<(), Refusal>
         ensures ok { OnOk result ((texts : List Text) → whole_text self.new texts ≡ whole_text self.old (joined_text 2 38 (top_text (texts_below texts)) (top_text texts) ∷ texts_below (texts_below texts))) }
         ensures err { IfErr result IsMemory }
@@ -97,7 +97,7 @@ impl Backward {
         Ok(())
     }
 
-    /// Two parts joined by `|` come next, the right one first.
+    /// Joins the next two parts by `|`; the right one comes first.
     pub(crate) fn or(&mut self) -> Result<(), Refusal>
         ensures ok { OnOk result ((texts : List Text) → whole_text self.new texts ≡ whole_text self.old (joined_text 1 124 (top_text (texts_below texts)) (top_text texts) ∷ texts_below (texts_below texts))) }
         ensures err { IfErr result IsMemory }
@@ -111,8 +111,8 @@ impl Backward {
         Ok(())
     }
 
-    /// Appends the text to others, once no part comes any more. A part that is missing, as none is in a label, is
-    /// empty. After a refusal those are as before.
+    /// Appends the text to `out`, once no part comes any more. A missing part is empty, and a label has none. After a
+    /// refusal `out` is as before.
     pub(crate) fn append_to(&mut self, out: &mut Vec<u8>) -> Result<(), Refusal>
         ensures ok { OnOk result (out.new.items ≡ out.old.items ++ whole_text self.old []) }
         ensures same { OnErr result (out.new.items ≡ out.old.items) }
@@ -124,7 +124,7 @@ impl Backward {
         self.bytes.append_to(out)
     }
 
-    /// The part that comes next stands after a sign, and has to bind so tightly to stand without parentheses.
+    /// Puts `sign` before the part that comes next, which needs parentheses unless it binds as tightly as `rank`.
     fn begin(&mut self, sign: Sign, rank: u32) -> Result<(), Refusal>
         ensures waiting { OnOk result (self.new.waiting ≡ sign ∷ self.old.waiting) }
         ensures wanted { OnOk result (self.new.wanted ≡ Some rank) }
@@ -136,7 +136,7 @@ impl Backward {
         Ok(())
     }
 
-    /// The part that comes next stands in parentheses.
+    /// Puts parentheses around the part that comes next.
     fn parenthesize(&mut self) -> Result<(), Refusal>
         ensures bytes { OnOk result (self.new.bytes ≡ 41 ∷ self.old.bytes) }
         ensures waiting { OnOk result (self.new.waiting ≡ Open ∷ self.old.waiting) }
@@ -147,7 +147,7 @@ impl Backward {
         self.waiting.push(Sign::Open)
     }
 
-    /// Writes the signs that stand before the part that was written, up to an operator, whose left part comes next.
+    /// Writes the signs before the part that was written, up to an operator, whose left part comes next.
     #[inline]
     fn turn(&mut self) -> Result<(), Refusal>
         ensures ok { OnOk result ((texts : List Text) → whole_text self.new texts ≡ before_text self.old.waiting texts ++ self.old.bytes) }
@@ -172,7 +172,7 @@ impl Backward {
     }
 }
 
-/// How a sign is written.
+/// Returns the byte of `sign`.
 fn byte(sign: Sign) -> u8
     ensures { result ≡ sign_byte sign }
 {
@@ -184,7 +184,7 @@ fn byte(sign: Sign) -> u8
     }
 }
 
-/// Puts a word and a set in parentheses first, with `!` before the set or without.
+/// Puts `word` and `set` in parentheses before the other bytes, with `!` before the set if `negated`.
 fn put_set(bytes: &mut Leftward, word: &[u8], negated: bool, set: u32) -> Result<(), Refusal>
     ensures ok { OnOk result (bytes.new ≡ (word.now ++ set_text negated set) ++ bytes.old) }
     ensures err { IfErr result IsMemory }
@@ -198,7 +198,7 @@ fn put_set(bytes: &mut Leftward, word: &[u8], negated: bool, set: u32) -> Result
     bytes.put(word)
 }
 
-/// Puts a number in decimal first.
+/// Puts `number` in decimal before the other bytes.
 fn put_number(bytes: &mut Leftward, number: u32) -> Result<(), Refusal>
     ensures ok { OnOk result (bytes.new ≡ decimal number ++ bytes.old) }
     ensures err { IfErr result IsMemory }
@@ -212,7 +212,7 @@ fn put_number(bytes: &mut Leftward, number: u32) -> Result<(), Refusal>
     }
 }
 
-/// The same by a buffer.
+/// Puts `number` in decimal before the other bytes by a buffer, as `put_number` does.
 fn put_digits(bytes: &mut Leftward, number: u32) -> Result<(), Refusal>
     ensures ok { OnOk result (bytes.new ≡ decimal number ++ bytes.old) }
     ensures err { IfErr result IsMemory }

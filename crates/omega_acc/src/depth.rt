@@ -5,7 +5,7 @@ ghost use Rattle.omega_acc.specs.Limits.{most_depth};
 use crate::limits::MOST_DEPTH;
 use omega_text::{AutomatonFault, Refusal};
 
-/// One more than a depth, refused 32 past the limit.
+/// Returns `depth` plus one, or is refused with [AutomatonFault::TooDeep] past the limit.
 pub(crate) fn deeper(depth: u32) -> Result<u32, Refusal>
     ensures ok { IfOk result (λ more. (more ≡ depth + 1) × (more ≤ most_depth)) }
     ensures err { IfErr result (IsTooDeep (most_depth ≤ depth)) }

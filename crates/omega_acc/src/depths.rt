@@ -22,7 +22,7 @@ impl Model for Depths {
 }
 
 impl Depths {
-    /// No depths.
+    /// Makes an empty stack.
     pub(crate) fn new(alloc: Global) -> Self
         ensures { result ≡ [] }
     {
@@ -31,7 +31,7 @@ impl Depths {
         }
     }
 
-    /// Puts a depth on top.
+    /// Pushes `depth`.
     pub(crate) fn push(&mut self, depth: u32) -> Result<(), Refusal>
         ensures ok { OnOk result (self.new ≡ depth ∷ self.old) }
         ensures err { IfErr result IsMemory }
@@ -40,14 +40,14 @@ impl Depths {
         Ok(())
     }
 
-    /// The depth on top, which stays, 0 where there is none.
+    /// Returns the depth on top without taking it, or 0 if the stack is empty.
     pub(crate) fn top(&self) -> u32
         ensures { result ≡ top_depth self.now }
     {
         self.items.as_slice().last().copied().unwrap_or(0)
     }
 
-    /// Takes the depth on top, 0 where there is none.
+    /// Pops the depth on top, or returns 0 if the stack is empty.
     pub(crate) fn pop(&mut self) -> u32
         ensures depth { result ≡ top_depth self.old }
         ensures rest { self.new ≡ depths_below self.old }

@@ -1,4 +1,4 @@
-//! Acceptance formulas: read, kept, and the kinds that they are of.
+//! Acceptance formulas: how they are read and kept, and their kinds.
 
 ghost use Rattle.std.specs.Prelude.{◌≡◌, ◌≤◌, max, IfErr, IfOk};
 ghost use Rattle.omega_acc.specs.formula.Acceptance.{acc_depth, conjunction, constant as constant_tree, disjunction, fin as fin_tree, inf as inf_tree};
@@ -23,8 +23,7 @@ use omega_text::{Refusal, Seq};
 use std::alloc::Global;
 use std::marker::Model;
 
-/// A node of an acceptance formula. Its parts stand before it; the truth value of an atom says whether `!` stands
-/// before its set.
+/// A node of an acceptance formula. Its parts precede it. The truth value of an atom says whether `!` precedes its set.
 #[derive(Clone, Copy, Debug, PartialEq, Eq)]
 pub(crate) enum AccNode {
     Constant(bool),
@@ -65,7 +64,7 @@ impl Model for Acc {
 impl Acc {
     ghost use Rattle.omega_acc.specs.private.layout.formula.Acceptance.{IsAcc, acc_postfix, acc_tree_of};
 
-    /// `t` or `f`. Refusal 60.
+    /// Makes the formula `t` or `f`.
     pub fn constant(alloc: Global, value: bool) -> Result<Acc, Refusal>
         ensures ok { IfOk result (λ formula. formula ≡ constant_tree value) }
         ensures err { IfErr result IsMemory }
@@ -76,7 +75,7 @@ impl Acc {
         })
     }
 
-    /// `Inf` of a set by its number, with `!` before it or without. Refusal 60.
+    /// Makes `Inf` of the number `set`, with `!` before it if `negated`.
     pub fn inf(alloc: Global, negated: bool, set: u32) -> Result<Acc, Refusal>
         ensures ok { IfOk result (λ formula. formula ≡ inf_tree negated set) }
         ensures err { IfErr result IsMemory }
@@ -87,7 +86,7 @@ impl Acc {
         })
     }
 
-    /// `Fin` of a set by its number, with `!` before it or without. Refusal 60.
+    /// Makes `Fin` of the number `set`, with `!` before it if `negated`.
     pub fn fin(alloc: Global, negated: bool, set: u32) -> Result<Acc, Refusal>
         ensures ok { IfOk result (λ formula. formula ≡ fin_tree negated set) }
         ensures err { IfErr result IsMemory }
@@ -98,7 +97,7 @@ impl Acc {
         })
     }
 
-    /// Both formulas joined by `&`. Refusal 32 where they would be too deep.
+    /// Joins both formulas by `&`. Refused with [AutomatonFault::TooDeep] if the result would be over 256 deep.
     pub fn and(self, other: Acc) -> Result<Acc, Refusal>
         ensures ok { IfOk result (λ formula. formula ≡ conjunction self other) }
         ensures err { IfErr result (IsDeeper (max (acc_depth self) (acc_depth other) ≡ most_depth)) }
@@ -111,7 +110,7 @@ impl Acc {
         })
     }
 
-    /// Both formulas joined by `|`. Refusal 32 where they would be too deep.
+    /// Joins both formulas by `|`. Refused with [AutomatonFault::TooDeep] if the result would be over 256 deep.
     pub fn or(self, other: Acc) -> Result<Acc, Refusal>
         ensures ok { IfOk result (λ formula. formula ≡ disjunction self other) }
         ensures err { IfErr result (IsDeeper (max (acc_depth self) (acc_depth other) ≡ most_depth)) }
@@ -124,7 +123,7 @@ impl Acc {
         })
     }
 
-    /// Its depth, at most 256.
+    /// Returns its depth, at most 256.
     pub fn depth(&self) -> u32
         ensures depth { result ≡ acc_depth self.now }
         ensures limit { acc_depth self.now ≤ most_depth }
@@ -132,7 +131,7 @@ impl Acc {
         self.depth
     }
 
-    /// The formula of nodes in postfix order and their depth.
+    /// Makes the formula of `nodes` in postfix order and their `depth`.
     pub(crate) fn of_nodes(nodes: Vec<AccNode>, depth: u32) -> Acc
         requires { IsAcc nodes.items depth }
         ensures { result ≡ acc_tree_of nodes.items }
@@ -143,7 +142,7 @@ impl Acc {
         }
     }
 
-    /// Its nodes, parts before their operators.
+    /// Returns its nodes, parts before their operators.
     pub(crate) fn nodes(&self) -> &[AccNode]
         ensures { result.now ≡ acc_postfix self.now }
     {

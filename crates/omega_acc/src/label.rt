@@ -25,10 +25,10 @@ use omega_text::{Refusal, Seq};
 use std::alloc::Global;
 use std::marker::Model;
 
-/// A node of a label, expanded or as it is written. Its parts stand before it;
-/// of an alias it has the length of the name.
+/// A node of a label, expanded or as it is written. Its parts precede it. The node of an alias has the length of its
+/// name.
 ///
-/// Both kinds of labels have the same nodes, so that one without aliases is expanded in the memory that it has.
+/// Both kinds of labels have the same nodes, so that a label without aliases is expanded in the memory that it has.
 #[derive(Clone, Copy, Debug, Default, PartialEq, Eq)]
 pub(crate) enum LabelNode {
     #[default]
@@ -43,8 +43,8 @@ pub(crate) enum LabelNode {
 
 /// A label without aliases and parentheses, at most 256 deep.
 ///
-/// Contracts see its tree. Reading, comparing and dropping it need no recursion. It takes 24 bytes, and memory only
-/// where it has a proposition from 250 on or over 21 atoms and operators.
+/// Contracts see its tree. Reading, comparing and dropping it need no recursion. It takes 24 bytes, and memory only if
+/// it has a proposition from 250 on or over 21 atoms and operators.
 #[derive(Debug, Drop)]
 pub struct Label {
     written: Compact,
@@ -70,14 +70,14 @@ impl Label {
     ghost use Rattle.omega_acc.specs.private.layout.label.Label.{IsLabelInPostfix, postfix, tree_of};
     ghost use Rattle.omega_acc.specs.Limits.{most_depth};
 
-    /// The count of its atoms and operators.
+    /// Returns the number of its atoms and operators.
     pub fn size(&self) -> usize
         ensures { result ≡ label_size self.now }
     {
         self.written.len()
     }
 
-    /// The label of nodes in postfix order.
+    /// Makes the label of `nodes` in postfix order.
     pub(crate) fn of_nodes(alloc: Global, nodes: Vec<LabelNode>) -> Result<Label, Refusal>
         requires { IsLabelInPostfix nodes.items }
         ensures ok { IfOk result (λ label. label ≡ tree_of nodes.items) }
@@ -91,7 +91,7 @@ impl Label {
         Ok(Label::of_written(Compact::of(alloc, notation)?))
     }
 
-    /// The label of what is written without aliases and parentheses; its depth there is not used.
+    /// Makes the label of `written`, which has no aliases and parentheses. Its depth is not used.
     pub(crate) fn of_written(written: Compact) -> Label
         requires { IsLabelInPostfix written.nodes }
         ensures { result ≡ tree_of written.nodes }
@@ -99,7 +99,7 @@ impl Label {
         Label { written }
     }
 
-    /// Its nodes, parts before their operators, in the room where they stand in place.
+    /// Returns its nodes, parts before their operators; those kept in place are decoded into `room`.
     pub(crate) fn nodes<'a>(&'a self, room: &'a mut [LabelNode; 21]) -> &'a [LabelNode]
         ensures nodes { result.now ≡ postfix self.now }
         ensures shallow { label_depth self.now ≤ most_depth }

@@ -1,4 +1,4 @@
-//! What holds of every kind and of all tokens: each call does nothing and states one law.
+//! Laws of every kind and of all tokens. Each function does nothing and states one law.
 
 ghost use Rattle.std.specs.Prelude.{◌≡◌};
 ghost use Rattle.std.specs.Bool.{Decides};
@@ -21,28 +21,28 @@ use omega_text::hoa::laws::{
 };
 use omega_text::laws::cuts_join;
 
-/// A parity formula holds of mark sets exactly if the greatest of their priorities is even.
+/// States that a parity formula holds of mark sets exactly if the greatest of their priorities is even.
 pub fn parity_is_priority()
     ensures { ParityIsPriority }
 {}
 
-/// A generalized Büchi formula holds of mark sets exactly if every set occurs in one of them.
+/// States that a generalized Büchi formula holds of mark sets exactly if every set occurs in one of them.
 pub fn buchi_is_every_set()
     ensures { BuchiIsEverySet }
 {}
 
-/// Of all tokens at most one label is read, and at most one rest is left.
+/// States that at most one label is read from any tokens, and that at most one rest is left.
 pub fn labels_are_one()
     ensures { LabelsAreOne }
 {}
 
-/// Of all tokens at most one acceptance formula is read, and at most one rest is left.
+/// States that at most one acceptance formula is read from any tokens, and that at most one rest is left.
 pub fn formulas_are_one()
     ensures { FormulasAreOne }
 {}
 
-/// Where the canonical text of a label stands, apart from what follows,
-/// there are the tokens of that label as it is written.
+/// States that the canonical text of a label, if it does not run into what follows, is cut into the tokens of that
+/// label as it is written.
 pub fn label_texts_are_labels()
     ensures { LabelTextsAreLabels }
 {
@@ -53,18 +53,18 @@ pub fn label_texts_are_labels()
     closed_are_longest();
 }
 
-/// A label as it is written means itself.
+/// States that a label as it is written means itself.
 pub fn written_labels_mean()
     ensures { WrittenLabelsMean }
 {}
 
-/// No expression that means a label is less deep than that label as it is written.
+/// States that no expression that means a label is less deep than that label as it is written.
 pub fn written_labels_are_shallowest()
     ensures { WrittenLabelsAreShallowest }
 {}
 
-/// Where the canonical text of an acceptance formula stands, apart from what follows, there are the tokens of that
-/// formula as it is written.
+/// States that the canonical text of an acceptance formula, if it does not run into what follows, is cut into the
+/// tokens of that formula as it is written.
 pub fn acc_texts_are_formulas()
     ensures { AccTextsAreFormulas }
 {
@@ -75,23 +75,24 @@ pub fn acc_texts_are_formulas()
     closed_are_longest();
 }
 
-/// An acceptance formula as it is written means itself.
+/// States that an acceptance formula as it is written means itself.
 pub fn written_formulas_mean()
     ensures { WrittenFormulasMean }
 {}
 
-/// No expression that means an acceptance formula is less deep than that formula as it is written.
+/// States that no expression that means an acceptance formula is less deep than that formula as it is written.
 pub fn written_formulas_are_shallowest()
     ensures { WrittenFormulasAreShallowest }
 {}
 
-/// `==` of two labels, expanded or as they are written, says whether they are the same tree.
+/// States that `==` of two labels, expanded or as they are written, decides whether they are the same tree.
 pub fn equal_labels_are_equal_trees()
     ensures labels { (one other : LabelTree) → Decides (⟦<Label as PartialEq>⟧.eq one other) (one ≡ other) }
     ensures raw_labels { (one other : RawLabelTree) → Decides (⟦<RawLabel as PartialEq>⟧.eq one other) (one ≡ other) }
 {}
 
-/// `==` of two acceptance formulas, with their meaning or as they are written, says whether they are the same tree.
+/// States that `==` of two acceptance formulas, with their meaning or as they are written, decides whether they are the
+/// same tree.
 pub fn equal_formulas_are_equal_trees()
     ensures formulas { (one other : AccTree) → Decides (⟦<Acc as PartialEq>⟧.eq one other) (one ≡ other) }
     ensures raw_formulas { (one other : RawAccTree) → Decides (⟦<RawAcc as PartialEq>⟧.eq one other) (one ≡ other) }

@@ -1,9 +1,9 @@
 //! Label and acceptance formulas of omega-automata, aliases, acceptance kinds and priorities.
 //!
-//! What belongs to labels stands in `label`, what belongs to acceptance formulas in `formula`; what both stand on,
+//! The module `label` has what belongs to labels, and `formula` what belongs to acceptance formulas. What both use is
 //! beside them.
 //!
-//! Numbers of refusals are those of `Refusal`; docs/formats.md says when each comes.
+//! docs/formats.md says when each `Refusal` comes.
 #![tactic(auto)]
 
 mod backward;

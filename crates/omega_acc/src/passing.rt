@@ -7,7 +7,7 @@ ghost use Rattle.omega_text.specs.declared.hoa.kind.HoaKind.TheVariants as kinds
 
 use omega_text::{HoaKind, Refusal, TextFault, TokenSource};
 
-/// Passes the next token if it is of a kind, and says whether it is.
+/// Passes the next token if it is of `kind`. Returns whether it is.
 pub(crate) fn is_passed<'a, S: TokenSource<'a, HoaKind>>(source: &mut S, kind: HoaKind) -> bool
     ensures passed { MatchBool result (PassesOne kind (S.left source.old) (S.left source.new)) (S.left source.new ≡ S.left source.old) }
     ensures other { MatchBool result (Unit {0}) (NextIsNot kind (S.left source.old)) }
@@ -25,7 +25,7 @@ pub(crate) fn is_passed<'a, S: TokenSource<'a, HoaKind>>(source: &mut S, kind: H
     }
 }
 
-/// Passes a token of a kind. Refusal 3 where the next is of another.
+/// Passes a token of `kind`. Refused with [TextFault::Syntax] if the next token is of another kind.
 pub(crate) fn pass<'a, S: TokenSource<'a, HoaKind>>(
     source: &mut S,
     kind: HoaKind,
@@ -41,7 +41,7 @@ pub(crate) fn pass<'a, S: TokenSource<'a, HoaKind>>(
     Err(Refusal::Text(TextFault::Syntax { at }))
 }
 
-/// Passes the next token if it is a number, and says which.
+/// Passes the next token if it is a number, and returns that number.
 pub(crate) fn passed_number<'a, S: TokenSource<'a, HoaKind>>(source: &mut S) -> Option<u32>
     ensures passed { MatchOption result (S.left source.new ≡ S.left source.old) (λ value. PassesNumber value (S.left source.old) (S.left source.new)) }
     ensures length { S.length source.new ≡ S.length source.old }
@@ -58,7 +58,7 @@ pub(crate) fn passed_number<'a, S: TokenSource<'a, HoaKind>>(source: &mut S) -> 
     }
 }
 
-/// Passes a number. Refusal 3 where none is next.
+/// Passes a number. Refused with [TextFault::Syntax] if the next token is no number.
 pub(crate) fn number<'a, S: TokenSource<'a, HoaKind>>(source: &mut S) -> Result<u32, Refusal>
     ensures ok { IfOk result (λ value. PassesNumber value (S.left source.old) (S.left source.new)) }
     ensures err { IfErr result (IsUnread (NextIsNot kinds.Int (S.left source.old))) }

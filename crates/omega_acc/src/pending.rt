@@ -7,7 +7,7 @@ use omega_text::Refusal;
 use std::alloc::Global;
 use std::marker::Model;
 
-/// What waits for a part to stand after it; an operator keeps the depth of its left part.
+/// A pending prefix, parenthesis or operator, whose part comes next. An operator keeps the depth of its left part.
 #[derive(Clone, Copy)]
 pub(crate) enum Pending {
     Open,
@@ -16,8 +16,8 @@ pub(crate) enum Pending {
     Or(u32),
 }
 
-/// What waits, the last on top: a byte for each, and the depths of operators beside them. Up to 24 and 16
-/// operators take no memory.
+/// A stack of pending prefixes, parentheses and operators: a byte for each, and the depths of operators beside them. Up
+/// to 24 of them, and 16 operators, take no memory.
 #[derive(Drop)]
 pub(crate) struct PendingStack {
     signs: Signs,
@@ -35,7 +35,7 @@ impl Model for PendingStack {
 }
 
 impl PendingStack {
-    /// Nothing waits.
+    /// Makes an empty stack.
     pub(crate) fn new(alloc: Global) -> Self
         ensures { result ≡ [] }
     {
@@ -45,7 +45,7 @@ impl PendingStack {
         }
     }
 
-    /// Puts one on top.
+    /// Pushes `pending`.
     #[inline]
     pub(crate) fn push(&mut self, pending: Pending) -> Result<(), Refusal>
         ensures ok { OnOk result (self.new ≡ pending ∷ self.old) }
@@ -65,7 +65,7 @@ impl PendingStack {
         }
     }
 
-    /// The one on top, which stays, none where nothing waits.
+    /// Returns the one on top without taking it, or none if the stack is empty.
     pub(crate) fn top(&self) -> Option<Pending>
         ensures { MatchOption result (self.now ≡ []) (λ pending. self.now ≡ pending ∷ drop 1 self.now) }
     {
@@ -78,7 +78,7 @@ impl PendingStack {
         Some(pending)
     }
 
-    /// Takes the one on top, none where nothing waits.
+    /// Pops the one on top, or returns none if the stack is empty.
     #[inline]
     pub(crate) fn pop(&mut self) -> Option<Pending>
         ensures { MatchOption result ((self.old ≡ []) × (self.new ≡ [])) (λ pending. self.old ≡ pending ∷ self.new) }

@@ -1,4 +1,4 @@
-//! Nodes in postfix order, and the names that stand beside them.
+//! Nodes in postfix order, and their names.
 
 ghost use Rattle.std.specs.Prelude.{◌≡◌, ◌∷◌, ◌++◌, [], IfErr, IfOk, OnOk};
 ghost use Rattle.omega_text.specs.Cases.{IsMemory};
@@ -6,7 +6,7 @@ ghost use Rattle.omega_text.specs.Cases.{IsMemory};
 use omega_text::{Refusal, Seq};
 use std::alloc::Global;
 
-/// One node.
+/// Makes a list of `node` alone.
 pub(crate) fn alone<N: Drop>(alloc: Global, node: N) -> Result<Seq<N>, Refusal>
     ensures ok { IfOk result (λ nodes. nodes ≡ node ∷ []) }
     ensures err { IfErr result IsMemory }
@@ -16,7 +16,7 @@ pub(crate) fn alone<N: Drop>(alloc: Global, node: N) -> Result<Seq<N>, Refusal>
     Ok(Seq::from_vec(nodes))
 }
 
-/// Nodes and one more.
+/// Appends `node` to `nodes`.
 pub(crate) fn with_one<N: Drop>(nodes: Seq<N>, node: N) -> Result<Seq<N>, Refusal>
     ensures ok { IfOk result (λ more. more ≡ nodes ++ node ∷ []) }
     ensures err { IfErr result IsMemory }
@@ -26,7 +26,7 @@ pub(crate) fn with_one<N: Drop>(nodes: Seq<N>, node: N) -> Result<Seq<N>, Refusa
     Ok(Seq::from_vec(nodes))
 }
 
-/// Nodes and more of them.
+/// Appends `others` to `nodes`.
 pub(crate) fn with_all<N: Copy>(nodes: Seq<N>, others: Seq<N>) -> Result<Seq<N>, Refusal>
     ensures ok { IfOk result (λ more. more ≡ nodes ++ others) }
     ensures err { IfErr result IsMemory }
@@ -36,7 +36,7 @@ pub(crate) fn with_all<N: Copy>(nodes: Seq<N>, others: Seq<N>) -> Result<Seq<N>,
     Ok(Seq::from_vec(nodes))
 }
 
-/// Appends the nodes and names of another part, and after them an operator.
+/// Appends the nodes and names of another part, and then `operator`.
 pub(crate) fn append<N: Copy + Drop>(
     nodes: &mut Vec<N>,
     names: &mut Vec<u8>,
@@ -54,7 +54,7 @@ pub(crate) fn append<N: Copy + Drop>(
     Ok(())
 }
 
-/// The same nodes in as much memory as they need.
+/// Copies `nodes` into as much memory as they need.
 pub(crate) fn fitted<N: Copy>(alloc: Global, nodes: &[N]) -> Result<Vec<N>, Refusal>
     ensures ok { IfOk result (λ copy. copy.items ≡ nodes.now) }
     ensures err { IfErr result IsMemory }

@@ -6,7 +6,7 @@ use smallvec::SmallVec;
 use std::alloc::Global;
 use std::marker::Model;
 
-/// What stands before a part of an expression, without what it says of it.
+/// A pending prefix operator or parenthesis, without its operand.
 #[derive(Clone, Copy, Default)]
 pub(crate) enum Sign {
     #[default]
@@ -16,7 +16,7 @@ pub(crate) enum Sign {
     Or,
 }
 
-/// Signs that wait for a part, the next on top. Up to 64 take no memory.
+/// A stack of signs pending for a part, the next on top. Up to 64 take no memory.
 #[derive(Drop)]
 pub(crate) struct Signs {
     items: SmallVec<Sign, 64>,
@@ -32,7 +32,7 @@ impl Model for Signs {
 }
 
 impl Signs {
-    /// Nothing waits.
+    /// Makes an empty stack.
     pub(crate) fn new(alloc: Global) -> Self
         ensures { result ≡ [] }
     {
@@ -41,7 +41,7 @@ impl Signs {
         }
     }
 
-    /// Puts one on top.
+    /// Pushes `sign`.
     pub(crate) fn push(&mut self, sign: Sign) -> Result<(), Refusal>
         ensures ok { OnOk result (self.new ≡ sign ∷ self.old) }
         ensures err { IfErr result IsMemory }
@@ -50,14 +50,14 @@ impl Signs {
         Ok(())
     }
 
-    /// The one on top, which stays, none where nothing waits.
+    /// Returns the sign on top without taking it, or none if the stack is empty.
     pub(crate) fn top(&self) -> Option<Sign>
         ensures { MatchOption result (self.now ≡ []) (λ sign. self.now ≡ sign ∷ drop 1 self.now) }
     {
         self.items.as_slice().last().copied()
     }
 
-    /// Takes the one on top, none where nothing waits.
+    /// Pops the sign on top, or returns none if the stack is empty.
     pub(crate) fn pop(&mut self) -> Option<Sign>
         ensures { MatchOption result ((self.old ≡ []) × (self.new ≡ [])) (λ sign. self.old ≡ sign ∷ self.new) }
     {

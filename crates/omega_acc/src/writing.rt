@@ -4,7 +4,7 @@ ghost use Rattle.std.specs.Prelude.{◌≡◌, ◌++◌, [], IfErr, OnErr, OnOk}
 ghost use Rattle.omega_text.specs.Cases.{IsMemory};
 ghost use Rattle.omega_acc.specs.Writing.{acc_text, label_text};
 ghost use Rattle.omega_acc.specs.private.layout.label.Label.{postfix};
-ghost use Rattle.omega_acc.specs.private.layout.Texts.{acc_texts_behind, texts_behind, whole_text};
+ghost use Rattle.omega_acc.specs.private.layout.Texts.{acc_texts_after, texts_after, whole_text};
 
 use crate::backward::Backward;
 use crate::formula::{Acc, AccNode};
@@ -12,8 +12,8 @@ use crate::label::codes::ROOM;
 use crate::label::{Label, LabelNode};
 use omega_text::Refusal;
 
-/// Appends the canonical text of a label: no spaces, and parentheses only where an operator needs them. After refusal
-/// 60 the vector is as before.
+/// Appends the canonical text of `label`: no spaces, and parentheses only if an operator needs them. After
+/// [Refusal::Memory] the vector is as before.
 pub fn write_label(label: &Label, out: &mut Vec<u8>) -> Result<(), Refusal>
     ensures ok { OnOk result (out.new.items ≡ out.old.items ++ (label_text label.now).bytes) }
     ensures same { OnErr result (out.new.items ≡ out.old.items) }
@@ -26,8 +26,8 @@ pub fn write_label(label: &Label, out: &mut Vec<u8>) -> Result<(), Refusal>
     Ok(())
 }
 
-/// Appends the canonical text of an acceptance formula: no spaces, and parentheses only where an operator needs them.
-/// After refusal 60 the vector is as before.
+/// Appends the canonical text of `formula`: no spaces, and parentheses only if an operator needs them. After
+/// [Refusal::Memory] the vector is as before.
 pub fn write_acc(formula: &Acc, out: &mut Vec<u8>) -> Result<(), Refusal>
     ensures ok { OnOk result (out.new.items ≡ out.old.items ++ (acc_text formula.now).bytes) }
     ensures same { OnErr result (out.new.items ≡ out.old.items) }
@@ -40,18 +40,18 @@ pub fn write_acc(formula: &Acc, out: &mut Vec<u8>) -> Result<(), Refusal>
     Ok(())
 }
 
-/// Writes a label before what is written.
+/// Writes `label` before the text so far.
 fn put_label(text: &mut Backward, label: &Label) -> Result<(), Refusal>
-    ensures ok { OnOk result (whole_text text.new [] ≡ whole_text text.old (texts_behind [] (postfix label.now))) }
+    ensures ok { OnOk result (whole_text text.new [] ≡ whole_text text.old (texts_after [] (postfix label.now))) }
     ensures err { IfErr result IsMemory }
 {
     let mut room = ROOM;
     put_nodes(text, label.nodes(&mut room))
 }
 
-/// Writes the nodes of a label before what is written.
+/// Writes the nodes of a label before the text so far.
 fn put_nodes(text: &mut Backward, nodes: &[LabelNode]) -> Result<(), Refusal>
-    ensures ok { OnOk result (whole_text text.new [] ≡ whole_text text.old (texts_behind [] nodes.now)) }
+    ensures ok { OnOk result (whole_text text.new [] ≡ whole_text text.old (texts_after [] nodes.now)) }
     ensures err { IfErr result IsMemory }
 {
     let mut left = nodes;
@@ -70,9 +70,9 @@ fn put_nodes(text: &mut Backward, nodes: &[LabelNode]) -> Result<(), Refusal>
     Ok(())
 }
 
-/// Writes the nodes of a formula before what is written.
+/// Writes the nodes of a formula before the text so far.
 fn put_formula(text: &mut Backward, nodes: &[AccNode]) -> Result<(), Refusal>
-    ensures ok { OnOk result (whole_text text.new [] ≡ whole_text text.old (acc_texts_behind [] nodes.now)) }
+    ensures ok { OnOk result (whole_text text.new [] ≡ whole_text text.old (acc_texts_after [] nodes.now)) }
     ensures err { IfErr result IsMemory }
 {
     let mut left = nodes;

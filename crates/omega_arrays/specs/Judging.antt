@@ -49,7 +49,7 @@ IsFinding nodes solution (Some found) = IsRefuted nodes solution found.0 found.1
 pub record IsJudgement (nodes : List Node) (solution : Solution) (verdict : Verdict) (stem stem' cycle cycle' : List ℕ) : Type 0 where
   pub found : Option (Player × Lasso)
   pub is_so : IsFinding nodes solution found
-  pub told : IsVerdictOf found verdict stem stem' cycle cycle'
+  pub reported : IsVerdictOf found verdict stem stem' cycle cycle'
 
 -- the refusal of judging what should be a solution of a game: it is none, or memory
 abbrev pub IsArraysSolutionRefusal : List Node → Solution → Refusal → Type 0

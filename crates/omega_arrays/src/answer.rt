@@ -12,7 +12,7 @@ use crate::arrays::Arrays;
 use crate::building::player_of;
 use crate::fault::WrongEntry;
 use crate::shape::{first_owner_above, miscounted};
-use omega_game::{Arena, Player, Refusal, Seq, Solution, Strategy};
+use omega_game::{ForwardGame, Player, Refusal, Seq, Solution, Strategy};
 use std::alloc::Global;
 
 /// The entry that stands for no choice, 2^32 - 1.
@@ -58,7 +58,7 @@ pub(crate) fn wrong_answer(
 
 /// Writes a solution into arrays.
 pub(crate) fn write_solution(
-    game: &Arena,
+    game: &ForwardGame,
     solution: &Solution,
     winners: &mut [u8],
     choices: &mut [u32],
@@ -184,7 +184,7 @@ fn choice_of(entry: u32) -> Option<u32>
 /// Whether what arrays hold, of which this is the solution, is a solution of the game.
 #[tactic(auto, using(crate::proofs::Answering::one_unfit, crate::proofs::Answering::zero_unfit))]
 pub(crate) fn is_solution(
-    game: &Arena,
+    game: &ForwardGame,
     solution: &Solution,
     winners: &[u8],
     choices: &[u32],
@@ -205,7 +205,7 @@ pub(crate) fn is_solution(
 }
 
 /// Whether a choice stands exactly where the owner wins.
-fn chooses_where_won(game: &Arena, winners: &[u8], choices: &[u32]) -> bool
+fn chooses_where_won(game: &ForwardGame, winners: &[u8], choices: &[u32]) -> bool
     requires winners { length winners.now ≡ length game.now }
     requires choices { length choices.now ≡ length game.now }
     ensures { IsTrue result ↔ ((v : ℕ) → v < length game.now → ChoosesWhereWon game.now winners.now choices.now v) }
@@ -220,7 +220,7 @@ fn chooses_where_won(game: &Arena, winners: &[u8], choices: &[u32]) -> bool
 }
 
 /// Whether a choice stands at a place if its owner wins, and else none.
-fn chooses_if_won(game: &Arena, place: u32, winner: u8, choice: u32) -> bool
+fn chooses_if_won(game: &ForwardGame, place: u32, winner: u8, choice: u32) -> bool
     requires { place < length game.now }
     ensures { IsTrue result ↔ ((choice ≢ no_choice) ↔ (owner_at game.now place ≡ player_of winner)) }
 {

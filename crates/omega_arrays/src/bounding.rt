@@ -11,7 +11,7 @@ ghost use Rattle.omega_arrays.specs.Solving.{or_shape};
 use crate::arrays::Arrays;
 use crate::building::built;
 use crate::fault::ArrayFault;
-use omega_game::{Arena, Player, bound};
+use omega_game::{ForwardGame, Player, bound};
 use std::alloc::Global;
 
 /// A bound on lifts, in two halves.
@@ -55,7 +55,7 @@ pub fn bound_arrays(alloc: Global, arrays: &Arrays<'_>) -> Result<Bounds, ArrayF
 }
 
 /// The bound for a player, in two halves.
-fn bound_for(game: &Arena, player: Player) -> Bound
+fn bound_for(game: &ForwardGame, player: Player) -> Bound
     ensures { IsBound player (priorities game.now) result }
 {
     match bound(game, player) {

@@ -8,14 +8,14 @@ ghost use Rattle.omega_arrays.specs.private.Specified.{spec_of, specs_below};
 
 use crate::arrays::Arrays;
 use omega_game::{
-    Arena, Game, GameBuilder, MOST_NODES, MOST_SUCCESSORS, Player, Refusal, games_have_no_fault,
-    specifications_have_one_game,
+    ForwardGame, Game, GameBuilder, MOST_NODES, MOST_SUCCESSORS, Player, Refusal,
+    games_have_no_fault, specifications_have_one_game,
 };
 use omega_text::GameFault;
 use std::alloc::Global;
 
 /// The game of arrays that stand for one, without predecessors. 13, 14 or 60.
-pub(crate) fn built(alloc: Global, arrays: &Arrays<'_>) -> Result<Arena, Refusal>
+pub(crate) fn built(alloc: Global, arrays: &Arrays<'_>) -> Result<ForwardGame, Refusal>
     requires { IsGameShape arrays.now }
     ensures game { IfOk result (λ game. game ≡ nodes_in arrays.now) }
     ensures count { IfOk result (λ game. length game ≡ node_count arrays.now) }
@@ -31,7 +31,7 @@ pub(crate) fn built(alloc: Global, arrays: &Arrays<'_>) -> Result<Arena, Refusal
         return Err(Refusal::Game(GameFault::TooManyEdges));
     }
     let nodes = collected(alloc, arrays)?;
-    nodes.finish_arena()
+    nodes.finish_forward()
 }
 
 /// The same with predecessors. 13, 14 or 60.
@@ -43,7 +43,7 @@ pub(crate) fn built_game(alloc: Global, arrays: &Arrays<'_>) -> Result<Game, Ref
     ensures refused { IfErr result (or_game (IsSizeFault arrays.now) (or_memory never)) }
 {
     match built(alloc, arrays) {
-        Ok(arena) => arena.with_predecessors(alloc),
+        Ok(forward) => forward.with_predecessors(alloc),
         Err(refusal) => Err(refusal),
     }
 }

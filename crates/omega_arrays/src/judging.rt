@@ -13,7 +13,7 @@ use crate::arrays::Arrays;
 use crate::building::built;
 use crate::copying::copied;
 use crate::fault::ArrayFault;
-use omega_game::{Arena, Lasso, Player, Refusal, Solution, TaskFault};
+use omega_game::{ForwardGame, Lasso, Player, Refusal, Solution, TaskFault};
 use omega_game_answers::lost_by;
 use std::alloc::Global;
 
@@ -55,13 +55,13 @@ pub fn verify_arrays(
     }
     let game = built(alloc, arrays)?;
     let found = judged(alloc, &game, winners, choices)?;
-    Ok(told(&found, stem, cycle))
+    Ok(reported(&found, stem, cycle))
 }
 
 /// Why the solution that arrays hold does not win, none where it does. 53 where it is no solution of the game, or 60.
 fn judged(
     alloc: Global,
-    game: &Arena,
+    game: &ForwardGame,
     winners: &[u8],
     choices: &[u32],
 ) -> Result<Option<(Player, Lasso)>, Refusal>
@@ -82,7 +82,7 @@ fn judged(
 /// Why a solution does not win, for the least player whose choices do not; none where they do. 60 alone.
 fn refuted(
     alloc: Global,
-    game: &Arena,
+    game: &ForwardGame,
     solution: &Solution,
 ) -> Result<Option<(Player, Lasso)>, Refusal>
     requires { IsSolution game.now solution.now }
@@ -99,7 +99,7 @@ fn refuted(
 }
 
 /// The verdict, and the places of a counterexample written.
-fn told(found: &Option<(Player, Lasso)>, stem: &mut [u32], cycle: &mut [u32]) -> Verdict
+fn reported(found: &Option<(Player, Lasso)>, stem: &mut [u32], cycle: &mut [u32]) -> Verdict
     ensures { IsVerdictOf found.now result stem.old stem.new cycle.old cycle.new }
 {
     match found {

@@ -8,15 +8,19 @@ ghost use Rattle.omega_solve.specs.Limits.{most_lifts};
 ghost use Rattle.omega_arrays.specs.Solving.{AreLifts, EndBoth, IsWholeRefusal};
 
 use crate::solving::Lifts;
-use omega_budget::{Reordered, Unwatched};
-use omega_game::{Arena, Player, Refusal, Seq, Solution, Strategy};
+use omega_budget::{NoObserver, Reordered};
+use omega_game::{ForwardGame, Player, Refusal, Seq, Solution, Strategy};
 use omega_game_answers::{fits_both, winners_of};
-use omega_region::{regions_are_apart, regions_cover};
+use omega_region_laws::{regions_are_apart, regions_cover};
 use std::alloc::Global;
 
 /// The solution of a game, by lifting for one player and then for the other, and how many lifts the runs made. Whether
 /// the tables of both fit is asked before either is lifted for, so that 50 comes before 51. 50, 51 or 60.
-pub(crate) fn lifted(alloc: Global, game: &Arena, budget: u64) -> Result<(Solution, Lifts), Refusal>
+pub(crate) fn lifted(
+    alloc: Global,
+    game: &ForwardGame,
+    budget: u64,
+) -> Result<(Solution, Lifts), Refusal>
     requires { budget ≤ most_lifts }
     ensures exact { IfOk result (λ found. IsExactSolution game.now found.0) }
     ensures lifts { IfOk result (λ found. EndBoth game.now budget found.1) }
@@ -30,7 +34,7 @@ pub(crate) fn lifted(alloc: Global, game: &Arena, budget: u64) -> Result<(Soluti
 /// The same of a game that is too wide for neither player. 51 or 60.
 fn lifted_for_both(
     alloc: Global,
-    game: &Arena,
+    game: &ForwardGame,
     reordered: &Reordered<'_>,
     budget: u64,
 ) -> Result<(Solution, Lifts), Refusal>
@@ -44,8 +48,8 @@ fn lifted_for_both(
     regions_are_apart();
     regions_cover();
     game.keeps_limits();
-    let zero = reordered.solve(alloc, Player::Zero, budget, &Unwatched, &mut ())?;
-    let one = reordered.solve(alloc, Player::One, budget, &Unwatched, &mut ())?;
+    let zero = reordered.solve(alloc, Player::Zero, budget, &NoObserver, &mut ())?;
+    let one = reordered.solve(alloc, Player::One, budget, &NoObserver, &mut ())?;
     let winners = winners_of(alloc, zero.won.as_slice())?;
     let lifts = Lifts {
         zero: zero.lifts,

@@ -13,7 +13,7 @@ use crate::building::built_game;
 use crate::fault::ArrayFault;
 use crate::lifting::lifted;
 use omega_game::{Game, Refusal, Solution};
-use omega_search::solve_by_search;
+use omega_judged_search::solve_by_search;
 use omega_solve::MOST_LIFTS;
 use std::alloc::Global;
 
@@ -53,7 +53,7 @@ pub fn solve_arrays(
     }
     let game = built_game(alloc, arrays)?;
     let (solution, lifts) = solved(alloc, &game, by_search, budget.min(MOST_LIFTS))?;
-    write_solution(game.arena(), &solution, winners, choices);
+    write_solution(game.forward(), &solution, winners, choices);
     Ok(lifts)
 }
 
@@ -72,5 +72,5 @@ fn solved(
     if by_search && let Some(solution) = solve_by_search(alloc, game)? {
         return Ok((solution, Lifts { zero: 0, one: 0 }));
     }
-    lifted(alloc, game.arena(), budget)
+    lifted(alloc, game.forward(), budget)
 }

@@ -19,8 +19,8 @@ named_by_place (next ∷ rest) name within = by_test (bytes_eq name next.name) (
 
 -- a name whose place is after the definitions is not there
 pub unnamed_by_place : (definitions : List Defined) (name : List ℕ) → length definitions ≤ place_among definitions name → is_named definitions name ≡ false
-unnamed_by_place [] name behind = refl
-unnamed_by_place (next ∷ rest) name behind = by_test (bytes_eq name next.name) (unnamed_by_place rest name) behind
+unnamed_by_place [] name following = refl
+unnamed_by_place (next ∷ rest) name following = by_test (bytes_eq name next.name) (unnamed_by_place rest name) following
   where
     by_test : (b : Bool) → (length rest ≤ place_among rest name → is_named rest name ≡ false) → length (next ∷ rest) ≤ cond b 0 (suc (place_among rest name)) → (b || is_named rest name) ≡ false
     by_test true later h = absurd (omega arith)

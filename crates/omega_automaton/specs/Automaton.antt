@@ -45,7 +45,7 @@ edges_of a = flat_map edges_from a.defined
 abbrev pub edge_count : Description → ℕ
 edge_count a = length (edges_of a)
 
--- the edge of a number, none where the number is not below the count of edges
+-- the edge of a number, or none if the number is not below the count of edges
 abbrev pub edge_at : Description → ℕ → Option BodyEdge
 edge_at a number = slice_get (edges_of a) number
 
@@ -54,7 +54,7 @@ abbrev pub has_repeat : {X : Type 0} → (X → X → Bool) → List X → Bool
 has_repeat same [] = false
 has_repeat same (x ∷ xs) = list_any (λ later. same later x) xs || has_repeat same xs
 
--- the sets of an acceptance formula from left to right, each as often as it stands there
+-- the sets of an acceptance formula from left to right, each as often as it occurs
 abbrev pub sets_of : AccTree → List ℕ
 sets_of (constant value) = []
 sets_of (inf negated set) = set ∷ []
@@ -62,7 +62,7 @@ sets_of (fin negated set) = set ∷ []
 sets_of (conjunction left right) = sets_of left ++ sets_of right
 sets_of (disjunction left right) = sets_of left ++ sets_of right
 
--- the tree nodes of a label, none where there is no label
+-- the tree nodes of a label, or none if there is no label
 abbrev pub size_of : Option LabelTree → ℕ
 size_of None = 0
 size_of (Some label) = label_size label

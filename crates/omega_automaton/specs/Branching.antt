@@ -9,5 +9,5 @@ abbrev pub state_branches : State → Bool
 state_branches state = list_any (λ edge. nat_lt 1 (length edge.targets)) state.edges
 
 -- whether a start or an edge lists two states or more
-abbrev pub has_branch : Description → Bool
-has_branch a = list_any (λ start. nat_lt 1 (length start)) a.starts || list_any state_branches a.defined
+abbrev pub has_universal_branching : Description → Bool
+has_universal_branching a = list_any (λ start. nat_lt 1 (length start)) a.starts || list_any state_branches a.defined

@@ -33,7 +33,7 @@ has_other_version raw = not (bytes_eq raw.version (codes "v1"))
 abbrev pub stands_twice : {X : Type 0} → (RawItem → Option X) → List RawItem → Bool
 stands_twice says items = nat_lt 1 (count_by (λ item. is_some (says item)) items)
 
--- 21: whether an item stands twice that may not repeat
+-- 21: whether an item that may not repeat is there twice
 unfoldable pub has_repeated_item : RawAutomaton → Bool
 has_repeated_item raw =
     stands_twice states_in raw.items || stands_twice propositions_in raw.items || stands_twice acceptance_in raw.items
@@ -63,12 +63,12 @@ are_out_of_range count (state ∷ states) = list_any (nat_le count) (state ∷ s
 abbrev pub is_out_of_range : ℕ → RawState → Bool
 is_out_of_range count state = nat_le count state.number || list_any (λ edge. are_out_of_range count edge.targets) state.edges
 
--- the greatest of what is given for each item of a list, 0 where there is none
+-- the greatest number that is given for an item of a list, or 0 for no items
 abbrev pub greatest_of : {X : Type 0} → (X → ℕ) → List X → ℕ
 greatest_of given [] = 0
 greatest_of given (x ∷ xs) = max (given x) (greatest_of given xs)
 
--- one more than the greatest of some numbers, 0 where there are none
+-- the greatest of some numbers plus one, or 0 without numbers
 abbrev pub count_above : List ℕ → ℕ
 count_above numbers = greatest_of (λ number. number + 1) numbers
 
@@ -80,7 +80,8 @@ item_bound item = count_above (unwrap_or (start_in item) [])
 abbrev pub state_bound : RawState → ℕ
 state_bound state = max (state.number + 1) (greatest_of (λ edge. count_above edge.targets) state.edges)
 
--- one more than the greatest state mentioned, 0 where none is; at most the greatest number of a text
+-- the greatest mentioned state plus one, or 0 if no state is; at most the greatest number of a text, so that the state
+-- 2147483647 is refused 24
 unfoldable pub mentioned_count : RawAutomaton → ℕ
 mentioned_count raw = min most_number (max (greatest_of item_bound raw.items) (greatest_of state_bound raw.states))
 
@@ -98,7 +99,7 @@ has_state_out_of_range raw =
 abbrev pub is_marked : (ℕ → Bool) → RawState → Bool
 is_marked test state = passes (list_any test) state.marks || list_any (λ edge. passes (list_any test) edge.marks) state.edges
 
--- the count of sets, 0 where there is no acceptance
+-- the count of sets, or 0 if there is no acceptance
 abbrev pub set_count : RawAutomaton → ℕ
 set_count raw = unwrap_or (option_map (λ accepted. accepted.count) (first_said acceptance_in raw.items)) 0
 
@@ -116,11 +117,11 @@ has_set_out_of_range raw =
 abbrev pub is_labelled : (RawLabelTree → Bool) → RawState → Bool
 is_labelled test state = passes test state.label || list_any (λ edge. passes test edge.label) state.edges
 
--- the count of propositions, 0 where there is no `AP:`
+-- the count of propositions, or 0 if there is no `AP:`
 abbrev pub proposition_count : RawAutomaton → ℕ
 proposition_count raw = unwrap_or (option_map (λ named. named.count) (first_said propositions_in raw.items)) 0
 
--- the names of the propositions, none where there is no `AP:`
+-- the names of the propositions, or none if there is no `AP:`
 abbrev pub names_of : RawAutomaton → List (List ℕ)
 names_of raw = unwrap_or (option_map (λ named. named.names) (first_said propositions_in raw.items)) []
 
@@ -167,7 +168,7 @@ has_state_twice raw = has_repeat nat_eq (map (λ state. state.number) raw.states
 abbrev pub has_label : RawEdge → Bool
 has_label edge = is_some edge.label
 
--- whether labels stand both on a state and on an edge of it, or on some of its edges alone
+-- whether labels are both on a state and on an edge of it, or on some of its edges alone
 abbrev pub is_mixed : RawState → Bool
 is_mixed state =
     list_any has_label state.edges && (is_some state.label || list_any (λ edge. not (has_label edge)) state.edges)
@@ -204,12 +205,12 @@ has_deep_expression raw =
     list_any (λ item. passes (λ accepted. nat_lt most_depth (raw_acc_depth accepted.formula)) (acceptance_in item)) raw.items
     || some_meaning is_deep raw
 
--- the tree nodes of what a label means, 0 where it means nothing
+-- the tree nodes of what a label means, or 0 if it means nothing
 abbrev pub size_of_meaning : Option Meaning → ℕ
 size_of_meaning None = 0
 size_of_meaning (Some meaning) = label_size meaning.tree
 
--- the tree nodes of a label with its aliases replaced, 0 where there is none
+-- the tree nodes of a label with its aliases replaced, or 0 if there is none
 abbrev pub size_under : List Defined → Option RawLabelTree → ℕ
 size_under definitions label = size_of_meaning (option_and_then (expansion definitions) label)
 
@@ -248,6 +249,6 @@ faults =
     Version ∷ RepeatedHeader ∷ MissingAcceptance ∷ UnknownHeader ∷ StateRange ∷ SetRange ∷ Proposition ∷ Alias ∷ StateTwice
     ∷ MixedLabels ∷ ImplicitCount ∷ AcceptanceAtom ∷ TooDeep ∷ Expansion ∷ []
 
--- the fault of an automaton text: of those that apply the one with the least number, none where none applies
+-- the fault of an automaton text: the one with the least number that applies, or none
 abbrev pub automaton_fault_of : RawAutomaton → Option AutomatonFault
 automaton_fault_of raw = find (applies raw) faults

@@ -69,6 +69,6 @@ abbrev pub unknown_in : RawItem → Option Header
 unknown_in (item.Unknown name values) = Some (record { name = name; values = values })
 unknown_in other = None
 
--- what the first of the items that say such a thing says, none where no item does
+-- what the first of the items that say such a thing says, or none if no item does
 abbrev pub first_said : {X : Type 0} → (RawItem → Option X) → List RawItem → Option X
 first_said says items = slice_get (filter_map says items) 0

@@ -1,4 +1,4 @@
--- What holds of faults and meanings, whatever the code does.
+-- Laws of faults and meanings, whatever the code does.
 use Rattle.std.specs.Prelude.{◌≡◌, ◌<◌, true, false, Some, None}
 use Rattle.omega_text.specs.Refusal.{automaton_number}
 use Rattle.omega_text.specs.declared.refusal.automaton.AutomatonFault.{AutomatonFault}
@@ -13,7 +13,7 @@ FaultsAreLeast =
     (raw : RawAutomaton) (fault : AutomatonFault) → automaton_fault_of raw ≡ Some fault
     → (applies raw fault ≡ true) × ((other : AutomatonFault) → automaton_number other < automaton_number fault → applies raw other ≡ false)
 
--- where there is no fault none applies
+-- if there is no fault, no fault applies
 abbrev pub NoFaultIsNone : Type 0
 NoFaultIsNone = (raw : RawAutomaton) (fault : AutomatonFault) → automaton_fault_of raw ≡ None → applies raw fault ≡ false
 
@@ -25,7 +25,7 @@ MeaningsAreOne = (raw : RawAutomaton) (a b : Description) → Means raw a → Me
 abbrev pub MeaningsHaveNoFault : Type 0
 MeaningsHaveNoFault = (raw : RawAutomaton) (a : Description) (fault : AutomatonFault) → Means raw a → applies raw fault ≡ false
 
--- where there is no fault there is a meaning: an automaton that is written has one fault or means one automaton
+-- if there is no fault, there is a meaning: an automaton that is written has one fault or means one automaton
 abbrev pub MeaningsAreThere : Type 0
 MeaningsAreThere = (raw : RawAutomaton) → automaton_fault_of raw ≡ None → (a : Description) × Means raw a
 

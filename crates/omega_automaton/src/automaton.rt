@@ -52,7 +52,7 @@ impl Automaton {
     ghost use Rattle.omega_automaton.specs.Automaton.{IsAutomaton, edge_count, edges_from};
     ghost use Rattle.omega_automaton.specs.private.layout.Draft.{described};
 
-    /// The automaton of what was gathered and of the parts made of it.
+    /// Makes the automaton of what was gathered and of the parts made of it.
     pub(crate) fn of_parts(
         alloc: Global,
         gathered: Gathered,
@@ -90,8 +90,8 @@ impl Automaton {
         }
     }
 
-    /// What each automaton keeps: numbers below their counts, each state defined at most once, and the limits. Does
-    /// nothing: it hands on what the type keeps.
+    /// States what each automaton keeps: numbers below their counts, each state defined at most once, and the limits.
+    /// Does nothing: it hands on the type's invariant.
     pub fn keeps_limits(&self)
         ensures { IsAutomaton self.now }
     {
@@ -99,14 +99,14 @@ impl Automaton {
         let _count = self.state_count;
     }
 
-    /// The tool that wrote it, if it says so.
+    /// Returns the tool that wrote it, if it says so.
     pub fn tool(&self) -> Option<&Tool>
         ensures { option_copied result ≡ self.now.tool }
     {
         self.tool.as_ref()
     }
 
-    /// Its name between the quotes, if it has one.
+    /// Returns its name between the quotes, if it has one.
     pub fn name(&self) -> Option<&[u8]>
         ensures { option_map (λ name. name.now) result ≡ self.now.name }
     {
@@ -116,70 +116,70 @@ impl Automaton {
         }
     }
 
-    /// The count of states, defined or not, at most 2,147,483,647 where it was read.
+    /// Returns the count of states, defined or not, which is at most 2,147,483,647 if the automaton was read.
     pub fn state_count(&self) -> u32
         ensures { result ≡ self.now.states }
     {
         self.state_count
     }
 
-    /// The initial choices in the order written, each with the states that it begins in at once.
+    /// Returns the initial choices in the order written, each with the states that it begins in at once.
     pub fn starts(&self) -> &[Numbers]
         ensures { result.now ≡ self.now.starts }
     {
         self.starts.as_slice()
     }
 
-    /// The names of the propositions between their quotes, at most 1,024, no two alike.
+    /// Returns the names of the propositions between their quotes, at most 1,024, no two alike.
     pub fn propositions(&self) -> &[ByteString]
         ensures { result.now ≡ self.now.propositions }
     {
         self.propositions.as_slice()
     }
 
-    /// The name of its acceptance, if it has one.
+    /// Returns the name of its acceptance, if it has one.
     pub fn acc_name(&self) -> Option<&AccName>
         ensures { option_copied result ≡ self.now.acc_name }
     {
         self.acc_name.as_ref()
     }
 
-    /// The count of sets.
+    /// Returns the count of sets.
     pub fn set_count(&self) -> u32
         ensures { result ≡ self.now.sets }
     {
         self.set_count
     }
 
-    /// Its acceptance formula, whose sets are below their count.
+    /// Returns its acceptance formula, whose sets are below their count.
     pub fn acceptance(&self) -> &Acc
         ensures { result.now ≡ self.now.acceptance }
     {
         &self.acceptance
     }
 
-    /// The properties of all items in the order written. They are not judged.
+    /// Returns the properties of all items in the order written. They are not judged.
     pub fn properties(&self) -> &[ByteString]
         ensures { result.now ≡ self.now.properties }
     {
         self.properties.as_slice()
     }
 
-    /// The headers that the format leaves open in the order written.
+    /// Returns the headers that the format leaves open in the order written.
     pub fn unknown(&self) -> &[Header]
         ensures { result.now ≡ self.now.unknown }
     {
         self.unknown.as_slice()
     }
 
-    /// The states that the body defines in the order written, each at most once.
+    /// Returns the states that the body defines in the order written, each at most once.
     pub fn defined(&self) -> &[State]
         ensures { result.now ≡ self.now.defined }
     {
         self.defined.as_slice()
     }
 
-    /// How many edges the defined states have.
+    /// Returns the number of edges of all defined states.
     pub fn edge_count(&self) -> u32
         ensures { result ≡ edge_count self.now }
     {

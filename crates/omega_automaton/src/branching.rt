@@ -1,14 +1,14 @@
 ghost use Rattle.std.specs.Prelude.{◌≡◌, nat_lt, length};
 ghost use Rattle.std.specs.List.{list_any};
-ghost use Rattle.omega_automaton.specs.Branching.{has_branch, state_branches};
+ghost use Rattle.omega_automaton.specs.Branching.{has_universal_branching, state_branches};
 
 use crate::automaton::Automaton;
 use crate::state::State;
 
 /// Whether a start or an edge lists two states or more, so that the automaton branches universally (HOA v1, section
-/// 3.2). A pass over the edges, or over those in front of the first that branches.
-pub fn has_branch(automaton: &Automaton) -> bool
-    ensures { result ≡ has_branch automaton.now }
+/// 3.2). Passes over the edges up to the first that branches, or over all.
+pub fn has_universal_branching(automaton: &Automaton) -> bool
+    ensures { result ≡ has_universal_branching automaton.now }
 {
     let at_start = start_branches(automaton);
     let in_body = body_branches(automaton);
@@ -32,7 +32,7 @@ fn body_branches(automaton: &Automaton) -> bool
         .any(|state| state_branches(state))
 }
 
-/// Whether an edge of a state lists two states or more.
+/// Whether an edge of `state` lists two states or more.
 fn state_branches(state: &State) -> bool
     ensures { result ≡ state_branches state.now }
 {

@@ -4,7 +4,7 @@ ghost use Rattle.std.specs.Option.{option_copied};
 use omega_acc::Label;
 use std::marker::Model;
 
-/// An edge among the edges of a state, wherever its parts stand. Contracts see the edge.
+/// An edge among the edges of a state, wherever its parts are kept. Contracts see the edge.
 #[derive(Debug, Drop)]
 pub struct EdgeRef<'a> {
     pub(crate) label: Option<&'a Label>,
@@ -27,21 +27,21 @@ impl<'a> Model for EdgeRef<'a> {
 }
 
 impl<'a> EdgeRef<'a> {
-    /// The label with its aliases replaced, or none.
+    /// Returns the label with its aliases replaced, or none.
     pub fn label(&self) -> Option<&'a Label>
         ensures { option_copied result ≡ self.now.label }
     {
         self.label
     }
 
-    /// The states that it leads to, at least one; two or more are a universal branch.
+    /// Returns the states that it leads to, at least one; two or more are a universal branch.
     pub fn targets(&self) -> &'a [u32]
         ensures { result.now ≡ self.now.targets }
     {
         self.targets
     }
 
-    /// The sets that it is in, rising, each once.
+    /// Returns the sets that it is in, rising, each once.
     pub fn marks(&self) -> &'a [u32]
         ensures { result.now ≡ self.now.marks }
     {

@@ -9,14 +9,14 @@ use std::marker::Model;
 
 /// The edges of a state in the order written. Contracts see the list of edges.
 ///
-/// Edges without labels that lead to one state and are in one set at most take 12 bytes each, where all edges of the
-/// state are such, else 64.
+/// An edge is short if it has no label, leads to one state and is in one set at most. Edges take 12 bytes each if all
+/// edges of the state are short, else 64.
 #[derive(Debug, Drop)]
 pub struct Edges {
     held: Held,
 }
 
-/// How the edges lie in memory.
+/// How the edges are kept in memory.
 #[derive(Debug, Drop)]
 enum Held {
     /// In compact form.
@@ -41,7 +41,7 @@ impl Model for Edges {
 }
 
 impl Edges {
-    /// These edges.
+    /// Makes the list of `edges`.
     pub fn from_seq(edges: Seq<Edge>) -> Edges
         ensures { result ≡ edges }
     {
@@ -50,7 +50,7 @@ impl Edges {
         }
     }
 
-    /// The edges that are written in short.
+    /// Makes the list of edges that are kept in compact form.
     pub(crate) fn from_short(edges: Seq<ShortEdge>) -> Edges
         ensures { result ≡ map expanded edges }
     {
@@ -59,7 +59,7 @@ impl Edges {
         }
     }
 
-    /// How many edges there are.
+    /// Returns the number of edges.
     pub fn len(&self) -> usize
         ensures { result ≡ length self.now }
     {
@@ -69,7 +69,7 @@ impl Edges {
         }
     }
 
-    /// The edge at a place, from 0 on.
+    /// Returns the edge at the index `at`, from 0.
     pub fn edge(&self, at: usize) -> EdgeRef<'_>
         requires { at < length self.now }
         ensures { result ≡ slice_index_or self.now at result }
@@ -81,7 +81,7 @@ impl Edges {
     }
 }
 
-/// The edge that is kept in short.
+/// Returns the edge that is kept in compact form.
 fn short_edge(edge: &ShortEdge) -> EdgeRef<'_>
     ensures { result ≡ expanded edge.now }
 {
@@ -96,7 +96,7 @@ fn short_edge(edge: &ShortEdge) -> EdgeRef<'_>
     }
 }
 
-/// The edge that is kept as it is.
+/// Returns the edge that is kept in full.
 fn full_edge(edge: &Edge) -> EdgeRef<'_>
     ensures { result ≡ edge.now }
 {

@@ -1,4 +1,5 @@
-//! Which meaning faults of an automaton text apply (docs/formats.md, meaning of an automaton text): a file a subject.
+//! The faults of an automaton text's meaning that apply (docs/formats.md, meaning of an automaton text): a file a
+//! subject.
 
 mod acceptance;
 mod body;

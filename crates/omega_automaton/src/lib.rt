@@ -1,6 +1,6 @@
-//! Omega-automata of the Hanoi format as values, and what an automaton that is written means.
+//! Omega-automata of the Hanoi format as values, and the meaning of an automaton that is written.
 //!
-//! Numbers of refusals are those of `Refusal`; docs/formats.md says when each comes.
+//! docs/formats.md says when each `Refusal` comes.
 #![tactic(auto)]
 
 mod automaton;
@@ -17,7 +17,7 @@ mod state;
 mod tool;
 
 pub use automaton::Automaton;
-pub use branching::has_branch;
+pub use branching::has_universal_branching;
 pub use edge::Edge;
 pub use edge_ref::EdgeRef;
 pub use edges::Edges;

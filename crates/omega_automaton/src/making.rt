@@ -1,4 +1,4 @@
-//! What an automaton that is written means (docs/formats.md, meaning of an automaton text): a file a part.
+//! The meaning of an automaton that is written (docs/formats.md, meaning of an automaton text): a file a part.
 ghost use Rattle.std.specs.Prelude.{◌≡◌, [], length, IfErr, IfOk};
 ghost use Rattle.std.specs.List.{flat_map};
 ghost use Rattle.omega_automaton.specs.Automaton.{edges_from};
@@ -29,12 +29,14 @@ use omega_raw::RawAutomaton;
 use omega_text::Refusal;
 use std::alloc::Global;
 
-/// The automaton that one means as it is written (HOA v1; docs/formats.md, meaning of an automaton text).
+/// Makes the automaton that `raw` means (HOA v1; docs/formats.md, meaning of an automaton text).
 ///
-/// Refusals 20 to 33 exactly by the fault with the least number that applies, and 60. The parts are moved and not
-/// copied, but for labels with aliases, which are replaced, and marks that do not rise. Takes time and memory by the
-/// length of what is written and by the size of the labels so replaced, and by nothing that a number in it says. More
-/// than 4,294,967,295 edges, which no text has, are refused 60.
+/// Refused exactly by the `AutomatonFault` with the least number that applies, or with [Refusal::Memory]. More than
+/// 4,294,967,295 edges, which no text has, are refused with [Refusal::Memory] too.
+///
+/// The parts are moved and not copied, except for labels with aliases, which are replaced, and marks that do not rise.
+/// Time and memory depend on the length of what is written and on the size of the labels so replaced, and on no number
+/// in it.
 pub fn automaton_of(alloc: Global, raw: RawAutomaton) -> Result<Automaton, Refusal>
     ensures ok { IfOk result (λ automaton. Means raw automaton) }
     ensures err { IfErr result (IsMeaningless raw) }
@@ -52,8 +54,8 @@ pub fn automaton_of(alloc: Global, raw: RawAutomaton) -> Result<Automaton, Refus
     ))
 }
 
-/// Gathers the items, and makes the body where none of the faults 27 to 33 applies. Refusals by the least of them,
-/// and 60.
+/// Gathers the items, and makes the body if none of the faults 27 to 33 applies. Refused with the least of them, or
+/// with [Refusal::Memory].
 fn body_with(
     alloc: Global,
     gathered: &mut Gathered,

@@ -2,5 +2,5 @@
 use Rattle.std.proofs.Common.{◌≡◌, ℕ, List, ◌++◌, ap, ◌∙◌, append_assoc}
 
 -- a part, and then another
-pub behind : {y z : List ℕ} (x a b : List ℕ) → y ≡ x ++ a → z ≡ y ++ b → z ≡ x ++ (a ++ b)
-behind {y} {z} x a b first second = second ∙ ap (λ list. list ++ b) first ∙ append_assoc x a b
+pub following : {y z : List ℕ} (x a b : List ℕ) → y ≡ x ++ a → z ≡ y ++ b → z ≡ x ++ (a ++ b)
+following {y} {z} x a b first second = second ∙ ap (λ list. list ++ b) first ∙ append_assoc x a b

@@ -4,8 +4,8 @@ use Rattle.std.specs.Prelude.{codes, nat_le, nat_lt}
 use Rattle.omega_acc.specs.Writing.{bracketed, label_text}
 use Rattle.omega_acc.specs.label.Label.{negation, proposition}
 use Rattle.omega_automaton_drawing.specs.Expressions.{named_text}
-use Rattle.omega_written.proofs.Valuations.{valuation_more}
-use Rattle.omega_written.specs.Labels.{literal, valuation_label}
+use Rattle.omega_edge_labels.proofs.Valuations.{valuation_more}
+use Rattle.omega_edge_labels.specs.Labels.{literal, valuation_label}
 
 -- a proposition and its negation bind tightly
 literal_tight : (set : Bool) (p : ℕ) → (label_text (cond set (proposition p) (negation (proposition p)))).rank ≡ 3

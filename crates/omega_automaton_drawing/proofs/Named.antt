@@ -106,7 +106,7 @@ module _ (names : List (List ℕ)) (few : length names ≤ most_propositions) wh
       (label_makes left (front_all P (propositions left) (propositions right) below)))
       (brackets_make (nat_le (label_text right).rank 2) (label_text right).bytes (named_text names right)
       (label_makes right (back_all P (propositions left) (propositions right) below)))
-      (λ behind number. refl) (λ behind. refl) rest ends
+      (λ following number. refl) (λ following. refl) rest ends
   label_makes (disjunction left right) below rest ends =
       let P : ℕ → Type 0 = λ n. n < length names in
       join_makes 124 (bracketed (nat_lt (label_text left).rank 1) (label_text left).bytes) (bracketed (nat_le (label_text right).rank 1) (label_text right).bytes)
@@ -115,7 +115,7 @@ module _ (names : List (List ℕ)) (few : length names ≤ most_propositions) wh
       (label_makes left (front_all P (propositions left) (propositions right) below)))
       (brackets_make (nat_le (label_text right).rank 1) (label_text right).bytes (named_text names right)
       (label_makes right (back_all P (propositions left) (propositions right) below)))
-      (λ behind number. refl) (λ behind. refl) rest ends
+      (λ following number. refl) (λ following. refl) rest ends
 
   -- the whole text of a label makes the whole
   pub label_named : (tree : LabelTree) → AreBelow (length names) (propositions tree) → with_names names None (label_text tree).bytes ≡ named_text names tree

@@ -5,7 +5,7 @@ use Rattle.omega_automaton.specs.declared.edge.Edge.{Edge}
 use Rattle.omega_automaton.specs.declared.state.State.{State}
 use Rattle.omega_automaton_drawing.specs.Expressions.{named_text}
 use Rattle.omega_automaton_drawing.specs.States.{marks_line}
-use Rattle.omega_written.specs.Labels.{valuation_label}
+use Rattle.omega_edge_labels.specs.Labels.{valuation_label}
 use Rattle.omega_automaton_drawing.specs.declared.role.Role.{Role}
 use Rattle.omega_automaton_drawing.specs.declared.role.Role.TheVariants.{Cycle, Plain, Stem}
 use Rattle.omega_dot.specs.Labels.{line_end}

@@ -2,7 +2,7 @@
 use Rattle.std.specs.Prelude.{ℕ, ◌&&◌, ◌||◌, Bool, not, if◌then◌else◌, List, [], ◌++◌, codes, slice_index_or}
 use Rattle.std.specs.Str.{bytes_eq}
 use Rattle.omega_dot.specs.Labels.{escaped}
-use Rattle.omega_written.specs.Names.{is_identifier}
+use Rattle.omega_edge_labels.specs.Names.{is_identifier}
 
 -- whether a name is that of a constant, `t` or `f`
 abbrev pub is_constant : List ℕ → Bool

@@ -4,8 +4,8 @@ ghost use Rattle.std.specs.Prelude.{◌≡◌, ◌++◌, IsOkUnless, OnOk};
 ghost use Rattle.omega_automaton_drawing.specs.Names.{drawn_name, is_constant as is_name_of_constant, name_at};
 
 use omega_dot::write_escaped;
+use omega_edge_labels::is_identifier;
 use omega_text::{ByteString, Refusal};
-use omega_written::is_identifier;
 
 /// Appends the name of the proposition of a number; empty quotes where there is none, as in no automaton.
 pub(crate) fn write_name_at(

@@ -150,14 +150,14 @@ pub(crate) fn write_marks(marks: &[u32], out: &mut Vec<u8>) -> Result<(), Refusa
     if let [first, others @ ..] = marks {
         out.push(b'{')?;
         write_number(u128::from(*first), out)?;
-        write_numbers_behind(others, out)?;
+        write_numbers_after(others, out)?;
         out.extend_from_slice(b"}\\n")?;
     }
     Ok(())
 }
 
 /// Appends numbers with a space before each.
-fn write_numbers_behind(numbers: &[u32], out: &mut Vec<u8>) -> Result<(), Refusal>
+fn write_numbers_after(numbers: &[u32], out: &mut Vec<u8>) -> Result<(), Refusal>
     ensures ok { OnOk result (out.new.items ≡ out.old.items ++ spaced_numbers numbers.now) }
     ensures memory { IsOkUnless result Refusal.Memory }
 {

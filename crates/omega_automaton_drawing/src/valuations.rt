@@ -2,11 +2,11 @@
 
 ghost use Rattle.std.specs.Prelude.{◌≡◌, ◌++◌, IsOkUnless, OnOk, length};
 ghost use Rattle.omega_automaton_drawing.specs.Expressions.{named_text};
-ghost use Rattle.omega_written.specs.Labels.{literal, valuation_label};
+ghost use Rattle.omega_edge_labels.specs.Labels.{literal, valuation_label};
 
 use crate::names::write_name_at;
+use omega_edge_labels::has_bit;
 use omega_text::{ByteString, Refusal};
-use omega_written::has_bit;
 
 /// Appends the label of the valuation of an index over all propositions.
 pub(crate) fn write_valuation(

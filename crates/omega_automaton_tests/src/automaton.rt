@@ -1,5 +1,3 @@
 //! What texts mean, and which refusal they have.
 mod faults;
-mod ladder;
-mod limits;
 pub(crate) mod values;

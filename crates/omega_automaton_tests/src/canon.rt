@@ -2,7 +2,7 @@
 use crate::outcomes::{assert_row, is_text};
 use crate::texts::meaning;
 use omega_canon::canonical;
-use omega_text::{Refusal, write_number};
+use omega_text::Refusal;
 use std::alloc::Global;
 
 // The canonical text of what a text means.
@@ -82,60 +82,4 @@ fn canonical_texts_are_their_own(rt: HostRuntime) {
             is_text(canon(rt.alloc(), wanted.as_bytes()), wanted),
         );
     }
-}
-
-// An automaton of one proposition with aliases `@a0` as `0&0` and each next one as the one before it twice,
-// up to this one.
-fn doubling(alloc: Global, last: u32) -> Result<Vec<u8>, Refusal> {
-    let mut text = Vec::new(alloc);
-    text.extend_from_slice(b"HOA: v1 AP: 1 \"a\" Acceptance: 0 t Alias: @a0 0&0")?;
-    for number in 1..=last {
-        put_alias(&mut text, number)?;
-    }
-    text.extend_from_slice(b" --BODY-- State: [@a")?;
-    write_number(u128::from(last), &mut text)?;
-    text.extend_from_slice(b"] 0 --END--")?;
-    Ok(text)
-}
-
-// The definition of an alias as the one before it twice.
-fn put_alias(text: &mut Vec<u8>, number: u32) -> Result<(), Refusal> {
-    let before = u128::from(number.saturating_sub(1));
-    text.extend_from_slice(b" Alias: @a")?;
-    write_number(u128::from(number), text)?;
-    text.extend_from_slice(b" @a")?;
-    write_number(before, text)?;
-    text.extend_from_slice(b"&@a")?;
-    write_number(before, text)
-}
-
-// The canonical text of such an automaton.
-fn canon_of_doubling(alloc: Global, last: u32) -> Result<Vec<u8>, Refusal> {
-    match doubling(alloc, last) {
-        Ok(text) => canon(alloc, text.as_slice()),
-        Err(refusal) => Err(refusal),
-    }
-}
-
-// Whether a text is its own canonical text.
-fn is_own(alloc: Global, text: &[u8]) -> bool {
-    match canon(alloc, text) {
-        Ok(twice) => twice.as_slice() == text,
-        Err(_) => false,
-    }
-}
-
-// Whether the canonical text of such an automaton is so long, and its own canonical text.
-fn is_long(alloc: Global, last: u32, length: usize) -> bool {
-    match canon_of_doubling(alloc, last) {
-        Ok(once) => once.len() == length && is_own(alloc, once.as_slice()),
-        Err(_) => false,
-    }
-}
-
-// The 32,768 propositions with an operator between each two, and parentheses round each right part but the least ones.
-#[test]
-fn doubling_aliases_are_written_out(rt: HostRuntime) {
-    assert!(rt; is_long(rt.alloc(), 2, 94));
-    assert!(rt; is_long(rt.alloc(), 14, 98_374));
 }

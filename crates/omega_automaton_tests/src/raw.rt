@@ -13,8 +13,8 @@ fn outcome(alloc: Global, text: &[u8]) -> (u32, usize) {
 }
 
 // Whether the text of two parts has this number, and the place between them.
-fn is_outcome(alloc: Global, front: &str, behind: &str, number: u32) -> bool {
-    match text_of(alloc, &[(front, 1), (behind, 1)]) {
+fn is_outcome(alloc: Global, front: &str, following: &str, number: u32) -> bool {
+    match text_of(alloc, &[(front, 1), (following, 1)]) {
         Ok(text) => outcome(alloc, text.as_slice()) == (number, front.len()),
         Err(_) => false,
     }
@@ -139,15 +139,15 @@ static BROKEN: [(&str, &str); 71] = [
 
 #[test]
 fn texts_of_the_grammar_are_read(rt: HostRuntime) {
-    for (row, (front, behind)) in ACCEPTED.iter().enumerate() {
-        assert_row(&rt, row, is_outcome(rt.alloc(), front, behind, 0));
+    for (row, (front, following)) in ACCEPTED.iter().enumerate() {
+        assert_row(&rt, row, is_outcome(rt.alloc(), front, following, 0));
     }
 }
 
 #[test]
 fn other_texts_are_refused(rt: HostRuntime) {
-    for (row, (front, behind)) in BROKEN.iter().enumerate() {
-        assert_row(&rt, row, is_outcome(rt.alloc(), front, behind, 3));
+    for (row, (front, following)) in BROKEN.iter().enumerate() {
+        assert_row(&rt, row, is_outcome(rt.alloc(), front, following, 3));
     }
 }
 

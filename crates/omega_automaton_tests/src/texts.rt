@@ -8,7 +8,7 @@ use std::alloc::Global;
 pub(crate) type Piece<'a> = (&'a str, usize);
 
 /// Puts a piece so many times at the end of a text.
-pub(crate) fn put_many(text: &mut Vec<u8>, piece: &str, count: usize) -> Result<(), Refusal> {
+fn put_many(text: &mut Vec<u8>, piece: &str, count: usize) -> Result<(), Refusal> {
     for _ in 0..count {
         text.extend_from_slice(piece.as_bytes())?;
     }
@@ -31,15 +31,18 @@ pub(crate) fn text_with(
     items: &str,
     body: &str,
 ) -> Result<Vec<u8>, Refusal> {
-    let mut text = Vec::new(alloc);
-    put_many(&mut text, "HOA: ", 1)?;
-    put_many(&mut text, version, 1)?;
-    put_many(&mut text, " ", 1)?;
-    put_many(&mut text, items, 1)?;
-    put_many(&mut text, " --BODY-- ", 1)?;
-    put_many(&mut text, body, 1)?;
-    put_many(&mut text, " --END--", 1)?;
-    Ok(text)
+    text_of(
+        alloc,
+        &[
+            ("HOA: ", 1),
+            (version, 1),
+            (" ", 1),
+            (items, 1),
+            (" --BODY-- ", 1),
+            (body, 1),
+            (" --END--", 1),
+        ],
+    )
 }
 
 /// What a text is read as: the automaton as it is written, and where the cursor then stands.

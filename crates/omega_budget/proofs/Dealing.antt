@@ -1,42 +1,42 @@
--- What budgets are dealt out to in the other game, they are dealt out to in the game itself.
+-- Budgets dealt out in the reordered game are dealt out in the original game.
 use Rattle.std.proofs.Common.{◌≡◌, ◌∙◌, ◌<◌, ◌++◌, ℕ, Bool, true, false, List, [], ◌∷◌, length, map, get_or, replicate, ap, ap₂, arith, refl, subst, sym}
 use Rattle.std.proofs.lemmas.List.{ext_get_or, get_or-map, get_or-replicate, length-map, length-replicate, length_push}
 use Rattle.omega_game.specs.declared.player.Player.{Player}
 use Rattle.omega_game.specs.Bound.{bound_of}
 use Rattle.omega_game.specs.Game.{Node, IsGame, priorities}
-use Rattle.omega_lift.specs.Laws.{RunsAreBounded}
-use Rattle.omega_lift.specs.Measure.{Measure, zero_measure}
-use Rattle.omega_lift.specs.Run.{IsDue, IsLiftingRun, zero_table}
+use Rattle.omega_lift_laws.specs.Laws.{RunsAreBounded}
+use Rattle.omega_lift_laws.specs.Measure.{Measure, zero_measure}
+use Rattle.omega_lift_laws.specs.Run.{IsDue, IsLiftingRun, zero_table}
 use Rattle.omega_solve.specs.Headline.{DealsOut, Headline, Runs}
 use Rattle.omega_solve.specs.Schedule.{all_pending}
 use Rattle.omega_solve.specs.Solver.{SolverState, start_of}
 use Rattle.omega_budget.specs.Laws.{HeadlineByPlace}
 use Rattle.omega_budget.specs.Reordering.{IsReordering, flags_by_place, measures_by_place, state_by_place}
 use Rattle.omega_budget.specs.Within.{GoesOnAfter}
-use Rattle.omega_budget.proofs.Games.{IsClosed, edge_from, rank_below}
+use Rattle.omega_budget.proofs.Games.{IsClosed, edge_from, position_below}
 use Rattle.omega_budget.proofs.Lifting.{due_here, run_here, run_long, stable_here, zeros_here}
 
-module _ (nodes other : List Node) (ranks places : List ℕ) (reordering : IsReordering nodes other ranks places) (closed : IsClosed nodes) where
-  -- all places are pending where all ranks are
-  all_pending_here : flags_by_place ranks (replicate (length other) true) ≡ replicate (length nodes) true
+module _ (nodes other : List Node) (positions places : List ℕ) (reordering : IsReordering nodes other positions places) (closed : IsClosed nodes) where
+  -- all places are pending if all positions are
+  all_pending_here : flags_by_place positions (replicate (length other) true) ≡ replicate (length nodes) true
   all_pending_here = ext_get_or false _ _ even entry
     where
-      even : length (flags_by_place ranks (replicate (length other) true)) ≡ length (replicate (length nodes) true)
+      even : length (flags_by_place positions (replicate (length other) true)) ≡ length (replicate (length nodes) true)
       even =
-          length-map ranks (λ r. get_or (replicate (length other) true) r false) ∙ reordering.ranked
+          length-map positions (λ r. get_or (replicate (length other) true) r false) ∙ reordering.positioned
           ∙ sym (length-replicate (length nodes) true)
 
-      entry : (k : ℕ) → k < length (flags_by_place ranks (replicate (length other) true))
-          → get_or (flags_by_place ranks (replicate (length other) true)) k false ≡ get_or (replicate (length nodes) true) k false
+      entry : (k : ℕ) → k < length (flags_by_place positions (replicate (length other) true))
+          → get_or (flags_by_place positions (replicate (length other) true)) k false ≡ get_or (replicate (length nodes) true) k false
       entry k below =
-          let inside : k < length ranks = omega (arith, below, length-map ranks (λ r. get_or (replicate (length other) true) r false)) in
-          let small : k < length nodes = omega (arith, inside, reordering.ranked) in
-          get_or-map (λ r. get_or (replicate (length other) true) r false) ranks k 0 false inside
-          ∙ get_or-replicate (length other) (get_or ranks k 0) true false (rank_below nodes other ranks places reordering k small)
+          let inside : k < length positions = omega (arith, below, length-map positions (λ r. get_or (replicate (length other) true) r false)) in
+          let small : k < length nodes = omega (arith, inside, reordering.positioned) in
+          get_or-map (λ r. get_or (replicate (length other) true) r false) positions k 0 false inside
+          ∙ get_or-replicate (length other) (get_or positions k 0) true false (position_below nodes other positions places reordering k small)
           ∙ sym (get_or-replicate (length nodes) k true false small)
 
-  -- a new solver of the other game, said by place, is a new solver of the game
-  start_here : (player : Player) → state_by_place nodes ranks (start_of other player) ≡ start_of nodes player
+  -- a new solver for the reordered game, restated by place, is a new solver for the original game
+  start_here : (player : Player) → state_by_place nodes positions (start_of other player) ≡ start_of nodes player
   start_here player =
       ap₂ (λ (measures : List Measure) (flags : List Bool). record {
         nodes = nodes;
@@ -45,27 +45,27 @@ module _ (nodes other : List Node) (ranks places : List ℕ) (reordering : IsReo
         pending = record { flags = flags; taken = 0 };
         lifts = 0;
         done = false;
-      }) (zeros_here nodes other ranks places reordering closed player) all_pending_here
+      }) (zeros_here nodes other positions places reordering closed player) all_pending_here
 
-  -- a call of `run` on the other game is one on the game itself
+  -- a call of `run` on the reordered game is one on the original game
   call_here : (old new : SolverState) (budget : ℕ) → old.nodes ≡ other → length old.table.measures ≡ length other → Runs old budget new
-      → Runs (state_by_place nodes ranks old) budget (state_by_place nodes ranks new)
+      → Runs (state_by_place nodes positions old) budget (state_by_place nodes positions new)
   call_here old new budget here long ran = record {
     same_nodes = refl;
     same_player = ran.same_player;
     lifted = record {
       places = map (λ r. get_or places r 0) ran.lifted.places;
-      lifted = run_here nodes other ranks places reordering closed old.player old.table.measures new.table.measures ran.lifted.places long run_there;
+      lifted = run_here nodes other positions places reordering closed old.player old.table.measures new.table.measures ran.lifted.places long run_there;
       counted = omega (arith, ran.lifted.counted, length-map ran.lifted.places (λ r. get_or places r 0));
       within = omega (arith, ran.lifted.within, length-map ran.lifted.places (λ r. get_or places r 0));
     };
-    done = λ done. stable_here nodes other ranks places reordering closed new.player new.table.measures new_long
+    done = λ done. stable_here nodes other positions places reordering closed new.player new.table.measures new_long
         (subst (λ (n : List Node). (v : ℕ) → v < length n → ¬ IsDue n new.player new.table.measures v) there (ran.done done));
     spent = λ still. (
       (ran.spent still).0,
       (
         get_or places (ran.spent still).1.0 0,
-        due_here nodes other ranks places reordering closed new.player new.table.measures (ran.spent still).1.0
+        due_here nodes other positions places reordering closed new.player new.table.measures (ran.spent still).1.0
             (subst (λ (n : List Node). IsDue n new.player new.table.measures (ran.spent still).1.0) there (ran.spent still).1.1),
       ),
     );
@@ -82,21 +82,21 @@ module _ (nodes other : List Node) (ranks places : List ℕ) (reordering : IsReo
 
   -- and so are many
   deals_here : (old new : SolverState) (budgets : List ℕ) → old.nodes ≡ other → length old.table.measures ≡ length other → DealsOut old budgets new
-      → DealsOut (state_by_place nodes ranks old) budgets (state_by_place nodes ranks new)
-  deals_here old new [] here long same = ap (state_by_place nodes ranks) same
+      → DealsOut (state_by_place nodes positions old) budgets (state_by_place nodes positions new)
+  deals_here old new [] here long same = ap (state_by_place nodes positions) same
   deals_here old new (budget ∷ budgets) here long (next, ran, dealt) = (
-    state_by_place nodes ranks next,
+    state_by_place nodes positions next,
     call_here old next budget here long ran,
     deals_here next new budgets (ran.same_nodes ∙ here)
         (run_long old.nodes old.player old.table.measures next.table.measures ran.lifted.places ran.lifted.lifted ∙ long) dealt,
   )
 
--- the headline of a solver of the game itself, of one of the other game
+-- the headline of a solver for the original game gives that of a solver for the reordered game
 pub by_place : Headline → HeadlineByPlace
-by_place headline nodes other ranks places player budgets solver game reordering dealt =
-    headline nodes player budgets (state_by_place nodes ranks solver) game
-    (subst (λ (s : SolverState). DealsOut s budgets (state_by_place nodes ranks solver)) (start_here nodes other ranks places reordering closed player)
-    (deals_here nodes other ranks places reordering closed (start_of other player) solver budgets refl start_long dealt))
+by_place headline nodes other positions places player budgets solver game reordering dealt =
+    headline nodes player budgets (state_by_place nodes positions solver) game
+    (subst (λ (s : SolverState). DealsOut s budgets (state_by_place nodes positions solver)) (start_here nodes other positions places reordering closed player)
+    (deals_here nodes other positions places reordering closed (start_of other player) solver budgets refl start_long dealt))
   where
     closed : IsClosed nodes
     closed v w lt edge = game.closed v w edge

@@ -25,29 +25,29 @@ edge_from nodes v w edge = elim (cases_lt v (length nodes)) [
       absurd (Contains-nothing w (subst (λ (node : Node). Contains node.successors w) (get_or_past nodes v no_node (omega (arith, past))) edge))
 ]
 
-module _ (nodes other : List Node) (ranks places : List ℕ) (reordering : IsReordering nodes other ranks places) where
-  -- a place has a rank that is a place of the other game, and leads back
-  pub rank_below : (v : ℕ) → v < length nodes → get_or ranks v 0 < length other
-  rank_below v lt = omega (arith, (reordering.inverse.ranked v (omega (arith, reordering.ranked))).0, reordering.placed, reordering.entries)
+module _ (nodes other : List Node) (positions places : List ℕ) (reordering : IsReordering nodes other positions places) where
+  -- a place has a position that is a place of the reordered game, and leads back
+  pub position_below : (v : ℕ) → v < length nodes → get_or positions v 0 < length other
+  position_below v lt = omega (arith, (reordering.inverse.positioned v (omega (arith, reordering.positioned))).0, reordering.placed, reordering.entries)
 
-  pub place_of_rank : (v : ℕ) → v < length nodes → get_or places (get_or ranks v 0) 0 ≡ v
-  place_of_rank v lt = (reordering.inverse.ranked v (omega (arith, reordering.ranked))).1
+  pub place_of_position : (v : ℕ) → v < length nodes → get_or places (get_or positions v 0) 0 ≡ v
+  place_of_position v lt = (reordering.inverse.positioned v (omega (arith, reordering.positioned))).1
 
   pub place_below : (r : ℕ) → r < length other → get_or places r 0 < length nodes
-  place_below r lt = omega (arith, (reordering.inverse.placed r (omega (arith, reordering.placed, reordering.entries))).0, reordering.ranked)
+  place_below r lt = omega (arith, (reordering.inverse.placed r (omega (arith, reordering.placed, reordering.entries))).0, reordering.positioned)
 
-  pub rank_of_place : (r : ℕ) → r < length other → get_or ranks (get_or places r 0) 0 ≡ r
-  rank_of_place r lt = (reordering.inverse.placed r (omega (arith, reordering.placed, reordering.entries))).1
+  pub position_of_place : (r : ℕ) → r < length other → get_or positions (get_or places r 0) 0 ≡ r
+  position_of_place r lt = (reordering.inverse.placed r (omega (arith, reordering.placed, reordering.entries))).1
 
-  -- the nodes of the other game, by their ranks
-  pub moved_to : (r : ℕ) → r < length other → IsMoved ranks (node_at nodes (get_or places r 0)) (node_at other r)
+  -- the nodes of the reordered game, by their positions
+  pub moved_to : (r : ℕ) → r < length other → IsMoved positions (node_at nodes (get_or places r 0)) (node_at other r)
   moved_to r lt =
-      subst (λ (i : ℕ). IsMoved ranks (node_at nodes (get_or places r 0)) (node_at other i)) (rank_of_place r lt)
+      subst (λ (i : ℕ). IsMoved positions (node_at nodes (get_or places r 0)) (node_at other i)) (position_of_place r lt)
       (reordering.moved (get_or places r 0) (place_below r lt))
 
-  priority_of : (v : ℕ) → v < length nodes → get_or (priorities other) (get_or ranks v 0) 0 ≡ get_or (priorities nodes) v 0
+  priority_of : (v : ℕ) → v < length nodes → get_or (priorities other) (get_or positions v 0) 0 ≡ get_or (priorities nodes) v 0
   priority_of v lt =
-      get_or-map (λ (node : Node). node.priority) other (get_or ranks v 0) no_node 0 (rank_below v lt)
+      get_or-map (λ (node : Node). node.priority) other (get_or positions v 0) no_node 0 (position_below v lt)
       ∙ (reordering.moved v lt).priority
       ∙ sym (get_or-map (λ (node : Node). node.priority) nodes v no_node 0 lt)
 
@@ -55,7 +55,7 @@ module _ (nodes other : List Node) (ranks places : List ℕ) (reordering : IsReo
   alike =
       let size = length-map nodes (λ (node : Node). node.priority) in
       let others = length-map other (λ (node : Node). node.priority) in
-      alike_reordered (priorities nodes) (priorities other) ranks places reordering.inverse (omega (arith, size, reordering.ranked))
+      alike_reordered (priorities nodes) (priorities other) positions places reordering.inverse (omega (arith, size, reordering.positioned))
       (omega (arith, size, reordering.placed)) (omega (arith, size, others, reordering.entries))
       (λ v lt. priority_of v (omega (arith, lt, size)))
 
@@ -65,25 +65,25 @@ module _ (nodes other : List Node) (ranks places : List ℕ) (reordering : IsReo
       let others = length-map other (λ (node : Node). node.priority) in
       sym (bounds_alike player (priorities nodes) (priorities other) (omega (arith, size, others, reordering.entries)) alike)
 
-  -- an edge leads to the rank
-  pub edge_there : (v w : ℕ) → v < length nodes → HasEdge nodes v w → HasEdge other (get_or ranks v 0) (get_or ranks w 0)
+  -- an edge leads to the position
+  pub edge_there : (v w : ℕ) → v < length nodes → HasEdge nodes v w → HasEdge other (get_or positions v 0) (get_or positions w 0)
   edge_there v w lt edge =
-      subst (λ (ws : List ℕ). Contains ws (get_or ranks w 0)) (sym (reordering.moved v lt).successors)
-      (Contains-under (λ u. get_or ranks u 0) (successors_at nodes v) w edge)
+      subst (λ (ws : List ℕ). Contains ws (get_or positions w 0)) (sym (reordering.moved v lt).successors)
+      (Contains-under (λ u. get_or positions u 0) (successors_at nodes v) w edge)
 
   -- each edge is one that leads so
-  pub edge_here : (v u : ℕ) → v < length nodes → HasEdge other (get_or ranks v 0) u → (w : ℕ) × HasEdge nodes v w × (u ≡ get_or ranks w 0)
+  pub edge_here : (v u : ℕ) → v < length nodes → HasEdge other (get_or positions v 0) u → (w : ℕ) × HasEdge nodes v w × (u ≡ get_or positions w 0)
   edge_here v u lt edge =
-      let found = map-Contains (λ w. get_or ranks w 0) (successors_at nodes v) u
+      let found = map-Contains (λ w. get_or positions w 0) (successors_at nodes v) u
       (subst (λ (ws : List ℕ). Contains ws u) (reordering.moved v lt).successors edge) in
       (found.0, found.1, found.2)
 
   -- reordering back
-  pub back_reordering : IsClosed nodes → IsReordering other nodes places ranks
+  pub back_reordering : IsClosed nodes → IsReordering other nodes places positions
   back_reordering closed = record {
-    inverse = record { ranked = reordering.inverse.placed; placed = reordering.inverse.ranked };
-    ranked = reordering.placed ∙ sym reordering.entries;
-    placed = reordering.ranked ∙ sym reordering.entries;
+    inverse = record { positioned = reordering.inverse.placed; placed = reordering.inverse.positioned };
+    positioned = reordering.placed ∙ sym reordering.entries;
+    placed = reordering.positioned ∙ sym reordering.entries;
     entries = sym reordering.entries;
     moved = λ r lt. moved_back r lt;
   }
@@ -97,32 +97,32 @@ module _ (nodes other : List Node) (ranks places : List ℕ) (reordering : IsReo
             owner = sym moved.owner;
             successors =
                 sym (ap (map (λ u. get_or places u 0)) moved.successors
-                ∙ map-map (λ u. get_or places u 0) (λ w. get_or ranks w 0) (successors_at nodes v)
-                ∙ map_same (λ w. get_or places (get_or ranks w 0) 0) (successors_at nodes v) (λ w edge. place_of_rank w (closed v w (place_below r lt) edge)));
+                ∙ map-map (λ u. get_or places u 0) (λ w. get_or positions w 0) (successors_at nodes v)
+                ∙ map_same (λ w. get_or places (get_or positions w 0) 0) (successors_at nodes v) (λ w edge. place_of_position w (closed v w (place_below r lt) edge)));
           }
 
   pub back_closed : IsClosed nodes → IsClosed other
   back_closed closed r u lt edge =
       let found = edge_here (get_or places r 0) u (place_below r lt)
-      (subst (λ (i : ℕ). HasEdge other i u) (sym (rank_of_place r lt)) edge) in
-      subst (λ (i : ℕ). i < length other) (sym found.2) (rank_below found.0 (closed (get_or places r 0) found.0 (place_below r lt) found.1))
+      (subst (λ (i : ℕ). HasEdge other i u) (sym (position_of_place r lt)) edge) in
+      subst (λ (i : ℕ). i < length other) (sym found.2) (position_below found.0 (closed (get_or places r 0) found.0 (place_below r lt) found.1))
 
 -- a table is too wide for one exactly if it is for the other
-pub widths_same : (nodes other : List Node) (ranks places : List ℕ) → IsReordering nodes other ranks places → (player : Player)
+pub widths_same : (nodes other : List Node) (positions places : List ℕ) → IsReordering nodes other positions places → (player : Player)
     → is_too_wide player (priorities other) ≡ is_too_wide player (priorities nodes)
-widths_same nodes other ranks places reordering player =
+widths_same nodes other positions places reordering player =
     let sizes : length (priorities other) ≡ length (priorities nodes) =
     omega (arith, length-map nodes (λ (node : Node). node.priority), length-map other (λ (node : Node). node.priority), reordering.entries) in
     ap₂ (λ (count width : ℕ). nat_lt most_cells (count * width)) sizes
-    (ap (λ (qs : List ℕ). length qs) (sym ((alike nodes other ranks places reordering).losing player)))
+    (ap (λ (qs : List ℕ). length qs) (sym ((alike nodes other positions places reordering).losing player)))
 
 -- so that what refuses a table for one refuses it for the other
-pub refusals_same : {A : Type 0} (nodes other : List Node) (ranks places : List ℕ) → IsReordering nodes other ranks places → (player : Player) (result : Result A Refusal)
+pub refusals_same : {A : Type 0} (nodes other : List Node) (positions places : List ℕ) → IsReordering nodes other positions places → (player : Player) (result : Result A Refusal)
     → IfErr result (IsPrepareRefusal player (priorities other)) → IfErr result (IsPrepareRefusal player (priorities nodes))
-refusals_same nodes other ranks places reordering player (Ok made) refused = tt
-refusals_same nodes other ranks places reordering player (Err (Task fault)) refused = (refused.0, sym (widths_same nodes other ranks places reordering player) ∙ refused.1)
-refusals_same nodes other ranks places reordering player (Err Memory) refused = tt
-refusals_same nodes other ranks places reordering player (Err (Text fault)) refused = refused
-refusals_same nodes other ranks places reordering player (Err (Game fault)) refused = refused
-refusals_same nodes other ranks places reordering player (Err (Automaton fault)) refused = refused
-refusals_same nodes other ranks places reordering player (Err Io) refused = refused
+refusals_same nodes other positions places reordering player (Ok made) refused = tt
+refusals_same nodes other positions places reordering player (Err (Task fault)) refused = (refused.0, sym (widths_same nodes other positions places reordering player) ∙ refused.1)
+refusals_same nodes other positions places reordering player (Err Memory) refused = tt
+refusals_same nodes other positions places reordering player (Err (Text fault)) refused = refused
+refusals_same nodes other positions places reordering player (Err (Game fault)) refused = refused
+refusals_same nodes other positions places reordering player (Err (Automaton fault)) refused = refused
+refusals_same nodes other positions places reordering player (Err Io) refused = refused

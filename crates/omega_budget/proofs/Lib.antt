@@ -7,4 +7,4 @@ mod Lifting
 mod Dealing
 mod Exactness
 mod Within
-pub mod Watched
+pub mod Observed

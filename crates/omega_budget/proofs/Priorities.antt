@@ -1,22 +1,22 @@
--- Nodes' priorities in another order: the same are borne, by as many nodes,
--- so that measures and allowances are the same.
+-- Nodes' priorities in another order: the same are in use, by as many nodes, so that measures and allowances are the
+-- same.
 use Rattle.std.proofs.Common.{◌≡◌, ℕ, zero, suc, ◌+◌, ◌*◌, ◌<◌, ◌≤◌, ◌==◌, Bool, not, cond, IsTrue, List, [], ◌∷◌, None, Some, length, map, max, fold, filter, count_by, replicate, sum_by, get_or, nat_lt, nat_le, take, option_map, refl, sym, ap, ap₂, subst, ◌∙◌, arith}
 use Rattle.std.specs.Ordering.{is_gt, is_lt}
 use Rattle.omega_game.specs.declared.player.Player.{Player}
-use Rattle.omega_game.specs.Bound.{bearers, below_falling, borne_priorities, bound_of, greatest, losing_priorities, product, product_of}
+use Rattle.omega_game.specs.Bound.{occurrences, below_falling, priorities_in_use, bound_of, greatest, losing_priorities, product, product_of}
 use Rattle.omega_game.specs.Player.{loses}
-use Rattle.omega_lift.specs.Allowance.{IsAllowance, suffices}
-use Rattle.omega_lift.specs.Measure.{IsMeasure, Measure, compare, compare_from, entries_from, zero_measure}
-use Rattle.omega_order.specs.Ranking.{AreInverse}
+use Rattle.omega_lift_laws.specs.Allowance.{IsAllowance, suffices}
+use Rattle.omega_lift_laws.specs.Measure.{IsMeasure, Measure, compare, compare_from, entries_from, zero_measure}
+use Rattle.omega_order.specs.Permutation.{AreInverse}
 use Rattle.omega_budget.proofs.Weights.{sum_fits}
 
--- the same priorities are borne, by as many nodes
+-- the same priorities are in use, by as many nodes
 pub record AreAlike (numbers others : List ℕ) : Type 0 where
-  pub borne : (q : ℕ) → bearers numbers q ≡ bearers others q
+  pub in_use : (q : ℕ) → occurrences numbers q ≡ occurrences others q
   pub losing : (player : Player) → losing_priorities player numbers ≡ losing_priorities player others
 
 pub alike_back : (numbers others : List ℕ) → AreAlike numbers others → AreAlike others numbers
-alike_back numbers others alike = record { borne = λ q. sym (alike.borne q); losing = λ player. sym (alike.losing player) }
+alike_back numbers others alike = record { in_use = λ q. sym (alike.in_use q); losing = λ player. sym (alike.losing player) }
 
 -- ---- numbers in another order
 
@@ -40,24 +40,24 @@ below_greatest start [] i lt = omega arith
 below_greatest start (x ∷ xs) zero lt = omega (arith, start_below (max start x) xs)
 below_greatest start (x ∷ xs) (suc i) lt = below_greatest (max start x) xs i (omega (arith, lt))
 
--- each number stands at its rank in the other list
-module _ (numbers others ranks places : List ℕ) (inverse : AreInverse ranks places) (ranked : length ranks ≡ length numbers)
+-- each number stands at its position in the other list
+module _ (numbers others positions places : List ℕ) (inverse : AreInverse positions places) (positioned : length positions ≡ length numbers)
     (placed : length places ≡ length numbers) (entries : length others ≡ length numbers)
-    (same : (v : ℕ) → v < length numbers → get_or others (get_or ranks v 0) 0 ≡ get_or numbers v 0) where
-  back : AreInverse places ranks
-  back = record { ranked = inverse.placed; placed = inverse.ranked }
+    (same : (v : ℕ) → v < length numbers → get_or others (get_or positions v 0) 0 ≡ get_or numbers v 0) where
+  back : AreInverse places positions
+  back = record { positioned = inverse.placed; placed = inverse.positioned }
 
   same_back : (r : ℕ) → r < length others → get_or numbers (get_or places r 0) 0 ≡ get_or others r 0
   same_back r lt =
       let leads = inverse.placed r (omega (arith, entries, placed)) in
-      sym (same (get_or places r 0) (omega (arith, leads.0, ranked))) ∙ ap (λ (i : ℕ). get_or others i 0) leads.1
+      sym (same (get_or places r 0) (omega (arith, leads.0, positioned))) ∙ ap (λ (i : ℕ). get_or others i 0) leads.1
 
   sums_same : (f : ℕ → ℕ) → (sum_by f numbers) ≡ (sum_by f others)
   sums_same f =
       omega (
         arith,
-        sum_fits f numbers others 0 ranks places inverse ranked (placed ∙ sym entries) (λ v lt. ap f (same v lt)),
-        sum_fits f others numbers 0 places ranks back (placed ∙ sym entries) ranked (λ r lt. ap f (same_back r lt)),
+        sum_fits f numbers others 0 positions places inverse positioned (placed ∙ sym entries) (λ v lt. ap f (same v lt)),
+        sum_fits f others numbers 0 places positions back (placed ∙ sym entries) positioned (λ r lt. ap f (same_back r lt)),
       )
 
   greatest_same : greatest numbers ≡ greatest others
@@ -65,22 +65,22 @@ module _ (numbers others ranks places : List ℕ) (inverse : AreInverse ranks pl
       omega (
         arith,
         greatest_below 0 numbers (greatest others) (omega arith) (λ i lt.
-            let there : get_or ranks i 0 < length others = omega (arith, (inverse.ranked i (omega (arith, lt, ranked))).0, placed, entries) in
-            omega (arith, same i lt, below_greatest 0 others (get_or ranks i 0) there)),
+            let there : get_or positions i 0 < length others = omega (arith, (inverse.positioned i (omega (arith, lt, positioned))).0, placed, entries) in
+            omega (arith, same i lt, below_greatest 0 others (get_or positions i 0) there)),
         greatest_below 0 others (greatest numbers) (omega arith) (λ r lt.
-            let there : get_or places r 0 < length numbers = omega (arith, (inverse.placed r (omega (arith, lt, entries, placed))).0, ranked) in
+            let there : get_or places r 0 < length numbers = omega (arith, (inverse.placed r (omega (arith, lt, entries, placed))).0, positioned) in
             omega (arith, same_back r lt, below_greatest 0 numbers (get_or places r 0) there)),
       )
 
-  borne_same : borne_priorities numbers ≡ borne_priorities others
-  borne_same =
+  in_use_same : priorities_in_use numbers ≡ priorities_in_use others
+  in_use_same =
       filter_same _ _ (below_falling (greatest numbers + 1)) (λ q. ap (nat_lt 0) (sums_same (λ p. cond (p == q) 1 0)))
-      ∙ ap (λ (g : ℕ). filter (λ q. nat_lt 0 (bearers others q)) (below_falling (g + 1))) greatest_same
+      ∙ ap (λ (g : ℕ). filter (λ q. nat_lt 0 (occurrences others q)) (below_falling (g + 1))) greatest_same
 
   pub alike_reordered : AreAlike numbers others
   alike_reordered = record {
-    borne = λ q. sums_same (λ p. cond (p == q) 1 0);
-    losing = λ player. ap (filter (loses player)) borne_same;
+    in_use = λ q. sums_same (λ p. cond (p == q) 1 0);
+    losing = λ player. ap (filter (loses player)) in_use_same;
   }
 
 -- ---- what measures are, between numbers alike
@@ -92,8 +92,8 @@ product_same f g (x ∷ xs) same = ap₂ (λ (m n : ℕ). m * n) (same x) (produ
 module _ (player : Player) (numbers others : List ℕ) (alike : AreAlike numbers others) where
   pub products_alike : product_of player numbers ≡ product_of player others
   products_alike =
-      product_same _ _ (losing_priorities player numbers) (λ q. ap (λ n. 1 + n) (alike.borne q))
-      ∙ ap (λ (qs : List ℕ). product (map (λ q. 1 + bearers others q) qs)) (alike.losing player)
+      product_same _ _ (losing_priorities player numbers) (λ q. ap (λ n. 1 + n) (alike.in_use q))
+      ∙ ap (λ (qs : List ℕ). product (map (λ q. 1 + occurrences others q) qs)) (alike.losing player)
 
   pub zeros_alike : zero_measure player numbers ≡ zero_measure player others
   zeros_alike = ap (λ (qs : List ℕ). Some (replicate (length qs) 0)) (alike.losing player)
@@ -114,8 +114,8 @@ module _ (player : Player) (numbers others : List ℕ) (alike : AreAlike numbers
   measure_alike (Some xs) is = record {
     count = is.count ∙ ap length (alike.losing player);
     limits = λ k lt.
-        subst (λ (qs : List ℕ). get_or xs k 0 ≤ bearers others (get_or qs k 0)) (alike.losing player)
-        (subst (λ (n : ℕ). get_or xs k 0 ≤ n) (alike.borne (get_or (losing_priorities player numbers) k 0)) (is.limits k lt));
+        subst (λ (qs : List ℕ). get_or xs k 0 ≤ occurrences others (get_or qs k 0)) (alike.losing player)
+        (subst (λ (n : ℕ). get_or xs k 0 ≤ n) (alike.in_use (get_or (losing_priorities player numbers) k 0)) (is.limits k lt));
   }
 
 -- an allowance is the same between numbers alike

@@ -3,7 +3,7 @@ use Rattle.std.proofs.Common.{◌≡◌, ℕ, suc, ◌<◌, ◌≤◌, List, [],
 use Rattle.std.proofs.lemmas.List.{get_or-map, get_or-set_other, length-map, length-set}
 use Rattle.std.proofs.lemmas.List.Sums.{sum_by-cons, sum_by-set}
 use Rattle.omega_game.proofs.elements.Counting.{sum_by-map}
-use Rattle.omega_order.specs.Ranking.{AreInverse}
+use Rattle.omega_order.specs.Permutation.{AreInverse}
 
 abbrev total : List ℕ → ℕ
 total xs = sum_by (λ x. x) xs
@@ -27,25 +27,25 @@ fitting (x ∷ xs) ys to there apart =
         )
 
 module _ {X : Type 0} (f : X → ℕ) (xs ys : List X) (d : X) where
-  -- where each element stands at its rank, the sum is at most that of the other list
-  pub sum_fits : (ranks places : List ℕ) → AreInverse ranks places → length ranks ≡ length xs → length places ≡ length ys
-      → ((v : ℕ) → v < length xs → f (get_or ys (get_or ranks v 0) d) ≡ f (get_or xs v d))
+  -- where each element stands at its position, the sum is at most that of the other list
+  pub sum_fits : (positions places : List ℕ) → AreInverse positions places → length positions ≡ length xs → length places ≡ length ys
+      → ((v : ℕ) → v < length xs → f (get_or ys (get_or positions v 0) d) ≡ f (get_or xs v d))
       → sum_by f xs ≤ sum_by f ys
-  sum_fits ranks places inverse ranked placed same =
-      let weights = fitting (map f xs) (map f ys) (λ i. get_or ranks i 0) there apart in
+  sum_fits positions places inverse positioned placed same =
+      let weights = fitting (map f xs) (map f ys) (λ i. get_or positions i 0) there apart in
       omega (arith, sum_by-map (λ (n : ℕ). n) f xs, sum_by-map (λ (n : ℕ). n) f ys, weights)
     where
-      there : (i : ℕ) → i < length (map f xs) → (get_or ranks i 0 < length (map f ys)) × (get_or (map f ys) (get_or ranks i 0) 0 ≡ get_or (map f xs) i 0)
+      there : (i : ℕ) → i < length (map f xs) → (get_or positions i 0 < length (map f ys)) × (get_or (map f ys) (get_or positions i 0) 0 ≡ get_or (map f xs) i 0)
       there i lt =
           let below : i < length xs = omega (arith, length-map xs f) in
-          let back = inverse.ranked i (omega (arith, ranked)) in
-          let within : get_or ranks i 0 < length ys = omega (arith, back.0, placed) in (
+          let back = inverse.positioned i (omega (arith, positioned)) in
+          let within : get_or positions i 0 < length ys = omega (arith, back.0, placed) in (
             omega (arith, within, length-map ys f),
-            get_or-map f ys (get_or ranks i 0) d 0 within ∙ same i below ∙ sym (get_or-map f xs i d 0 below),
+            get_or-map f ys (get_or positions i 0) d 0 within ∙ same i below ∙ sym (get_or-map f xs i d 0 below),
           )
 
-      apart : (i j : ℕ) → i < length (map f xs) → j < length (map f xs) → get_or ranks i 0 ≡ get_or ranks j 0 → i ≡ j
+      apart : (i j : ℕ) → i < length (map f xs) → j < length (map f xs) → get_or positions i 0 ≡ get_or positions j 0 → i ≡ j
       apart i j lt below e =
-          let one = inverse.ranked i (omega (arith, ranked, length-map xs f)) in
-          let other = inverse.ranked j (omega (arith, ranked, length-map xs f)) in
+          let one = inverse.positioned i (omega (arith, positioned, length-map xs f)) in
+          let other = inverse.positioned j (omega (arith, positioned, length-map xs f)) in
           sym one.1 ∙ ap (λ (r : ℕ). get_or places r 0) e ∙ other.1

@@ -8,34 +8,35 @@ use Rattle.omega_solve.specs.Solver.{SolverState, HasLiftDue, IsFinished, IsReac
 use Rattle.omega_budget.specs.Reordering.{IsReordering, state_by_place}
 use Rattle.omega_budget.specs.Within.{GoesOnAfter}
 
--- For every game, in whatever order it is solved: however a budget is dealt out to a new solver of the other game, what
--- it has done is, by the places that were given, a lifting run of the game itself,
--- of at most as many lifts as its bound; budgets that together reach the bound suffice; and its answer is exact
+-- For each game, each order to solve it in, and each way to deal out a budget to a new solver of the reordered game.
+-- Read by original place, the run is a lifting run of the original game, with at most as many lifts as its bound.
+-- Budgets that together reach the bound suffice, and the answer is exact.
 abbrev pub HeadlineByPlace : Type 0
 HeadlineByPlace =
-    (nodes other : List Node) (ranks places : List ℕ) (player : Player) (budgets : List ℕ) (solver : SolverState)
-    → IsGame nodes → IsReordering nodes other ranks places → DealsOut (start_of other player) budgets solver
-    → IsBoundedAndExact nodes player budgets (state_by_place nodes ranks solver)
+    (nodes other : List Node) (positions places : List ℕ) (player : Player) (budgets : List ℕ) (solver : SolverState)
+    → IsGame nodes → IsReordering nodes other positions places → DealsOut (start_of other player) budgets solver
+    → IsBoundedAndExact nodes player budgets (state_by_place nodes positions solver)
 
 -- a budget that does not suffice is below the bound
 abbrev pub SpentBudgetsAreBelowTheBound : Type 0
 SpentBudgetsAreBelowTheBound =
     (nodes : List Node) (player : Player) (budget : ℕ) → IsGame nodes → GoesOnAfter nodes player budget → budget < bound_of player (priorities nodes)
 
--- the same lifts were made: a lifting run leads to this table too, and where no lift is due, or one is, so it is here
+-- the same lifts were made in `other`: a lifting run leads to its table too, and it has a lift due, or none, as `state`
+-- has
 pub record HasSameLifts (state other : SolverState) : Type 0 where
   pub reached : IsReached other
   pub finished : IsFinished state → IsFinished other
   pub due : HasLiftDue state → HasLiftDue other
 
--- what a solver of the other game has done is a lifting run of the game itself
+-- a run of a solver for the reordered game, read by place, is a lifting run of the original game
 abbrev pub ReorderingsKeepStates : Type 0
 ReorderingsKeepStates =
-    (nodes : List Node) (ranks places : List ℕ) (state : SolverState)
-    → IsGame nodes → IsReordering nodes state.nodes ranks places → IsReached state → HasSameLifts state (state_by_place nodes ranks state)
+    (nodes : List Node) (positions places : List ℕ) (state : SolverState)
+    → IsGame nodes → IsReordering nodes state.nodes positions places → IsReached state → HasSameLifts state (state_by_place nodes positions state)
 
--- the other game has the same bound
+-- the reordered game has the same bound
 abbrev pub ReorderingsKeepBounds : Type 0
 ReorderingsKeepBounds =
-    (nodes other : List Node) (ranks places : List ℕ) (player : Player)
-    → IsReordering nodes other ranks places → bound_of player (priorities other) ≡ bound_of player (priorities nodes)
+    (nodes other : List Node) (positions places : List ℕ) (player : Player)
+    → IsReordering nodes other positions places → bound_of player (priorities other) ≡ bound_of player (priorities nodes)

@@ -1,32 +1,33 @@
-//! Laws of the definitions that the calls of `Reordered` speak of.
+//! Laws of the definitions that the calls of `Reordered` cite.
 ghost use Rattle.omega_budget.specs.Laws.{SpentBudgetsAreBelowTheBound, HeadlineByPlace, ReorderingsKeepBounds, ReorderingsKeepStates};
 
-use omega_lift::runs_are_bounded;
+use omega_lift_laws::runs_are_bounded;
 use omega_solve::headline;
 
-/// The headline of the program: in whatever order a game is solved, and however the budget is dealt out, a solver makes
-/// at most as many lifts as the bound of the game that was given, budgets that together reach it suffice, and the
-/// answer by the places that were given is exactly the player's region,
-/// with one strategy that wins from all of it (Jurdziński 2000).
+/// States the headline of the program, for each order in which a game may be solved and each way to deal out the
+/// budget. A solver makes at most as many lifts as the bound of the original game, and budgets that together reach it
+/// suffice. The answer by original place is exactly the player's region, with one strategy that wins from all of it
+/// (Jurdziński 2000).
 pub fn headline_by_place()
     ensures { HeadlineByPlace }
 {
     headline();
 }
 
-/// A budget that does not suffice (51) is below the bound.
+/// States that a budget refused with [TaskFault::Budget] is below the bound.
 pub fn spent_budgets_are_below_the_bound()
     ensures { SpentBudgetsAreBelowTheBound }
 {
     runs_are_bounded();
 }
 
-/// What a solver of the other game has done is a lifting run of the game itself, of as many lifts.
+/// States that a run of a solver for the reordered game, read by place, is a lifting run of the original game with the
+/// same number of lifts.
 pub fn reorderings_keep_states()
     ensures { ReorderingsKeepStates }
 {}
 
-/// The bound on lifts is the same in the other game.
+/// States that the bound on lifts is the same in the reordered game.
 pub fn reorderings_keep_bounds()
     ensures { ReorderingsKeepBounds }
 {}

@@ -1,23 +1,23 @@
-//! Parity games solved within a budget: in an order of their own, with a listener who is told of the run, and answered
-//! by the places that were given.
+//! Solves parity games within a budget. A game is solved in an order of its own, the run is reported to an observer,
+//! and the answer is by the places of the original game.
 //!
-//! Numbers of refusals are those of `Refusal`; docs/formats.md says when each comes.
+//! docs/formats.md says when each refusal comes.
 #![tactic(auto)]
 
 mod answering;
 mod building;
 mod found;
 mod laws;
+mod observing;
 mod reordered;
 mod running;
 mod solving;
-mod watching;
 
 pub use found::Found;
 pub use laws::{
     headline_by_place, reorderings_keep_bounds, reorderings_keep_states,
     spent_budgets_are_below_the_bound,
 };
+pub use observing::{LIFTS_BETWEEN_REPORTS, NoObserver, Progress, Reporter};
 pub use omega_solve::{Game, Player, Refusal};
 pub use reordered::Reordered;
-pub use watching::{LIFTS_BETWEEN_REPORTS, Progress, Unwatched, Watch};

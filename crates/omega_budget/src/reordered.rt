@@ -2,18 +2,18 @@ ghost use Rattle.std.specs.Prelude.{◌≡◌, IfOk, IsOkUnless};
 ghost use Rattle.omega_game.specs.Game.{IsGame};
 
 use crate::building::reordered_game;
-use omega_game::{Arena, Game, Refusal};
-use omega_order::Ranking;
+use omega_game::{ForwardGame, Game, Refusal};
+use omega_order::Permutation;
 use std::alloc::Global;
 use std::marker::Model;
 
-/// A game, and another with the same nodes in the order in which a solver is to lift them: rows, successors and
-/// predecessors then lie in the order of work. What is found there is said by the places of the game that was given. It
-/// is made once and serves both players.
+/// A game, and another with the same nodes in the order in which a solver lifts them. In that order rows, successors
+/// and predecessors lie in the order of work. Answers are by the places of the original game. One reordering serves
+/// both players.
 #[derive(Drop)]
 pub struct Reordered<'g> {
-    given: &'g Arena,
-    ranking: Ranking,
+    given: &'g ForwardGame,
+    permutation: Permutation,
     other: Game,
 }
 
@@ -23,38 +23,38 @@ impl<'g> Model for Reordered<'g> {
 
     ghost Value = { Reordering };
 
-    ghost view = { λ a. record { given = a.given.now; reordered = a.other; ranks = a.ranking.ranks; places = a.ranking.places } };
+    ghost view = { λ a. record { given = a.given.now; reordered = a.other; positions = a.permutation.positions; places = a.permutation.places } };
 
-    ghost invariant = { λ a. IsReordered (record { given = a.given.now; reordered = a.other; ranks = a.ranking.ranks; places = a.ranking.places }) };
+    ghost invariant = { λ a. IsReordered (record { given = a.given.now; reordered = a.other; positions = a.permutation.positions; places = a.permutation.places }) };
 }
 
 impl<'g> Reordered<'g> {
     ghost use Rattle.omega_budget.specs.private.steps.Reordering.{IsReordered};
 
-    /// The game with its places in an order in which few lifts are made. Near 3 (n + m) steps for n nodes and m edges,
-    /// and the memory of the other game, with its predecessors. 60 alone.
-    pub fn of(alloc: Global, game: &'g Arena) -> Result<Reordered<'g>, Refusal>
+    /// Reorders `game` so that few lifts are made. Takes about 3 (n + m) steps for n nodes and m edges, and the memory
+    /// of the reordered game with its predecessors.
+    pub fn of(alloc: Global, game: &'g ForwardGame) -> Result<Reordered<'g>, Refusal>
         ensures given { IfOk result (λ reordering. reordering.given ≡ game.entry.now) }
         ensures memory { IsOkUnless result Refusal.Memory }
     {
-        let ranking = Ranking::nested(alloc, game)?;
-        let other = reordered_game(alloc, game, &ranking)?;
+        let permutation = Permutation::nested(alloc, game)?;
+        let other = reordered_game(alloc, game, &permutation)?;
         Ok(Reordered {
             given: game,
-            ranking,
+            permutation,
             other,
         })
     }
 
-    /// The game that was given.
-    pub(crate) fn given(&self) -> &Arena
+    /// Returns the original game.
+    pub(crate) fn given(&self) -> &ForwardGame
         ensures { result.now ≡ self.now.given }
     {
         self.given
     }
 
-    /// The other game has the nodes of the game, each at its rank. Does nothing:
-    /// it hands on what each reordering keeps.
+    /// Hands on to the proof that the reordered game has the nodes of the original, each at its position. Does nothing
+    /// when run.
     pub(crate) fn keeps_nodes(&self)
         ensures reordered { IsReordered self.now }
         ensures game { IsGame self.now.given }
@@ -62,18 +62,18 @@ impl<'g> Reordered<'g> {
         self.given.keeps_limits();
     }
 
-    /// The game that is solved.
+    /// Returns the reordered game, which is the one that is solved.
     pub(crate) fn reordered(&self) -> &Game
         ensures { result.now ≡ self.now.reordered }
     {
         &self.other
     }
 
-    /// Where each node is in the other game.
-    pub(crate) fn ranking(&self) -> &Ranking
-        ensures ranks { result.now.ranks ≡ self.now.ranks }
+    /// Returns the position of each node in the reordered game.
+    pub(crate) fn permutation(&self) -> &Permutation
+        ensures positions { result.now.positions ≡ self.now.positions }
         ensures places { result.now.places ≡ self.now.places }
     {
-        &self.ranking
+        &self.permutation
     }
 }

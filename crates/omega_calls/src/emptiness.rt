@@ -1,17 +1,17 @@
 //! Emptiness of automata.
 use crate::lists::put_all;
-use omega_budget::{Found, Reordered, Unwatched};
-use omega_empty::{Automaton, Verdict, emptiness, emptiness_game, emptiness_watched, verdict_of};
+use omega_budget::{Found, NoObserver, Reordered};
+use omega_empty::{Automaton, Verdict, emptiness, emptiness_game, emptiness_observed, verdict_of};
 use omega_game::{Player, Refusal};
 use omega_hoa::read_one;
-use omega_lasso::lasso;
+use omega_lasso_search::lasso;
 use omega_pg::write_game;
 use omega_solve::MOST_LIFTS;
 use std::alloc::Global;
 
 pub(crate) fn called(alloc: Global, call: &str, text: &[u8]) -> Option<Result<Vec<u8>, Refusal>> {
     match call {
-        "emptiness_game" | "emptiness" | "emptiness_watched" | "lasso" | "verdict_of" => {
+        "emptiness_game" | "emptiness" | "emptiness_observed" | "lasso" | "verdict_of" => {
             Some(called_of(alloc, call, text))
         }
         _ => None,
@@ -29,7 +29,7 @@ fn of_automaton(alloc: Global, call: &str, automaton: &Automaton) -> Result<Vec<
     match call {
         "emptiness_game" => game_written(alloc, automaton),
         "emptiness" => verdict_written(alloc, emptiness(alloc, automaton, MOST_LIFTS)),
-        "emptiness_watched" => verdict_written(alloc, watched(alloc, automaton)),
+        "emptiness_observed" => verdict_written(alloc, observed(alloc, automaton)),
         "lasso" => verdict_written(alloc, lasso(alloc, automaton)),
         _ => verdict_written(alloc, decided(alloc, automaton)),
     }
@@ -55,8 +55,8 @@ fn verdict_written(alloc: Global, verdict: Result<Verdict, Refusal>) -> Result<V
 }
 
 /// The verdict within a small budget, while nobody is told.
-fn watched(alloc: Global, automaton: &Automaton) -> Result<Verdict, Refusal> {
-    emptiness_watched(alloc, automaton, 1000, &Unwatched, &mut ())
+fn observed(alloc: Global, automaton: &Automaton) -> Result<Verdict, Refusal> {
+    emptiness_observed(alloc, automaton, 1000, &NoObserver, &mut ())
 }
 
 /// The verdict of the emptiness game once it is solved.
@@ -64,7 +64,7 @@ fn decided(alloc: Global, automaton: &Automaton) -> Result<Verdict, Refusal> {
     match emptiness_game(alloc, automaton) {
         Ok(game) => {
             let reordered = Reordered::of(alloc, &game)?;
-            match reordered.solve(alloc, Player::Zero, MOST_LIFTS, &Unwatched, &mut ()) {
+            match reordered.solve(alloc, Player::Zero, MOST_LIFTS, &NoObserver, &mut ()) {
                 Ok(found) => verdict_of(alloc, automaton, &game, &found),
                 Err(refusal) => Err(refusal),
             }

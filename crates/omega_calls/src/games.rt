@@ -3,12 +3,12 @@ ghost use Rattle.std.specs.Prelude.{◌<◌, length, All, IfOk, IsTrue};
 
 use crate::lists::{put_all, put_answer};
 use omega_game::{
-    Arena, Game, GameBuilder, Lasso, MOST_NUMBER, NodeSpec, Player, Refusal, Seq, Solution,
+    ForwardGame, Game, GameBuilder, Lasso, MOST_NUMBER, NodeSpec, Player, Refusal, Seq, Solution,
     check_solution_by_order, check_strategy, check_strategy_by_order, check_strategy_fast,
     counterexample,
 };
 use omega_game_drawing::{Extent, draw_game, draw_solution};
-use omega_pg::{read_arena, read_game, read_solution, write_game, write_solution};
+use omega_pg::{read_forward_game, read_game, read_solution, write_game, write_solution};
 use std::alloc::Global;
 
 pub(crate) fn called(
@@ -19,10 +19,10 @@ pub(crate) fn called(
 ) -> Option<Result<Vec<u8>, Refusal>> {
     match call {
         "read_game" => Some(written(alloc, read_game(alloc, text))),
-        "read_arena" => Some(arena_written(alloc, read_arena(alloc, text))),
+        "read_forward_game" => Some(forward_written(alloc, read_forward_game(alloc, text))),
         "with_predecessors" => Some(written(alloc, completed(alloc, text))),
         "GameBuilder" => Some(written(alloc, built_again(alloc, text))),
-        "finish_arena" => Some(arena_written(alloc, arena_built_again(alloc, text))),
+        "finish_forward" => Some(forward_written(alloc, forward_built_again(alloc, text))),
         "build" => Some(written(alloc, built_of_two(alloc))),
         "part" => Some(written(alloc, part(alloc, text))),
         "draw_game" => Some(drawn(alloc, text)),
@@ -41,29 +41,32 @@ pub(crate) fn called(
 
 fn written(alloc: Global, game: Result<Game, Refusal>) -> Result<Vec<u8>, Refusal> {
     match game {
-        Ok(game) => write_game(alloc, game.arena()),
+        Ok(game) => write_game(alloc, game.forward()),
         Err(refusal) => Err(refusal),
     }
 }
 
-fn arena_written(alloc: Global, arena: Result<Arena, Refusal>) -> Result<Vec<u8>, Refusal> {
-    match arena {
-        Ok(arena) => write_game(alloc, &arena),
+fn forward_written(
+    alloc: Global,
+    forward: Result<ForwardGame, Refusal>,
+) -> Result<Vec<u8>, Refusal> {
+    match forward {
+        Ok(forward) => write_game(alloc, &forward),
         Err(refusal) => Err(refusal),
     }
 }
 
 /// The game of a text, its predecessors made after the rest.
 fn completed(alloc: Global, text: &[u8]) -> Result<Game, Refusal> {
-    match read_arena(alloc, text) {
-        Ok(arena) => arena.with_predecessors(alloc),
+    match read_forward_game(alloc, text) {
+        Ok(forward) => forward.with_predecessors(alloc),
         Err(refusal) => Err(refusal),
     }
 }
 
 fn drawn(alloc: Global, text: &[u8]) -> Result<Vec<u8>, Refusal> {
     match read_game(alloc, text) {
-        Ok(game) => draw_game(alloc, game.arena(), Extent::Whole),
+        Ok(game) => draw_game(alloc, game.forward(), Extent::Whole),
         Err(refusal) => Err(refusal),
     }
 }
@@ -84,7 +87,7 @@ fn drawn_from_first(alloc: Global, game: &Game) -> Result<Vec<u8>, Refusal> {
         place: 0,
         depth: Some(2),
     };
-    draw_game(alloc, game.arena(), extent)
+    draw_game(alloc, game.forward(), extent)
 }
 
 /// The part of the game's first node.
@@ -132,8 +135,8 @@ fn built_again(alloc: Global, text: &[u8]) -> Result<Game, Refusal> {
 }
 
 /// The same without predecessors.
-fn arena_built_again(alloc: Global, text: &[u8]) -> Result<Arena, Refusal> {
-    filled(alloc, text)?.finish_arena()
+fn forward_built_again(alloc: Global, text: &[u8]) -> Result<ForwardGame, Refusal> {
+    filled(alloc, text)?.finish_forward()
 }
 
 /// A builder with the nodes of the game of a text.
@@ -234,10 +237,10 @@ fn called_of_both(
 }
 
 fn of_game(alloc: Global, call: &str, game: &Game, other: &[u8]) -> Result<Vec<u8>, Refusal> {
-    match read_solution(alloc, game.arena(), other) {
+    match read_solution(alloc, game.forward(), other) {
         Ok(solution) => match call {
-            "read_solution" => write_solution(alloc, game.arena(), &solution),
-            "draw_solution" => draw_solution(alloc, game.arena(), Extent::Whole, &solution, true),
+            "read_solution" => write_solution(alloc, game.forward(), &solution),
+            "draw_solution" => draw_solution(alloc, game.forward(), Extent::Whole, &solution, true),
             "check_solution_by_order" => judged_by_order(alloc, game, &solution),
             _ => judged(alloc, call, game, &solution),
         },
@@ -247,15 +250,15 @@ fn of_game(alloc: Global, call: &str, game: &Game, other: &[u8]) -> Result<Vec<u
 
 /// Whether the order of places 2, 1, 0 shows that both players' choices win.
 fn judged_by_order(alloc: Global, game: &Game, solution: &Solution) -> Result<Vec<u8>, Refusal> {
-    let fit = solution.zero.fits(game.arena(), Player::Zero)
-        && solution.one.fits(game.arena(), Player::One);
+    let fit = solution.zero.fits(game.forward(), Player::Zero)
+        && solution.one.fits(game.forward(), Player::One);
     if solution.winners.len() != game.len() || !fit {
         return Err(Refusal::Io);
     }
     let mut out = Vec::new(alloc);
     put_answer(
         &mut out,
-        check_solution_by_order(alloc, game.arena(), solution, &[2, 1, 0])?,
+        check_solution_by_order(alloc, game.forward(), solution, &[2, 1, 0])?,
     )?;
     Ok(out)
 }
@@ -281,7 +284,7 @@ fn judge(
     }
     let places = solution.places_given(alloc, player)?;
     if !are_places(game, places.as_slice())
-        || !solution.strategy(player).fits(game.arena(), player)
+        || !solution.strategy(player).fits(game.forward(), player)
     {
         return Err(Refusal::Io);
     }
@@ -290,21 +293,21 @@ fn judge(
         "places_given" => put_all(out, given),
         "check_strategy" => put_answer(
             out,
-            check_strategy(alloc, game.arena(), player, given, strategy)?,
+            check_strategy(alloc, game.forward(), player, given, strategy)?,
         ),
         "check_strategy_fast" => {
-            let said = check_strategy_fast(alloc, game.arena(), player, given, strategy)?;
+            let said = check_strategy_fast(alloc, game.forward(), player, given, strategy)?;
             put_answer(out, said == Some(true))
         }
         "check_strategy_by_order" => {
             put_answer(
                 out,
-                check_strategy_by_order(alloc, game.arena(), player, given, strategy, given)?,
+                check_strategy_by_order(alloc, game.forward(), player, given, strategy, given)?,
             )
         }
         _ => put_lasso(
             out,
-            counterexample(alloc, game.arena(), player, given, strategy)?,
+            counterexample(alloc, game.forward(), player, given, strategy)?,
         ),
     }
 }

@@ -2,8 +2,7 @@
 use crate::lists::put;
 use omega_canon::write_canonical;
 use omega_hoa::Item;
-use omega_io::{FromRead, read_all, read_piece};
-use omega_refused::{file_lines, lines_in};
+use omega_io::{FromRead, file_lines, lines_in, read_all, read_piece};
 use omega_stream_reading::{ItemText, tell_stream};
 use omega_text::{PgKind, Refusal, TextFault, Token, TokenReader, read_text};
 use std::alloc::Global;
@@ -13,7 +12,7 @@ pub(crate) fn called(alloc: Global, call: &str, text: &[u8]) -> Option<Result<Ve
         "read_all" => Some(read_all(alloc, &mut FromRead::new(text))),
         "read_piece" => Some(first_piece(alloc, text)),
         "read_text" => Some(numbers_in(alloc, text)),
-        "tell_stream" => Some(told(alloc, text)),
+        "tell_stream" => Some(reported(alloc, text)),
         "lines_in" => Some(named(alloc, text)),
         "file_lines" => Some(named_as_file(alloc, text)),
         _ => None,
@@ -79,7 +78,7 @@ impl ItemText for CanonicalItem {
     }
 }
 
-fn told(alloc: Global, text: &[u8]) -> Result<Vec<u8>, Refusal> {
+fn reported(alloc: Global, text: &[u8]) -> Result<Vec<u8>, Refusal> {
     let mut input = FromRead::new(text);
     tell_stream::<CanonicalItem, FromRead<&[u8]>>(alloc, &mut input)
 }

@@ -1,10 +1,10 @@
 //! Texts and words of lassos, and their referee.
 use crate::lists::put;
-use omega_edge_table::edge_places;
 use omega_hoa::read_one;
 use omega_lasso_judge::{judge_lasso, write_lasso_fault};
 use omega_lasso_text::{LassoText, Refusal, read_lasso, write_lasso};
 use omega_lasso_word::{Automaton, word_of};
+use omega_runs::edge_places;
 use std::alloc::Global;
 
 pub(crate) fn called(

@@ -108,9 +108,9 @@ fn put_game(game: &Game, strategy: &Strategy, out: &mut Vec<u8>) -> Result<(), R
     put(out, game.edges() as u128)?;
     put(out, game.priority_counts().len() as u128)?;
     put_answer(out, game.place_of(0).is_some())?;
-    put_answer(out, strategy.fits(game.arena(), Player::Zero))?;
-    put_answer(out, fits(game.arena(), Player::Zero))?;
-    put(out, bound(game.arena(), Player::Zero).unwrap_or(0))
+    put_answer(out, strategy.fits(game.forward(), Player::Zero))?;
+    put_answer(out, fits(game.forward(), Player::Zero))?;
+    put(out, bound(game.forward(), Player::Zero).unwrap_or(0))
 }
 
 /// A player, and whether a priority that occurs for ever is lost by the opponent.

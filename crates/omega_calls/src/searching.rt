@@ -4,9 +4,9 @@ ghost use Rattle.std.specs.Prelude.{◌≡◌, length, IfOk};
 use crate::expressions::{formula_in, label_in};
 use crate::lists::{put_all, put_answer};
 use omega_acc::{Aliases, expand};
-use omega_accepting::accepting_walk;
-use omega_components::{Graph, Room, components, path, reached};
-use omega_satisfying::can_be_true;
+use omega_accepting_walk::accepting_walk;
+use omega_components::{Graph, Scratch, components, path, reached};
+use omega_satisfying::is_satisfiable;
 use omega_text::{Numbers, Refusal};
 use std::alloc::Global;
 
@@ -15,7 +15,7 @@ const EDGES: [u32; 4] = [0, 1, 2, 3];
 
 pub(crate) fn called(alloc: Global, call: &str, text: &[u8]) -> Option<Result<Vec<u8>, Refusal>> {
     match call {
-        "can_be_true" => Some(judged(alloc, text)),
+        "is_satisfiable" => Some(judged(alloc, text)),
         "components" => Some(grouped(alloc)),
         "reached" => Some(met(alloc)),
         "path" => Some(walked(alloc)),
@@ -40,11 +40,11 @@ fn graph(alloc: Global) -> Result<Graph, Refusal>
 /// The edges of each component.
 fn grouped(alloc: Global) -> Result<Vec<u8>, Refusal> {
     let graph = graph(alloc)?;
-    let mut room = Room::new(alloc, 3)?;
-    let groups = components(alloc, &mut room, &graph, EDGES.as_slice())?;
+    let mut scratch = Scratch::new(alloc, 3)?;
+    let edge_components = components(alloc, &mut scratch, &graph, EDGES.as_slice())?;
     let mut out = Vec::new(alloc);
-    for at in 0..groups.len() {
-        put_all(&mut out, groups.group(at))?;
+    for at in 0..edge_components.len() {
+        put_all(&mut out, edge_components.edge_component(at))?;
     }
     Ok(out)
 }
@@ -91,6 +91,6 @@ fn judged(alloc: Global, text: &[u8]) -> Result<Vec<u8>, Refusal> {
     let raw = label_in(alloc, text)?;
     let label = expand(alloc, &raw, &Aliases::new(alloc))?;
     let mut out = Vec::new(alloc);
-    put_answer(&mut out, can_be_true(alloc, &label)?)?;
+    put_answer(&mut out, is_satisfiable(alloc, &label)?)?;
     Ok(out)
 }

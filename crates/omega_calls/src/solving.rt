@@ -1,10 +1,10 @@
 //! Games solved: by lifting, over each table and each schedule, in an order of their own, and by the search.
 use crate::lists::{put, put_all, put_answer};
-use omega_budget::{Found, Reordered, Unwatched};
+use omega_budget::{Found, NoObserver, Reordered};
 use omega_game::{Game, Player, Refusal};
-use omega_order::{FilledWords, Ranking, numbers_below, rank_set};
+use omega_judged_search::solve_by_search;
+use omega_order::{FilledWords, Permutation, numbers_below, position_set};
 use omega_pg::{read_game, write_solution};
-use omega_search::solve_by_search;
 use omega_solve::{
     MOST_LIFTS, MeasureTable, Nested, Outcome, PackedTable, PlainTable, Schedule, Solver, Sweep,
     Worklist,
@@ -113,10 +113,10 @@ fn reordered(alloc: Global, text: &[u8]) -> Result<Vec<u8>, Refusal> {
 
 fn in_order(alloc: Global, game: &Game) -> Result<Vec<u8>, Refusal> {
     let mut out = Vec::new(alloc);
-    let reordered = Reordered::of(alloc, game.arena())?;
-    let zero = reordered.solve(alloc, Player::Zero, MOST_LIFTS, &Unwatched, &mut ());
+    let reordered = Reordered::of(alloc, game.forward())?;
+    let zero = reordered.solve(alloc, Player::Zero, MOST_LIFTS, &NoObserver, &mut ());
     put_solved(&mut out, zero)?;
-    let one = reordered.solve(alloc, Player::One, MOST_LIFTS, &Unwatched, &mut ());
+    let one = reordered.solve(alloc, Player::One, MOST_LIFTS, &NoObserver, &mut ());
     put_solved(&mut out, one)?;
     Ok(out)
 }
@@ -140,7 +140,7 @@ fn searched(alloc: Global, text: &[u8]) -> Result<Vec<u8>, Refusal> {
 
 fn found_by_search(alloc: Global, game: &Game) -> Result<Vec<u8>, Refusal> {
     match solve_by_search(alloc, game)? {
-        Some(solution) => write_solution(alloc, game.arena(), &solution),
+        Some(solution) => write_solution(alloc, game.forward(), &solution),
         None => Ok(Vec::from_slice(alloc, b"nothing\n")?),
     }
 }
@@ -168,17 +168,17 @@ fn ordered(alloc: Global, text: &[u8]) -> Result<Vec<u8>, Refusal> {
     }
 }
 
-/// The places of a game in the order of their ranks, and how many words its sets of ranks have.
+/// The places of a game in the order of their positions, and how many words its sets of positions have.
 fn order(alloc: Global, game: &Game) -> Result<Vec<u8>, Refusal> {
-    let ranking = Ranking::nested(alloc, game.arena())?;
+    let permutation = Permutation::nested(alloc, game.forward())?;
     let mut out = Vec::new(alloc);
-    for rank in 0..ranking.len() {
-        put(&mut out, u128::from(ranking.place(rank)))?;
+    for position in 0..permutation.len() {
+        put(&mut out, u128::from(permutation.place(position)))?;
     }
-    let _filled = FilledWords::all(alloc, ranking.len())?;
-    let all = rank_set::all_ranks(alloc, ranking.len())?;
+    let _filled = FilledWords::all(alloc, permutation.len())?;
+    let all = position_set::all_positions(alloc, permutation.len())?;
     put(&mut out, all.len() as u128)?;
-    let numbers = numbers_below(alloc, ranking.len())?;
+    let numbers = numbers_below(alloc, permutation.len())?;
     put_all(&mut out, numbers.as_slice())?;
     Ok(out)
 }

@@ -22,13 +22,13 @@ abbrev pub words : List (List ℕ) → List ℕ
 words texts = flat_map spaced texts
 
 -- numbers with a sign before each
-abbrev pub numbers_behind : List ℕ → List ℕ → List ℕ
-numbers_behind sign numbers = flat_map (λ number. sign ++ decimal number) numbers
+abbrev pub numbers_after : List ℕ → List ℕ → List ℕ
+numbers_after sign numbers = flat_map (λ number. sign ++ decimal number) numbers
 
 -- numbers with a sign between each two
 abbrev pub numbers_joined : List ℕ → List ℕ → List ℕ
 numbers_joined sign [] = []
-numbers_joined sign (first ∷ others) = decimal first ++ numbers_behind sign others
+numbers_joined sign (first ∷ others) = decimal first ++ numbers_after sign others
 
 -- states that a start or an edge lists, joined by `&`
 abbrev pub conjunction : List ℕ → List ℕ

@@ -8,7 +8,7 @@ use crate::parts::{write_label_part, write_marks, write_numbers, write_string_pa
 use omega_automaton::{EdgeRef, Edges, State};
 use omega_text::{Refusal, write_number};
 
-/// Appends `--BODY--`, the states that are defined, and `--END--`.
+/// Appends `--BODY--`, the lines of the defined states and their edges, and `--END--`.
 pub(crate) fn write_body(states: &[State], out: &mut Vec<u8>) -> Result<(), Refusal>
     ensures ok { OnOk result (out.new.items ≡ out.old.items ++ body_text states.now) }
     ensures memory { IsOkUnless result Refusal.Memory }

@@ -1,6 +1,6 @@
 //! The canonical texts of omega-automata.
 //!
-//! Numbers of refusals are those of `Refusal`; docs/formats.md says when each comes.
+//! docs/formats.md says when each `Refusal` comes.
 #![tactic(auto)]
 
 mod body;

@@ -2,7 +2,7 @@
 
 ghost use Rattle.std.specs.Prelude.{◌≡◌, [], ◌∷◌, ◌++◌, IsOkUnless, OnOk, option_map};
 ghost use Rattle.std.specs.Option.{option_copied};
-ghost use Rattle.omega_canon.specs.Parts.{conjunction, label_part, marks_part, numbers_behind, numbers_joined, quoted_string, spaced, string_part, strings, words};
+ghost use Rattle.omega_canon.specs.Parts.{conjunction, label_part, marks_part, numbers_after, numbers_joined, quoted_string, spaced, string_part, strings, words};
 
 use omega_acc::{Label, write_label};
 use omega_text::{ByteString, Refusal, write_number};
@@ -51,8 +51,8 @@ pub(crate) fn write_words(texts: &[ByteString], out: &mut Vec<u8>) -> Result<(),
 }
 
 /// Appends numbers with a sign before each.
-fn write_numbers_behind(sign: u8, numbers: &[u32], out: &mut Vec<u8>) -> Result<(), Refusal>
-    ensures ok { OnOk result (out.new.items ≡ out.old.items ++ numbers_behind (sign ∷ []) numbers.now) }
+fn write_numbers_after(sign: u8, numbers: &[u32], out: &mut Vec<u8>) -> Result<(), Refusal>
+    ensures ok { OnOk result (out.new.items ≡ out.old.items ++ numbers_after (sign ∷ []) numbers.now) }
     ensures memory { IsOkUnless result Refusal.Memory }
 {
     for number in numbers {
@@ -69,7 +69,7 @@ pub(crate) fn write_numbers(sign: u8, numbers: &[u32], out: &mut Vec<u8>) -> Res
 {
     if let [first, others @ ..] = numbers {
         write_number(u128::from(*first), out)?;
-        write_numbers_behind(sign, others, out)?;
+        write_numbers_after(sign, others, out)?;
     }
     Ok(())
 }

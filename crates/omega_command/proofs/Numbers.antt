@@ -30,11 +30,11 @@ empty [] none = refl
 empty (byte ∷ rest) none = absurd (omega (arith, none))
 
 -- the reason that is told of a text that begins with no sign
-told : (most : ℕ) (text : List ℕ) (why : IntErrorKind) → (BeginsWithSign text → ⊥) → IsParseIntError 10 text text kind.PosOverflow why
+reported : (most : ℕ) (text : List ℕ) (why : IntErrorKind) → (BeginsWithSign text → ⊥) → IsParseIntError 10 text text kind.PosOverflow why
     → (IsNumeral 10 text × (digits_value 10 text < 2 ^ 64) → ⊥) → IsNumberReason most text (reason_for (list_all is_decimal text) why)
-told most text why unsigned (inl (is, none)) fails = rw is (empty text none)
-told most text why unsigned (inr (some, inl (is, other))) fails = rw is (record { nonempty = some; unsigned = unsigned }, other)
-told most text why unsigned (inr (some, inr is)) fails = rw is (go (list_all is_decimal text) refl)
+reported most text why unsigned (inl (is, none)) fails = rw is (empty text none)
+reported most text why unsigned (inr (some, inl (is, other))) fails = rw is (record { nonempty = some; unsigned = unsigned }, other)
+reported most text why unsigned (inr (some, inr is)) fails = rw is (go (list_all is_decimal text) refl)
   where
     go : (digits : Bool) → list_all is_decimal text ≡ digits → IsNumberReason most text (reason_for digits kind.PosOverflow)
     go true passed = elim (cases_lt (digits_value 10 text) (2 ^ 64)) [
@@ -52,10 +52,10 @@ whole text unsigned = go (slice_index text 0 == 43) refl
     go false is = rw is refl
 
 -- the same of what `std` reads, which is the text after a plus
-pub told_behind : (most : ℕ) (text : List ℕ) (why : IntErrorKind) → (BeginsWithSign text → ⊥)
+pub reported_after : (most : ℕ) (text : List ℕ) (why : IntErrorKind) → (BeginsWithSign text → ⊥)
     → IsParseIntError 10 text (without_leading_plus text) kind.PosOverflow why
     → (IsNumeral 10 (without_leading_plus text) × (digits_value 10 (without_leading_plus text) < 2 ^ 64) → ⊥)
     → IsNumberReason most text (reason_for (list_all is_decimal text) why)
-told_behind most text why unsigned error fails =
-    told most text why unsigned (subst (λ (digits : List ℕ). IsParseIntError 10 text digits kind.PosOverflow why) (whole text unsigned) error)
+reported_after most text why unsigned error fails =
+    reported most text why unsigned (subst (λ (digits : List ℕ). IsParseIntError 10 text digits kind.PosOverflow why) (whole text unsigned) error)
     (subst (λ (digits : List ℕ). IsNumeral 10 digits × (digits_value 10 digits < 2 ^ 64) → ⊥) (whole text unsigned) fails)

@@ -6,6 +6,8 @@ use Rattle.omega_game.specs.Player.{player_number}
 use Rattle.omega_command.specs.Limits.{most_budget}
 use Rattle.omega_command.specs.Reason.{IsReason}
 use Rattle.omega_text.specs.Limits.{most_number}
+use Rattle.omega_command.specs.declared.beside.Beside.{Beside}
+use Rattle.omega_command.specs.declared.beside.Beside.TheVariants as beside
 use Rattle.omega_command.specs.declared.command.Command.{Command}
 use Rattle.omega_command.specs.declared.command.Command.TheVariants as command
 use Rattle.omega_command.specs.declared.command.Format.{Format}
@@ -87,6 +89,7 @@ text_of name.Legend options = option_map (λ text. text.now) options.legend
 text_of name.Lasso options = option_map (λ text. text.now) options.lasso
 text_of name.Depth options = option_map (λ text. text.now) options.depth
 text_of name.Progress options = option_map (λ text. text.now) options.progress
+text_of name.Verbose options = option_map (λ text. text.now) options.verbose
 text_of name.File options = option_map (λ text. text.now) options.file
 
 -- ---- what a subcommand asks for
@@ -111,6 +114,20 @@ AsksToLift subcommand options (command.Empty word) budget =
     × GivesFlag (text_of name.Word options) word × GivesBudget (text_of name.Budget options) budget
 AsksToLift subcommand options other budget = ⊥
 
+-- the subcommand of this name, with these options, asks for what is done with the file of this name beside the input
+abbrev pub AsksBeside : List ℕ → Options → (file : List ℕ) → Beside → Type 0
+AsksBeside subcommand options file (beside.Verify from explain) =
+    (subcommand ≡ codes "verify") × (text_of name.Game options ≡ Some file) × (text_of name.Automaton options ≡ None)
+    × Gives (IsNumberText most_number) (text_of name.From options) from × GivesFlag (text_of name.Explain options) explain
+AsksBeside subcommand options file (beside.VerifyLasso explain) =
+    (subcommand ≡ codes "verify") × (text_of name.Automaton options ≡ Some file) × (text_of name.Game options ≡ None)
+    × (text_of name.From options ≡ None) × GivesFlag (text_of name.Explain options) explain
+AsksBeside subcommand options file beside.Meet = (subcommand ≡ codes "meet") × (text_of name.With options ≡ Some file)
+AsksBeside subcommand options file (beside.DrawSolution from depth legend) =
+    (subcommand ≡ codes "draw") × Gives IsFormatText (text_of name.Format options) (Some Pg)
+    × (text_of name.Solution options ≡ Some file) × GivesFlag (text_of name.Legend options) legend
+    × GivesPart options from depth × GivesFlag (text_of name.Lasso options) false
+
 -- the subcommand of this name, with these options, asks for the task
 abbrev pub AsksFor : List ℕ → Options → Task → Type 0
 AsksFor subcommand options (task.Run (command.Show format) budget) =
@@ -127,15 +144,12 @@ AsksFor subcommand options (task.Run (command.Solve player from) budget) =
     AsksToLift subcommand options (command.Solve player from) budget × GivesFlag (text_of name.Progress options) false
 AsksFor subcommand options (task.Run (command.Search from) budget) =
     AsksToLift subcommand options (command.Search from) budget × GivesFlag (text_of name.Progress options) false
-AsksFor subcommand options (task.Run (command.Verify game from explain) budget) = ⊥
-AsksFor subcommand options (task.Run (command.VerifyLasso automaton explain) budget) = ⊥
 AsksFor subcommand options (task.Run (command.Empty word) budget) =
     AsksToLift subcommand options (command.Empty word) budget × GivesFlag (text_of name.Progress options) false
 AsksFor subcommand options (task.Run (command.EmptySearch word) budget) =
     (subcommand ≡ codes "empty") × GivesFlag (text_of name.Search options) true × GivesFlag (text_of name.Word options) word
     × (text_of name.Budget options ≡ None) × GivesFlag (text_of name.Progress options) false × (budget ≡ most_budget)
 AsksFor subcommand options (task.Run command.Game budget) = (subcommand ≡ codes "game") × (budget ≡ most_budget)
-AsksFor subcommand options (task.Run (command.Meet other) budget) = ⊥
 AsksFor subcommand options (task.Run command.Complement budget) = (subcommand ≡ codes "complement") × (budget ≡ most_budget)
 AsksFor subcommand options (task.Run (command.Draw format) budget) =
     (subcommand ≡ codes "draw") × Gives IsFormatText (text_of name.Format options) (Some format)
@@ -145,29 +159,19 @@ AsksFor subcommand options (task.Run (command.DrawPart from depth) budget) =
     (subcommand ≡ codes "draw") × Gives IsFormatText (text_of name.Format options) (Some Pg)
     × (text_of name.Solution options ≡ None) × GivesFlag (text_of name.Legend options) false × GivesPart options (Some from) depth
     × GivesFlag (text_of name.Lasso options) false × (budget ≡ most_budget)
-AsksFor subcommand options (task.Run (command.DrawSolution solution from depth legend) budget) = ⊥
 AsksFor subcommand options (task.Run command.DrawLasso budget) =
     (subcommand ≡ codes "draw") × Gives IsFormatText (text_of name.Format options) (Some Hoa)
     × (text_of name.Solution options ≡ None) × GivesFlag (text_of name.Legend options) false × GivesPart options None None
     × GivesFlag (text_of name.Lasso options) true × (budget ≡ most_budget)
-AsksFor subcommand options (task.Watched command budget) =
+AsksFor subcommand options (task.Observed command budget) =
     AsksToLift subcommand options command budget × GivesFlag (text_of name.Progress options) true
-AsksFor subcommand options (task.Verify file from explain) =
-    (subcommand ≡ codes "verify") × (text_of name.Game options ≡ Some (string_bytes file)) × (text_of name.Automaton options ≡ None)
-    × Gives (IsNumberText most_number) (text_of name.From options) from × GivesFlag (text_of name.Explain options) explain
-AsksFor subcommand options (task.VerifyLasso file explain) =
-    (subcommand ≡ codes "verify") × (text_of name.Automaton options ≡ Some (string_bytes file)) × (text_of name.Game options ≡ None)
-    × (text_of name.From options ≡ None) × GivesFlag (text_of name.Explain options) explain
-AsksFor subcommand options (task.Meet file) =
-    (subcommand ≡ codes "meet") × (text_of name.With options ≡ Some (string_bytes file))
-AsksFor subcommand options (task.DrawSolution file from depth legend) =
-    (subcommand ≡ codes "draw") × Gives IsFormatText (text_of name.Format options) (Some Pg)
-    × (text_of name.Solution options ≡ Some (string_bytes file)) × GivesFlag (text_of name.Legend options) legend
-    × GivesPart options from depth × GivesFlag (text_of name.Lasso options) false
+AsksFor subcommand options (task.Beside file asked) = AsksBeside subcommand options (string_bytes file) asked
 
--- the subcommand of this name, with these options, asks for the line: for a task with the text that the operand names
+-- the subcommand of this name, with these options, asks for the line: for a task with the text that the operand names;
+-- a refusal is told with what it is about exactly if that is asked for
 abbrev pub Asks : List ℕ → Options → Line → Type 0
-Asks subcommand options (line.Do task source) = AsksFor subcommand options task × GivesSource (text_of name.File options) source
+Asks subcommand options (line.Do task source verbose) =
+    AsksFor subcommand options task × GivesSource (text_of name.File options) source × GivesFlag (text_of name.Verbose options) verbose
 Asks subcommand options (line.Help text) = ⊥
 Asks subcommand options (line.Fault text) = ⊥
 
@@ -192,6 +196,7 @@ HasOption subcommand name.Legend = subcommand ≡ codes "draw"
 HasOption subcommand name.Lasso = subcommand ≡ codes "draw"
 HasOption subcommand name.Depth = subcommand ≡ codes "draw"
 HasOption subcommand name.Progress = (subcommand ≡ codes "solve") ⊎ (subcommand ≡ codes "empty")
+HasOption subcommand name.Verbose = Unit {0}
 HasOption subcommand name.File = Unit {0}
 
 -- the option has to be given where the subcommand has it; the game only where no automaton is given
@@ -211,6 +216,7 @@ IsRequired name.Legend options = ⊥
 IsRequired name.Lasso options = ⊥
 IsRequired name.Depth options = ⊥
 IsRequired name.Progress options = ⊥
+IsRequired name.Verbose options = ⊥
 IsRequired name.File options = ⊥
 
 -- the text stands for no value of the option
@@ -230,6 +236,7 @@ StandsForNothing name.Legend text = (flag : Bool) → IsTruthText text flag → 
 StandsForNothing name.Lasso text = (flag : Bool) → IsTruthText text flag → ⊥
 StandsForNothing name.Depth text = (number : ℕ) → IsNumberText most_number text number → ⊥
 StandsForNothing name.Progress text = (flag : Bool) → IsTruthText text flag → ⊥
+StandsForNothing name.Verbose text = (flag : Bool) → IsTruthText text flag → ⊥
 StandsForNothing name.File text = ⊥
 
 -- the mistake is that the option is missing, or that its text stands for nothing, with the reason why
@@ -272,6 +279,7 @@ IsUsed name.Legend options = GivesFlag (text_of name.Legend options) true
 IsUsed name.Lasso options = GivesFlag (text_of name.Lasso options) true
 IsUsed name.Depth options = text_of name.Depth options ≢ None
 IsUsed name.Progress options = GivesFlag (text_of name.Progress options) true
+IsUsed name.Verbose options = GivesFlag (text_of name.Verbose options) true
 IsUsed name.File options = text_of name.File options ≢ None
 
 -- the option of the subcommand that is not given beside this one: the search of `solve` is for both players,

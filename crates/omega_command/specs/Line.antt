@@ -9,20 +9,17 @@ use Rattle.omega_command.specs.declared.line.Task.TheVariants as task
 -- the task can be done: its budget is at most the greatest
 abbrev pub IsRunnableTask : Task → Type 0
 IsRunnableTask (task.Run command budget) = budget ≤ most_budget
-IsRunnableTask (task.Watched command budget) = budget ≤ most_budget
-IsRunnableTask (task.Verify file from explain) = Unit {0}
-IsRunnableTask (task.VerifyLasso file explain) = Unit {0}
-IsRunnableTask (task.Meet file) = Unit {0}
-IsRunnableTask (task.DrawSolution file from depth legend) = Unit {0}
+IsRunnableTask (task.Observed command budget) = budget ≤ most_budget
+IsRunnableTask (task.Beside file asked) = Unit {0}
 
 -- what the line asks for can be done
 abbrev pub IsRunnable : Line → Type 0
-IsRunnable (line.Do task source) = IsRunnableTask task
+IsRunnable (line.Do task source verbose) = IsRunnableTask task
 IsRunnable (line.Help text) = Unit {0}
 IsRunnable (line.Fault text) = Unit {0}
 
 -- the line says what is wrong with the command line
 abbrev pub IsFaultLine : Line → Type 0
-IsFaultLine (line.Do task source) = ⊥
+IsFaultLine (line.Do task source verbose) = ⊥
 IsFaultLine (line.Help text) = ⊥
 IsFaultLine (line.Fault text) = Unit {0}

@@ -59,4 +59,5 @@ IsReason name.Legend text why = why ≡ reason.NoTruth
 IsReason name.Lasso text why = why ≡ reason.NoTruth
 IsReason name.Depth text why = IsNumberReason most_number text why
 IsReason name.Progress text why = why ≡ reason.NoTruth
+IsReason name.Verbose text why = why ≡ reason.NoTruth
 IsReason name.File text why = ⊥

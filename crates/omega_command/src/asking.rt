@@ -3,6 +3,7 @@ ghost use Rattle.omega_command.specs.CommandLine.{Asks, AsksFor, Gives, IsFormat
 ghost use Rattle.omega_command.specs.declared.command.Format.TheVariants.{Hoa, Pg};
 ghost use Rattle.omega_command.specs.declared.options.OptionName.TheVariants as name;
 
+use crate::beside::Beside;
 use crate::command::{Command, Format};
 use crate::limits::MOST_BUDGET;
 use crate::line::{Line, Task};
@@ -10,8 +11,8 @@ use crate::mistake::Mistake;
 use crate::options::{OptionName, Options};
 use crate::source::source_in;
 use crate::values::{
-    budget_in, depth_in, format_in, identifier_in, is_explained, is_search, is_watched,
-    is_with_lasso, is_with_legend, is_with_word, player_in,
+    budget_in, depth_in, format_in, identifier_in, is_explained, is_observed, is_search,
+    is_verbose, is_with_lasso, is_with_legend, is_with_word, player_in,
 };
 use std::alloc::Global;
 
@@ -25,9 +26,14 @@ pub fn line_for<'a>(
     ensures asked { IfOk result (Asks subcommand.now options.now) }
     ensures mistaken { IfErr result (IsMistake subcommand.now options.now) }
 {
+    let verbose = is_verbose(options)?;
     let task = task_for(alloc, subcommand, options)?;
     let source = source_in(alloc, options)?;
-    Ok(Line::Do(task, source))
+    Ok(Line::Do {
+        task,
+        source,
+        verbose,
+    })
 }
 
 /// The task that a subcommand asks for with the texts of its options, or what is wrong with them.
@@ -97,7 +103,10 @@ fn verifying_for<'a>(alloc: Global, options: &Options<'a>) -> Result<Task, Mista
             return Err(Mistake::Conflict(OptionName::Automaton, OptionName::From));
         }
         return match String::from_str(alloc, name) {
-            Ok(file) => Ok(Task::VerifyLasso { file, explain }),
+            Ok(file) => Ok(Task::Beside {
+                file,
+                asked: Beside::VerifyLasso { explain },
+            }),
             Err(_) => Err(Mistake::Memory),
         };
     }
@@ -106,10 +115,9 @@ fn verifying_for<'a>(alloc: Global, options: &Options<'a>) -> Result<Task, Mista
     };
     let from = identifier_in(options)?;
     match String::from_str(alloc, name) {
-        Ok(file) => Ok(Task::Verify {
+        Ok(file) => Ok(Task::Beside {
             file,
-            from,
-            explain,
+            asked: Beside::Verify { from, explain },
         }),
         Err(_) => Err(Mistake::Memory),
     }
@@ -123,11 +131,11 @@ fn solving_for<'a>(options: &Options<'a>) -> Result<Task, Mistake<'a>>
     let player = player_in(options)?;
     let from = identifier_in(options)?;
     let budget = budget_in(options)?;
-    let watched = is_watched(options)?;
+    let observed = is_observed(options)?;
     if !is_search(options)? {
         let command = Command::Solve { player, from };
-        return Ok(if watched {
-            Task::Watched(command, budget)
+        return Ok(if observed {
+            Task::Observed(command, budget)
         } else {
             Task::Run(command, budget)
         });
@@ -136,8 +144,8 @@ fn solving_for<'a>(options: &Options<'a>) -> Result<Task, Mistake<'a>>
         return Err(Mistake::Conflict(OptionName::Search, OptionName::Player));
     }
     let command = Command::Search { from };
-    Ok(if watched {
-        Task::Watched(command, budget)
+    Ok(if observed {
+        Task::Observed(command, budget)
     } else {
         Task::Run(command, budget)
     })
@@ -150,11 +158,11 @@ fn emptiness_for<'a>(options: &Options<'a>) -> Result<Task, Mistake<'a>>
 {
     let word = is_with_word(options)?;
     let budget = budget_in(options)?;
-    let watched = is_watched(options)?;
+    let observed = is_observed(options)?;
     if !is_search(options)? {
         let command = Command::Empty { word };
-        return Ok(if watched {
-            Task::Watched(command, budget)
+        return Ok(if observed {
+            Task::Observed(command, budget)
         } else {
             Task::Run(command, budget)
         });
@@ -162,7 +170,7 @@ fn emptiness_for<'a>(options: &Options<'a>) -> Result<Task, Mistake<'a>>
     if options.budget.is_some() {
         return Err(Mistake::Conflict(OptionName::Search, OptionName::Budget));
     }
-    if watched {
+    if observed {
         return Err(Mistake::Conflict(OptionName::Search, OptionName::Progress));
     }
     Ok(Task::Run(Command::EmptySearch { word }, MOST_BUDGET))
@@ -177,7 +185,10 @@ fn meeting_for<'a>(alloc: Global, options: &Options<'a>) -> Result<Task, Mistake
         return Err(Mistake::Missing(OptionName::With));
     };
     match String::from_str(alloc, name) {
-        Ok(file) => Ok(Task::Meet { file }),
+        Ok(file) => Ok(Task::Beside {
+            file,
+            asked: Beside::Meet,
+        }),
         Err(_) => Err(Mistake::Memory),
     }
 }
@@ -218,11 +229,13 @@ fn game_drawing_for<'a>(alloc: Global, options: &Options<'a>) -> Result<Task, Mi
         });
     };
     match String::from_str(alloc, name) {
-        Ok(file) => Ok(Task::DrawSolution {
+        Ok(file) => Ok(Task::Beside {
             file,
-            from,
-            depth,
-            legend,
+            asked: Beside::DrawSolution {
+                from,
+                depth,
+                legend,
+            },
         }),
         Err(_) => Err(Mistake::Memory),
     }

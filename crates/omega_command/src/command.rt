@@ -1,8 +1,7 @@
 use omega_game::Player;
-use omega_text::Seq;
 use std::fmt;
 
-/// What the program does with the text on its input.
+/// What the program does with the one text that it reads.
 #[derive(Debug, Drop)]
 pub enum Command {
     /// Describes the value of the text: its size, and for a game the bounds on lifts.
@@ -27,20 +26,6 @@ pub enum Command {
         /// The identifier of the node whose part is solved.
         from: Option<u32>,
     },
-    /// Checks the solution of a game whose text is kept here, or of the part of it that one node reaches.
-    Verify {
-        game: Seq<u8>,
-        /// The identifier of the node whose part is meant.
-        from: Option<u32>,
-        /// Whether it is explained where the solution is not right.
-        explain: bool,
-    },
-    /// Checks whether a lasso is an accepting one of the automaton whose text is kept here.
-    VerifyLasso {
-        automaton: Seq<u8>,
-        /// Whether it is explained where it is none.
-        explain: bool,
-    },
     /// Says whether an automaton accepts nothing, and shows a lasso where it does not. Decided by lifting.
     Empty {
         /// Whether the word that the lasso accepts is written too.
@@ -53,11 +38,6 @@ pub enum Command {
     },
     /// Writes the emptiness game of an automaton.
     Game,
-    /// Writes an automaton that accepts the words that both accept, the one that is read and the one whose text is
-    /// kept here.
-    Meet {
-        with: Seq<u8>,
-    },
     /// Writes an automaton that accepts the words that a deterministic one does not.
     Complement,
     /// Draws the one game or automaton that the text stands for.
@@ -68,16 +48,6 @@ pub enum Command {
         from: u32,
         /// How many steps from the node the part goes, if that is said.
         depth: Option<u32>,
-    },
-    /// Draws a game with a solution of it, whose text is kept here; whole, or the part that one node reaches.
-    DrawSolution {
-        solution: Seq<u8>,
-        /// The identifier of the node whose part is drawn.
-        from: Option<u32>,
-        /// How many steps from that node the part goes, if that is said.
-        depth: Option<u32>,
-        /// Whether the drawing says what its colours mean.
-        legend: bool,
     },
     /// Draws an automaton with an accepting lasso, if it has one.
     DrawLasso,

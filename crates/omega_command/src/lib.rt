@@ -2,6 +2,7 @@
 #![tactic(auto)]
 
 mod asking;
+mod beside;
 mod command;
 mod limits;
 mod line;
@@ -12,9 +13,10 @@ mod source;
 mod values;
 
 pub use asking::line_for;
+pub use beside::Beside;
 pub use command::{Command, Format};
 pub use limits::{MOST_BUDGET, budget_limit_is_stated};
 pub use line::{Line, Source, Task};
 pub use mistake::{Mistake, Reason};
-pub use omega_game::{Player, Refusal, Seq};
+pub use omega_game::{Player, Refusal};
 pub use options::{OptionName, Options};

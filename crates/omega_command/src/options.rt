@@ -18,6 +18,7 @@ pub enum OptionName {
     Lasso,
     Depth,
     Progress,
+    Verbose,
     /// The operand, which names the file of the input.
     File,
 }
@@ -40,6 +41,7 @@ impl fmt::Display for OptionName {
             OptionName::Lasso => "--lasso",
             OptionName::Depth => "--depth <N>",
             OptionName::Progress => "--progress",
+            OptionName::Verbose => "--verbose",
             OptionName::File => "[FILE]",
         })
     }
@@ -66,7 +68,7 @@ pub struct Options<'a> {
     pub explain: Option<&'a str>,
     /// As `search`.
     pub word: Option<&'a str>,
-    /// The name of the file of the second automaton.
+    /// The name of the file of the other automaton.
     pub with: Option<&'a str>,
     /// The name of the file of a solution.
     pub solution: Option<&'a str>,
@@ -78,6 +80,8 @@ pub struct Options<'a> {
     pub depth: Option<&'a str>,
     /// As `search`.
     pub progress: Option<&'a str>,
+    /// As `search`.
+    pub verbose: Option<&'a str>,
     /// The operand: the name of the file of the input.
     pub file: Option<&'a str>,
 }

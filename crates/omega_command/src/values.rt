@@ -1,7 +1,8 @@
 //! What the texts of options stand for.
 ghost use Rattle.std.specs.Prelude.{◌≡◌, Bool, Some, IfOk, IfErr, MatchOption};
 ghost use Rattle.omega_text.specs.Limits.{most_number};
-ghost use Rattle.omega_command.specs.CommandLine.{Gives, GivesBudget, GivesFlag, IsFaulty, IsFormatText, IsNumberText, IsPlayerText, IsTruthText, text_of};
+ghost use Rattle.omega_command.specs.CommandLine.{Gives, GivesBudget, GivesFlag, IsFaulty};
+ghost use Rattle.omega_command.specs.CommandLine.{IsFormatText, IsNumberText, IsPlayerText, IsTruthText, text_of};
 ghost use Rattle.omega_command.specs.declared.options.OptionName.TheVariants as name;
 
 use crate::command::Format;
@@ -142,7 +143,7 @@ pub fn is_with_lasso<'a>(options: &Options<'a>) -> Result<bool, Mistake<'a>>
 }
 
 /// Whether it is told how far runs have come.
-pub(super) fn is_watched<'a>(options: &Options<'a>) -> Result<bool, Mistake<'a>>
+pub(super) fn is_observed<'a>(options: &Options<'a>) -> Result<bool, Mistake<'a>>
     ensures given { IfOk result (GivesFlag (text_of name.Progress options.now)) }
     ensures faulty { IfErr result (IsFaulty name.Progress options.now) }
 {
@@ -152,6 +153,20 @@ pub(super) fn is_watched<'a>(options: &Options<'a>) -> Result<bool, Mistake<'a>>
     match truth_in(text) {
         Some(flag) => Ok(flag),
         None => Err(Mistake::Value(OptionName::Progress, text, Reason::NoTruth)),
+    }
+}
+
+/// Whether a refusal is told with the text or the file that it is about.
+pub fn is_verbose<'a>(options: &Options<'a>) -> Result<bool, Mistake<'a>>
+    ensures given { IfOk result (GivesFlag (text_of name.Verbose options.now)) }
+    ensures faulty { IfErr result (IsFaulty name.Verbose options.now) }
+{
+    let Some(text) = options.verbose else {
+        return Ok(false);
+    };
+    match truth_in(text) {
+        Some(flag) => Ok(flag),
+        None => Err(Mistake::Value(OptionName::Verbose, text, Reason::NoTruth)),
     }
 }
 

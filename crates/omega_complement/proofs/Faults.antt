@@ -13,7 +13,7 @@ use Rattle.omega_text.specs.declared.refusal.automaton.AutomatonFault.{Automaton
 use Rattle.omega_text.specs.declared.refusal.task.TaskFault.{TaskFault}
 use Rattle.omega_text.specs.declared.refusal.task.TaskFault.TheVariants.{BadSolution, Budget, NotDeterministic, NotParity, TooLarge, TooManyPropositions, TooWide, UniversalBranch, UnknownNode}
 use Rattle.omega_automaton.specs.Automaton.{Description}
-use Rattle.omega_automaton.specs.Branching.{has_branch}
+use Rattle.omega_automaton.specs.Branching.{has_universal_branching}
 use Rattle.omega_automaton.specs.Faults.{automaton_fault_of}
 use Rattle.omega_raw.specs.declared.raw_automaton.RawAutomaton.{RawAutomaton}
 use Rattle.omega_complement.specs.Complement.{AreExclusiveBelow, AreFittingBelow}
@@ -23,10 +23,10 @@ use Rattle.omega_complement.specs.Labels.{is_full, labels_at, state_at}
 use Rattle.omega_complement.specs.Refusing.{HasStart, IsComplementFault, IsFirstFault, IsStateFault, IsUncomplemented}
 use Rattle.omega_complement.specs.Written.{IsWrittenComplement}
 use Rattle.omega_complement.specs.private.Turned.{AreRefused, IsStateRefusal, IsUnformed, IsUnjudged}
-use Rattle.omega_complement.proofs.RoomTests.{deep_formula}
-use Rattle.omega_written.specs.Fitting.{FitsAText, IsLarge, IsUnfit}
-use Rattle.omega_written.proofs.Depths.{deep_text, unfit_text}
-use Rattle.omega_written.proofs.Refusals.{large_task, memory_task, task_weaker}
+use Rattle.omega_complement.proofs.LimitTests.{deep_formula}
+use Rattle.omega_edge_labels.specs.Fitting.{FitsAText, IsLarge, IsUnfit}
+use Rattle.omega_edge_labels.proofs.Depths.{deep_text, unfit_text}
+use Rattle.omega_edge_labels.proofs.Refusals.{large_task, memory_task, task_weaker}
 
 module _ (full : Bool) (labels : List LabelTree) (number : ℕ) (label : LabelTree) where
   -- a label that is written and is no label, or is none in a text
@@ -57,7 +57,7 @@ pub memory_refused : (full : Bool) (labels : List LabelTree) (number : ℕ) (ref
 memory_refused full labels number refusal is = memory_task (IsStateFault full labels number) refusal is
 
 -- a formula that is too deep leaves no room
-pub formula_refused : (a : Description) → has_branch a ≡ false → (refusal : Refusal) → IsLarge (most_depth < raw_acc_depth (acc_written (dual a.acceptance))) refusal
+pub formula_refused : (a : Description) → has_universal_branching a ≡ false → (refusal : Refusal) → IsLarge (most_depth < raw_acc_depth (acc_written (dual a.acceptance))) refusal
     → IsUncomplemented a refusal
 formula_refused a plain refusal is =
     large_task (most_depth < raw_acc_depth (acc_written (dual a.acceptance))) (IsComplementFault a) (λ deep. inl (plain, deep_formula a (omega (arith, deep)))) refusal is

@@ -12,7 +12,7 @@ use Rattle.omega_complement.specs.Labels.{is_full, labels_of}
 use Rattle.omega_complement.specs.Letters.{AreExclusive, LacksLetter}
 use Rattle.omega_complement.proofs.Bits.{and_parts, index_of, one_index, valuation_true}
 use Rattle.omega_complement.proofs.Rows.{each_at, each_there}
-use Rattle.omega_written.specs.Labels.{label_at, valuation_label}
+use Rattle.omega_edge_labels.specs.Labels.{label_at, valuation_label}
 
 all_at : {X : Type 0} (p : X → Bool) (xs : List X) (k : ℕ) (x : X) → list_all p xs ≡ true → slice_get xs k ≡ Some x → p x ≡ true
 all_at p [] k x all e = absurd (never e)

@@ -10,7 +10,7 @@ use Rattle.omega_acc.specs.label.Shape.{FitsALabel}
 use Rattle.omega_complement.specs.Judged.{AreFitting, IsBoth, IsJudgedLabel, IsOne, IsWrittenLabel}
 use Rattle.omega_complement.specs.Letters.{AreExclusive, IsAnyOf, IsPair, IsRestLabel, LacksLetter, alone, halves}
 use Rattle.omega_complement.specs.private.Apart.{AreApartTo, IsApart, IsApartFrom}
-use Rattle.omega_written.specs.Fitting.{FitsAText}
+use Rattle.omega_edge_labels.specs.Fitting.{FitsAText}
 
 same_there : (labels : List LabelTree) (i : ℕ) (x y : LabelTree) → i < length labels → x ≡ get_or labels i x → slice_get labels i ≡ Some y → x ≡ y
 same_there labels i x y below here there = same (sym (slice_get_read labels (length labels) i x refl below here) ∙ there)

@@ -4,7 +4,7 @@ pub mod Faults
 pub mod Full
 pub mod Judged
 pub mod Rests
-pub mod RoomTests
+pub mod LimitTests
 pub mod Rows
 pub mod StateNumbers
 pub mod Turned

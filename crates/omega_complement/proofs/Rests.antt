@@ -18,7 +18,7 @@ any_true held labels any (alone label) = or_false (truth held label)
 any_true held labels any (halves left right x y even first second) =
     ap₂ (λ a b. a || b) (any_true held left x first) (any_true held right y second) ∙ sym (list_any-append (truth held) left right)
 
--- the rest is true where none is
+-- the rest is true if no label is
 pub rest_true : (held : ℕ → Bool) (labels : List LabelTree) (rest : LabelTree) → IsRestLabel labels rest → truth held rest ≡ not (list_any (truth held) labels)
 rest_true held [] rest is = ap (truth held) is
 rest_true held (label ∷ labels) rest is = ap (truth held) is.2 ∙ ap not (any_true held (label ∷ labels) is.0 is.1)

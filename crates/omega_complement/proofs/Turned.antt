@@ -54,7 +54,7 @@ module _ (a : Description) where
         (zip_push (λ number. IsTurned (length a.propositions) a.states (state_at a number)) (range_with_len 0 count) states count raw are.turned turned);
     apart = λ number below. at number (cases_lt number count) below;
     fitting = λ number below. fit number (cases_lt number count) below;
-    lacking = (λ e. found (or_cases lacks more e), λ some. told some.0 some.1 some.2 (cases_lt some.0 count));
+    lacking = (λ e. found (or_cases lacks more e), λ some. reported some.0 some.1 some.2 (cases_lt some.0 count));
   }
     where
       Lacking : ℕ → Type 0
@@ -81,8 +81,8 @@ module _ (a : Description) where
       found (inl e) = let earlier = are.lacking.0 e in (earlier.0, omega (arith, earlier.1), earlier.2)
       found (inr e) = (count, omega arith, lacking.0 e)
 
-      told : (number : ℕ) → number < count + 1 → LacksLetter (labels_at a number) → (number < count) ⊎ (count ≤ number) → (lacks || more) ≡ true
-      told number below lack (inl before) = or_left lacks more (are.lacking.1 (number, before, lack))
-      told number below lack (inr past) =
+      reported : (number : ℕ) → number < count + 1 → LacksLetter (labels_at a number) → (number < count) ⊎ (count ≤ number) → (lacks || more) ≡ true
+      reported number below lack (inl before) = or_left lacks more (are.lacking.1 (number, before, lack))
+      reported number below lack (inr past) =
           let last : number ≡ count = omega arith in
           or_right lacks more (lacking.1 (subst (λ n. LacksLetter (labels_at a n)) last lack))

@@ -1,12 +1,12 @@
--- The complement of a deterministic automaton, which accepts exactly the words that the automaton does not: as many
--- states and edges, an edge more for the letters that a state lacks, and the dual acceptance.
+-- The complement of a deterministic automaton, which accepts exactly the words that the automaton does not. It has the
+-- same states and edges, an edge more for the letters that a state lacks, and the dual acceptance.
 use Rattle.std.specs.Prelude.{◌≡◌, ℕ, ◌+◌, ◌<◌, ◌≤◌, Bool, false, ◌||◌, nat_le, length}
 use Rattle.omega_text.specs.Limits.{most_number}
 use Rattle.omega_acc.specs.Limits.{most_depth}
 use Rattle.omega_acc.specs.WritingLaws.{acc_written}
 use Rattle.omega_acc.specs.formula.Raw.{raw_acc_depth}
 use Rattle.omega_automaton.specs.Automaton.{Description, edge_count}
-use Rattle.omega_automaton.specs.Branching.{has_branch}
+use Rattle.omega_automaton.specs.Branching.{has_universal_branching}
 use Rattle.omega_automaton.specs.Meaning.{Means}
 use Rattle.omega_raw.specs.declared.raw_automaton.RawAutomaton.{RawAutomaton}
 use Rattle.omega_complement.specs.Dual.{dual}
@@ -14,36 +14,36 @@ use Rattle.omega_complement.specs.Judged.{AreFitting}
 use Rattle.omega_complement.specs.Labels.{is_full, labels_at, state_at}
 use Rattle.omega_complement.specs.Letters.{AreExclusive}
 use Rattle.omega_complement.specs.Written.{IsWrittenComplement}
-use Rattle.omega_written.specs.Limits.{most_edges, most_states}
+use Rattle.omega_edge_labels.specs.Limits.{most_edges, most_states}
 
--- an automaton is the complement of one: it is what is written
+-- an automaton is the complement of another: it is the meaning of the written complement
 abbrev pub IsComplement : Description → Description → Type 0
 IsComplement a complement = (raw : RawAutomaton) × IsWrittenComplement a raw × Means raw complement
 
--- whether a further state, an edge more for each state, a further set or, as it is written, a formula one deeper would
--- pass a limit
-abbrev pub has_no_room : Description → Bool
-has_no_room a =
+-- whether a limit would be passed by one state more, one edge more for each state, one set more, or a written formula
+-- one deeper
+abbrev pub exceeds_limits : Description → Bool
+exceeds_limits a =
     nat_le most_states a.states || nat_le most_edges (edge_count a + a.states) || nat_le most_number a.sets
     || nat_le most_depth (raw_acc_depth (acc_written (dual a.acceptance)))
 
--- at each letter one edge at most of each state with a number below this one can be taken
+-- of each state with a number below `count`, at most one edge can be taken at each letter
 abbrev pub AreExclusiveBelow : Description → ℕ → Type 0
 AreExclusiveBelow a count = (number : ℕ) → number < count → AreExclusive (labels_at a number)
 
--- an automaton is deterministic: one start at most, and at each letter one edge at most of each state
+-- an automaton is deterministic: it has at most one start, and each state at most one edge at each letter
 pub record IsDeterministic (a : Description) : Type 0 where
-  pub plain : has_branch a ≡ false
+  pub plain : has_universal_branching a ≡ false
   pub one_start : length a.starts ≤ 1
   pub apart : AreExclusiveBelow a a.states
 
--- of each state with a number below this one the labels that are judged fit, and those that are written do
+-- of each state with a number below `count`, the labels to be judged and the labels to be written fit the limits
 abbrev pub AreFittingBelow : Description → ℕ → Type 0
 AreFittingBelow a count =
     (number : ℕ) → number < count → AreFitting (is_full (length a.propositions) (state_at a number)) (labels_at a number)
 
--- no refusal is due
+-- no refusal of the automaton applies
 pub record HasComplement (a : Description) : Type 0 where
   pub deterministic : IsDeterministic a
-  pub room : has_no_room a ≡ false
+  pub limits : exceeds_limits a ≡ false
   pub fitting : AreFittingBelow a a.states

@@ -1,5 +1,5 @@
--- The dual of an acceptance formula, which holds where the formula does not: both operators, both constants, and `Fin`
--- and `Inf` turned (HOA v1, acceptance).
+-- The dual of an acceptance formula, which holds exactly if the formula does not. It exchanges the operators, the
+-- constants, and `Fin` and `Inf` (HOA v1, acceptance).
 use Rattle.std.specs.Prelude.{not}
 use Rattle.omega_acc.specs.formula.Acceptance.{AccTree, conjunction, constant, disjunction, fin, inf}
 

@@ -5,18 +5,18 @@ use Rattle.omega_acc.specs.label.Label.{LabelTree}
 use Rattle.omega_automaton.specs.Automaton.{Description}
 use Rattle.omega_automaton.specs.declared.edge.Edge.{Edge}
 use Rattle.omega_automaton.specs.declared.state.State.{State}
-use Rattle.omega_written.specs.Labels.{label_at}
+use Rattle.omega_edge_labels.specs.Labels.{label_at}
 
--- what is given for each edge of a list by its index, of which the first has this one
+-- the results of `given` for each edge of a list and its index, counted from the first index
 abbrev pub each_by_index : {X : Type 0} → (ℕ → Edge → X) → ℕ → List Edge → List X
 each_by_index given index [] = []
 each_by_index given index (edge ∷ edges) = given index edge ∷ each_by_index given (index + 1) edges
 
--- the labels of the edges of a state, over so many propositions
+-- the labels of the edges of a state, over `count` propositions
 abbrev pub labels_of : ℕ → State → List LabelTree
 labels_of count state = each_by_index (label_at count state) 0 state.edges
 
--- whether a state and its edges have no labels, and there is an edge for each valuation of so many propositions
+-- whether a state and its edges have no labels, and there is an edge for each valuation of `count` propositions
 abbrev pub is_full : ℕ → State → Bool
 is_full count state = is_none state.label && list_all (λ edge. is_none edge.label) state.edges && length state.edges == 2 ^ count
 
@@ -24,15 +24,15 @@ is_full count state = is_none state.label && list_all (λ edge. is_none edge.lab
 abbrev pub undefined : ℕ → State
 undefined number = record { label = None; number = number; name = None; marks = []; edges = [] }
 
--- the state of a number among states, one without edges where none has it
+-- the first state with a number, or one without edges if there is none
 abbrev pub state_among : List State → ℕ → State
 state_among [] number = undefined number
 state_among (state ∷ states) number = if state.number == number then state else state_among states number
 
--- the state of a number of an automaton
+-- the state with a number of an automaton
 abbrev pub state_at : Description → ℕ → State
 state_at a number = state_among a.defined number
 
--- the labels of the edges of the state of a number
+-- the labels of the edges of the state with a number
 abbrev pub labels_at : Description → ℕ → List LabelTree
 labels_at a number = labels_of (length a.propositions) (state_at a number)

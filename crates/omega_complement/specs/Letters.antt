@@ -1,11 +1,11 @@
--- Letters, which are the sets of propositions that hold at once: where two edges of a state can be taken, and where
--- none.
+-- Letters, which are the sets of propositions that hold at once. At which of them two edges of a state can be taken,
+-- and at which none.
 use Rattle.std.specs.Prelude.{◌≡◌, ◌⊎◌, ℕ, suc, ◌<◌, Bool, true, false, List, [], ◌∷◌, ◌++◌, length, slice_get, Some}
 use Rattle.std.specs.List.{list_any}
 use Rattle.omega_acc.specs.label.Label.{LabelTree, conjunction, constant, disjunction, negation, truth}
 use Rattle.omega_acc.specs.label.Satisfiable.{IsSatisfiable}
 
--- labels of two edges of a state
+-- the labels of two different edges of a state, in their order
 pub record IsPair (labels : List LabelTree) (one other : LabelTree) : Type 0 where
   pub first : ℕ
   pub second : ℕ
@@ -17,7 +17,7 @@ pub record IsPair (labels : List LabelTree) (one other : LabelTree) : Type 0 whe
 abbrev pub HasClash : List LabelTree → Type 0
 HasClash labels = (one : LabelTree) × ((other : LabelTree) × IsPair labels one other × IsSatisfiable (conjunction one other))
 
--- at each letter one edge at most can be taken
+-- at each letter at most one edge can be taken
 abbrev pub AreExclusive : List LabelTree → Type 0
 AreExclusive labels = HasClash labels → ⊥
 
@@ -25,13 +25,13 @@ AreExclusive labels = HasClash labels → ⊥
 abbrev pub LacksLetter : List LabelTree → Type 0
 LacksLetter labels = (held : ℕ → Bool) × (list_any (truth held) labels ≡ false)
 
--- one label, or the alternative of two halves of them, of which the second is as long as the first or one longer
+-- one label, or the disjunction of two halves of them; the second half is as long as the first or one longer
 pub data IsAnyOf : List LabelTree → LabelTree → Type 0 where
   alone : (label : LabelTree) → IsAnyOf (label ∷ []) label
   halves : (left right : List LabelTree) (one other : LabelTree) → (length right ≡ length left) ⊎ (length right ≡ suc (length left))
       → IsAnyOf left one → IsAnyOf right other → IsAnyOf (left ++ right) (disjunction one other)
 
--- the label of the letters at which no edge can be taken: `t` where there is none, else `!` before any of the labels
+-- the label of the letters at which no edge can be taken: `t` without labels, else the negated disjunction of them all
 abbrev pub IsRestLabel : List LabelTree → LabelTree → Type 0
 IsRestLabel [] rest = rest ≡ constant true
 IsRestLabel (label ∷ labels) rest = (any : LabelTree) × IsAnyOf (label ∷ labels) any × (rest ≡ negation any)

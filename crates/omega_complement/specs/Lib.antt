@@ -1,4 +1,4 @@
--- The complement of a deterministic automaton: what public contracts cite; in `private` what private ones alone do.
+-- Complements: what public contracts cite, and in `private` what private contracts alone cite.
 pub use Rattle.omega_text.specs.Cases
 pub use Rattle.omega_text.specs.Refusal
 pub mod Labels

@@ -1,5 +1,5 @@
--- The complement of a deterministic automaton as a text writes it: header, states and edges (HOA v1, header and body),
--- labels and the acceptance with parentheses only where they are needed.
+-- The complement of a deterministic automaton as a text writes it: header, states and edges (HOA v1, header and body).
+-- Labels and the acceptance have parentheses only where they need them.
 use Rattle.std.specs.Prelude.{◌≡◌, ◌⊎◌, ◌↔◌, ℕ, ◌+◌, ◌<◌, Bool, true, false, IsTrue, if◌then◌else◌, List, [], ◌∷◌, ◌++◌, length, slice_index_or, Option, None, Some, codes}
 use Rattle.std.specs.List.{AllZip, range_with_len}
 use Rattle.omega_acc.specs.WritingLaws.{acc_written, label_written}
@@ -19,9 +19,9 @@ use Rattle.omega_raw.specs.declared.raw_state.RawState.{RawState}
 use Rattle.omega_complement.specs.Dual.{dual}
 use Rattle.omega_complement.specs.Labels.{each_by_index, labels_at, labels_of, state_at}
 use Rattle.omega_complement.specs.Letters.{IsRestLabel, LacksLetter}
-use Rattle.omega_written.specs.Labels.{label_at}
+use Rattle.omega_edge_labels.specs.Labels.{label_at}
 
--- an edge of a state by its index, to which label and marks of the state have moved
+-- the edge of a state with an index, with the label and the marks of the state moved to it
 abbrev pub turned_edge : ℕ → State → ℕ → Edge → RawEdge
 turned_edge count state index edge = record {
   label = Some (label_written (label_at count state index edge));
@@ -33,7 +33,7 @@ turned_edge count state index edge = record {
 abbrev pub turned_edges : ℕ → State → List RawEdge
 turned_edges count state = each_by_index (turned_edge count state) 0 state.edges
 
--- the letters at which no edge can be taken, as they are written; none where there is an edge for each letter
+-- the written label of the letters at which no edge can be taken; none if there is no such letter
 abbrev pub IsMissing : List LabelTree → Option RawLabelTree → Type 0
 IsMissing labels None = LacksLetter labels → ⊥
 IsMissing labels (Some written) = LacksLetter labels × ((rest : LabelTree) × IsRestLabel labels rest × (written ≡ label_written rest))
@@ -43,8 +43,7 @@ abbrev pub further_edges : ℕ → Option RawLabelTree → List RawEdge
 further_edges sink None = []
 further_edges sink (Some missing) = record { label = Some missing; targets = sink ∷ []; marks = None } ∷ []
 
--- a state of the complement is one of the automaton with an edge for each letter, by the count of propositions and the
--- number of the sink
+-- the state of the complement for `state`, with an edge for each letter; `sink` is the number of the sink
 pub record IsTurned (count sink : ℕ) (state : State) (raw : RawState) : Type 0 where
   pub missing : Option RawLabelTree
   pub is_missing : IsMissing (labels_of count state) missing
@@ -54,15 +53,15 @@ pub record IsTurned (count sink : ℕ) (state : State) (raw : RawState) : Type 0
   pub marks : raw.marks ≡ None
   pub edges : raw.edges ≡ turned_edges count state ++ further_edges sink missing
 
--- a further state is needed, the sink: there is no start, or some state lacks a letter
+-- a sink is needed: there is no start, or some state lacks a letter
 abbrev pub NeedsSink : Description → Type 0
 NeedsSink a = (a.starts ≡ []) ⊎ ((number : ℕ) × (number < a.states) × LacksLetter (labels_at a number))
 
--- one for the sink, if there is one
+-- one if there is a sink, else zero
 abbrev pub one_if : Bool → ℕ
 one_if sink = if sink then 1 else 0
 
--- the sink, which keeps each word and is in a set of its own
+-- the sink, which loops at each letter and is in a set of its own
 abbrev pub sink_state : Description → RawState
 sink_state a = record {
   label = None;
@@ -72,22 +71,22 @@ sink_state a = record {
   edges = record { label = Some (raw_label.constant true); targets = a.states ∷ []; marks = Some (a.sets ∷ []) } ∷ [];
 }
 
--- the states after those of the automaton
+-- the sink in a list, if there is one
 abbrev pub sinks : Description → Bool → List RawState
 sinks a sink = if sink then sink_state a ∷ [] else []
 
--- the acceptance: the dual, or else for ever in the sink
+-- the acceptance: the dual, or, if there is a sink, a word may also stay in it for ever
 abbrev pub complement_acceptance : Description → Bool → AccTree
 complement_acceptance a sink = if sink then acc.disjunction (dual a.acceptance) (acc.inf false a.sets) else dual a.acceptance
 
--- the header; without a start the sink is one
+-- the header; if there is no start, the sink is the start
 abbrev pub header : Description → Bool → List RawItem
 header a sink =
     item.States (a.states + one_if sink) ∷ item.Start (slice_index_or a.starts 0 (a.states ∷ []))
     ∷ item.Propositions (length a.propositions) a.propositions
     ∷ item.Acceptance (a.sets + one_if sink) (acc_written (complement_acceptance a sink)) ∷ []
 
--- what is written is the complement: the states by their numbers, the sink last
+-- the written complement: the states by their numbers, and the sink last
 pub record IsWrittenComplement (a : Description) (raw : RawAutomaton) : Type 0 where
   pub sink : Bool
   pub needed : IsTrue sink ↔ NeedsSink a

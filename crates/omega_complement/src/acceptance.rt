@@ -1,4 +1,4 @@
-//! The acceptance of a complement, as it is written.
+//! The acceptance of a complement, as a text writes it.
 
 ghost use Rattle.std.specs.Prelude.{◌≡◌, ◌<◌, IfErr, IfOk};
 ghost use Rattle.omega_text.specs.Cases.{IsMemory};
@@ -7,15 +7,16 @@ ghost use Rattle.omega_acc.specs.WritingLaws.{acc_written};
 ghost use Rattle.omega_acc.specs.formula.Raw.{raw_acc_depth};
 ghost use Rattle.omega_acc.specs.formula.Shape.{acc_tree_of_shape};
 ghost use Rattle.omega_complement.specs.Dual.{dual};
-ghost use Rattle.omega_written.specs.Fitting.{IsLarge};
+ghost use Rattle.omega_edge_labels.specs.Fitting.{IsLarge};
 
 use omega_acc::{AccShape, RawAcc};
 use omega_automaton::Automaton;
+use omega_edge_labels::written_formula;
 use omega_text::Refusal;
-use omega_written::written_formula;
 use std::alloc::Global;
 
-/// The dual of the acceptance of an automaton. 55 where it is deeper than `MOST_DEPTH` as it is written, or 60.
+/// Returns the dual of the acceptance of `automaton`. Fails with [TaskFault::TooLarge] if its written form is deeper
+/// than `MOST_DEPTH`.
 pub(crate) fn dual_acceptance(alloc: Global, automaton: &Automaton) -> Result<RawAcc, Refusal>
     ensures dual { IfOk result (λ raw. raw ≡ acc_written (dual automaton.now.acceptance)) }
     ensures err { IfErr result (IsLarge (most_depth < raw_acc_depth (acc_written (dual automaton.now.acceptance)))) }
@@ -25,7 +26,7 @@ pub(crate) fn dual_acceptance(alloc: Global, automaton: &Automaton) -> Result<Ra
     written_formula(alloc, &dual)
 }
 
-/// The dual of a formula. 60 alone.
+/// Returns the dual of a formula.
 fn dual_of(alloc: Global, shape: &AccShape) -> Result<AccShape, Refusal>
     ensures dual { IfOk result (λ turned. acc_tree_of_shape turned ≡ dual (acc_tree_of_shape shape.now)) }
     ensures err { IfErr result IsMemory }

@@ -1,10 +1,10 @@
-//! A complement as it is written, and the automaton that it means.
+//! A complement as a text writes it, and the automaton that this means.
 
 ghost use Rattle.std.specs.Prelude.{◌≡◌, ◌↔◌, ◌<◌, ◌++◌, ◌∷◌, [], ℕ, IsTrue, false, length, slice_index_or, IfErr, IfOk};
 ghost use Rattle.omega_text.specs.Cases.{IsMemory};
 ghost use Rattle.omega_acc.specs.WritingLaws.{acc_written};
 ghost use Rattle.omega_automaton.specs.Meaning.{Means};
-ghost use Rattle.omega_complement.specs.Complement.{has_no_room};
+ghost use Rattle.omega_complement.specs.Complement.{exceeds_limits};
 ghost use Rattle.omega_complement.specs.Dual.{dual};
 ghost use Rattle.omega_complement.specs.Labels.{labels_at};
 ghost use Rattle.omega_complement.specs.Letters.{LacksLetter};
@@ -18,14 +18,14 @@ use omega_raw::{RawEdge, RawEdges, RawItem, RawState};
 use omega_text::{ByteString, Marks, Numbers, Refusal, Seq, TaskFault};
 use std::alloc::Global;
 
-/// The complement as it is written, of the dual acceptance and the states. 60 alone.
+/// Returns the complement as a text writes it, from the dual acceptance and the states.
 pub(crate) fn written_complement(
     alloc: Global,
     automaton: &Automaton,
     formula: RawAcc,
     body: Body,
 ) -> Result<RawAutomaton, Refusal>
-    requires room { has_no_room automaton.now ≡ false }
+    requires limits { exceeds_limits automaton.now ≡ false }
     requires dual { formula ≡ acc_written (dual automaton.now.acceptance) }
     requires turned { AreTurned automaton.now automaton.now.states body.states.items body.lacks }
     ensures written { IfOk result (IsWrittenComplement automaton.now) }
@@ -42,7 +42,7 @@ pub(crate) fn written_complement(
     })
 }
 
-/// Whether a further state is needed, where it is told whether a state lacks a letter.
+/// Whether a sink is needed. `lacks` says whether some state lacks a letter.
 fn needs_sink(automaton: &Automaton, lacks: bool) -> bool
     requires { IsTrue lacks ↔ ((number : ℕ) × (number < automaton.now.states) × LacksLetter (labels_at automaton.now number)) }
     ensures { IsTrue result ↔ NeedsSink automaton.now }
@@ -54,7 +54,7 @@ fn needs_sink(automaton: &Automaton, lacks: bool) -> bool
     }
 }
 
-/// The states, and the sink after them if there is one. 60 alone.
+/// Appends the sink to `states` if there is one.
 fn with_sink(
     alloc: Global,
     automaton: &Automaton,
@@ -71,14 +71,14 @@ fn with_sink(
     Ok(all)
 }
 
-/// The header, where there is a sink or none. 60 alone.
+/// Returns the header, for a complement with or without a sink.
 fn header(
     alloc: Global,
     automaton: &Automaton,
     formula: RawAcc,
     sink: bool,
 ) -> Result<Vec<RawItem>, Refusal>
-    requires room { has_no_room automaton.now ≡ false }
+    requires limits { exceeds_limits automaton.now ≡ false }
     requires dual { formula ≡ acc_written (dual automaton.now.acceptance) }
     ensures items { IfOk result (λ items. items.items ≡ header automaton.now sink) }
     ensures err { IfErr result IsMemory }
@@ -96,14 +96,14 @@ fn header(
     Ok(items)
 }
 
-/// The acceptance, where there is a sink or none. 60 alone.
+/// Returns the acceptance, for a complement with or without a sink.
 fn acceptance_of(
     alloc: Global,
     automaton: &Automaton,
     formula: RawAcc,
     sink: bool,
 ) -> Result<RawAcc, Refusal>
-    requires room { has_no_room automaton.now ≡ false }
+    requires limits { exceeds_limits automaton.now ≡ false }
     requires dual { formula ≡ acc_written (dual automaton.now.acceptance) }
     ensures acceptance { IfOk result (λ written. written ≡ acc_written (complement_acceptance automaton.now sink)) }
     ensures err { IfErr result IsMemory }
@@ -114,7 +114,7 @@ fn acceptance_of(
     formula.or(RawAcc::atom(alloc, b"Inf", false, automaton.set_count())?)
 }
 
-/// The start, or the sink where there is none. 60 alone.
+/// Returns the start of `automaton`, or the sink if it has none.
 fn start_of(alloc: Global, automaton: &Automaton) -> Result<Numbers, Refusal>
     ensures start { IfOk result (λ start. start ≡ slice_index_or automaton.now.starts 0 (automaton.now.states ∷ [])) }
     ensures err { IfErr result IsMemory }
@@ -125,7 +125,7 @@ fn start_of(alloc: Global, automaton: &Automaton) -> Result<Numbers, Refusal>
     }
 }
 
-/// The propositions. 60 alone.
+/// Returns the header item of the propositions.
 fn propositions(alloc: Global, automaton: &Automaton) -> Result<RawItem, Refusal>
     ensures item { IfOk result (λ item. item ≡ RawItem.Propositions (length automaton.now.propositions) automaton.now.propositions) }
     ensures err { IfErr result IsMemory }
@@ -139,7 +139,7 @@ fn propositions(alloc: Global, automaton: &Automaton) -> Result<RawItem, Refusal
     })
 }
 
-/// The same names. 60 alone.
+/// Copies `names`.
 fn copied(alloc: Global, names: &[ByteString]) -> Result<Vec<ByteString>, Refusal>
     ensures same { IfOk result (λ same. same.items ≡ names.now) }
     ensures err { IfErr result IsMemory }
@@ -151,7 +151,7 @@ fn copied(alloc: Global, names: &[ByteString]) -> Result<Vec<ByteString>, Refusa
     Ok(same)
 }
 
-/// The sink. 60 alone.
+/// Returns the sink.
 fn sink_state(alloc: Global, automaton: &Automaton) -> Result<RawState, Refusal>
     ensures sink { IfOk result (λ state. state ≡ sink_state automaton.now) }
     ensures err { IfErr result IsMemory }
@@ -172,8 +172,8 @@ fn sink_state(alloc: Global, automaton: &Automaton) -> Result<RawState, Refusal>
     })
 }
 
-/// The automaton that is written so. 55 where what is written breaks a limit of automata, which
-/// `complements_are_writable` of `omega_complement_laws` says, or 60.
+/// Returns the meaning of `raw`. Fails with [TaskFault::TooLarge] if `raw` breaks a limit of automata. Law
+/// `complements_are_writable` of `omega_language_laws` says which limits these can be.
 pub(crate) fn formed(alloc: Global, raw: RawAutomaton) -> Result<Automaton, Refusal>
     ensures means { IfOk result (Means raw) }
     ensures err { IfErr result (IsUnformed raw) }

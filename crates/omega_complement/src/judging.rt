@@ -1,4 +1,4 @@
-//! Whether the labels of a state are apart: at each letter one edge at most can be taken.
+//! Whether the labels of a state are exclusive: at each letter at most one of its edges can be taken.
 
 ghost use Rattle.std.specs.Prelude.{◌↔◌, ◌<◌, false, IsTrue, IfErr, IfOk, OnOk, length};
 ghost use Rattle.omega_acc.specs.label.Label.{LabelTree, conjunction};
@@ -10,24 +10,25 @@ ghost use Rattle.omega_complement.specs.private.Apart.{IsApartFrom};
 ghost use Rattle.omega_complement.specs.private.Turned.{IsStateRefusal, IsUnjudged};
 
 use omega_acc::{Label, LabelShape};
-use omega_satisfying::can_be_true;
+use omega_edge_labels::fitting_label;
+use omega_satisfying::is_satisfiable;
 use omega_text::{Refusal, TaskFault};
-use omega_written::fitting_label;
 use std::alloc::Global;
 
-/// Whether a label can be true. 55 where it is deeper than `MOST_DEPTH` or has over `MOST_SIZE` atoms and operators, 42
-/// where it mentions over `MOST_MENTIONED` propositions and `can_be_true` gave it up, or 60.
+/// Whether a label can be true. Fails with [TaskFault::TooLarge] if it is deeper than `MOST_DEPTH` or has over
+/// `MOST_SIZE` atoms and operators. Fails with [TaskFault::TooManyPropositions] if it mentions over `MOST_MENTIONED`
+/// propositions and `is_satisfiable` gave it up.
 pub(crate) fn can_hold(alloc: Global, shape: &LabelShape) -> Result<bool, Refusal>
     ensures judged { IfOk result (λ possible. IsTrue possible ↔ IsSatisfiable (label_tree_of_shape shape.now)) }
     ensures fits { OnOk result (FitsALabel (label_tree_of_shape shape.now)) }
     ensures err { IfErr result (IsUnjudged (label_tree_of_shape shape.now)) }
 {
     let label = fitting_label(alloc, shape)?;
-    can_be_true(alloc, &label)
+    is_satisfiable(alloc, &label)
 }
 
-/// Nothing where at each letter one edge at most can be taken. 56 where at some letter two can be, with the number of
-/// the state, or else 42, 55 or 60. Judges each two labels together.
+/// Judges that at each letter at most one of `labels` is true, two at a time. Fails with [TaskFault::NotDeterministic]
+/// with the state's `number` if two can be true together, and as `can_hold` does.
 pub(crate) fn judge_apart(alloc: Global, labels: &[Label], number: u32) -> Result<(), Refusal>
     ensures apart { OnOk result (AreExclusive labels.now) }
     ensures fits { OnOk result ((label : LabelTree) → IsBoth labels.now label → FitsALabel label) }
@@ -39,7 +40,7 @@ pub(crate) fn judge_apart(alloc: Global, labels: &[Label], number: u32) -> Resul
     Ok(())
 }
 
-/// Judges a label together with each one before it.
+/// Judges the label at `second` together with each one before it.
 fn judge_before(alloc: Global, labels: &[Label], second: usize, number: u32) -> Result<(), Refusal>
     requires { second < length labels.now }
     ensures apart { OnOk result (IsApartFrom labels.now second second) }
@@ -53,7 +54,7 @@ fn judge_before(alloc: Global, labels: &[Label], second: usize, number: u32) -> 
     Ok(())
 }
 
-/// Whether two labels can be true together. 42, 55 or 60.
+/// Whether two labels can be true together. Fails as `can_hold` does.
 fn can_meet(alloc: Global, one: &Label, other: &Label) -> Result<bool, Refusal>
     ensures judged { IfOk result (λ possible. IsTrue possible ↔ IsSatisfiable (conjunction one.now other.now)) }
     ensures fits { OnOk result (FitsALabel (conjunction one.now other.now)) }

@@ -1,4 +1,4 @@
-//! The labels of the edges of a state, also of edges that are written without one.
+//! The labels of the edges of a state. An edge that is written without one has the label of its valuation.
 
 ghost use Rattle.std.specs.Prelude.{◌≡◌, IfErr, IfOk, OnOk};
 ghost use Rattle.std.specs.List.{All};
@@ -8,12 +8,12 @@ ghost use Rattle.omega_complement.specs.private.Turned.{IsStateRefusal};
 
 use omega_acc::Label;
 use omega_automaton::State;
+use omega_edge_labels::{fitting_label, label_at};
 use omega_text::Refusal;
-use omega_written::{fitting_label, label_at};
 use std::alloc::Global;
 
-/// The labels of the edges of a state, over so many propositions. 55 where one would be deeper than `MOST_DEPTH`
-/// or have over `MOST_SIZE` atoms and operators, or 60.
+/// Returns the labels of the edges of `state`, over `count` propositions. Fails with [TaskFault::TooLarge] if one would
+/// be deeper than `MOST_DEPTH` or have over `MOST_SIZE` atoms and operators.
 pub(crate) fn labels_of(alloc: Global, count: usize, state: &State) -> Result<Vec<Label>, Refusal>
     ensures labels { IfOk result (λ labels. labels.items ≡ labels_of_state count state.now) }
     ensures fits { OnOk result (All FitsALabel (labels_of_state count state.now)) }

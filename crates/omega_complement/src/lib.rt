@@ -1,6 +1,6 @@
 //! The complement of a deterministic automaton, which accepts exactly the words that the automaton does not.
 //!
-//! Numbers of refusals are those of `Refusal`; docs/formats.md says when each comes.
+//! docs/formats.md says when each refusal comes.
 #![tactic(auto)]
 
 mod acceptance;
@@ -8,12 +8,12 @@ mod complementing;
 mod forming;
 mod judging;
 mod labels;
+mod limits;
 mod places;
 mod rest;
-mod room;
 mod states;
 mod turning;
 
 pub use complementing::complement;
 pub use omega_automaton::{Automaton, Refusal};
-pub use omega_written::{MOST_EDGES, MOST_STATES, written_limits_are_stated};
+pub use omega_edge_labels::{MOST_EDGES, MOST_STATES, written_limits_are_stated};

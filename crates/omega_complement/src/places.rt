@@ -6,8 +6,8 @@ use omega_automaton::Automaton;
 use omega_text::Refusal;
 use std::alloc::Global;
 
-/// The numbers of the states that an automaton defines, in the order written. 60 alone, also where two states have one
-/// number, as no automaton has.
+/// Returns the numbers of the states that `automaton` defines, in the order written. Also fails with [Refusal::Memory]
+/// if two states have one number, which can't happen for an automaton.
 pub(crate) fn places_of(alloc: Global, automaton: &Automaton) -> Result<IndexSet<u32>, Refusal>
     ensures numbers { IfOk result (λ numbers. numbers.keys ≡ map (λ state. state.number) automaton.now.defined) }
     ensures err { IfErr result IsMemory }
@@ -19,7 +19,7 @@ pub(crate) fn places_of(alloc: Global, automaton: &Automaton) -> Result<IndexSet
     Ok(numbers)
 }
 
-/// Puts a number last. 60 alone, also where it is there already.
+/// Appends `number`. Also fails with [Refusal::Memory] if it is in the set already.
 fn add(numbers: &mut IndexSet<u32>, number: u32) -> Result<(), Refusal>
     ensures numbers { OnOk result (numbers.new.keys ≡ numbers.old.keys ++ number ∷ []) }
     ensures err { IfErr result IsMemory }

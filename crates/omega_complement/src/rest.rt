@@ -7,15 +7,16 @@ ghost use Rattle.omega_acc.specs.label.Shape.{FitsALabel, label_tree_of_shape};
 ghost use Rattle.omega_complement.specs.Letters.{IsAnyOf, IsRestLabel, LacksLetter};
 ghost use Rattle.omega_complement.specs.Written.{IsMissing};
 ghost use Rattle.omega_complement.specs.private.Turned.{IsStateRefusal};
-ghost use Rattle.omega_written.specs.Fitting.{FitsAText};
+ghost use Rattle.omega_edge_labels.specs.Fitting.{FitsAText};
 
 use crate::judging::can_hold;
 use omega_acc::{Label, LabelShape, RawLabel};
+use omega_edge_labels::written_label;
 use omega_text::Refusal;
-use omega_written::written_label;
 use std::alloc::Global;
 
-/// The letters at which no edge can be taken, none where there is an edge for each letter. 42, 55 or 60.
+/// Returns the label of the letters at which no edge can be taken, or none if there is no such letter. Fails as
+/// `can_hold` does. Only the contract reads the number of the state.
 pub(crate) fn missing(
     alloc: Global,
     labels: &[Label],
@@ -34,7 +35,7 @@ pub(crate) fn missing(
     }
 }
 
-/// The label of the letters at which no edge can be taken. 60 alone.
+/// Returns the label of the letters at which no edge can be taken.
 fn rest_of(alloc: Global, labels: &[Label]) -> Result<LabelShape, Refusal>
     ensures rest { IfOk result (λ shape. IsRestLabel labels.now (label_tree_of_shape shape)) }
     ensures err { IfErr result IsMemory }
@@ -46,7 +47,7 @@ fn rest_of(alloc: Global, labels: &[Label]) -> Result<LabelShape, Refusal>
     Ok(LabelShape::Not(Box::new(alloc, any)?))
 }
 
-/// The alternative of labels, by halves, so that it is as shallow as can be. 60 alone.
+/// Joins `labels` by `|`, half by half, so that the result is as shallow as can be.
 fn any_of(alloc: Global, labels: &[Label]) -> Result<LabelShape, Refusal>
     requires { 0 < length labels.now }
     ensures any { IfOk result (λ shape. IsAnyOf labels.now (label_tree_of_shape shape)) }

@@ -15,15 +15,15 @@ use omega_raw::RawState;
 use omega_text::{Numbers, Refusal, Seq};
 use std::alloc::Global;
 
-/// The states of a complement but the sink, and whether one of them has an edge to it.
+/// The states of a complement except the sink, and whether one of them has an edge to it.
 #[derive(Drop)]
 pub(crate) struct Body {
     pub(crate) states: Vec<RawState>,
     pub(crate) lacks: bool,
 }
 
-/// The states of an automaton by their numbers, each with an edge for each letter. Of the first that has one, 42, 55 or
-/// 56, or 60.
+/// Returns the states of `automaton` by their numbers, each with an edge for each letter. Fails with the refusal of the
+/// first state that has one: [TaskFault::TooManyPropositions], [TaskFault::TooLarge] or [TaskFault::NotDeterministic].
 pub(crate) fn turned_states(alloc: Global, automaton: &Automaton) -> Result<Body, Refusal>
     ensures turned { IfOk result (λ body. AreTurned automaton.now automaton.now.states body.states.items body.lacks) }
     ensures err { IfErr result (AreRefused automaton.now) }
@@ -39,14 +39,15 @@ pub(crate) fn turned_states(alloc: Global, automaton: &Automaton) -> Result<Body
     Ok(Body { states, lacks })
 }
 
-/// Whether one of two holds.
+/// Whether one of two flags is set.
 fn either(one: bool, other: bool) -> bool
     ensures { result ≡ (one || other) }
 {
     one || other
 }
 
-/// The state of a number, with an edge for each letter. 42, 55, 56 or 60.
+/// Returns the state with the number `number`, with an edge for each letter. Fails with
+/// [TaskFault::TooManyPropositions], [TaskFault::TooLarge] or [TaskFault::NotDeterministic].
 fn turned_at(
     alloc: Global,
     automaton: &Automaton,
@@ -67,7 +68,7 @@ fn turned_at(
     turned_state(alloc, count, sink, state)
 }
 
-/// The state of a number, or the spare one where the body does not define it.
+/// Returns the state with the number `number`, or `spare` if the body does not define it.
 fn state_of<'a>(
     automaton: &'a Automaton,
     places: &IndexSet<u32>,
@@ -84,7 +85,7 @@ fn state_of<'a>(
     }
 }
 
-/// A state that the body does not define: it has no edges.
+/// Makes the state for a number that the body does not define: it has no edges.
 fn undefined(alloc: Global, number: u32) -> State
     ensures { result ≡ undefined_state number }
 {

@@ -10,17 +10,17 @@ ghost use Rattle.omega_complement.specs.Labels.{is_full as has_all_edges, labels
 ghost use Rattle.omega_complement.specs.Letters.{AreExclusive, IsRestLabel, LacksLetter};
 ghost use Rattle.omega_complement.specs.Written.{IsMissing, IsTurned, further_edges, turned_edge as edge_turned, turned_edges as edges_turned};
 ghost use Rattle.omega_complement.specs.private.Turned.{IsStateRefusal};
-ghost use Rattle.omega_written.specs.Fitting.{FitsAText, IsLarge};
-ghost use Rattle.omega_written.specs.Labels.{label_at};
+ghost use Rattle.omega_edge_labels.specs.Fitting.{FitsAText, IsLarge};
+ghost use Rattle.omega_edge_labels.specs.Labels.{label_at};
 
 use crate::judging::judge_apart;
 use crate::labels::labels_of;
 use crate::rest::missing;
 use omega_acc::{Label, RawLabel};
 use omega_automaton::{EdgeRef, State, StateName};
+use omega_edge_labels::written_label;
 use omega_raw::{RawEdge, RawEdges, RawState};
 use omega_text::{ByteString, Marks, Numbers, Refusal};
-use omega_written::written_label;
 use std::alloc::Global;
 
 /// A state of a complement, and whether it has an edge to the sink.
@@ -30,7 +30,8 @@ pub(crate) struct Turned {
     pub(crate) lacks: bool,
 }
 
-/// A state with an edge for each letter, by the count of propositions and the number of the sink. 42, 55, 56 or 60.
+/// Returns `state` with an edge for each letter. `count` is the number of propositions, and `sink` the number of the
+/// sink. Fails with [TaskFault::TooManyPropositions], [TaskFault::TooLarge] or [TaskFault::NotDeterministic].
 pub(crate) fn turned_state(
     alloc: Global,
     count: usize,
@@ -61,8 +62,9 @@ pub(crate) fn turned_state(
     })
 }
 
-/// The letters that a state lacks, where each letter has one edge at most. Of a state that has an edge for each
-/// valuation nothing is judged. 42, 55, 56 or 60.
+/// Judges that each letter has at most one edge, and returns the label of the letters that `state` lacks, or none. A
+/// state with an edge for each valuation needs no judging. Fails with [TaskFault::TooManyPropositions],
+/// [TaskFault::TooLarge] or [TaskFault::NotDeterministic].
 fn judged(
     alloc: Global,
     count: usize,
@@ -83,7 +85,7 @@ fn judged(
     missing(alloc, labels, state.number)
 }
 
-/// Whether a state has an edge for each valuation of so many propositions, and no labels.
+/// Whether `state` has an edge for each valuation of `count` propositions, and no labels.
 fn is_full(count: usize, state: &State) -> bool
     ensures { result ≡ has_all_edges count state.now }
 {
@@ -100,7 +102,7 @@ fn is_full(count: usize, state: &State) -> bool
     edges == 1 << count
 }
 
-/// Whether no edge of a state has a label.
+/// Whether no edge of `state` has a label.
 fn has_no_labels(state: &State) -> bool
     ensures { result ≡ list_all (λ edge. is_none edge.label) state.now.edges }
 {
@@ -112,7 +114,8 @@ fn has_no_labels(state: &State) -> bool
     true
 }
 
-/// The edges of a state, to which its label and its marks have moved. 55 or 60.
+/// Returns the edges of `state`, with its label and its marks moved to them. Fails with [TaskFault::TooLarge] if a
+/// written label is deeper than `MOST_DEPTH` or has over `MOST_SIZE` atoms and operators.
 fn turned_edges(
     alloc: Global,
     count: usize,
@@ -134,8 +137,8 @@ fn turned_edges(
     Ok(edges)
 }
 
-/// The edge of a state at an index, of its label. The count and the index are named for the contract alone. 55 where
-/// the label is deeper than `MOST_DEPTH` as it is written, or 60.
+/// Returns the edge `edge` of `state` with its label. Fails with [TaskFault::TooLarge] if the written label is deeper
+/// than `MOST_DEPTH` or has over `MOST_SIZE` atoms and operators. Only the contract reads the count and the index.
 fn turned_edge(
     alloc: Global,
     _count: usize,
@@ -162,7 +165,7 @@ fn turned_edge(
     })
 }
 
-/// Puts numbers last. 60 alone.
+/// Appends `others` to `numbers`.
 fn add_all(alloc: Global, numbers: &mut Numbers, others: &[u32]) -> Result<(), Refusal>
     ensures numbers { OnOk result (numbers.new ≡ numbers.old ++ others.now) }
     ensures err { IfErr result IsMemory }
@@ -173,7 +176,7 @@ fn add_all(alloc: Global, numbers: &mut Numbers, others: &[u32]) -> Result<(), R
     Ok(())
 }
 
-/// Puts last the edge to the sink, if letters are missing. 60 alone.
+/// Appends the edge to the sink, if letters are missing.
 fn add_further(
     alloc: Global,
     edges: &mut RawEdges,
@@ -196,7 +199,7 @@ fn add_further(
     Ok(())
 }
 
-/// The name of a state. 60 alone.
+/// Copies the name of `state`.
 fn name_of(alloc: Global, state: &State) -> Result<StateName, Refusal>
     ensures name { IfOk result (λ name. name ≡ state.now.name) }
     ensures err { IfErr result IsMemory }

@@ -1,7 +1,7 @@
 -- Graphs as lists of edges between states that are numbered below a count.
 use Rattle.std.specs.Prelude.{ℕ, ◌==◌, ◌<◌, ◌^◌, List, length, All, slice_index_or}
 use Rattle.std.specs.List.{list_any}
-use Rattle.omega_walk.specs.Walks.{EdgeSet, MarkedGraph}
+use Rattle.omega_walk_laws.specs.Walks.{EdgeSet, MarkedGraph}
 use Rattle.omega_components.specs.declared.edge.Edge.{Edge}
 
 -- how many states there are, and the edges in the order of their numbers

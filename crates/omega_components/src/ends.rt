@@ -5,7 +5,7 @@ ghost use Rattle.omega_components.specs.Graph.{AreEdges, ends_at};
 use crate::graph::Graph;
 use std::alloc::{AllocError, Global};
 
-/// The states that edges leave.
+/// Returns the state that each of `edges` leaves.
 pub(crate) fn leaves_of(alloc: Global, graph: &Graph, edges: &[u32]) -> Result<Vec<u32>, AllocError>
     requires { AreEdges graph.now edges.now }
     ensures leaves { IfOk result (λ leaves. leaves.items ≡ map (λ edge. (ends_at graph.now edge).from) edges.now) }
@@ -18,7 +18,7 @@ pub(crate) fn leaves_of(alloc: Global, graph: &Graph, edges: &[u32]) -> Result<V
     Ok(leaves)
 }
 
-/// The states that edges enter.
+/// Returns the state that each of `edges` enters.
 pub(crate) fn enters_of(alloc: Global, graph: &Graph, edges: &[u32]) -> Result<Vec<u32>, AllocError>
     requires { AreEdges graph.now edges.now }
     ensures enters { IfOk result (λ enters. enters.items ≡ map (λ edge. (ends_at graph.now edge).to) edges.now) }

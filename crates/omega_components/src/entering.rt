@@ -1,12 +1,12 @@
-//! Which states edges enter from states with lesser numbers. Where all states but one are entered so, a walk leads to
-//! each of them from that one.
+//! States that are entered from states with lesser numbers. If all states but one are, a walk leads from that one to
+//! each of them.
 ghost use Rattle.std.specs.Prelude.{◌≡◌, ◌<◌, length, slice_index, IfOk, IsTrue};
 ghost use Rattle.omega_components.specs.private.Judging.{AreEntered};
 
 use std::alloc::{AllocError, Global};
 
-/// For each state below a count, whether an edge enters it from one with a lesser number. The edges are given by the
-/// states that they leave and those that they enter. Linear.
+/// Returns for each state below `count` whether an edge enters it from a state with a lesser number. The edges go from
+/// `leaves` to `enters`. Linear.
 pub(crate) fn entered(
     alloc: Global,
     count: usize,
@@ -27,7 +27,7 @@ pub(crate) fn entered(
     Ok(flags)
 }
 
-/// Whether one state has a lesser number than another one.
+/// Whether the state `one` has a lesser number than `other`.
 fn is_below(numbers: &[u64], one: u32, other: u32) -> bool
     ensures { IsTrue result → slice_index numbers.now one < slice_index numbers.now other }
 {

@@ -25,7 +25,7 @@ impl Model for Graph {
 }
 
 impl Graph {
-    /// A graph of so many states without edges, which takes no memory.
+    /// Returns a graph of `states` states without edges. Takes no memory.
     pub fn new(alloc: Global, states: u32) -> Graph
         ensures states { result.states ≡ states }
         ensures edges { result.edges ≡ [] }
@@ -36,8 +36,8 @@ impl Graph {
         }
     }
 
-    /// Adds an edge, whose number is how many there were before. `Memory` where a request for memory is refused, and
-    /// for an edge past 2^32 - 1 edges: the graph is then as it was.
+    /// Adds an edge from `from` to `to`. Its number is the count of edges before. Refuses an edge past 2^32 - 1 edges
+    /// by [`Refusal::Memory`] too. A refusal leaves the graph as it was.
     pub fn add(&mut self, from: u32, to: u32) -> Result<(), Refusal>
         requires from { from < self.old.states }
         requires to { to < self.old.states }
@@ -53,14 +53,14 @@ impl Graph {
         Ok(())
     }
 
-    /// How many states there are.
+    /// Returns the number of states.
     pub fn states(&self) -> u32
         ensures { result ≡ self.now.states }
     {
         self.states
     }
 
-    /// How many edges there are.
+    /// Returns the number of edges.
     pub fn len(&self) -> usize
         ensures count { result ≡ length self.now.edges }
         ensures numbered { result < 2 ^ 32 }
@@ -68,7 +68,7 @@ impl Graph {
         self.edges.len()
     }
 
-    /// The state that an edge leaves.
+    /// Returns the state that `edge` leaves.
     pub fn from(&self, edge: u32) -> u32
         requires { edge < length self.now.edges }
         ensures from { result ≡ (ends_at self.now edge).from }
@@ -77,7 +77,7 @@ impl Graph {
         self.edges[edge as usize].from
     }
 
-    /// The state that an edge enters.
+    /// Returns the state that `edge` enters.
     pub fn to(&self, edge: u32) -> u32
         requires { edge < length self.now.edges }
         ensures to { result ≡ (ends_at self.now edge).to }

@@ -13,7 +13,7 @@ pub(crate) struct Kept {
 }
 
 impl Kept {
-    /// None, with room for so many.
+    /// Returns an empty list with capacity for `count` edges.
     pub(crate) fn with_capacity(alloc: Global, count: usize) -> Result<Kept, AllocError>
         ensures edges { IfOk result (λ kept. kept.edges.items ≡ []) }
         ensures leaves { IfOk result (λ kept. kept.leaves.items ≡ []) }
@@ -28,7 +28,7 @@ impl Kept {
         })
     }
 
-    /// Keeps an edge.
+    /// Appends `edge`, which goes from `leave` to `enter` in the component `key`.
     pub(crate) fn keep(
         &mut self,
         edge: u32,

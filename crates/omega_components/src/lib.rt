@@ -1,12 +1,12 @@
-//! Graphs as lists of edges: which states some edges reach, walks, and the strongly connected components of some edges.
+//! Graphs as lists of edges: breadth-first search, shortest walks, and strongly connected components.
 #![tactic(auto)]
 
+mod decomposing;
 mod edge;
+mod edge_components;
 mod ends;
 mod entering;
 mod graph;
-mod grouping;
-mod groups;
 mod judging;
 mod kept;
 mod links;
@@ -15,17 +15,17 @@ mod numbering;
 mod numbers;
 mod plain;
 mod reaching;
-mod room;
+mod scratch;
 mod searching;
 mod suggesting;
 mod suggestion;
 mod walking;
 
+pub use decomposing::components;
 pub use edge::Edge;
+pub use edge_components::EdgeComponents;
 pub use graph::Graph;
-pub use grouping::components;
-pub use groups::Groups;
 pub use omega_text::Refusal;
 pub use reaching::reached;
-pub use room::Room;
+pub use scratch::Scratch;
 pub use walking::path;

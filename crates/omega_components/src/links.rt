@@ -4,7 +4,7 @@ ghost use Rattle.omega_components.specs.private.Links.{last_before};
 use std::alloc::{AllocError, Global};
 use std::marker::Model;
 
-/// For each state below a count the indices at which a list has it, linked from the last to the first.
+/// For each state below a count, the indices at which a list has it, linked from the last to the first.
 #[derive(Drop)]
 pub(crate) struct Links<'a> {
     states: &'a [u32],
@@ -26,7 +26,7 @@ impl<'a> Model for Links<'a> {
 }
 
 impl<'a> Links<'a> {
-    /// The links of a list of at most 2^32 - 1 states. Linear in its states and the count.
+    /// Links the indices of `states`, of which there are at most 2^32 - 1. Linear in `states` and `count`.
     pub(crate) fn new(
         alloc: Global,
         count: usize,
@@ -52,7 +52,7 @@ impl<'a> Links<'a> {
         })
     }
 
-    /// One more than the last index of a state, 0 where there is none.
+    /// Returns one more than the last index of `state`, or 0 if there is none.
     pub(crate) fn last(&self, state: usize) -> u32
         requires { state < self.now.count }
         ensures { result ≡ last_before self.now.states state (length self.now.states) }
@@ -60,7 +60,7 @@ impl<'a> Links<'a> {
         self.last[state]
     }
 
-    /// One more than the index before this one of the same state, 0 where there is none.
+    /// Returns one more than the previous index with the state at `index`, or 0 if there is none.
     pub(crate) fn before(&self, index: usize) -> u32
         requires { index < length self.now.states }
         ensures { result ≡ last_before self.now.states (slice_index self.now.states index) index }

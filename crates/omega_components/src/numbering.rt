@@ -33,8 +33,8 @@ pub(crate) fn number_all(
     })
 }
 
-/// The number of a state, the next one if it had none. What stands in `numbers` for a state is its number only if the
-/// state of that number is itself, so that nothing has to be cleared.
+/// Returns the number of `state`, a new one if it had none. An entry of `numbers` is a state's number only if the state
+/// of that number is itself, so that nothing has to be cleared.
 fn number_one(numbers: &mut Vec<u32>, states: &mut Vec<u32>, state: u32) -> Result<u32, AllocError>
     requires { state < length numbers.old.items }
     ensures count { length numbers.new.items ≡ length numbers.old.items }

@@ -1,6 +1,6 @@
 use std::alloc::{AllocError, Global};
 
-/// What stands where there is no number.
+/// The mark for no number.
 pub(crate) const NONE: u32 = u32::MAX;
 
 /// Numbers by index. What is past the end reads as none and is not written.
@@ -10,13 +10,13 @@ pub(crate) struct Numbers {
 }
 
 impl Numbers {
-    /// So many times the same number.
+    /// Returns `count` copies of `number`.
     pub(crate) fn filled(alloc: Global, count: usize, number: u32) -> Result<Numbers, AllocError> {
         let items = vec![in alloc; number; count]?;
         Ok(Numbers { items })
     }
 
-    /// The number at an index.
+    /// Returns the number at `index`, or `NONE` past the end.
     #[inline(always)]
     pub(crate) fn at(&self, index: u32) -> u32 {
         match self.items.get(index as usize) {
@@ -25,7 +25,7 @@ impl Numbers {
         }
     }
 
-    /// Writes a number at an index.
+    /// Writes `number` at `index`, unless that is past the end.
     #[inline(always)]
     pub(crate) fn put(&mut self, index: u32, number: u32) {
         if (index as usize) < self.items.len() {
@@ -33,14 +33,14 @@ impl Numbers {
         }
     }
 
-    /// The numbers as they are kept.
+    /// Returns the list of the numbers.
     pub(crate) fn into_items(self) -> Vec<u32> {
         let Numbers { items } = self;
         items
     }
 }
 
-/// A length as a number, cut off where it is none.
+/// Returns `length` as a number, at most `NONE`.
 pub(crate) fn number_of(length: usize) -> u32 {
     length.min(NONE as usize) as u32
 }

@@ -1,4 +1,4 @@
-//! Which states some edges reach.
+//! The states that some edges reach.
 ghost use Rattle.std.specs.Prelude.{◌≡◌, ◌↔◌, ℕ, List, IsTrue, false, slice_index_or, vec_len, IfOk, IsOkUnless};
 ghost use Rattle.omega_components.specs.Graph.{AreEdges, AreStates, listed, marked};
 ghost use Rattle.omega_components.specs.Reaching.{IsReachedAlong};
@@ -10,9 +10,8 @@ use crate::searching::{Search, search_from};
 use omega_text::Refusal;
 use std::alloc::{AllocError, Global};
 
-/// Which states are reached from some states by edges of a list: for each state, whether it is. A source reaches
-/// itself. `Memory` where a request for memory is refused. Linear in the graph's states, the list's edges and the
-/// sources.
+/// Returns for each state whether `edges` lead to it from one of `sources`. A source reaches itself. Linear in the
+/// graph's states, `edges` and `sources`.
 pub fn reached(
     alloc: Global,
     graph: &Graph,
@@ -29,7 +28,7 @@ pub fn reached(
     Ok(search.into_marks())
 }
 
-/// Meets the states that are reached from some states by edges of a list.
+/// Searches the states that `edges` reach from `sources`.
 fn search_edges(
     alloc: Global,
     graph: &Graph,

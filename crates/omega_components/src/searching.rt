@@ -1,6 +1,6 @@
-//! A search in breadth: each state that is reached is met on a shortest walk.
+//! Breadth-first search: each state that is reached is met on a shortest walk.
 ghost use Rattle.std.specs.Prelude.{◌≡◌, ◌+◌, ◌<◌, ℕ, [], List, false, IsTrue, length, replicate, vec_len, All, Contains, IfOk, IfNone, IfSome, OnOk};
-ghost use Rattle.omega_walk.specs.Walks.{MarkedGraph};
+ghost use Rattle.omega_walk_laws.specs.Walks.{MarkedGraph};
 ghost use Rattle.omega_components.specs.Graph.{listed};
 ghost use Rattle.omega_components.specs.Reaching.{IsWalkFrom};
 ghost use Rattle.omega_components.specs.private.Ends.{AreEnds};
@@ -28,7 +28,7 @@ impl Model for Search {
 }
 
 impl Search {
-    /// A search among so many states that met none.
+    /// Returns a search among `count` states that met none.
     fn new(alloc: Global, count: usize) -> Result<Search, AllocError>
         ensures marks { IfOk result (λ search. search.marks ≡ replicate count false) }
         ensures met { IfOk result (λ search. search.met ≡ []) }
@@ -40,7 +40,7 @@ impl Search {
         })
     }
 
-    /// Comes to a state, and meets it if it was not met.
+    /// Meets a state unless it was met before.
     #[tactic(auto, unfolding(crate::specs::private::Searching::meeting))]
     fn meet(&mut self, met: Met) -> Result<(), AllocError>
         requires { met.state < length self.old.marks }
@@ -54,7 +54,7 @@ impl Search {
         Ok(())
     }
 
-    /// Meets the states where the search begins.
+    /// Meets the states `sources`, with which the search begins.
     fn begin(&mut self, sources: &[u32]) -> Result<(), AllocError>
         requires { All (λ source. source < length self.old.marks) sources.now }
         ensures grows { OnOk result (Grows (IsStart sources.now) self.old self.new) }
@@ -70,8 +70,8 @@ impl Search {
         Ok(())
     }
 
-    /// Meets the states to which edges lead from one that was met. The links are those of the states that the edges
-    /// leave.
+    /// Meets the states to which edges lead from the one met at the index `origin`. `links` are those of the states
+    /// that the edges leave.
     fn follow(&mut self, links: &Links<'_>, enters: &[u32], origin: u32) -> Result<(), AllocError>
         requires origin { origin < length self.old.met }
         requires state { (met_at self.old.met origin).state < links.now.count }
@@ -93,7 +93,7 @@ impl Search {
         Ok(())
     }
 
-    /// Whether a state was met.
+    /// Whether `state` was met.
     pub(crate) fn has_met(&self, state: u32) -> bool
         requires { state < length self.now.marks }
         ensures { result ≡ mark_at self.now.marks state }
@@ -101,7 +101,7 @@ impl Search {
         self.marks[state as usize]
     }
 
-    /// For each state whether it was met.
+    /// Returns for each state whether it was met.
     pub(crate) fn into_marks(self) -> Vec<bool>
         ensures marks { result.items ≡ self.marks }
         ensures count { vec_len result ≡ length self.marks }
@@ -110,7 +110,7 @@ impl Search {
         marks
     }
 
-    /// The index at which a state was met, none if it was not.
+    /// Returns the index at which `state` was met, or none.
     pub(crate) fn index_of(&self, state: u32) -> Option<usize>
         ensures some { IfSome result (λ index. (index < length self.now.met) × ((met_at self.now.met index).state ≡ state)) }
         ensures none { IfNone result ((k : ℕ) → k < length self.now.met → (met_at self.now.met k).state ≡ state → ⊥) }
@@ -123,7 +123,7 @@ impl Search {
         None
     }
 
-    /// The edges on the walk along which the state at an index was met.
+    /// Returns the edges of the walk along which the state at `index` was met.
     pub(crate) fn walk_to(
         &self,
         alloc: Global,
@@ -146,8 +146,7 @@ impl Search {
     }
 }
 
-/// Meets the states that are reached from some states by edges, given by the states that they leave and those that they
-/// enter, all below a count. Linear.
+/// Searches the states reached from `sources` by edges that go from `leaves` to `enters`, all below `count`. Linear.
 pub(crate) fn search_from(
     alloc: Global,
     count: usize,
@@ -175,8 +174,8 @@ pub(crate) fn search_from(
     Ok(search)
 }
 
-/// Meets states that are reached from some states by edges, given by the states that they leave and those that they
-/// enter, all below a count, until it met a target. Linear.
+/// Searches the states reached from `sources` by edges that go from `leaves` to `enters`, all below `count`. Stops once
+/// `target` is met. Linear.
 pub(crate) fn search_to(
     alloc: Global,
     count: usize,

@@ -1,10 +1,10 @@
-/// Components as a search suggests them, and why the edges of each lead to each other.
+/// Components that a search suggests, with numbers that show why the edges of each lead to each other.
 #[derive(Drop)]
 pub(crate) struct Suggestion {
-    /// By state the number of its component. Edges lead to no component of a greater number.
+    /// By state, the number of its component. No edge leads to a component of a greater number.
     pub components: Vec<u32>,
-    /// By state a number: each state but one of its component is entered from one of the component with a lesser one.
+    /// By state, a number: each state but one of a component is entered from a state of it with a lesser number.
     pub orders: Vec<u64>,
-    /// By state a number: each state but that one has an edge to one of its component with a lesser one.
+    /// By state, a number: each state but that one has an edge to a state of its component with a lesser number.
     pub ranks: Vec<u64>,
 }

@@ -10,11 +10,11 @@ use crate::searching::{Search, search_to};
 use omega_text::Refusal;
 use std::alloc::{AllocError, Global};
 
-/// A walk of edges of a list from one of some states to a state, none exactly where there is none. `Memory` where a
-/// request for memory is refused. Linear in the graph's states, the list's edges and the sources.
+/// Returns a walk in `edges` from one of `sources` to `target`, or none if there is none. Linear in the graph's states,
+/// `edges` and `sources`.
 ///
-/// The search is one in breadth, so the walk has the fewest edges that such a walk can have: none where the state is
-/// one of the sources. No clause says so.
+/// It is a breadth-first search, so the walk is a shortest one, and empty if `target` is one of `sources`. No clause
+/// says so.
 pub fn path(
     alloc: Global,
     graph: &Graph,
@@ -39,7 +39,7 @@ pub fn path(
     }
 }
 
-/// Meets states that are reached from some states by edges of a list, until it met a target.
+/// Searches the states that `edges` reach from `sources`, until it meets `target`.
 fn search_for(
     alloc: Global,
     graph: &Graph,

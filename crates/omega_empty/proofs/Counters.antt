@@ -12,9 +12,9 @@ use Rattle.omega_acc.specs.declared.formula.kind.ParityKind.{ParityKind}
 use Rattle.omega_empty.specs.Counters.{counter_after, counters, priority_at_counter}
 
 -- the counter after marks, one after the other
-abbrev pub counter_behind : AccKind → ℕ → List (List ℕ) → ℕ
-counter_behind kind counter [] = counter
-counter_behind kind counter (marks ∷ rest) = counter_behind kind (counter_after kind counter marks) rest
+abbrev pub counter_after_marks : AccKind → ℕ → List (List ℕ) → ℕ
+counter_after_marks kind counter [] = counter
+counter_after_marks kind counter (marks ∷ rest) = counter_after_marks kind (counter_after kind counter marks) rest
 
 -- the priorities of marks, one after the other
 abbrev pub priorities_from : AccKind → ℕ → List (List ℕ) → List ℕ
@@ -52,17 +52,17 @@ counter_after_below (GenBuchi sets) counter marks below = go (turn sets counter 
     go (on held before after priority) = omega (arith, after)
     go (stays lacked after priority) = omega (arith, after)
 
-pub counter_behind_below : (kind : AccKind) (counter : ℕ) (forever : List (List ℕ)) → counter < counters kind → counter_behind kind counter forever < counters kind
-counter_behind_below kind counter [] below = below
-counter_behind_below kind counter (marks ∷ rest) below =
-    counter_behind_below kind (counter_after kind counter marks) rest (counter_after_below kind counter marks below)
+pub counter_after_marks_below : (kind : AccKind) (counter : ℕ) (forever : List (List ℕ)) → counter < counters kind → counter_after_marks kind counter forever < counters kind
+counter_after_marks_below kind counter [] below = below
+counter_after_marks_below kind counter (marks ∷ rest) below =
+    counter_after_marks_below kind (counter_after kind counter marks) rest (counter_after_below kind counter marks below)
 
 -- where no marks hold a set, a counter up to it does not pass it, and one above it goes round at most once
 data Waits (sets set counter : ℕ) (forever : List (List ℕ)) : Type 0 where
-  below : counter ≤ set → counter_behind (GenBuchi sets) counter forever ≤ set
+  below : counter ≤ set → counter_after_marks (GenBuchi sets) counter forever ≤ set
       → greatest_number (priorities_from (GenBuchi sets) counter forever) ≤ 1 → Waits sets set counter forever
-  passed : set < counter → counter_behind (GenBuchi sets) counter forever ≤ set → Waits sets set counter forever
-  above : set < counter → counter ≤ counter_behind (GenBuchi sets) counter forever
+  passed : set < counter → counter_after_marks (GenBuchi sets) counter forever ≤ set → Waits sets set counter forever
+  above : set < counter → counter ≤ counter_after_marks (GenBuchi sets) counter forever
       → greatest_number (priorities_from (GenBuchi sets) counter forever) ≤ 1 → Waits sets set counter forever
 
 waits : (sets set counter : ℕ) (forever : List (List ℕ)) → set < sets → counter < sets → occurs forever false set ≡ false
@@ -108,7 +108,7 @@ waits sets set counter (marks ∷ rest) set_below counter_below lacked =
 -- the counter goes round, or it goes on, or it is as before and its set is not held
 data Goes (sets counter : ℕ) (forever : List (List ℕ)) : Type 0 where
   round : greatest_number (priorities_from (GenBuchi sets) counter forever) ≡ 2 → Goes sets counter forever
-  on : counter < counter_behind (GenBuchi sets) counter forever → Goes sets counter forever
+  on : counter < counter_after_marks (GenBuchi sets) counter forever → Goes sets counter forever
   rests : occurs forever false counter ≡ false → Goes sets counter forever
 
 -- no priority is above 2
@@ -134,7 +134,7 @@ priorities_high sets counter (marks ∷ rest) longer = go (turn sets counter mar
 
 -- unless the counter goes round, it does not fall
 rising : (sets counter : ℕ) (forever : List (List ℕ)) → (greatest_number (priorities_from (GenBuchi sets) counter forever) ≡ 2)
-    ⊎ (counter ≤ counter_behind (GenBuchi sets) counter forever)
+    ⊎ (counter ≤ counter_after_marks (GenBuchi sets) counter forever)
 rising sets counter [] = inr (omega arith)
 rising sets counter (marks ∷ rest) =
     go (turn sets counter marks) (rising sets (counter_after (GenBuchi sets) counter marks) rest)
@@ -142,9 +142,9 @@ rising sets counter (marks ∷ rest) =
   where
     go : Turn sets counter marks
         → (greatest_number (priorities_from (GenBuchi sets) (counter_after (GenBuchi sets) counter marks) rest) ≡ 2)
-        ⊎ (counter_after (GenBuchi sets) counter marks ≤ counter_behind (GenBuchi sets) (counter_after (GenBuchi sets) counter marks) rest)
+        ⊎ (counter_after (GenBuchi sets) counter marks ≤ counter_after_marks (GenBuchi sets) (counter_after (GenBuchi sets) counter marks) rest)
         → greatest_number (priorities_from (GenBuchi sets) (counter_after (GenBuchi sets) counter marks) rest) ≤ 2
-        → (greatest_number (priorities_from (GenBuchi sets) counter (marks ∷ rest)) ≡ 2) ⊎ (counter ≤ counter_behind (GenBuchi sets) counter (marks ∷ rest))
+        → (greatest_number (priorities_from (GenBuchi sets) counter (marks ∷ rest)) ≡ 2) ⊎ (counter ≤ counter_after_marks (GenBuchi sets) counter (marks ∷ rest))
     go (round held last after priority) later low = inl (omega arith)
     go (on held before after priority) (inl went) low = inl (omega arith)
     go (on held before after priority) (inr rose) low = inr (omega arith)
@@ -160,7 +160,7 @@ goes sets counter (marks ∷ rest) =
     go : Turn sets counter marks → Goes sets (counter_after (GenBuchi sets) counter marks) rest
         → greatest_number (priorities_from (GenBuchi sets) (counter_after (GenBuchi sets) counter marks) rest) ≤ 2
         → (greatest_number (priorities_from (GenBuchi sets) (counter_after (GenBuchi sets) counter marks) rest) ≡ 2)
-        ⊎ (counter_after (GenBuchi sets) counter marks ≤ counter_behind (GenBuchi sets) (counter_after (GenBuchi sets) counter marks) rest)
+        ⊎ (counter_after (GenBuchi sets) counter marks ≤ counter_after_marks (GenBuchi sets) (counter_after (GenBuchi sets) counter marks) rest)
         → Goes sets counter (marks ∷ rest)
     go (round held last after priority) later low rises = round (omega arith)
     go (on held before after priority) later low (inl went) = round (omega arith)
@@ -171,7 +171,7 @@ goes sets counter (marks ∷ rest) =
 
 -- marks that bring the counter back: if the greatest priority is even, each set occurs
 every_set_occurs : (sets counter : ℕ) (forever : List (List ℕ)) → 0 < length forever → counter < sets
-    → counter_behind (GenBuchi sets) counter forever ≡ counter → greatest_number (priorities_from (GenBuchi sets) counter forever) % 2 ≡ 0
+    → counter_after_marks (GenBuchi sets) counter forever ≡ counter → greatest_number (priorities_from (GenBuchi sets) counter forever) % 2 ≡ 0
     → (set : ℕ) → set < sets → occurs forever false set ≡ true
 every_set_occurs sets counter forever longer counter_below back even set set_below =
     true_from_ne_false (occurs forever false set)
@@ -188,7 +188,7 @@ every_set_occurs sets counter forever longer counter_below back even set set_bel
     go (above less end most) high = low most high
 
 -- and if each set occurs, the greatest priority is 2
-goes_round : (sets counter : ℕ) (forever : List (List ℕ)) → counter_behind (GenBuchi sets) counter forever ≡ counter
+goes_round : (sets counter : ℕ) (forever : List (List ℕ)) → counter_after_marks (GenBuchi sets) counter forever ≡ counter
     → occurs forever false counter ≡ true → greatest_number (priorities_from (GenBuchi sets) counter forever) % 2 ≡ 0
 goes_round sets counter forever back held = go (goes sets counter forever)
   where
@@ -215,7 +215,7 @@ AreWithin (GenBuchi sets) forever = Unit {0}
 
 -- marks that bring the counter back are accepted exactly if the greatest of their priorities is even
 pub closed_accepts : ParityIsPriority → BuchiIsEverySet → (kind : AccKind) (counter : ℕ) (forever : List (List ℕ))
-    → 0 < length forever → AreWithin kind forever → counter < counters kind → counter_behind kind counter forever ≡ counter
+    → 0 < length forever → AreWithin kind forever → counter < counters kind → counter_after_marks kind counter forever ≡ counter
     → IsTrue (accepts forever (formula_of kind)) ↔ (greatest_number (priorities_from kind counter forever) % 2 ≡ 0)
 closed_accepts parity buchi (Parity kind) counter forever longer within counter_below back =
     let law = parity kind forever longer within in

@@ -1,12 +1,10 @@
--- The nodes of an emptiness game as they are made: which edges are usable, where they stand, what is added when,
+-- The nodes of an emptiness game as they are made: where edges stand, what is added when,
 -- and that nothing is at fault.
 pub mod Linking
 pub mod Ranges
 pub mod Rows
 pub mod MarkLists
-pub mod Judged
 pub mod Plain
-pub mod Flat
 pub mod Rising
 pub mod Named
 pub mod Sums

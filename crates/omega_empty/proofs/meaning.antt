@@ -3,7 +3,6 @@
 pub mod Membership
 pub mod Identified
 pub mod Tables
-pub mod SingleTargets
 pub mod Steps
 pub mod Reading
 pub mod Accepting

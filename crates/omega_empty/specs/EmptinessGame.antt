@@ -1,17 +1,18 @@
 -- The emptiness game of an automaton, which player 0 owns and wins where the automaton has an accepting lasso
 -- (docs/formats.md, emptiness game).
-use Rattle.std.specs.Prelude.{◌≡◌, ◌↔◌, ℕ, ◌+◌, ◌*◌, ◌==◌, ◌&&◌, Bool, true, false, if◌then◌else◌, List, [], ◌∷◌, ◌++◌, length, map, Some, None, slice_get, slice_index_or}
+use Rattle.std.specs.Prelude.{◌≡◌, ℕ, ◌+◌, ◌*◌, ◌==◌, ◌&&◌, Bool, false, if◌then◌else◌, List, [], ◌∷◌, ◌++◌, map, None, slice_index_or}
 use Rattle.std.specs.List.{flat_map, range_with_len}
 use Rattle.omega_acc.specs.declared.formula.kind.AccKind.{AccKind}
 use Rattle.omega_automaton.specs.AcceptanceKind.{HasKind}
-use Rattle.omega_automaton.specs.Automaton.{BodyEdge, Description, edge_at, edge_count, edges_of}
-use Rattle.omega_automaton.specs.Branching.{has_branch}
+use Rattle.omega_automaton.specs.Automaton.{BodyEdge, Description, edge_count, edges_of}
+use Rattle.omega_automaton.specs.Branching.{has_universal_branching}
 use Rattle.omega_game.specs.Building.{IsGameOf}
 use Rattle.omega_game.specs.Game.{Node}
 use Rattle.omega_game.specs.declared.node_spec.NodeSpec.{NodeSpec}
 use Rattle.omega_game.specs.declared.player.Player.TheVariants.{Zero}
 use Rattle.omega_empty.specs.Counters.{counter_after, counters, priority_at_counter}
-use Rattle.omega_empty.specs.Lasso.{IsUsable, marks_of}
+use Rattle.omega_runs.specs.Judging.{AreUsable}
+use Rattle.omega_runs.specs.Lasso.{marks_of}
 
 -- the identifiers of a counter: one for each state, and then one for each edge
 abbrev pub span : Description → ℕ
@@ -28,11 +29,6 @@ edge_id a counter number = counter * span a + a.states + number
 -- the identifier of the sink, after those of all counters
 abbrev pub sink_id : AccKind → Description → ℕ
 sink_id kind a = counters kind * span a
-
--- which edges are usable, by number
-pub record AreUsable (a : Description) (usable : List Bool) : Type 0 where
-  pub entries : length usable ≡ edge_count a
-  pub judged : (number : ℕ) (edge : BodyEdge) → edge_at a number ≡ Some edge → (slice_get usable number ≡ Some true) ↔ IsUsable edge
 
 -- whether the edge of a number is among the usable ones
 abbrev pub is_usable : List Bool → ℕ → Bool
@@ -89,7 +85,7 @@ table kind a usable = flat_map (nodes_at kind a usable) (range_with_len 0 (count
 pub record IsEmptinessGame (a : Description) (game : List Node) : Type 0 where
   pub kind : AccKind
   pub kind_is : HasKind a kind
-  pub plain : has_branch a ≡ false
+  pub plain : has_universal_branching a ≡ false
   pub usable : List Bool
   pub usable_are : AreUsable a usable
   pub game_is : IsGameOf (table kind a usable) game

@@ -6,7 +6,7 @@ use Rattle.omega_game.specs.declared.player.Player.TheVariants.{Zero}
 use Rattle.omega_game.specs.Game.{Node, identifier_at}
 use Rattle.omega_game.specs.Winning.{InRegion, IsClosedWalk, IsWalk, end_of, greatest_on}
 use Rattle.omega_empty.specs.EmptinessGame.{IsEmptinessGame, span}
-use Rattle.omega_empty.specs.Lasso.{AcceptsFrom, IsAcceptingLasso, IsStart}
+use Rattle.omega_runs.specs.Lasso.{AcceptsFrom, IsAcceptingLasso, IsStart}
 
 -- the identifier of the node at a place within its counter: a state, or an edge's number after all states
 abbrev pub within_counter : Description → List Node → ℕ → ℕ

@@ -5,7 +5,7 @@ use Rattle.omega_game.specs.Game.{Node, identifier_at}
 use Rattle.omega_game.specs.Winning.{InRegion}
 use Rattle.omega_game.specs.declared.player.Player.TheVariants.{Zero}
 use Rattle.omega_empty.specs.EmptinessGame.{IsEmptinessGame}
-use Rattle.omega_empty.specs.Lasso.{IsAcceptingLasso}
+use Rattle.omega_runs.specs.Lasso.{IsAcceptingLasso}
 
 -- in the emptiness game player 0 wins from the node of each start, at the first counter,
 -- at which an accepting lasso begins

@@ -1,21 +1,18 @@
 -- Which refusal of the emptiness game applies: the least by number of 13, 40, 41 and 42, or want of memory.
-use Rattle.std.specs.Prelude.{◌≡◌, ◌⊎◌, ℕ, ◌+◌, ◌*◌, ◌<◌, ◌≤◌, true, false, Contains, length, Some}
+use Rattle.std.specs.Prelude.{◌≡◌, ◌⊎◌, ℕ, ◌+◌, ◌*◌, ◌<◌, ◌≤◌, true, false}
 use Rattle.omega_text.specs.Cases.{never, or_game, or_memory, or_task}
 use Rattle.omega_text.specs.declared.refusal.Refusal.{Refusal}
 use Rattle.omega_text.specs.declared.refusal.game.GameFault.TheVariants.{TooManyNodes}
 use Rattle.omega_text.specs.declared.refusal.task.TaskFault.{TaskFault}
 use Rattle.omega_text.specs.declared.refusal.task.TaskFault.TheVariants.{BadSolution, Budget, NotDeterministic, NotParity, TooLarge, TooManyPropositions, TooWide, UniversalBranch, UnknownNode}
-use Rattle.omega_acc.specs.label.Label.{LabelTree}
-use Rattle.omega_acc.specs.Limits.{most_mentioned}
-use Rattle.omega_acc.specs.label.Satisfiable.{mentioned}
 use Rattle.omega_acc.specs.declared.formula.kind.AccKind.{AccKind}
-use Rattle.omega_automaton.specs.Automaton.{BodyEdge, Description, edges_of}
-use Rattle.omega_automaton.specs.declared.state.State.{State}
+use Rattle.omega_automaton.specs.Automaton.{Description}
 use Rattle.omega_game.specs.Limits.{most_nodes}
 use Rattle.omega_empty.specs.Counters.{counters}
 use Rattle.omega_automaton.specs.AcceptanceKind.{HasKind}
-use Rattle.omega_automaton.specs.Branching.{has_branch}
+use Rattle.omega_automaton.specs.Branching.{has_universal_branching}
 use Rattle.omega_empty.specs.EmptinessGame.{span}
+use Rattle.omega_runs.specs.Judging.{HasNarrowLabels, HasWideLabel}
 
 -- the automaton has no acceptance kind whose emptiness is decided
 abbrev pub IsUndecided : Description → Type 0
@@ -37,32 +34,18 @@ IsTooLarge a = (count : ℕ) × NeedsCounters a count × (most_nodes < count * s
 abbrev pub IsSmallEnough : Description → Type 0
 IsSmallEnough a = (count : ℕ) × NeedsCounters a count × (count * span a + 1 ≤ most_nodes)
 
--- the label of a state or of an edge
-abbrev pub IsLabelIn : Description → LabelTree → Type 0
-IsLabelIn a label =
-    ((state : State) × Contains a.defined state × (state.label ≡ Some label))
-    ⊎ ((edge : BodyEdge) × Contains (edges_of a) edge × (edge.edge.label ≡ Some label))
-
--- some label mentions more propositions than the limit
-abbrev pub HasWideLabel : Description → Type 0
-HasWideLabel a = (label : LabelTree) × IsLabelIn a label × (most_mentioned < length (mentioned label))
-
--- each label mentions no more propositions than the limit
-abbrev pub HasNarrowLabels : Description → Type 0
-HasNarrowLabels a = (label : LabelTree) → IsLabelIn a label → length (mentioned label) ≤ most_mentioned
-
 -- none of 13, 40, 41 and 42 applies
 pub record IsGiven (a : Description) : Type 0 where
   pub fits : IsSmallEnough a
   pub decided : IsDecided a
-  pub plain : has_branch a ≡ false
+  pub plain : has_universal_branching a ≡ false
   pub narrow : HasNarrowLabels a
 
 -- 40, 41 or 42: it applies, and no fault of a lesser number does
 abbrev pub IsTaskFault : Description → TaskFault → Type 0
 IsTaskFault a NotParity = IsSmallEnough a × IsUndecided a
-IsTaskFault a UniversalBranch = IsSmallEnough a × IsDecided a × (has_branch a ≡ true)
-IsTaskFault a TooManyPropositions = IsSmallEnough a × IsDecided a × (has_branch a ≡ false) × HasWideLabel a
+IsTaskFault a UniversalBranch = IsSmallEnough a × IsDecided a × (has_universal_branching a ≡ true)
+IsTaskFault a TooManyPropositions = IsSmallEnough a × IsDecided a × (has_universal_branching a ≡ false) × HasWideLabel a
 IsTaskFault a TooWide = ⊥
 IsTaskFault a Budget = ⊥
 IsTaskFault a BadSolution = ⊥

@@ -1,4 +1,4 @@
--- What deciding emptiness answers: an accepting lasso, `Empty` only where no lasso accepts, or a refusal.
+-- When the emptiness of an automaton is decided within a budget, and which refusal comes instead.
 use Rattle.std.specs.Prelude.{◌≡◌, ◌⊎◌, List, ℕ, false}
 use Rattle.omega_text.specs.Cases.{never, or_game, or_memory, or_task}
 use Rattle.omega_text.specs.declared.refusal.Refusal.{Refusal}
@@ -10,15 +10,7 @@ use Rattle.omega_game.specs.declared.player.Player.TheVariants.{Zero}
 use Rattle.omega_measure.specs.Table.{is_too_wide}
 use Rattle.omega_budget.specs.Within.{EndsWithin, IsSolvingFault}
 use Rattle.omega_empty.specs.EmptinessGame.{IsEmptinessGame}
-use Rattle.omega_empty.specs.Lasso.{IsAcceptingLasso}
 use Rattle.omega_empty.specs.Refusing.{IsGiven, IsTaskFault, IsTooLarge}
-use Rattle.omega_empty.specs.declared.verdict.Verdict.{Verdict}
-use Rattle.omega_empty.specs.declared.verdict.Verdict.TheVariants.{Empty, Lasso}
-
--- a verdict is right: its lasso accepts, or it is `Empty` and no lasso accepts
-abbrev pub IsVerdict : Description → Verdict → Type 0
-IsVerdict a Empty = (stem cycle : List ℕ) → ¬ IsAcceptingLasso a stem cycle
-IsVerdict a (Lasso stem cycle) = IsAcceptingLasso a stem cycle
 
 -- a game is solved for player 0 within a budget: it is not too wide, and so many lifts, at most the budget,
 -- leave none due

@@ -2,12 +2,13 @@ ghost use Rattle.std.specs.Prelude.{◌≡◌, ◌≤◌, IfErr, IfOk, IsOkUnles
 ghost use Rattle.omega_game.specs.declared.player.Player.TheVariants.{Zero};
 ghost use Rattle.omega_solve.specs.Headline.{IsExact};
 ghost use Rattle.omega_solve.specs.Limits.{most_lifts};
-ghost use Rattle.omega_budget.specs.Watching.{IsWatched, refusal_in};
+ghost use Rattle.omega_budget.specs.Observing.{IsObserved, refusal_in};
 ghost use Rattle.omega_budget.specs.Within.{IsFound, IsSolvingRefusal};
 ghost use Rattle.omega_empty.specs.EmptinessGame.{IsEmptinessGame};
 ghost use Rattle.omega_empty.specs.Refusing.{IsGiven};
-ghost use Rattle.omega_empty.specs.Verdict.{IsDecidedWithin, IsEmptinessRefusal, IsSolvedWithin, IsVerdict};
-ghost use Rattle.omega_empty.specs.Watching.{LiftsAutomaton};
+ghost use Rattle.omega_empty.specs.Verdict.{IsDecidedWithin, IsEmptinessRefusal, IsSolvedWithin};
+ghost use Rattle.omega_runs.specs.Verdict.{IsVerdict};
+ghost use Rattle.omega_empty.specs.Observing.{LiftsAutomaton};
 ghost use Rattle.omega_empty.specs.private.layout.Following.{IsWonStart};
 ghost use Rattle.omega_empty.specs.private.layout.Solving.{LiftsGame};
 
@@ -15,10 +16,10 @@ use crate::following::follow_choices;
 use crate::game_laws::unwon_is_empty;
 use crate::games::emptiness_game;
 use crate::starting::won_start;
-use crate::verdict::Verdict;
 use omega_automaton::{Automaton, Refusal};
-use omega_budget::{Found, Reordered, Unwatched, Watch};
-use omega_game::{Arena, Player};
+use omega_budget::{Found, NoObserver, Reordered, Reporter};
+use omega_game::{ForwardGame, Player};
+use omega_runs::Verdict;
 use omega_text::Seq;
 use std::alloc::Global;
 
@@ -32,45 +33,45 @@ pub fn emptiness(alloc: Global, automaton: &Automaton, budget: u64) -> Result<Ve
     ensures budget { OnOk result (IsDecidedWithin budget automaton.now) }
     ensures refused { IfErr result (IsEmptinessRefusal automaton.now budget) }
 {
-    emptiness_watched(alloc, automaton, budget, &Unwatched, &mut ())
+    emptiness_observed(alloc, automaton, budget, &NoObserver, &mut ())
 }
 
-/// The same, while the listener is told of the run.
-pub fn emptiness_watched<L, W: Watch<L>>(
+/// The same, while the run is reported to the observer.
+pub fn emptiness_observed<L, W: Reporter<L>>(
     alloc: Global,
     automaton: &Automaton,
     budget: u64,
-    watch: &W,
-    listener: &mut L,
+    reporter: &W,
+    observer: &mut L,
 ) -> Result<Verdict, Refusal>
     requires { budget ≤ most_lifts }
     ensures verdict { IfOk result (IsVerdict automaton.now) }
     ensures given { OnOk result (IsGiven automaton.now) }
     ensures budget { OnOk result (IsDecidedWithin budget automaton.now) }
     ensures refused { IfErr result (IsEmptinessRefusal automaton.now budget) }
-    ensures told { IsWatched (LiftsAutomaton automaton.now) (refusal_in result) (W.tells watch.now) (W.pace watch.now) budget listener.old listener.new }
+    ensures reported { IsObserved (LiftsAutomaton automaton.now) (refusal_in result) (W.tells reporter.now) (W.pace reporter.now) budget observer.old observer.new }
 {
     let game = emptiness_game(alloc, automaton)?;
-    let found = found_in(alloc, &game, budget, watch, listener)?;
+    let found = found_in(alloc, &game, budget, reporter, observer)?;
     verdict_of(alloc, automaton, &game, &found)
 }
 
-/// What lifting finds in a game for player 0; the listener is told of the run. 50, 51 or 60.
-fn found_in<L, W: Watch<L>>(
+/// What lifting finds in a game for player 0; the run is reported to the observer. 50, 51 or 60.
+fn found_in<L, W: Reporter<L>>(
     alloc: Global,
-    game: &Arena,
+    game: &ForwardGame,
     budget: u64,
-    watch: &W,
-    listener: &mut L,
+    reporter: &W,
+    observer: &mut L,
 ) -> Result<Found, Refusal>
     requires { budget ≤ most_lifts }
     ensures found { IfOk result (IsFound game.now Zero budget) }
     ensures solved { OnOk result (IsSolvedWithin budget game.now) }
     ensures refused { IfErr result (IsSolvingRefusal game.now Zero budget) }
-    ensures told { IsWatched (LiftsGame game.now) (refusal_in result) (W.tells watch.now) (W.pace watch.now) budget listener.old listener.new }
+    ensures reported { IsObserved (LiftsGame game.now) (refusal_in result) (W.tells reporter.now) (W.pace reporter.now) budget observer.old observer.new }
 {
     let reordered = Reordered::of(alloc, game)?;
-    reordered.solve(alloc, Player::Zero, budget, watch, listener)
+    reordered.solve(alloc, Player::Zero, budget, reporter, observer)
 }
 
 /// What an exact answer for player 0 in the emptiness game of an automaton says of it. The lasso begins at the first
@@ -78,7 +79,7 @@ fn found_in<L, W: Watch<L>>(
 pub fn verdict_of(
     alloc: Global,
     automaton: &Automaton,
-    game: &Arena,
+    game: &ForwardGame,
     found: &Found,
 ) -> Result<Verdict, Refusal>
     requires game { IsEmptinessGame automaton.now game.now }
@@ -98,7 +99,7 @@ pub fn verdict_of(
 fn lasso_from(
     alloc: Global,
     automaton: &Automaton,
-    game: &Arena,
+    game: &ForwardGame,
     found: &Found,
     start: u32,
 ) -> Result<Verdict, Refusal>
@@ -108,18 +109,18 @@ fn lasso_from(
     ensures verdict { IfOk result (IsVerdict automaton.now) }
     ensures memory { IsOkUnless result Refusal.Memory }
 {
-    let knotted = follow_choices(alloc, automaton, game, found, start)?;
-    lasso_of(alloc, knotted.edges.as_slice(), knotted.knot)
+    let looped = follow_choices(alloc, automaton, game, found, start)?;
+    lasso_of(alloc, looped.edges.as_slice(), looped.loop_start)
 }
 
 /// The lasso whose cycle begins after so many of the edges. 60 alone.
-fn lasso_of(alloc: Global, edges: &[u32], knot: usize) -> Result<Verdict, Refusal>
-    requires { knot ≤ length edges.now }
-    ensures lasso { IfOk result (λ verdict. verdict ≡ Verdict.Lasso (take knot edges.now) (drop knot edges.now)) }
+fn lasso_of(alloc: Global, edges: &[u32], loop_start: usize) -> Result<Verdict, Refusal>
+    requires { loop_start ≤ length edges.now }
+    ensures lasso { IfOk result (λ verdict. verdict ≡ Verdict.Lasso (take loop_start edges.now) (drop loop_start edges.now)) }
     ensures memory { IsOkUnless result Refusal.Memory }
 {
-    let stem = Vec::from_slice(alloc, &edges[..knot])?;
-    let cycle = Vec::from_slice(alloc, &edges[knot..])?;
+    let stem = Vec::from_slice(alloc, &edges[..loop_start])?;
+    let cycle = Vec::from_slice(alloc, &edges[loop_start..])?;
     Ok(Verdict::Lasso {
         stem: Seq::from_vec(stem),
         cycle: Seq::from_vec(cycle),

@@ -2,21 +2,21 @@ ghost use Rattle.std.specs.Prelude.{IfOk, IsOkUnless};
 ghost use Rattle.omega_game.specs.declared.player.Player.TheVariants.{Zero};
 ghost use Rattle.omega_solve.specs.Headline.{IsExact};
 ghost use Rattle.omega_empty.specs.EmptinessGame.{IsEmptinessGame};
-ghost use Rattle.omega_empty.specs.private.layout.Following.{IsKnotted, IsWonStart};
+ghost use Rattle.omega_empty.specs.private.layout.Following.{IsLooped, IsWonStart};
 
 use crate::game_laws::won_walks_accept;
 use omega_automaton::{Automaton, Refusal};
 use omega_budget::Found;
-use omega_game::Arena;
+use omega_game::ForwardGame;
 use std::alloc::Global;
 
-/// Edges passed one after the other, of which the last leads back to where the knot's begins.
+/// Edges passed one after the other, of which the last leads back to where the cycle begins.
 #[derive(Drop)]
-pub(crate) struct Knotted {
+pub(crate) struct LoopedWalk {
     /// The numbers of the edges.
     pub(crate) edges: Vec<u32>,
     /// How many come before the cycle.
-    pub(crate) knot: usize,
+    pub(crate) loop_start: usize,
 }
 
 /// The edges that the choices of player 0 pass from the place of a start's node until a state's node comes again. A
@@ -24,14 +24,14 @@ pub(crate) struct Knotted {
 pub(crate) fn follow_choices(
     alloc: Global,
     automaton: &Automaton,
-    game: &Arena,
+    game: &ForwardGame,
     found: &Found,
     start: u32,
-) -> Result<Knotted, Refusal>
+) -> Result<LoopedWalk, Refusal>
     requires game { IsEmptinessGame automaton.now game.now }
     requires exact { IsExact game.now Zero found.now.won.items found.now.choice.items }
     requires start { IsWonStart automaton.now game.now found.now.won.items start }
-    ensures knotted { IfOk result (λ found. IsKnotted automaton.now found.edges.items found.knot) }
+    ensures looped { IfOk result (λ found. IsLooped automaton.now found.edges.items found.loop_start) }
     ensures memory { IsOkUnless result Refusal.Memory }
 {
     won_walks_accept();
@@ -48,6 +48,6 @@ pub(crate) fn follow_choices(
         edges.push(number as u32)?;
         at = found.choice[passed as usize].unwrap() as usize;
     }
-    let knot = met[at].unwrap();
-    Ok(Knotted { edges, knot })
+    let loop_start = met[at].unwrap();
+    Ok(LoopedWalk { edges, loop_start })
 }

@@ -3,7 +3,7 @@
 ghost use Rattle.omega_empty.specs.GameLaws.{UnwonIsEmpty, WonStartsAccept, WonWalksAccept};
 
 use omega_acc::{buchi_is_every_set, parity_is_priority};
-use omega_region::regions_cover;
+use omega_region_laws::regions_cover;
 
 /// A walk from a start's node, at the first counter, to a node that is no edge's, and a closed walk from there whose
 /// greatest priority is even, pass the edges of an accepting lasso that begins at this start.

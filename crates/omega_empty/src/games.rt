@@ -4,7 +4,7 @@ ghost use Rattle.omega_game.specs.Building.{IsGameOf};
 ghost use Rattle.omega_game.specs.Limits.{most_nodes};
 ghost use Rattle.omega_empty.specs.Counters.{counters};
 ghost use Rattle.omega_automaton.specs.AcceptanceKind.{HasKind};
-ghost use Rattle.omega_automaton.specs.Branching.{has_branch};
+ghost use Rattle.omega_automaton.specs.Branching.{has_universal_branching};
 ghost use Rattle.omega_empty.specs.EmptinessGame.{IsEmptinessGame, span, table};
 ghost use Rattle.omega_empty.specs.Refusing.{IsGameRefusal, IsGiven, IsUndecided};
 ghost use Rattle.omega_empty.specs.private.layout.Ready.{IsReady};
@@ -15,8 +15,8 @@ use crate::kinds::{counters_of, fits, kind_of};
 use crate::nodes::add_counter;
 use crate::usable::usable_edges;
 use omega_acc::AccKind;
-use omega_automaton::{Automaton, Refusal, has_branch};
-use omega_game::{Arena, GameBuilder, Player};
+use omega_automaton::{Automaton, Refusal, has_universal_branching};
+use omega_game::{ForwardGame, GameBuilder, Player};
 use omega_text::{GameFault, TaskFault};
 use std::alloc::Global;
 
@@ -24,7 +24,7 @@ use std::alloc::Global;
 /// the first counter exactly where an accepting lasso begins there. Its identifiers are those of states, of edges and
 /// of the sink, counter by counter. Refused with the least that applies of 13 (by identifiers), 40, 41 and 42 (any
 /// label, any edge), or 60. Linear in the automaton and the counters.
-pub fn emptiness_game(alloc: Global, automaton: &Automaton) -> Result<Arena, Refusal>
+pub fn emptiness_game(alloc: Global, automaton: &Automaton) -> Result<ForwardGame, Refusal>
     ensures game { IfOk result (IsEmptinessGame automaton.now) }
     ensures given { OnOk result (IsGiven automaton.now) }
     ensures refused { IfErr result (IsGameRefusal automaton.now) }
@@ -52,7 +52,7 @@ fn undecided(automaton: &Automaton) -> Refusal
 }
 
 /// The emptiness game of an automaton of a kind that fits. 41, 42 or 60.
-fn game_of(alloc: Global, automaton: &Automaton, kind: AccKind) -> Result<Arena, Refusal>
+fn game_of(alloc: Global, automaton: &Automaton, kind: AccKind) -> Result<ForwardGame, Refusal>
     requires kind { HasKind automaton.now kind }
     requires fits { counters kind * span automaton.now + 1 ≤ most_nodes }
     ensures game { IfOk result (IsEmptinessGame automaton.now) }
@@ -60,7 +60,7 @@ fn game_of(alloc: Global, automaton: &Automaton, kind: AccKind) -> Result<Arena,
     ensures refused { IfErr result (IsGameRefusal automaton.now) }
 {
     automaton.keeps_limits();
-    if has_branch(automaton) {
+    if has_universal_branching(automaton) {
         return Err(Refusal::Task(TaskFault::UniversalBranch));
     }
     let usable = usable_edges(alloc, automaton)?;
@@ -76,7 +76,7 @@ fn game_of(alloc: Global, automaton: &Automaton, kind: AccKind) -> Result<Arena,
 }
 
 /// The game of the nodes. 60 alone.
-fn built(alloc: Global, judged: &Judged<'_>) -> Result<Arena, Refusal>
+fn built(alloc: Global, judged: &Judged<'_>) -> Result<ForwardGame, Refusal>
     requires { IsReady judged.now.automaton.now judged.now.kind judged.now.usable.items judged.now.ranges.items }
     ensures game { IfOk result (IsGameOf (table judged.now.kind judged.now.automaton.now judged.now.usable.items)) }
     ensures memory { IsOkUnless result Refusal.Memory }
@@ -87,5 +87,5 @@ fn built(alloc: Global, judged: &Judged<'_>) -> Result<Arena, Refusal>
     }
     let sink = judged.sink();
     builder.add_node(sink, 1, Player::Zero, sink)?;
-    builder.finish_arena()
+    builder.finish_forward()
 }

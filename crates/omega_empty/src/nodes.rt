@@ -226,6 +226,6 @@ fn target_id(judged: &Judged<'_>, counter: u32, state: &State, edge: &EdgeRef<'_
     ensures id { result ≡ state_id judged.now.automaton.now (counter_after judged.now.kind counter (state.now.marks ++ edge.now.marks)) (slice_index edge.now.targets 0) }
     ensures writable { result ≤ most_number }
 {
-    let behind = counter_after(judged.kind, counter, state, edge);
-    behind * judged.span() + edge.targets()[0]
+    let following = counter_after(judged.kind, counter, state, edge);
+    following * judged.span() + edge.targets()[0]
 }

@@ -2,11 +2,11 @@ ghost use Rattle.std.specs.Prelude.{◌≡◌, ℕ, MatchOption, [], ◌∷◌, 
 ghost use Rattle.omega_empty.specs.private.layout.Following.{HasNoWonStart, IsWonAt, IsWonStart};
 
 use omega_automaton::Automaton;
-use omega_game::Arena;
+use omega_game::ForwardGame;
 use omega_text::Numbers;
 
 /// The place of the node of the first start, at the first counter, that is among the places won.
-pub(crate) fn won_start(automaton: &Automaton, game: &Arena, won: &[bool]) -> Option<u32>
+pub(crate) fn won_start(automaton: &Automaton, game: &ForwardGame, won: &[bool]) -> Option<u32>
     requires { length won.now ≡ length game.now }
     ensures { MatchOption result (HasNoWonStart automaton.now game.now won.now) (IsWonStart automaton.now game.now won.now) }
 {
@@ -19,7 +19,7 @@ pub(crate) fn won_start(automaton: &Automaton, game: &Arena, won: &[bool]) -> Op
 }
 
 /// The place of the node of a start, if the start is a single state and its place is among those won.
-fn won_single(game: &Arena, won: &[bool], start: &Numbers) -> Option<u32>
+fn won_single(game: &ForwardGame, won: &[bool], start: &Numbers) -> Option<u32>
     requires { length won.now ≡ length game.now }
     ensures { MatchOption result
         ((state v : ℕ) → start.now ≡ state ∷ [] → ¬ IsWonAt game.now won.now state v)
@@ -32,7 +32,7 @@ fn won_single(game: &Arena, won: &[bool], start: &Numbers) -> Option<u32>
 }
 
 /// The place of the node with an identifier, if it is among the places won.
-fn won_place(game: &Arena, won: &[bool], identifier: u32) -> Option<u32>
+fn won_place(game: &ForwardGame, won: &[bool], identifier: u32) -> Option<u32>
     requires { length won.now ≡ length game.now }
     ensures { MatchOption result ((v : ℕ) → ¬ IsWonAt game.now won.now identifier v) (IsWonAt game.now won.now identifier) }
 {

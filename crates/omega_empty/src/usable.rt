@@ -4,10 +4,10 @@ ghost use Rattle.omega_text.specs.Cases.{never, or_memory, or_task};
 ghost use Rattle.omega_text.specs.declared.refusal.task.TaskFault.TheVariants.{TooManyPropositions};
 ghost use Rattle.omega_acc.specs.label.Satisfiable.{IsSatisfiable};
 ghost use Rattle.omega_automaton.specs.Automaton.{edges_from};
-ghost use Rattle.omega_empty.specs.EmptinessGame.{AreUsable};
-ghost use Rattle.omega_empty.specs.Lasso.{IsUsable};
-ghost use Rattle.omega_empty.specs.Refusing.{HasNarrowLabels, HasWideLabel};
-ghost use Rattle.omega_empty.specs.Judging.{AreJudged, HasNarrow, IsNarrow, IsWide, HasWide};
+ghost use Rattle.omega_runs.specs.Judging.{AreUsable};
+ghost use Rattle.omega_runs.specs.Lasso.{IsUsable};
+ghost use Rattle.omega_runs.specs.Judging.{HasNarrowLabels, HasWideLabel};
+ghost use Rattle.omega_runs.specs.Judging.{AreJudged, HasNarrow, IsNarrow, IsWide, HasWide};
 
 use omega_acc::{Label, satisfiable};
 use omega_automaton::{Automaton, EdgeRef, Refusal, State};

@@ -1,11 +1,11 @@
 //! An automaton is read, and it is asked for an accepting lasso.
 ghost use Rattle.std.specs.Prelude.{IfOk};
 ghost use Rattle.omega_automaton.specs.Automaton.{Description};
-ghost use Rattle.omega_empty.specs.Verdict.{IsVerdict};
+ghost use Rattle.omega_runs.specs.Verdict.{IsVerdict};
 ghost use Rattle.omega_hoa.specs.Alone.{IsAutomatonText};
 
 use omega_hoa::{Refusal, read_one};
-use omega_lasso::{Verdict, lasso};
+use omega_lasso_search::{Verdict, lasso};
 use std::alloc::Global;
 
 /// Whether the automaton of a text in the Hanoi format accepts nothing, or a lasso that it accepts.

@@ -1,12 +1,12 @@
 //! A strategy is checked, and a walk is written that shows why it does not win.
-use omega_game::{Arena, Lasso, Player, Refusal, Strategy, counterexample};
+use omega_game::{ForwardGame, Lasso, Player, Refusal, Strategy, counterexample};
 use omega_text::write_number;
 use std::alloc::Global;
 
 /// What is written of a player's strategy at a place: `it wins`, or a walk to a cycle on which the player loses.
 pub fn report(
     alloc: Global,
-    game: &Arena,
+    game: &ForwardGame,
     player: Player,
     place: u32,
     strategy: &Strategy,

@@ -2,16 +2,16 @@
 ghost use Rattle.std.specs.Prelude.{◌<◌, length, IfOk, OnOk};
 ghost use Rattle.omega_solve.specs.Headline.{IsExact};
 
-use omega_budget::{Found, Reordered, Unwatched};
-use omega_game::{Arena, GameBuilder, Player, Refusal};
+use omega_budget::{Found, NoObserver, Reordered};
+use omega_game::{ForwardGame, GameBuilder, Player, Refusal};
 use omega_solve::MOST_LIFTS;
 use std::alloc::Global;
 
 /// The game of `examples/three_nodes.pg`: player 0 moves from node 0 to node 1 or 2, and player 1 back to node 0.
-pub fn three_nodes(alloc: Global) -> Result<Arena, Refusal> {
+pub fn three_nodes(alloc: Global) -> Result<ForwardGame, Refusal> {
     let mut nodes = GameBuilder::new(alloc);
     add_three(&mut nodes)?;
-    nodes.finish_arena()
+    nodes.finish_forward()
 }
 
 fn add_three(nodes: &mut GameBuilder) -> Result<(), Refusal>
@@ -25,11 +25,11 @@ fn add_three(nodes: &mut GameBuilder) -> Result<(), Refusal>
 }
 
 /// The nodes that a player wins, and the player's choices, with as many lifts as it takes.
-pub fn solved_for(alloc: Global, game: &Arena, player: Player) -> Result<Found, Refusal>
+pub fn solved_for(alloc: Global, game: &ForwardGame, player: Player) -> Result<Found, Refusal>
     ensures exact { IfOk result (λ found. IsExact game.now player found.won.items found.choice.items) }
 {
     let reordered = Reordered::of(alloc, game)?;
-    reordered.solve(alloc, player, MOST_LIFTS, &Unwatched, &mut ())
+    reordered.solve(alloc, player, MOST_LIFTS, &NoObserver, &mut ())
 }
 
 #[cfg(test)]

@@ -1,5 +1,5 @@
--- Priorities that are borne, counted, and their products.
+-- Priorities in use, counted, and their products.
 pub mod Tallies
-pub mod Borne
+pub mod InUse
 pub mod Products
 pub mod Factors

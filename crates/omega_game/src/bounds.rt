@@ -3,14 +3,14 @@ ghost use Rattle.omega_game.specs.Bound.{bound_of, product};
 ghost use Rattle.omega_game.specs.private.priorities.Factors.{factor_of};
 ghost use Rattle.omega_game.specs.Game.{priorities};
 
-use crate::arena::Arena;
+use crate::forward_game::ForwardGame;
 use crate::player::Player;
 use crate::priority_counts::PriorityCount;
 
 /// The most lifts of a run for the player (Jurdziński 2000): the number of nodes times the product, over the
-/// priorities that are borne and lose for the player, of one more than the number of nodes that bear it.
-/// None where that number is above the greatest `u128`. Takes time in the priorities borne, and no memory.
-pub fn bound(game: &Arena, player: Player) -> Option<u128>
+/// priorities in use that lose for the player, of one more than the number of nodes that have it.
+/// None where that number is above the greatest `u128`. Takes time in the priorities in use, and no memory.
+pub fn bound(game: &ForwardGame, player: Player) -> Option<u128>
     ensures { MatchOption result (2 ^ 128 ≤ bound_of player (priorities game.now)) (λ b. b ≡ bound_of player (priorities game.now)) }
 {
     multiplied(game.len() as u128, game.priority_counts(), player)

@@ -3,7 +3,7 @@ ghost use Rattle.std.specs.Bool.{OnFalse};
 ghost use Rattle.std.specs.List.{range_with_len};
 ghost use Rattle.std.specs.List.Sorted.{IsNonDecreasing, IsPermutation, IsStrictlyIncreasing};
 
-use crate::arena::Arena;
+use crate::forward_game::ForwardGame;
 use crate::game::Game;
 use crate::identifiers::listed_ids;
 use crate::limits::{MOST_NODES, MOST_SUCCESSORS};
@@ -261,14 +261,14 @@ impl GameBuilder {
         ensures refused { IfErr result (IsBuildRefusal self) }
     {
         let alloc = *self.ids.allocator();
-        let arena = self.finish_arena()?;
-        arena.with_predecessors(alloc)
+        let forward = self.finish_forward()?;
+        forward.with_predecessors(alloc)
     }
 
     /// The same without predecessors, and without the memory that they take.
-    pub fn finish_arena(self) -> Result<Arena, Refusal>
+    pub fn finish_forward(self) -> Result<ForwardGame, Refusal>
         requires { 0 < length self }
-        ensures game { IfOk result (λ arena. IsGameOf self arena) }
+        ensures game { IfOk result (λ forward. IsGameOf self forward) }
         ensures faultless { OnOk result (game_fault_of self ≡ None) }
         ensures refused { IfErr result (IsBuildRefusal self) }
     {
@@ -282,11 +282,11 @@ impl GameBuilder {
         sorted.resolved()
     }
 
-    /// The arena of specifications whose identifiers rise, or the first fault that applies.
-    fn resolved(self) -> Result<Arena, Refusal>
+    /// The forward game of specifications whose identifiers rise, or the first fault that applies.
+    fn resolved(self) -> Result<ForwardGame, Refusal>
         requires some { 0 < length self }
         requires rising { IsStrictlyIncreasing (ids_of self) }
-        ensures game { IfOk result (λ arena. IsGameOf self arena) }
+        ensures game { IfOk result (λ forward. IsGameOf self forward) }
         ensures faultless { OnOk result (game_fault_of self ≡ None) }
         ensures refused { IfErr result (IsBuildRefusal self) }
     {
@@ -309,7 +309,9 @@ impl GameBuilder {
         if successors.total() > MOST_SUCCESSORS {
             return Err(Refusal::Game(GameFault::TooManyEdges));
         }
-        let arena = Arena::assembled(alloc, listed, priorities, owners, successors, quoted)?;
-        Ok(arena)
+        let forward = ForwardGame::assembled(
+            alloc, listed, priorities, owners, successors, quoted,
+        )?;
+        Ok(forward)
     }
 }

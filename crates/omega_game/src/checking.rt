@@ -16,10 +16,10 @@ mod numbers;
 mod ordering;
 mod recurring;
 mod rounds;
-mod tops;
+mod top_nodes;
 mod union_find;
 
-use crate::arena::Arena;
+use crate::forward_game::ForwardGame;
 use crate::player::Player;
 use crate::reaching::followed_from;
 use crate::solution::Solution;
@@ -35,13 +35,13 @@ use std::alloc::{AllocError, Global};
 /// possible: at a node with a choice that one, at each other node all.
 ///
 /// A few searches for strongly connected components (Tarjan 1972) suggest an answer, which is checked. Where they give
-/// up, one for each halving of the priorities borne does. For n nodes, m edges and d priorities that are borne, whether
+/// up, one for each halving of the priorities in use does. For n nodes, m edges and d priorities in use, whether
 /// they lose or not, the cost is near (m + n) · log d, after the nodes are sorted by priority, where the suggestion is
 /// confirmed. Else each place of a losing priority is tested by a search of its own: n · m at worst. Tests show no
 /// suggestion that is not confirmed, and no proof excludes one.
 pub fn check_strategy(
     alloc: Global,
-    game: &Arena,
+    game: &ForwardGame,
     player: Player,
     places: &[u32],
     strategy: &Strategy,
@@ -59,7 +59,7 @@ pub fn check_strategy(
 /// (m + n) · log d in each case. `Memory` where a request for memory is refused.
 pub fn check_strategy_fast(
     alloc: Global,
-    game: &Arena,
+    game: &ForwardGame,
     player: Player,
     places: &[u32],
     strategy: &Strategy,
@@ -79,7 +79,7 @@ pub fn check_strategy_fast(
 /// memory is refused.
 pub fn check_strategy_by_order(
     alloc: Global,
-    game: &Arena,
+    game: &ForwardGame,
     player: Player,
     places: &[u32],
     strategy: &Strategy,
@@ -108,7 +108,7 @@ pub fn check_strategy_by_order(
 /// memory is refused.
 pub fn check_solution_by_order(
     alloc: Global,
-    game: &Arena,
+    game: &ForwardGame,
     solution: &Solution,
     order: &[u32],
 ) -> Result<bool, Refusal>
@@ -125,7 +125,7 @@ pub fn check_solution_by_order(
 /// Whether choices that are a strategy of the player win from each of the places.
 fn wins_from(
     alloc: Global,
-    game: &Arena,
+    game: &ForwardGame,
     player: Player,
     places: &[u32],
     choices: &[Option<u32>],
@@ -143,7 +143,7 @@ fn wins_from(
 /// The same where what the fast search suggests is confirmed, else none.
 fn wins_fast(
     alloc: Global,
-    game: &Arena,
+    game: &ForwardGame,
     player: Player,
     places: &[u32],
     choices: &[Option<u32>],
@@ -163,7 +163,7 @@ fn wins_fast(
 /// Whether an order shows that choices that are a strategy of the player win from each of the places.
 fn shows_wins(
     alloc: Global,
-    game: &Arena,
+    game: &ForwardGame,
     player: Player,
     places: &[u32],
     choices: &[Option<u32>],

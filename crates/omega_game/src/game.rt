@@ -1,7 +1,7 @@
 ghost use Rattle.std.specs.Prelude.{◌≡◌, ℕ, ◌<◌, length, vec_len, option_map, position, ◌==◌, All, IfOk, IfErr, OnOk, IsOkUnless, None};
 
-use crate::arena::Arena;
 use crate::builder::GameBuilder;
+use crate::forward_game::ForwardGame;
 use crate::lists::Lists;
 use crate::node_spec::NodeSpec;
 use crate::player::Player;
@@ -14,7 +14,7 @@ use std::marker::Model;
 /// identifiers.
 #[derive(Drop)]
 pub struct Game {
-    arena: Arena,
+    forward: ForwardGame,
     predecessors: Lists<u32>,
 }
 
@@ -25,13 +25,13 @@ impl Model for Game {
 
     ghost Value = { List Node };
 
-    ghost view = { λ a. a.arena };
+    ghost view = { λ a. a.forward };
 
-    ghost invariant = { λ a. ArePredecessors a.arena a.predecessors };
+    ghost invariant = { λ a. ArePredecessors a.forward a.predecessors };
 }
 
-impl Arena {
-    /// The game of this arena, which takes memory for its predecessors. `Memory` where that is refused. Takes time in
+impl ForwardGame {
+    /// This game with its predecessors, which take memory. `Memory` where that is refused. Takes time in
     /// the nodes and edges.
     pub fn with_predecessors(self, alloc: Global) -> Result<Game, Refusal>
         ensures game { IfOk result (λ game. game ≡ self) }
@@ -39,7 +39,7 @@ impl Arena {
     {
         let predecessors = self.listed_predecessors(alloc)?;
         Ok(Game {
-            arena: self,
+            forward: self,
             predecessors,
         })
     }
@@ -65,10 +65,10 @@ impl Game {
     }
 
     /// The game without its predecessors: what texts, drawings and judgements take.
-    pub fn arena(&self) -> &Arena
+    pub fn forward(&self) -> &ForwardGame
         ensures { result.now ≡ self.now }
     {
-        &self.arena
+        &self.forward
     }
 
     /// The number of nodes, at least 1.
@@ -77,7 +77,7 @@ impl Game {
         ensures game { IsGame self.now }
         ensures limits { IsWithinLimits self.now }
     {
-        self.arena.len()
+        self.forward.len()
     }
 
     /// The nodes are a game's, within the limits. Does nothing: it hands on what each game keeps.
@@ -85,14 +85,14 @@ impl Game {
         ensures game { IsGame self.now }
         ensures limits { IsWithinLimits self.now }
     {
-        self.arena.keeps_limits();
+        self.forward.keeps_limits();
     }
 
     /// The number of listed successors, repeats counted.
     pub fn edges(&self) -> usize
         ensures { result ≡ successor_count self.now }
     {
-        self.arena.edges()
+        self.forward.edges()
     }
 
     /// The identifier of the node at a place.
@@ -100,7 +100,7 @@ impl Game {
         requires { place < length self.now }
         ensures { result ≡ (node_at self.now place).identifier }
     {
-        self.arena.id(place)
+        self.forward.id(place)
     }
 
     /// The priority of the node at a place.
@@ -108,7 +108,7 @@ impl Game {
         requires { place < length self.now }
         ensures { result ≡ priority_at self.now place }
     {
-        self.arena.priority(place)
+        self.forward.priority(place)
     }
 
     /// The player who chooses the successor at a place.
@@ -116,7 +116,7 @@ impl Game {
         requires { place < length self.now }
         ensures { result ≡ owner_at self.now place }
     {
-        self.arena.owner(place)
+        self.forward.owner(place)
     }
 
     /// The name of the node at a place, without its quotes.
@@ -124,7 +124,7 @@ impl Game {
         requires { place < length self.now }
         ensures { option_map (λ name. name.now) result ≡ (node_at self.now place).name }
     {
-        self.arena.name(place)
+        self.forward.name(place)
     }
 
     /// The places of the successors of the node at a place, in the order listed, repeats kept.
@@ -132,7 +132,7 @@ impl Game {
         requires { place < length self.now }
         ensures { result.now ≡ successors_at self.now place }
     {
-        self.arena.successors(place)
+        self.forward.successors(place)
     }
 
     /// The places with an edge to a place, rising, one entry for each listed edge.
@@ -147,13 +147,13 @@ impl Game {
     pub fn place_of(&self, id: u32) -> Option<u32>
         ensures { result ≡ position (λ x. x == id) (identifiers self.now) }
     {
-        self.arena.place_of(id)
+        self.forward.place_of(id)
     }
 
-    /// Each priority that is borne, the greatest first, with the number of nodes that bear it.
+    /// Each priority in use, the greatest first, with the number of nodes that have it.
     pub fn priority_counts(&self) -> &[PriorityCount]
         ensures { result.now ≡ priority_counts (priorities self.now) }
     {
-        self.arena.priority_counts()
+        self.forward.priority_counts()
     }
 }

@@ -1,10 +1,10 @@
 //! Parity games: their nodes, strategies, the bound on lifts, and the part that a node reaches.
 #![tactic(auto)]
 
-mod arena;
 mod bounds;
 mod builder;
 mod checking;
+mod forward_game;
 mod game;
 mod identifiers;
 mod lasso;
@@ -24,12 +24,12 @@ mod solution;
 mod sorting;
 mod strategy;
 
-pub use arena::Arena;
 pub use bounds::bound;
 pub use builder::GameBuilder;
 pub use checking::{
     check_solution_by_order, check_strategy, check_strategy_by_order, check_strategy_fast,
 };
+pub use forward_game::ForwardGame;
 pub use game::Game;
 pub use lasso::Lasso;
 pub use laws::{

@@ -9,14 +9,14 @@ pub(crate) fn name_at(quoted: &Lists<u8>, place: usize) -> Option<&[u8]>
     ensures { option_map (λ name. name.now) result ≡ name_in_column (slice_index_or quoted.now place []) }
 {
     if place < quoted.len() {
-        behind_quote(quoted.list(place))
+        after_quote(quoted.list(place))
     } else {
         None
     }
 }
 
 /// What stands after an opening quote; none where there is no quote.
-fn behind_quote(quoted: &[u8]) -> Option<&[u8]>
+fn after_quote(quoted: &[u8]) -> Option<&[u8]>
     ensures { option_map (λ name. name.now) result ≡ name_in_column quoted.now }
 {
     match quoted {

@@ -2,19 +2,20 @@ ghost use Rattle.std.specs.Prelude.{◌≡◌, ◌∷◌, ◌++◌, [], ◌<◌,
 ghost use Rattle.omega_game.specs.Building.{specified};
 ghost use Rattle.omega_game.specs.Game.{IsGame, IsWithinLimits, node_at};
 
-use crate::arena::Arena;
 use crate::builder::GameBuilder;
+use crate::forward_game::ForwardGame;
 use crate::game::Game;
 use crate::reaching::reached_from;
 use omega_text::Refusal;
 use std::alloc::Global;
 
-impl Arena {
+impl ForwardGame {
     ghost use Rattle.omega_game.specs.Part.{IsPart};
 
-    /// The arena of all nodes to which a list of listed edges leads from the place, itself included. `Memory` where a
-    /// request for memory is refused. Takes time in the nodes, and in the successors and names of those that are kept.
-    pub fn part(&self, alloc: Global, place: u32) -> Result<Arena, Refusal>
+    /// The forward game of all nodes to which a list of listed edges leads from the place, itself included. `Memory`
+    /// where a request for memory is refused. Takes time in the nodes, and in the successors and names of those that
+    /// are kept.
+    pub fn part(&self, alloc: Global, place: u32) -> Result<ForwardGame, Refusal>
         requires { place < length self.now }
         ensures part { IfOk result (λ part. IsPart self.now place part) }
         ensures memory { IsOkUnless result Refusal.Memory }
@@ -27,7 +28,7 @@ impl Arena {
                 specify(&mut builder, self, kept as u32)?;
             }
         }
-        builder.finish_arena()
+        builder.finish_forward()
     }
 }
 
@@ -41,13 +42,13 @@ impl Game {
         ensures part { IfOk result (λ part. IsPart self.now place part) }
         ensures memory { IsOkUnless result Refusal.Memory }
     {
-        let part = self.arena().part(alloc, place)?;
+        let part = self.forward().part(alloc, place)?;
         part.with_predecessors(alloc)
     }
 }
 
 /// Adds the specification of the node at a place.
-fn specify(builder: &mut GameBuilder, game: &Arena, place: u32) -> Result<(), Refusal>
+fn specify(builder: &mut GameBuilder, game: &ForwardGame, place: u32) -> Result<(), Refusal>
     requires place { place < length game.now }
     requires game { IsGame game.now }
     requires limits { IsWithinLimits game.now }
@@ -62,7 +63,7 @@ fn specify(builder: &mut GameBuilder, game: &Arena, place: u32) -> Result<(), Re
 }
 
 /// Adds the specification of the node at a place, without its name.
-fn specify_unnamed(builder: &mut GameBuilder, game: &Arena, place: u32) -> Result<(), Refusal>
+fn specify_unnamed(builder: &mut GameBuilder, game: &ForwardGame, place: u32) -> Result<(), Refusal>
     requires place { place < length game.now }
     requires game { IsGame game.now }
     requires limits { IsWithinLimits game.now }

@@ -2,13 +2,17 @@
 ghost use Rattle.std.specs.Prelude.{◌≡◌, ℕ, ◌<◌, length, vec_len, All, Contains, IfOk, OnOk, IsTrue};
 ghost use Rattle.omega_game.specs.private.checking.Reaching.{left_at, mark_at, LeadsInside, AreClosed, AreEntered, AreMarked, AreReached};
 
-use crate::arena::Arena;
+use crate::forward_game::ForwardGame;
 use std::alloc::{AllocError, Global};
 use std::slice;
 
 /// The places to which the choices leave an edge from a place possible: the one chosen, or each listed successor where
 /// none is chosen or the choices end before the place.
-pub(crate) fn edges_left<'a>(game: &'a Arena, choices: &'a [Option<u32>], place: u32) -> &'a [u32]
+pub(crate) fn edges_left<'a>(
+    game: &'a ForwardGame,
+    choices: &'a [Option<u32>],
+    place: u32,
+) -> &'a [u32]
     requires inside { place < length game.now }
     requires choices { LeadsInside game.now choices.now }
     ensures left { result.now ≡ left_at game.now choices.now place }
@@ -25,7 +29,7 @@ pub(crate) fn edges_left<'a>(game: &'a Arena, choices: &'a [Option<u32>], place:
 /// wins, they are not searched but looked at one by one. Linear in nodes and edges.
 pub(crate) fn followed_from(
     alloc: Global,
-    game: &Arena,
+    game: &ForwardGame,
     choices: &[Option<u32>],
     places: &[u32],
 ) -> Result<Vec<bool>, AllocError>
@@ -57,7 +61,7 @@ fn marked(alloc: Global, count: usize, places: &[u32]) -> Result<Vec<bool>, Allo
 }
 
 /// Whether what is marked leads to what is marked.
-fn are_closed(game: &Arena, choices: &[Option<u32>], marks: &[bool]) -> bool
+fn are_closed(game: &ForwardGame, choices: &[Option<u32>], marks: &[bool]) -> bool
     requires count { length marks.now ≡ length game.now }
     requires choices { LeadsInside game.now choices.now }
     ensures { IsTrue result → AreClosed game.now choices.now marks.now }
@@ -71,7 +75,7 @@ fn are_closed(game: &Arena, choices: &[Option<u32>], marks: &[bool]) -> bool
 }
 
 /// Whether each edge left possible at a place leads to a marked one.
-fn leads_to_marked(game: &Arena, choices: &[Option<u32>], marks: &[bool], place: u32) -> bool
+fn leads_to_marked(game: &ForwardGame, choices: &[Option<u32>], marks: &[bool], place: u32) -> bool
     requires place { place < length game.now }
     requires count { length marks.now ≡ length game.now }
     requires choices { LeadsInside game.now choices.now }
@@ -88,7 +92,7 @@ fn leads_to_marked(game: &Arena, choices: &[Option<u32>], marks: &[bool], place:
 /// Marks the places that are reached from the given ones through priorities at most `most`. Linear in nodes and edges.
 pub(crate) fn reached_from(
     alloc: Global,
-    game: &Arena,
+    game: &ForwardGame,
     choices: &[Option<u32>],
     most: u32,
     places: &[u32],
@@ -115,7 +119,7 @@ pub(crate) fn reached_from(
 
 /// Marks the places of priority at most `most`, and stacks those that were not marked.
 fn enter(
-    game: &Arena,
+    game: &ForwardGame,
     most: u32,
     places: &[u32],
     marks: &mut Vec<bool>,

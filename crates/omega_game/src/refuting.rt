@@ -9,9 +9,9 @@ ghost use Rattle.omega_game.specs.private.refuting.Ways.{IsCycle};
 mod breadth;
 mod ways;
 
-use crate::arena::Arena;
 use crate::checking::deciding::decide;
 use crate::checking::decision::Decision;
+use crate::forward_game::ForwardGame;
 use crate::lasso::Lasso;
 use crate::player::Player;
 use crate::reaching::{edges_left, followed_from};
@@ -30,7 +30,7 @@ use ways::way_to;
 /// nodes and edges.
 pub fn counterexample(
     alloc: Global,
-    game: &Arena,
+    game: &ForwardGame,
     player: Player,
     places: &[u32],
     strategy: &Strategy,
@@ -48,7 +48,7 @@ pub fn counterexample(
 /// A lasso that shows why choices that are a strategy of the player do not win, none where they do.
 fn lasso_against(
     alloc: Global,
-    game: &Arena,
+    game: &ForwardGame,
     player: Player,
     places: &[u32],
     choices: &[Option<u32>],
@@ -76,7 +76,7 @@ fn lasso_against(
 /// A place that recurs, and the places before it on a shortest way from it to itself.
 fn cycle_at(
     alloc: Global,
-    game: &Arena,
+    game: &ForwardGame,
     choices: &[Option<u32>],
     place: u32,
 ) -> Result<Vec<u32>, AllocError>

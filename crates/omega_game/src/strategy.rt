@@ -2,7 +2,7 @@ ghost use Rattle.std.specs.Prelude.{◌≡◌, ◌↔◌, ◌<◌, length, IsTru
 ghost use Rattle.omega_game.specs.Game.{HasEdge, owner_at};
 ghost use Rattle.omega_game.specs.Winning.{IsStrategy};
 
-use crate::arena::Arena;
+use crate::forward_game::ForwardGame;
 use crate::player::Player;
 use omega_text::Seq;
 
@@ -16,7 +16,7 @@ pub struct Strategy {
 impl Strategy {
     /// Whether there is an entry for each place, and each choice is a listed successor of a node that the player
     /// owns. Takes time in the nodes and the successors of those with a choice, and no memory.
-    pub fn fits(&self, game: &Arena, player: Player) -> bool
+    pub fn fits(&self, game: &ForwardGame, player: Player) -> bool
         ensures { IsTrue result ↔ IsStrategy game.now player self.now.choice }
     {
         let choices = self.choice.as_slice();
@@ -35,7 +35,7 @@ impl Strategy {
 }
 
 /// Whether a node is the player's, and lists the target as a successor.
-fn is_own_move(game: &Arena, player: Player, place: u32, target: u32) -> bool
+fn is_own_move(game: &ForwardGame, player: Player, place: u32, target: u32) -> bool
     requires { place < length game.now }
     ensures { IsTrue result ↔ ((owner_at game.now place ≡ player) × HasEdge game.now place target) }
 {

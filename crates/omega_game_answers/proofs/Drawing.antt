@@ -2,9 +2,9 @@
 use Rattle.std.proofs.Common.{List, Option, None, Some, ℕ, refl}
 use Rattle.omega_text.specs.Cases.{or_memory}
 use Rattle.omega_text.specs.declared.refusal.Refusal.{Refusal}
-use Rattle.omega_refused.specs.Refused.{IsAbout}
-use Rattle.omega_refused.specs.declared.refused.Which.{Which}
-use Rattle.omega_refused.specs.declared.refused.Which.TheVariants.{First, Second}
+use Rattle.omega_io.specs.Refused.{IsAbout}
+use Rattle.omega_io.specs.declared.refused.Which.{Which}
+use Rattle.omega_io.specs.declared.refused.Which.TheVariants.{File, Input}
 use Rattle.omega_game.specs.Game.{Node}
 use Rattle.omega_pg.specs.game.Text.{IsGameText}
 use Rattle.omega_game_answers.specs.Draw.{RefusesDrawnSolution}
@@ -12,11 +12,11 @@ use Rattle.omega_game_answers.specs.Verify.{IsJudgedGameRefusal}
 use Rattle.omega_game_answers.specs.private.steps.Drawn.{IsDrawnRefusal, IsUnknownFrom}
 
 -- a refusal of one of two texts, where what refuses them is said otherwise
-pub about_as : (none first second first' second' : Refusal → Type 0) (text : Option Which) (refusal : Refusal) → (first refusal → first' refusal)
-    → (second refusal → second' refusal) → IsAbout none first second text refusal → IsAbout none first' second' text refusal
-about_as none first second first' second' None refusal one other about = about
-about_as none first second first' second' (Some First) refusal one other about = one about
-about_as none first second first' second' (Some Second) refusal one other about = other about
+pub about_as : (none file input file' input' : Refusal → Type 0) (text : Option Which) (refusal : Refusal) → (file refusal → file' refusal)
+    → (input refusal → input' refusal) → IsAbout none file input text refusal → IsAbout none file' input' text refusal
+about_as none file input file' input' None refusal of_file of_input about = about
+about_as none file input file' input' (Some File) refusal of_file of_input about = of_file about
+about_as none file input file' input' (Some Input) refusal of_file of_input about = of_input about
 
 -- an identifier that no node of the game has
 pub unknown_refused : (text : List ℕ) (game : List Node) (from : Option ℕ) (refusal : Refusal) → IsGameText text game → IsUnknownFrom game from refusal

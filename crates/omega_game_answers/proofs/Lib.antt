@@ -10,4 +10,4 @@ pub mod Solutions
 pub mod Solved
 pub mod Solving
 pub mod Verifying
-pub mod Watching
+pub mod Observing

@@ -36,11 +36,11 @@ same_first : (x y : ℕ) (xs ys : List ℕ) → IsStrictlyIncreasing (x ∷ xs) 
 same_first x y xs ys rising rising' there back =
     elim (member-cases y ys x there) [
       | inl e ↦ sym e
-      | inr behind ↦
-          let less = rising-head y ys x rising' behind in
+      | inr following ↦
+          let less = rising-head y ys x rising' following in
           elim (member-cases x xs y back) [
             | inl e ↦ e
-            | inr behind' ↦ let less' = rising-head x xs y rising behind' in absurd (omega arith)
+            | inr following' ↦ let less' = rising-head x xs y rising following' in absurd (omega arith)
           ]
     ]
 
@@ -50,7 +50,7 @@ same_rest x xs ys u rising there back =
     let less = rising-head x xs u rising there in
     elim (member-cases x ys u back) [
       | inl e ↦ absurd (omega arith)
-      | inr behind ↦ behind
+      | inr following ↦ following
     ]
 
 same_rising : (xs ys : List ℕ) → IsStrictlyIncreasing xs → IsStrictlyIncreasing ys → ((u : ℕ) → Contains xs u → Contains ys u)
@@ -90,7 +90,7 @@ place-unique : (nodes : List Node) (identifier p q : ℕ) → IsGame nodes → H
     → HasIdentifier nodes identifier q → p ≡ q
 place-unique nodes identifier p q game one other =
     let before = not_before nodes identifier p q game one other in
-    let behind = not_before nodes identifier q p game other one in omega arith
+    let following = not_before nodes identifier q p game other one in omega arith
 
 -- an identifier has one part
 pub part_from-unique : (nodes : List Node) (identifier : ℕ) (one other : List Node) → IsGame nodes → IsPartFrom nodes identifier one

@@ -32,7 +32,7 @@ places_from-true place [] v (j, h, e) = absurd (omega arith)
 places_from-true place (true ∷ flags) v there =
     elim (Contains-cons_cases place (places_from (place + 1) flags) v there) [
       | inl here ↦ (0, omega arith, refl)
-      | inr behind ↦ let more = places_from-true (place + 1) flags v behind in (suc more.0, omega (arith, more.1), more.2)
+      | inr following ↦ let more = places_from-true (place + 1) flags v following in (suc more.0, omega (arith, more.1), more.2)
     ]
 places_from-true place (false ∷ flags) v there =
     let more = places_from-true (place + 1) flags v there in (suc more.0, omega (arith, more.1), more.2)

@@ -1,4 +1,4 @@
--- What refuses a part of a game refuses what is asked with it of the text of the game.
+-- A refusal of a part of a game is a refusal of that part of the text of the game.
 use Rattle.std.proofs.Common.{List, ℕ}
 use Rattle.omega_text.specs.Cases.{or_memory}
 use Rattle.omega_text.specs.declared.refusal.Refusal.{Refusal}

@@ -10,7 +10,7 @@ use Rattle.omega_game.specs.Winning.{Chooses, InRegion, choice_at}
 use Rattle.omega_measure.specs.Table.{is_too_wide}
 use Rattle.omega_game.specs.declared.solution.Solution.{Solution}
 use Rattle.omega_game.specs.Solution.{GivesRegions, choices_of, winner_at}
-use Rattle.omega_region.specs.Laws.{RegionsAreApart, RegionsCover}
+use Rattle.omega_region_laws.specs.Laws.{RegionsAreApart, RegionsCover}
 use Rattle.omega_solve.specs.Headline.{IsExact}
 use Rattle.omega_budget.specs.Within.{EndsWithin, IsFound}
 use Rattle.omega_budget.specs.declared.found.Found.{Found}

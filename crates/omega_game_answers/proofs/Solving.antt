@@ -9,10 +9,10 @@ use Rattle.omega_game.specs.declared.player.Player.{Player}
 use Rattle.omega_game.specs.Game.{Node, priorities}
 use Rattle.omega_measure.specs.Table.{is_too_wide}
 use Rattle.omega_solve.specs.Headline.{IsExact}
-use Rattle.omega_budget.specs.Watching.{TellsSolving}
+use Rattle.omega_budget.specs.Observing.{ReportsSolving}
 use Rattle.omega_budget.specs.Within.{IsFound, IsSolvingRefusal}
 use Rattle.omega_budget.specs.declared.found.Found.{Found}
-use Rattle.omega_budget.specs.declared.watching.Progress.{Progress}
+use Rattle.omega_budget.specs.declared.observing.Progress.{Progress}
 use Rattle.omega_game_answers.specs.Part.{IsPartFrom}
 use Rattle.omega_game_answers.specs.solve.AnswerText.{IsAnswerOf, WinsExactly, answer_text}
 use Rattle.omega_game_answers.specs.declared.solve.asked.Asked.{Asked}
@@ -136,9 +136,9 @@ module _ (nodes others : List Node) (same : nodes ≡ others) (player : Player) 
   pub found_for : (budget : ℕ) (found : Found) → IsFound nodes player budget found → IsFound others player budget found
   found_for budget found is = subst (λ (n : List Node). IsFound n player budget found) same is
 
-  pub told_for : {L : Type 0} (tells : Progress → L → L → Type 0) (every budget : ℕ) (result : Result Found Refusal) (before after : L)
-      → TellsSolving tells every nodes player budget result before after → TellsSolving tells every others player budget result before after
-  told_for tells every budget result before after told = subst (λ (n : List Node). TellsSolving tells every n player budget result before after) same told
+  pub reported_for : {L : Type 0} (tells : Progress → L → L → Type 0) (every budget : ℕ) (result : Result Found Refusal) (before after : L)
+      → ReportsSolving tells every nodes player budget result before after → ReportsSolving tells every others player budget result before after
+  reported_for tells every budget result before after reported = subst (λ (n : List Node). ReportsSolving tells every n player budget result before after) same reported
 
 -- a place won has a node
 pub won_within : (nodes : List Node) (player : Player) (budget : ℕ) (found : Found) → IsFound nodes player budget found → (v : ℕ)

@@ -1,17 +1,17 @@
--- What `canon` answers for a game text, whole or from a node on.
+-- The answer of `canon` for a game text, whole or from a node on.
 use Rattle.std.specs.Prelude.{◌≡◌, List, ℕ}
 use Rattle.omega_game.specs.Game.{Node}
 use Rattle.omega_pg.specs.game.Canonical.{canonical_game}
 use Rattle.omega_pg.specs.game.Text.{IsGameText}
 use Rattle.omega_game_answers.specs.Part.{IsPartText}
 
--- what `canon` answers: the text stands for a game, and its canonical text is written
+-- the answer of `canon`: the text stands for a game, and its canonical text is written
 pub record IsCanonAnswer (text output : List ℕ) : Type 0 where
   pub game : List Node
   pub read : IsGameText text game
   pub written : output ≡ canonical_game game
 
--- what `canon --from` answers: the canonical text of the part that the node with the identifier reaches is written
+-- the answer of `canon --from`: the canonical text of the part that the node with the identifier reaches is written
 pub record IsCanonPartAnswer (text : List ℕ) (identifier : ℕ) (output : List ℕ) : Type 0 where
   pub part : List Node
   pub read : IsPartText text identifier part

@@ -1,4 +1,4 @@
--- What `draw` answers for a game text: the drawing of its game, or of a part of it, alone or with a solution of the
+-- The answer of `draw` for a game text: the drawing of its game, or of a part of it, alone or with a solution of the
 -- game.
 use Rattle.std.specs.Prelude.{◌≡◌, ◌⊎◌, Bool, List, Option, None, Some, ℕ}
 use Rattle.omega_text.specs.declared.refusal.Refusal.{Refusal}
@@ -13,13 +13,13 @@ use Rattle.omega_pg.specs.solution.Text.{IsSolutionText}
 use Rattle.omega_game_answers.specs.Part.{HasIdentifier}
 use Rattle.omega_game_answers.specs.Verify.{IsJudgedGameRefusal}
 
--- what is to be drawn of a game: all of it, or where an identifier is given, what its node reaches; where a depth is
--- given too, by at most so many edges
+-- the extent of a game to be drawn: all of it, or if an identifier is given, what its node reaches, and if a depth is
+-- given too, by at most that many edges
 abbrev pub IsExtent : List Node → (from depth : Option ℕ) → Extent → Type 0
 IsExtent game None depth extent = extent ≡ Whole
 IsExtent game (Some identifier) depth extent = (place : ℕ) × HasIdentifier game identifier place × (extent ≡ Part place depth)
 
--- what `draw` answers: the text stands for a game, and the drawing of what is to be drawn of it is written
+-- the answer of `draw`: the text stands for a game, and the drawing of the extent of it is written
 pub record IsGameDrawingAnswer (text : List ℕ) (from depth : Option ℕ) (output : List ℕ) : Type 0 where
   pub game : List Node
   pub read : IsGameText text game
@@ -27,8 +27,8 @@ pub record IsGameDrawingAnswer (text : List ℕ) (from depth : Option ℕ) (outp
   pub asked : IsExtent game from depth extent
   pub drawn : IsGameDrawing game extent output
 
--- what `draw --solution` answers: the texts stand for a game and for a solution of it,
--- and the drawing of what is to be drawn of the game with the solution is written
+-- the answer of `draw --solution`: the texts stand for a game and for a solution of it, and the drawing of the extent
+-- of the game with the solution is written
 pub record IsSolutionDrawingAnswer (text solution_text : List ℕ) (from depth : Option ℕ) (legend : Bool) (output : List ℕ) : Type 0 where
   pub game : List Node
   pub game_read : IsGameText text game
@@ -38,7 +38,7 @@ pub record IsSolutionDrawingAnswer (text solution_text : List ℕ) (from depth :
   pub read : IsSolutionText game solution_text solution
   pub drawn : IsSolutionDrawing game extent solution legend output
 
--- the one text stands for a game of which something is to be drawn, and the other is refused as a solution of the game
+-- the one text stands for a game that has the extent, and the other is refused as a solution of the game
 pub record RefusesDrawnSolution (text : List ℕ) (from depth : Option ℕ) (solution_text : List ℕ) (refusal : Refusal) : Type 0 where
   pub game : List Node
   pub read : IsGameText text game

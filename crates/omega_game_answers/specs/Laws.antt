@@ -1,4 +1,4 @@
--- What holds of what `solve` and `verify` answer together, whatever the code does.
+-- Laws of the answers of `solve` and `verify` together, whatever the code does.
 use Rattle.std.specs.Prelude.{◌≡◌, ◌≤◌, Bool, List, Option, ℕ, codes, length}
 use Rattle.omega_text.specs.Limits.{most_text}
 use Rattle.omega_text.specs.declared.refusal.Refusal.{Refusal}
@@ -10,8 +10,8 @@ use Rattle.omega_game_answers.specs.declared.solve.asked.Asked.{Asked}
 use Rattle.omega_game_answers.specs.solve.Refusing.{IsSolvedFor}
 use Rattle.omega_game_answers.specs.solve.Solving.{IsSolveAnswer}
 
--- the output is what `solve` writes of both players, of a game or of the part that a node reaches,
--- and `verify` can read as much
+-- the output is what `solve` writes for both players, of a game or of the part that a node reaches, and is short enough
+-- for `verify` to read
 pub record IsSolved (text : List ℕ) (from : Option ℕ) (output : List ℕ) : Type 0 where
   pub asked : Asked
   pub both : (player : Player) → IsSolvedFor asked player
@@ -19,14 +19,14 @@ pub record IsSolved (text : List ℕ) (from : Option ℕ) (output : List ℕ) : 
   pub answer : IsSolveAnswer text asked from budget output
   pub short : length output ≤ most_text
 
--- what `solve` writes of both players is judged to be right by `verify`,
--- of the same game or the part that the same node reaches
+-- `verify` judges what `solve` writes for both players to be right, for the same game or the part that the same node
+-- reaches
 abbrev pub SolvedIsVerified : Type 0
 SolvedIsVerified =
     (text : List ℕ) (from : Option ℕ) (solved : List ℕ) (explain : Bool) (exit : Exit) (output : List ℕ)
     → IsSolved text from solved → IsVerifyAnswer text from solved explain exit output → (exit ≡ Done) × (output ≡ codes "yes\n")
 
--- and is not refused
+-- `verify` does not refuse it
 abbrev pub SolvedIsNotRefused : Type 0
 SolvedIsNotRefused =
     (text : List ℕ) (from : Option ℕ) (solved : List ℕ) (refusal : Refusal)

@@ -1,4 +1,4 @@
--- What each subcommand answers and refuses of games; in `private` what private contracts alone cite.
+-- The answers and refusals of each subcommand for games; in `private` what private contracts alone cite.
 pub mod Canon
 pub mod Check
 pub mod Draw
@@ -7,6 +7,6 @@ pub mod Part
 pub mod PlayerText
 pub mod Show
 pub mod Verify
-pub mod Watching
+pub mod Observing
 pub mod solve
 pub mod private

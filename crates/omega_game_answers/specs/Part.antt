@@ -1,5 +1,4 @@
--- The part of a game that the node with an identifier reaches: which it is, which text stands for it,
--- and which refusal it meets.
+-- The part of a game that the node with an identifier reaches, the texts that stand for it, and its refusals.
 use Rattle.std.specs.Prelude.{◌≡◌, ◌<◌, List, ℕ, length}
 use Rattle.omega_text.specs.Cases.{or_task}
 use Rattle.omega_text.specs.declared.refusal.Refusal.{Refusal}
@@ -30,7 +29,7 @@ pub record IsPartText (text : List ℕ) (identifier : ℕ) (part : List Node) : 
   pub read : IsGameText text game
   pub part_of : IsPartFrom game identifier part
 
--- the text stands for a game, no node of which has the identifier
+-- the text stands for a game, and no node of the game has the identifier
 pub record IsTextWithout (text : List ℕ) (identifier : ℕ) : Type 0 where
   pub game : List Node
   pub read : IsGameText text game

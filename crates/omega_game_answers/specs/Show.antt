@@ -1,4 +1,4 @@
--- What `show` answers for a game text: the size of the game, and the bounds on lifts.
+-- The answer of `show` for a game text: the size of the game, and the bounds on lifts.
 use Rattle.std.specs.Prelude.{◌≡◌, ◌++◌, ◌^◌, List, ℕ, codes, decimal, length, nat_lt, if◌then◌else◌}
 use Rattle.omega_game.specs.declared.player.Player.{Player}
 use Rattle.omega_game.specs.declared.player.Player.TheVariants.{One, Zero}
@@ -7,7 +7,7 @@ use Rattle.omega_game.specs.Game.{Node, successor_count, priorities, greatest_id
 use Rattle.omega_pg.specs.game.Text.{IsGameText}
 use Rattle.omega_game_answers.specs.PlayerText.{player_text}
 
--- a bound as it is written: in decimal, or that it takes more than 128 bits
+-- the text of a bound: in decimal, or that it takes more than 128 bits
 abbrev pub bound_text : ℕ → List ℕ
 bound_text bound = if nat_lt bound (2 ^ 128) then codes "bound " ++ decimal bound else codes "bound over 128 bits"
 
@@ -22,11 +22,11 @@ size_line nodes =
     codes "game nodes " ++ decimal (length nodes) ++ codes " edges " ++ decimal (successor_count nodes)
     ++ codes " greatest " ++ decimal (greatest_identifier nodes) ++ codes "\n"
 
--- what is written of a game
+-- the output for a game
 abbrev pub description : List Node → List ℕ
 description nodes = size_line nodes ++ bound_line Zero nodes ++ bound_line One nodes
 
--- what `show` answers: the text stands for a game, and its description is written
+-- the answer of `show`: the text stands for a game, and its description is written
 pub record IsShowAnswer (text output : List ℕ) : Type 0 where
   pub game : List Node
   pub read : IsGameText text game

@@ -1,4 +1,4 @@
--- What `verify` answers for a game text, or a part of its game, and a solution text.
+-- The answer of `verify` for a game text, or a part of its game, and a solution text.
 use Rattle.std.specs.Prelude.{◌≡◌, ◌⊎◌, ◌<◌, ◌++◌, ◌∷◌, [], Bool, true, false, List, Option, Some, None, ℕ, codes, decimal, length}
 use Rattle.std.specs.List.{flat_map}
 use Rattle.omega_text.specs.declared.refusal.Refusal.{Refusal}
@@ -42,19 +42,19 @@ pub record IsExplained (nodes : List Node) (solution : Solution) (output : List 
   pub loses : LosesGiven nodes solution player lasso
   pub written : output ≡ explained_text nodes player lasso
 
--- `yes` where for each player the choices win from all nodes given to that player, else `no`, with an exit of its own;
--- this is explained where that is asked for
+-- `yes` if for each player the choices win from all nodes given to that player, else `no`, with an exit of its own;
+-- with `explain` the `no` is explained
 abbrev pub IsSolutionVerdict : List Node → Solution → Bool → Exit → List ℕ → Type 0
 IsSolutionVerdict nodes solution explain Done output = WinsAsGiven nodes solution × (output ≡ codes "yes\n")
 IsSolutionVerdict nodes solution false No output = (¬ WinsAsGiven nodes solution) × (output ≡ codes "no\n")
 IsSolutionVerdict nodes solution true No output = IsExplained nodes solution output
 
--- the game that is judged: that of the text, or where an identifier is given, the part of it that its node reaches
+-- the game to be judged: that of the text, or if an identifier is given, the part of it that its node reaches
 abbrev pub IsJudgedGame : List ℕ → Option ℕ → List Node → Type 0
 IsJudgedGame game_text None game = IsGameText game_text game
 IsJudgedGame game_text (Some identifier) game = IsPartText game_text identifier game
 
--- what `verify` answers: the texts stand for a game that is judged and for a solution of it, and the verdict is written
+-- the answer of `verify`: the texts stand for a game to be judged and for a solution of it, and the verdict is written
 pub record IsVerifyAnswer (game_text : List ℕ) (from : Option ℕ) (text : List ℕ) (explain : Bool) (exit : Exit) (output : List ℕ) : Type 0 where
   pub game : List Node
   pub judged : IsJudgedGame game_text from game
@@ -62,17 +62,17 @@ pub record IsVerifyAnswer (game_text : List ℕ) (from : Option ℕ) (text : Lis
   pub read : IsSolutionText game text solution
   pub verdict : IsSolutionVerdict game solution explain exit output
 
--- the refusal of the game that is judged: that of the text, or where an identifier is given, that of the part
+-- the refusal of the game to be judged: that of the text, or if an identifier is given, that of the part
 abbrev pub IsJudgedGameRefusal : List ℕ → Option ℕ → Refusal → Type 0
 IsJudgedGameRefusal game_text None refusal = IsRefusal game_text refusal
 IsJudgedGameRefusal game_text (Some identifier) refusal = IsPartTextRefusal game_text identifier refusal
 
--- the one text stands for a game that is judged, and the other is refused as a solution of it
+-- the one text stands for a game to be judged, and the other is refused as a solution of it
 pub record RefusesSolution (game_text : List ℕ) (from : Option ℕ) (text : List ℕ) (refusal : Refusal) : Type 0 where
   pub game : List Node
   pub judged : IsJudgedGame game_text from game
   pub refused : IsSolutionRefusal game text refusal
 
--- the refusal of `verify`: that of the game that is judged, or else that of the solution's text
+-- the refusal of `verify`: that of the game to be judged, or else that of the solution's text
 abbrev pub IsVerifyRefusal : List ℕ → Option ℕ → List ℕ → Refusal → Type 0
 IsVerifyRefusal game_text from text refusal = IsJudgedGameRefusal game_text from refusal ⊎ RefusesSolution game_text from text refusal

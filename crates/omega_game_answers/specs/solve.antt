@@ -1,4 +1,4 @@
--- What `solve` answers: right answers and solutions, and refusals.
+-- The answers of `solve`: right answers and solutions, and refusals.
 pub mod AnswerText
 pub mod Refusing
 pub mod Solution

@@ -3,20 +3,20 @@ ghost use Rattle.omega_text.specs.declared.refusal.Refusal.TheVariants.{Memory};
 ghost use Rattle.omega_pg.specs.game.Refusing.{IsReadRefusal};
 ghost use Rattle.omega_game_answers.specs.Check.{IsCheckAnswer};
 
-use crate::game_text::arena_of;
+use crate::game_text::forward_game_of;
 use omega_game::Refusal;
 use std::alloc::Global;
 
-/// Says that a text is a game. 1 to 4, 10 to 14 or 60.
+/// Returns `accepted` if `text` is the text of a game. Fails with the [Refusal::Text] or [Refusal::Game] of the text.
 pub fn check_game(alloc: Global, text: Vec<u8>) -> Result<Vec<u8>, Refusal>
     ensures answer { IfOk result (λ output. IsCheckAnswer text.items output.items) }
     ensures refused { IfErr result (IsReadRefusal text.items) }
 {
-    let _game = arena_of(alloc, text)?;
+    let _game = forward_game_of(alloc, text)?;
     accepted(alloc)
 }
 
-/// What is written of a text that is accepted. 60 alone.
+/// Returns the output for a text that is accepted.
 fn accepted(alloc: Global) -> Result<Vec<u8>, Refusal>
     ensures text { IfOk result (λ output. output.items ≡ codes "accepted\n") }
     ensures memory { IsOkUnless result Memory }

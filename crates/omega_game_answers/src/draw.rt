@@ -1,5 +1,5 @@
 ghost use Rattle.std.specs.Prelude.{◌≡◌, IfOk, IfErr};
-ghost use Rattle.omega_refused.specs.Refused.{IsRefusedOf};
+ghost use Rattle.omega_io.specs.Refused.{IsRefusedOf};
 ghost use Rattle.omega_text.specs.Cases.{or_memory};
 ghost use Rattle.omega_text.specs.declared.refusal.Refusal.TheVariants.{Task};
 ghost use Rattle.omega_text.specs.declared.refusal.task.TaskFault.TheVariants.{UnknownNode};
@@ -9,15 +9,16 @@ ghost use Rattle.omega_game_answers.specs.Draw.{IsExtent, IsGameDrawingAnswer, I
 ghost use Rattle.omega_game_answers.specs.Verify.{IsJudgedGameRefusal};
 ghost use Rattle.omega_game_answers.specs.private.steps.Drawn.{IsDrawnRefusal, IsSolutionDrawn, IsUnknownFrom, IsSolvedDrawn};
 
-use crate::game_text::arena_of;
-use omega_game::{Arena, Refusal, TaskFault};
+use crate::game_text::forward_game_of;
+use omega_game::{ForwardGame, Refusal, TaskFault};
 use omega_game_drawing::{Extent, draw_game, draw_solution};
+use omega_io::{Refused, Which};
 use omega_pg::read_solution;
-use omega_refused::{Refused, Which};
 use std::alloc::Global;
 
-/// The drawing of the game that a text stands for, or where an identifier is given, of the part that its node reaches;
-/// where a depth is given too, by at most so many edges. 1 to 4, 10 to 14, 54 or 60.
+/// Returns the drawing of the game of `text`. If an identifier `from` is given, only the part that its node reaches is
+/// drawn, and if a `depth` is given too, only what it reaches by at most `depth` edges. Fails with the [Refusal::Text]
+/// or [Refusal::Game] of the text, or with [TaskFault::UnknownNode].
 pub fn draw_game_text(
     alloc: Global,
     text: Vec<u8>,
@@ -27,14 +28,16 @@ pub fn draw_game_text(
     ensures answer { IfOk result (λ output. IsGameDrawingAnswer text.items from depth output.items) }
     ensures refused { IfErr result (or_memory (IsJudgedGameRefusal text.items from)) }
 {
-    let game = arena_of(alloc, text)?;
+    let game = forward_game_of(alloc, text)?;
     let extent = extent_of(&game, from, depth)?;
     draw_game(alloc, &game, extent)
 }
 
-/// The same with the solution of the whole game that another text stands for; where that is asked for, with a legend.
-/// The refusal of the game's text, or else 54, or else that of the solution's: 1 to 4, 10 to 14, 54, 53 or 60; the
-/// game's text is the first, and 54 is of it.
+/// Returns the drawing of the game of `text`, as `draw_game_text` does, with the solution of the whole game in
+/// `solution`. If `legend` is set, the drawing has a legend.
+///
+/// Fails with the [Refusal::Text] or [Refusal::Game] of the game's text, or else with [TaskFault::UnknownNode]; both
+/// are of the input's text. Or else fails with the [Refusal::Text] or [TaskFault::BadSolution] of the solution's text.
 pub fn draw_solution_text(
     alloc: Global,
     text: Vec<u8>,
@@ -44,40 +47,41 @@ pub fn draw_solution_text(
     legend: bool,
 ) -> Result<Vec<u8>, Refused>
     ensures answer { IfOk result (λ output. IsSolutionDrawingAnswer text.items solution.now from depth legend output.items) }
-    ensures refused { IfErr result (IsRefusedOf (IsJudgedGameRefusal text.items from) (RefusesDrawnSolution text.items from depth solution.now)) }
+    ensures refused { IfErr result (IsRefusedOf (RefusesDrawnSolution text.items from depth solution.now) (IsJudgedGameRefusal text.items from)) }
 {
-    match arena_of(alloc, text) {
+    match forward_game_of(alloc, text) {
         Ok(game) => draw_with(alloc, &game, solution, from, depth, legend),
-        Err(refusal) => Err(Refused::of(Which::First, refusal)),
+        Err(refusal) => Err(Refused::of(Which::Input, refusal)),
     }
 }
 
-/// The drawing of a game, or of a part of it, with the solution that a text stands for. 54 of the game, or else 1 to 4
-/// or 53 of the solution, or 60.
+/// Returns the drawing of `game`, or of a part of it, with the solution in the text `solution`. Fails with
+/// [TaskFault::UnknownNode] of the game, or else with the [Refusal::Text] or [TaskFault::BadSolution] of the solution.
 fn draw_with(
     alloc: Global,
-    game: &Arena,
+    game: &ForwardGame,
     solution: &[u8],
     from: Option<u32>,
     depth: Option<u32>,
     legend: bool,
 ) -> Result<Vec<u8>, Refused>
     ensures drawn { IfOk result (λ output. IsSolvedDrawn game.now from depth solution.now legend output.items) }
-    ensures refused { IfErr result (IsRefusedOf (IsUnknownFrom game.now from) (IsDrawnRefusal game.now from depth solution.now)) }
+    ensures refused { IfErr result (IsRefusedOf (IsDrawnRefusal game.now from depth solution.now) (IsUnknownFrom game.now from)) }
 {
     match extent_of(game, from, depth) {
         Ok(extent) => match draw_solved(alloc, game, extent, solution, legend) {
             Ok(made) => Ok(made),
-            Err(refusal) => Err(Refused::of(Which::Second, refusal)),
+            Err(refusal) => Err(Refused::of(Which::File, refusal)),
         },
-        Err(refusal) => Err(Refused::of(Which::First, refusal)),
+        Err(refusal) => Err(Refused::of(Which::Input, refusal)),
     }
 }
 
-/// The drawing of what is to be drawn of a game with the solution that a text stands for. 1 to 4, 53 or 60.
+/// Returns the drawing of the `extent` of `game` with the solution in `text`. Fails with the [Refusal::Text] or
+/// [TaskFault::BadSolution] of the text.
 fn draw_solved(
     alloc: Global,
-    game: &Arena,
+    game: &ForwardGame,
     extent: Extent,
     text: &[u8],
     legend: bool,
@@ -90,8 +94,8 @@ fn draw_solved(
     draw_solution(alloc, game, extent, &solution, legend)
 }
 
-/// What is to be drawn of a game. 54 alone.
-fn extent_of(game: &Arena, from: Option<u32>, depth: Option<u32>) -> Result<Extent, Refusal>
+/// Returns the extent of `game` to be drawn. Fails with [TaskFault::UnknownNode] alone.
+fn extent_of(game: &ForwardGame, from: Option<u32>, depth: Option<u32>) -> Result<Extent, Refusal>
     ensures asked { IfOk result (IsExtent game.now from depth) }
     ensures placed { IfOk result (IsPlaced game.now) }
     ensures refused { IfErr result (IsUnknownFrom game.now from) }

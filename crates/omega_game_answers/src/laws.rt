@@ -1,5 +1,5 @@
-//! What holds of the answers of `solve` and `verify` together, for callers' proofs: each call does nothing and states
-//! one law.
+//! Laws of the answers of `solve` and `verify` together, for callers' proofs. Each call does nothing and states one
+//! law.
 ghost use Rattle.omega_game_answers.specs.Laws.{SolvedIsNotRefused, SolvedIsVerified};
 
 use omega_game::{parts_are_games, parts_keep_nodes};
@@ -8,8 +8,8 @@ use omega_pg::laws::{
     solutions_of_texts_are_one, written_solutions_are_read,
 };
 
-/// What `solve_game` writes of both players, `verify_solution` judges to be right, of the same game or of the part that
-/// the same node reaches.
+/// States that `verify_solution` judges the output of `solve_game` for both players to be right, for the same game or
+/// the part that the same node reaches.
 pub fn solved_is_verified()
     ensures { SolvedIsVerified }
 {
@@ -20,7 +20,7 @@ pub fn solved_is_verified()
     solutions_of_texts_are_one();
 }
 
-/// What `solve_game` writes of both players, `verify_solution` does not refuse.
+/// States that `verify_solution` does not refuse the output of `solve_game` for both players.
 pub fn solved_is_not_refused()
     ensures { SolvedIsNotRefused }
 {

@@ -1,6 +1,6 @@
-//! What each subcommand answers to the texts of games and of their solutions.
+//! The answers of each subcommand to the texts of games and of their solutions.
 //!
-//! Numbers of refusals are those of `Refusal`; docs/formats.md says when each comes.
+//! docs/formats.md says when each refusal comes.
 #![tactic(auto)]
 
 mod canon;
@@ -19,7 +19,7 @@ pub use canon::part::canon_part;
 pub use check::check_game;
 pub use draw::{draw_game_text, draw_solution_text};
 pub use laws::{solved_is_not_refused, solved_is_verified};
-pub use omega_budget::{Unwatched, Watch};
+pub use omega_budget::{NoObserver, Reporter};
 pub use omega_io::Exit;
 pub use omega_solve::{Player, Refusal};
 pub use show::show_game;

@@ -5,7 +5,7 @@ ghost use Rattle.omega_game_answers.specs.PlayerText.{player_text};
 use omega_game::{Player, Refusal};
 use omega_text::write_number;
 
-/// Begins a line that speaks of a player. `Memory` where a request for memory is refused: a beginning may stand then.
+/// Appends the beginning of a line about `player`. If a request for memory is refused, part of it may be appended.
 pub fn append_player(player: Player, out: &mut Vec<u8>) -> Result<(), Refusal>
     ensures text { OnOk result (out.new.items ≡ out.old.items ++ player_text player) }
     ensures memory { IsOkUnless result Memory }

@@ -3,22 +3,23 @@ ghost use Rattle.omega_text.specs.declared.refusal.Refusal.TheVariants.{Memory};
 ghost use Rattle.omega_pg.specs.game.Refusing.{IsReadRefusal};
 ghost use Rattle.omega_game_answers.specs.Show.{IsShowAnswer, bound_line, description, size_line};
 
-use crate::game_text::arena_of;
+use crate::game_text::forward_game_of;
 use crate::player_text::append_player;
-use omega_game::{Arena, Player, Refusal, bound};
+use omega_game::{ForwardGame, Player, Refusal, bound};
 use omega_text::write_number;
 use std::alloc::Global;
 
-/// The size of the game that a text stands for, and the bounds on lifts. 1 to 4, 10 to 14 or 60.
+/// Returns the size of the game of `text`, and the bounds on lifts. Fails with the [Refusal::Text] or [Refusal::Game]
+/// of the text.
 pub fn show_game(alloc: Global, text: Vec<u8>) -> Result<Vec<u8>, Refusal>
     ensures answer { IfOk result (λ output. IsShowAnswer text.items output.items) }
     ensures refused { IfErr result (IsReadRefusal text.items) }
 {
-    let game = arena_of(alloc, text)?;
+    let game = forward_game_of(alloc, text)?;
     describe(alloc, &game)
 }
 
-fn describe(alloc: Global, game: &Arena) -> Result<Vec<u8>, Refusal>
+fn describe(alloc: Global, game: &ForwardGame) -> Result<Vec<u8>, Refusal>
     ensures text { IfOk result (λ output. output.items ≡ description game.now) }
     ensures memory { IsOkUnless result Memory }
 {
@@ -29,7 +30,7 @@ fn describe(alloc: Global, game: &Arena) -> Result<Vec<u8>, Refusal>
     Ok(out)
 }
 
-fn append_size(game: &Arena, out: &mut Vec<u8>) -> Result<(), Refusal>
+fn append_size(game: &ForwardGame, out: &mut Vec<u8>) -> Result<(), Refusal>
     ensures text { OnOk result (out.new.items ≡ out.old.items ++ size_line game.now) }
     ensures memory { IsOkUnless result Memory }
 {
@@ -45,7 +46,7 @@ fn append_size(game: &Arena, out: &mut Vec<u8>) -> Result<(), Refusal>
     Ok(())
 }
 
-fn append_bound(game: &Arena, player: Player, out: &mut Vec<u8>) -> Result<(), Refusal>
+fn append_bound(game: &ForwardGame, player: Player, out: &mut Vec<u8>) -> Result<(), Refusal>
     ensures text { OnOk result (out.new.items ≡ out.old.items ++ bound_line player game.now) }
     ensures memory { IsOkUnless result Memory }
 {

@@ -4,9 +4,9 @@ ghost use Rattle.omega_text.specs.Cases.{or_memory};
 ghost use Rattle.omega_game_answers.specs.solve.Refusing.{IsSolveRefusal};
 ghost use Rattle.omega_game_answers.specs.solve.Solving.{IsSolveAnswer, SolvesPart, SolvesWhole};
 ghost use Rattle.omega_game_answers.specs.private.steps.SolveGameRefusal.{IsSolveGameRefusal};
-ghost use Rattle.omega_game_answers.specs.Watching.{CountsTold, CountsToldOfPart, CountsToldOfText, LiftsText};
+ghost use Rattle.omega_game_answers.specs.Observing.{CountsReported, CountsReportedOfPart, CountsReportedOfText, LiftsText};
 ghost use Rattle.omega_game_answers.specs.private.steps.Lifts.{LiftsPart, LiftsWholeGame};
-ghost use Rattle.omega_budget.specs.Watching.{IsWatched, refusal_in};
+ghost use Rattle.omega_budget.specs.Observing.{IsObserved, refusal_in};
 
 mod answer_text;
 pub mod asked;
@@ -14,82 +14,87 @@ pub mod both;
 mod one;
 mod searched;
 
-use crate::game_text::arena_of;
+use crate::game_text::forward_game_of;
 use crate::part::part_from;
 use asked::Asked;
 use both::solve_both;
-use omega_budget::Watch;
-use omega_game::{Arena, Refusal};
-use omega_region::regions_of_parts;
+use omega_budget::Reporter;
+use omega_game::{ForwardGame, Refusal};
+use omega_region_laws::regions_of_parts;
 use one::solve_one;
 use searched::solve_by_judged_search;
 use std::alloc::Global;
 
-/// The answer text of a player for the game that a text stands for, or its solution text. Where
-/// an identifier is given, that of the part that its node reaches. The listener is told of each run.
-/// 1 to 4, 10 to 14, 54, 50, 51 or 60.
-pub fn solve_game<L, W: Watch<L>>(
+/// Solves the game of `text` and returns the answer text of a player, or the solution text, as `asked` says. If an
+/// identifier `from` is given, solves the part that its node reaches. Each run is reported to `observer`.
+///
+/// Fails with the [Refusal::Text] or [Refusal::Game] of the text, or else with [TaskFault::UnknownNode], or else with
+/// [TaskFault::TooWide], or else with [TaskFault::Budget].
+pub fn solve_game<L, W: Reporter<L>>(
     alloc: Global,
     text: Vec<u8>,
     asked: Asked,
     from: Option<u32>,
     budget: u64,
-    watch: &W,
-    listener: &mut L,
+    reporter: &W,
+    observer: &mut L,
 ) -> Result<Vec<u8>, Refusal>
     requires { budget ≤ most_lifts }
     ensures answer { IfOk result (λ output. IsSolveAnswer text.items asked from budget output.items) }
     ensures refused { IfErr result (or_memory (IsSolveRefusal text.items asked from budget)) }
-    ensures told { IsWatched (LiftsText text.items asked from) (refusal_in result) (W.tells watch.now) (W.pace watch.now) budget listener.old listener.new }
-    ensures counted { IfOk result (λ output. CountsToldOfText (W.tells watch.now) (W.pace watch.now) text.items asked from budget output.items listener.old listener.new) }
+    ensures reported { IsObserved (LiftsText text.items asked from) (refusal_in result) (W.tells reporter.now) (W.pace reporter.now) budget observer.old observer.new }
+    ensures counted { IfOk result (λ output. CountsReportedOfText (W.tells reporter.now) (W.pace reporter.now) text.items asked from budget output.items observer.old observer.new) }
 {
-    let game = arena_of(alloc, text)?;
+    let game = forward_game_of(alloc, text)?;
     match from {
-        None => solve_whole(alloc, game, asked, budget, watch, listener),
-        Some(identifier) => { solve_part(alloc, game, asked, identifier, budget, watch, listener) }
+        None => solve_whole(alloc, game, asked, budget, reporter, observer),
+        Some(identifier) => {
+            solve_part(alloc, game, asked, identifier, budget, reporter, observer)
+        }
     }
 }
 
-/// The text for the part that the node with an identifier reaches. The game is dropped. 54, 50, 51 or 60.
-fn solve_part<L, W: Watch<L>>(
+/// Solves the part of `game` that the node with `identifier` reaches. The game is dropped. Fails with
+/// [TaskFault::UnknownNode], or else with [TaskFault::TooWide], or else with [TaskFault::Budget].
+fn solve_part<L, W: Reporter<L>>(
     alloc: Global,
-    game: Arena,
+    game: ForwardGame,
     asked: Asked,
     identifier: u32,
     budget: u64,
-    watch: &W,
-    listener: &mut L,
+    reporter: &W,
+    observer: &mut L,
 ) -> Result<Vec<u8>, Refusal>
     requires { budget ≤ most_lifts }
     ensures answer { IfOk result (λ output. SolvesPart game asked identifier budget output.items) }
     ensures refused { IfErr result (IsSolveGameRefusal game asked (Some identifier) budget) }
-    ensures told { IsWatched (LiftsPart game asked identifier) (refusal_in result) (W.tells watch.now) (W.pace watch.now) budget listener.old listener.new }
-    ensures counted { IfOk result (λ output. CountsToldOfPart (W.tells watch.now) (W.pace watch.now) game asked identifier budget output.items listener.old listener.new) }
+    ensures reported { IsObserved (LiftsPart game asked identifier) (refusal_in result) (W.tells reporter.now) (W.pace reporter.now) budget observer.old observer.new }
+    ensures counted { IfOk result (λ output. CountsReportedOfPart (W.tells reporter.now) (W.pace reporter.now) game asked identifier budget output.items observer.old observer.new) }
 {
     regions_of_parts();
     game.keeps_limits();
     let part = part_from(alloc, game, identifier)?;
-    solve_whole(alloc, part, asked, budget, watch, listener)
+    solve_whole(alloc, part, asked, budget, reporter, observer)
 }
 
-/// The text for a whole game, as it is asked for. 50, 51 or 60.
-fn solve_whole<L, W: Watch<L>>(
+/// Solves a whole game as `asked` says. Fails with [TaskFault::TooWide], or else with [TaskFault::Budget].
+fn solve_whole<L, W: Reporter<L>>(
     alloc: Global,
-    game: Arena,
+    game: ForwardGame,
     asked: Asked,
     budget: u64,
-    watch: &W,
-    listener: &mut L,
+    reporter: &W,
+    observer: &mut L,
 ) -> Result<Vec<u8>, Refusal>
     requires { budget ≤ most_lifts }
     ensures answer { IfOk result (λ output. SolvesWhole game asked budget output.items) }
     ensures refused { IfErr result (IsSolveGameRefusal game asked None budget) }
-    ensures told { IsWatched (LiftsWholeGame game asked) (refusal_in result) (W.tells watch.now) (W.pace watch.now) budget listener.old listener.new }
-    ensures counted { IfOk result (λ output. CountsTold (W.tells watch.now) (W.pace watch.now) game asked budget output.items listener.old listener.new) }
+    ensures reported { IsObserved (LiftsWholeGame game asked) (refusal_in result) (W.tells reporter.now) (W.pace reporter.now) budget observer.old observer.new }
+    ensures counted { IfOk result (λ output. CountsReported (W.tells reporter.now) (W.pace reporter.now) game asked budget output.items observer.old observer.new) }
 {
     match asked {
-        Asked::Both => solve_both(alloc, &game, budget, watch, listener),
-        Asked::Search => { solve_by_judged_search(alloc, game, budget, watch, listener) }
-        Asked::Player(player) => { solve_one(alloc, &game, player, budget, watch, listener) }
+        Asked::Both => solve_both(alloc, &game, budget, reporter, observer),
+        Asked::Search => { solve_by_judged_search(alloc, game, budget, reporter, observer) }
+        Asked::Player(player) => { solve_one(alloc, &game, player, budget, reporter, observer) }
     }
 }

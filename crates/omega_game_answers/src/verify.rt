@@ -6,7 +6,7 @@ ghost use Rattle.omega_pg.specs.solution.Refusing.{IsReadSolutionRefusal};
 ghost use Rattle.omega_pg.specs.solution.Text.{IsSolutionText};
 ghost use Rattle.omega_game_answers.specs.Part.{IsPartText, IsPartTextRefusal};
 ghost use Rattle.omega_game_answers.specs.Verify.{IsJudgedGame, IsJudgedGameRefusal, IsSolutionVerdict, IsVerifyAnswer, RefusesSolution};
-ghost use Rattle.omega_refused.specs.Refused.{IsRefusedOf};
+ghost use Rattle.omega_io.specs.Refused.{IsRefusedOf};
 ghost use Rattle.omega_game_answers.specs.private.steps.Solved.{IsSolutionJudged};
 ghost use Rattle.omega_game_answers.specs.private.steps.Verdict.{verdict_exit, verdict_text};
 
@@ -14,16 +14,17 @@ pub mod explaining;
 
 use crate::part::part_from;
 use explaining::explained;
-use omega_game::{Arena, Player, Refusal, Solution, check_strategy};
-use omega_io::Exit;
-use omega_pg::{read_arena, read_solution};
-use omega_refused::{Refused, Which};
+use omega_game::{ForwardGame, Player, Refusal, Solution, check_strategy};
+use omega_io::{Exit, Refused, Which};
+use omega_pg::{read_forward_game, read_solution};
 use std::alloc::Global;
 
-/// Says whether the choices of the solution that a text stands for win, without solving its game, which has a text of
-/// its own, which is dropped before the solution is read; where they do not, also why, if that is asked for. Where an
-/// identifier is given, the solution is one of the part that its node reaches. The refusal of the game text, or else
-/// 54, or else that of the solution text: 1 to 4, 10 to 14, 54, 53 or 60; the game text is the first, and 54 is of it.
+/// Judges the solution in `text` without solving the game. The game's text is dropped before the solution is read. If
+/// its choices do not win and `explain` is set, the answer also says why. If an identifier `from` is given, the
+/// solution is one of the part that its node reaches.
+///
+/// Fails with the [Refusal::Text] or [Refusal::Game] of the game's text, or else with [TaskFault::UnknownNode]; both
+/// are of the file's text. Or else fails with the [Refusal::Text] or [TaskFault::BadSolution] of the solution's text.
 pub fn verify_solution(
     alloc: Global,
     game: Vec<u8>,
@@ -37,16 +38,17 @@ pub fn verify_solution(
     match judged_game(alloc, game, from) {
         Ok(game) => match judged(alloc, &game, text, explain) {
             Ok(made) => Ok(made),
-            Err(refusal) => Err(Refused::of(Which::Second, refusal)),
+            Err(refusal) => Err(Refused::of(Which::Input, refusal)),
         },
-        Err(refusal) => Err(Refused::of(Which::First, refusal)),
+        Err(refusal) => Err(Refused::of(Which::File, refusal)),
     }
 }
 
-/// The verdict on the solution of a game that a text stands for. 1 to 4, 53 or 60.
+/// Returns the verdict on the solution of `game` in `text`. Fails with the [Refusal::Text] or [TaskFault::BadSolution]
+/// of the text.
 fn judged(
     alloc: Global,
-    game: &Arena,
+    game: &ForwardGame,
     text: Vec<u8>,
     explain: bool,
 ) -> Result<(Exit, Vec<u8>), Refusal>
@@ -57,31 +59,32 @@ fn judged(
     verdict_on(alloc, game, &solution, explain)
 }
 
-/// The game that a text stands for, or where an identifier is given, the part of it that its node reaches. The text is
-/// dropped. 1 to 4, 10 to 14, 54 or 60.
-fn judged_game(alloc: Global, text: Vec<u8>, from: Option<u32>) -> Result<Arena, Refusal>
+/// Reads the game of `text`, or the part of it that the node with the identifier `from` reaches, if one is given. The
+/// text is dropped. Fails with the [Refusal::Text] or [Refusal::Game] of the text, or with [TaskFault::UnknownNode].
+fn judged_game(alloc: Global, text: Vec<u8>, from: Option<u32>) -> Result<ForwardGame, Refusal>
     ensures game { IfOk result (IsJudgedGame text.items from) }
     ensures refused { IfErr result (or_memory (IsJudgedGameRefusal text.items from)) }
 {
     match from {
-        None => read_arena(alloc, text.as_slice()),
+        None => read_forward_game(alloc, text.as_slice()),
         Some(identifier) => judged_part(alloc, text.as_slice(), identifier),
     }
 }
 
-/// The part that the node with an identifier reaches in the game that a text stands for. 1 to 4, 10 to 14, 54 or 60.
-fn judged_part(alloc: Global, text: &[u8], identifier: u32) -> Result<Arena, Refusal>
+/// Reads the part that the node with `identifier` reaches in the game of `text`. Fails with the [Refusal::Text] or
+/// [Refusal::Game] of the text, or with [TaskFault::UnknownNode].
+fn judged_part(alloc: Global, text: &[u8], identifier: u32) -> Result<ForwardGame, Refusal>
     ensures part { IfOk result (IsPartText text.now identifier) }
     ensures refused { IfErr result (or_memory (IsPartTextRefusal text.now identifier)) }
 {
-    let game = read_arena(alloc, text)?;
+    let game = read_forward_game(alloc, text)?;
     part_from(alloc, game, identifier)
 }
 
-/// The verdict on a solution, with why it is `no`, if that is asked for. 60 alone.
+/// Returns the verdict on `solution`, and with `explain` also why it is `no`.
 fn verdict_on(
     alloc: Global,
-    game: &Arena,
+    game: &ForwardGame,
     solution: &Solution,
     explain: bool,
 ) -> Result<(Exit, Vec<u8>), Refusal>
@@ -96,7 +99,7 @@ fn verdict_on(
     verdict(alloc, is_right)
 }
 
-/// How the command ends for a solution that is right or not, and what it writes. 60 alone.
+/// Returns how the command ends for a solution that is right or not, and its output.
 fn verdict(alloc: Global, is_right: bool) -> Result<(Exit, Vec<u8>), Refusal>
     ensures made { IfOk result (λ made. (made.0 ≡ verdict_exit is_right) × (made.1.items ≡ verdict_text is_right)) }
     ensures memory { IsOkUnless result Memory }
@@ -108,16 +111,16 @@ fn verdict(alloc: Global, is_right: bool) -> Result<(Exit, Vec<u8>), Refusal>
     }
 }
 
-/// The solution of a game that a text stands for. The text is dropped.
-fn solution_in(alloc: Global, game: &Arena, text: Vec<u8>) -> Result<Solution, Refusal>
+/// Reads the solution of `game` in `text`. The text is dropped.
+fn solution_in(alloc: Global, game: &ForwardGame, text: Vec<u8>) -> Result<Solution, Refusal>
     ensures solution { IfOk result (IsSolutionText game.now text.items) }
     ensures refused { IfErr result (IsReadSolutionRefusal game.now text.items) }
 {
     read_solution(alloc, game, text.as_slice())
 }
 
-/// Whether for each player the choices win from all nodes given to that player. 60 alone.
-fn wins_as_given(alloc: Global, game: &Arena, solution: &Solution) -> Result<bool, Refusal>
+/// Whether for each player the choices win from all nodes given to that player.
+fn wins_as_given(alloc: Global, game: &ForwardGame, solution: &Solution) -> Result<bool, Refusal>
     requires { IsSolution game.now solution.now }
     ensures wins { IfOk result (λ answer. IsTrue answer ↔ WinsAsGiven game.now solution.now) }
     ensures memory { IsOkUnless result Memory }
@@ -128,10 +131,10 @@ fn wins_as_given(alloc: Global, game: &Arena, solution: &Solution) -> Result<boo
     wins_given(alloc, game, solution, Player::One)
 }
 
-/// Whether a player's choices win from all nodes given to the player. 60 alone.
+/// Whether the choices of `player` win from all nodes given to the player.
 fn wins_given(
     alloc: Global,
-    game: &Arena,
+    game: &ForwardGame,
     solution: &Solution,
     player: Player,
 ) -> Result<bool, Refusal>

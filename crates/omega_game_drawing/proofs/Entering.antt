@@ -6,7 +6,7 @@ use Rattle.std.proofs.lemmas.List.Elements.{Contains-append_left, Contains-push,
 use Rattle.omega_game.specs.Game.{Node, HasEdge, successors_at}
 use Rattle.omega_game.proofs.walks.Marking.{mark_kept, mark_other, mark_set, one_fewer}
 use Rattle.omega_game_drawing.specs.Extent.{is_drawn}
-use Rattle.omega_game_drawing.specs.private.Entering.{AreEntered, IsBehind}
+use Rattle.omega_game_drawing.specs.private.Entering.{AreEntered, IsAfter}
 
 -- where nothing is entered
 pub entered_none : (Holds : ℕ → Type 0) (drawn : List Bool) (next : List ℕ) → ((v : ℕ) → Holds v → ⊥) → AreEntered Holds drawn next drawn next
@@ -110,13 +110,13 @@ module _ (drawn : List Bool) (next : List ℕ) (drawn' : List Bool) (next' : Lis
       drawn next drawn' next' drawn'' next'' so_far step)
 
   -- the successors of one more of the front
-  pub entered_behind : (nodes : List Node) (front : List ℕ) (i : ℕ) → i < length front → AreEntered (IsBehind nodes (take i front)) drawn next drawn' next'
+  pub entered_after : (nodes : List Node) (front : List ℕ) (i : ℕ) → i < length front → AreEntered (IsAfter nodes (take i front)) drawn next drawn' next'
       → AreEntered (Contains (successors_at nodes (get_or front i 0))) drawn' next' drawn'' next''
-      → AreEntered (IsBehind nodes (take (i + 1) front)) drawn next drawn'' next''
-  entered_behind nodes front i below so_far step =
-      subst (λ all. AreEntered (IsBehind nodes all) drawn next drawn'' next'') (sym (take_more front i 0 below))
-      (entered_more _ _ _ (λ w behind. covers w behind (Contains-push_cases earlier u behind.0 behind.1))
-      (λ w behind. (behind.0, Contains-append_left earlier (u ∷ []) behind.0 behind.1, behind.2))
+      → AreEntered (IsAfter nodes (take (i + 1) front)) drawn next drawn'' next''
+  entered_after nodes front i below so_far step =
+      subst (λ all. AreEntered (IsAfter nodes all) drawn next drawn'' next'') (sym (take_more front i 0 below))
+      (entered_more _ _ _ (λ w following. covers w following (Contains-push_cases earlier u following.0 following.1))
+      (λ w following. (following.0, Contains-append_left earlier (u ∷ []) following.0 following.1, following.2))
       (λ w edge. (u, Contains-push earlier u, edge))
       drawn next drawn' next' drawn'' next'' so_far step)
     where
@@ -126,7 +126,7 @@ module _ (drawn : List Bool) (next : List ℕ) (drawn' : List Bool) (next' : Lis
       u : ℕ
       u = get_or front i 0
 
-      covers : (w : ℕ) → (behind : IsBehind nodes (earlier ++ u ∷ []) w) → Contains earlier behind.0 ⊎ (u ≡ behind.0)
-          → IsBehind nodes earlier w ⊎ Contains (successors_at nodes u) w
-      covers w behind (inl there) = inl (behind.0, there, behind.2)
-      covers w behind (inr is) = inr (subst (λ x. HasEdge nodes x w) (sym is) behind.2)
+      covers : (w : ℕ) → (following : IsAfter nodes (earlier ++ u ∷ []) w) → Contains earlier following.0 ⊎ (u ≡ following.0)
+          → IsAfter nodes earlier w ⊎ Contains (successors_at nodes u) w
+      covers w following (inl there) = inl (following.0, there, following.2)
+      covers w following (inr is) = inr (subst (λ x. HasEdge nodes x w) (sym is) following.2)

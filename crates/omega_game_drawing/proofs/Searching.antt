@@ -8,7 +8,7 @@ use Rattle.omega_game.specs.Game.{Node, IsGame, HasEdge}
 use Rattle.omega_game.proofs.elements.Membership.{Contains-cases, Contains-here, Contains-nothing}
 use Rattle.omega_game.proofs.walks.Marking.{marked_below, unmarked}
 use Rattle.omega_game_drawing.specs.Extent.{IsNear, ReachesWithin, is_drawn}
-use Rattle.omega_game_drawing.specs.private.Entering.{AreEntered, IsBehind}
+use Rattle.omega_game_drawing.specs.private.Entering.{AreEntered, IsAfter}
 use Rattle.omega_game_drawing.proofs.Walks.{IsLed, all_along, near_reached, none_within, within_back, within_none, within_on}
 
 module _ (nodes : List Node) (depth : Option ℕ) (place : ℕ) where
@@ -82,7 +82,7 @@ module _ (nodes : List Node) (depth : Option ℕ) (place : ℕ) where
 
   -- the search goes on with what is after the front
   pub search_goes_on : (drawn : List Bool) (front : List ℕ) (left : Option ℕ) (drawn' : List Bool) (front' : List ℕ) (left' : Option ℕ)
-      → IsGame nodes → place < length nodes → IsSearch drawn front left → AreEntered (IsBehind nodes front) drawn [] drawn' front'
+      → IsGame nodes → place < length nodes → IsSearch drawn front left → AreEntered (IsAfter nodes front) drawn [] drawn' front'
       → option_map (λ rest. rest + 1) left' ≡ left → IsSearch drawn' front' left'
   search_goes_on drawn front left drawn' front' left' game node so_far entered less = record {
     count = entered.count ∙ so_far.count;
@@ -95,13 +95,13 @@ module _ (nodes : List Node) (depth : Option ℕ) (place : ℕ) where
     near = λ v reaches. near v (within_back nodes so_far.steps place v game node reaches);
   }
     where
-      sound : (v : ℕ) → IsTrue (is_drawn drawn v) ⊎ (IsBehind nodes front v × Contains front' v) → ReachesWithin nodes (so_far.steps + 1) place v
+      sound : (v : ℕ) → IsTrue (is_drawn drawn v) ⊎ (IsAfter nodes front v × Contains front' v) → ReachesWithin nodes (so_far.steps + 1) place v
       sound v (inl before) =
           let reaches = so_far.sound v before in
           record { walk = reaches.walk; short = omega (arith, reaches.short) }
       sound v (inr now) =
-          let behind = now.0 in
-          within_on nodes so_far.steps place behind.0 v game (so_far.sound behind.0 (so_far.waiting behind.0 behind.1)) behind.2
+          let following = now.0 in
+          within_on nodes so_far.steps place following.0 v game (so_far.sound following.0 (so_far.waiting following.0 following.1)) following.2
 
       waiting : (v : ℕ) → Contains [] v ⊎ IsTrue (is_drawn drawn' v) → IsTrue (is_drawn drawn' v)
       waiting v (inl nothing) = absurd (Contains-nothing v nothing)
@@ -111,7 +111,7 @@ module _ (nodes : List Node) (depth : Option ℕ) (place : ℕ) where
       onward v w edge (inl waits) = entered.entered w (v, waits, edge)
       onward v w edge (inr flagged) = entered.kept w flagged
 
-      closed : (v w : ℕ) → HasEdge nodes v w → IsTrue (is_drawn drawn v) ⊎ (IsBehind nodes front v × Contains front' v)
+      closed : (v w : ℕ) → HasEdge nodes v w → IsTrue (is_drawn drawn v) ⊎ (IsAfter nodes front v × Contains front' v)
           → Contains front' v ⊎ IsTrue (is_drawn drawn' w)
       closed v w edge (inl before) = inr (onward v w edge (so_far.closed v w before edge))
       closed v w edge (inr now) = inl now.1

@@ -2,8 +2,8 @@
 use Rattle.std.proofs.Common.{◌≡◌, ℕ, List, ◌++◌, decimal, ap, ◌∙◌, append_assoc}
 
 -- a number between two texts, after a front
-pub number_between : (front before behind one two three : List ℕ) (n number : ℕ) → n ≡ number → one ≡ front ++ before → two ≡ one ++ decimal n
-    → three ≡ two ++ behind → three ≡ front ++ (before ++ (decimal number ++ behind))
-number_between front before behind one two three n number is first second third =
-    third ∙ ap (λ list. list ++ behind) (second ∙ ap (λ list. list ++ decimal n) first ∙ ap (λ m. (front ++ before) ++ decimal m) is)
-    ∙ append_assoc (front ++ before) (decimal number) behind ∙ append_assoc front before (decimal number ++ behind)
+pub number_between : (front before following one two three : List ℕ) (n number : ℕ) → n ≡ number → one ≡ front ++ before → two ≡ one ++ decimal n
+    → three ≡ two ++ following → three ≡ front ++ (before ++ (decimal number ++ following))
+number_between front before following one two three n number is first second third =
+    third ∙ ap (λ list. list ++ following) (second ∙ ap (λ list. list ++ decimal n) first ∙ ap (λ m. (front ++ before) ++ decimal m) is)
+    ∙ append_assoc (front ++ before) (decimal number) following ∙ append_assoc front before (decimal number ++ following)

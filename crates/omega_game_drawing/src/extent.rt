@@ -2,7 +2,7 @@ ghost use Rattle.std.specs.Prelude.{IfOk, IsOkUnless};
 ghost use Rattle.omega_game_drawing.specs.Extent.{AreDrawn, IsPlaced};
 
 use crate::near::places_near;
-use omega_game::{Arena, Refusal};
+use omega_game::{ForwardGame, Refusal};
 use std::alloc::Global;
 
 /// Which nodes of a game are drawn.
@@ -17,7 +17,7 @@ pub enum Extent {
 /// Flags the places that are to be drawn. 60 alone.
 pub(crate) fn drawn_places(
     alloc: Global,
-    game: &Arena,
+    game: &ForwardGame,
     extent: Extent,
 ) -> Result<Vec<bool>, Refusal>
     requires { IsPlaced game.now extent }

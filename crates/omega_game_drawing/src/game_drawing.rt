@@ -10,7 +10,7 @@ ghost use Rattle.omega_game_drawing.specs.Nodes.{node_text_if_drawn};
 use crate::extent::{Extent, drawn_places};
 use crate::legend::write_legend;
 use crate::nodes::write_place;
-use omega_game::{Arena, Refusal, Solution};
+use omega_game::{ForwardGame, Refusal, Solution};
 use std::alloc::Global;
 
 /// The drawing of a game, or of a part of it, as a graph in DOT: player 0's nodes as diamonds and player 1's as boxes,
@@ -19,7 +19,7 @@ use std::alloc::Global;
 ///
 /// The text is in the DOT language (graphviz.org/doc/info/lang.html). The cost is linear in it, and in the game's
 /// nodes.
-pub fn draw_game(alloc: Global, game: &Arena, extent: Extent) -> Result<Vec<u8>, Refusal>
+pub fn draw_game(alloc: Global, game: &ForwardGame, extent: Extent) -> Result<Vec<u8>, Refusal>
     requires { IsPlaced game.now extent }
     ensures drawn { IfOk result (λ text. IsGameDrawing game.now extent text.items) }
     ensures memory { IsOkUnless result Refusal.Memory }
@@ -40,7 +40,7 @@ pub fn draw_game(alloc: Global, game: &Arena, extent: Extent) -> Result<Vec<u8>,
 /// asked for, with a legend that says so. 60 alone.
 pub fn draw_solution(
     alloc: Global,
-    game: &Arena,
+    game: &ForwardGame,
     extent: Extent,
     solution: &Solution,
     legend: bool,
@@ -74,7 +74,7 @@ fn room_for(extent: Extent, whole: usize) -> usize
 
 /// Appends what stands for the node at a place, with its winner and its owner's choice.
 fn write_solved(
-    game: &Arena,
+    game: &ForwardGame,
     drawn: &[bool],
     solution: &Solution,
     place: u32,

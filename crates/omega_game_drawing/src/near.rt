@@ -1,9 +1,9 @@
 //! The search for the nodes that a place reaches.
 ghost use Rattle.std.specs.Prelude.{◌≡◌, ◌≢◌, ◌+◌, ◌<◌, ◌↔◌, [], ℕ, All, Contains, IfOk, IsTrue, OnOk, Some, length, option_map, vec_len};
 ghost use Rattle.omega_game_drawing.specs.Extent.{IsNear, is_drawn};
-ghost use Rattle.omega_game_drawing.specs.private.Entering.{AreEntered, IsBehind};
+ghost use Rattle.omega_game_drawing.specs.private.Entering.{AreEntered, IsAfter};
 
-use omega_game::Arena;
+use omega_game::ForwardGame;
 use std::alloc::{AllocError, Global};
 
 /// Flags the places that a place reaches, itself included; where a depth is given, by at most so many edges.
@@ -11,7 +11,7 @@ use std::alloc::{AllocError, Global};
 /// Breadth first, so that each edge of what is reached is followed once.
 pub(crate) fn places_near(
     alloc: Global,
-    game: &Arena,
+    game: &ForwardGame,
     place: u32,
     depth: Option<u32>,
 ) -> Result<Vec<bool>, AllocError>
@@ -25,7 +25,7 @@ pub(crate) fn places_near(
     enter(&[place], &mut drawn, &mut front)?;
     let mut left = depth;
     while !front.is_empty() && left != Some(0) {
-        front = enter_behind(alloc, game, &front, &mut drawn)?;
+        front = enter_after(alloc, game, &front, &mut drawn)?;
         left = one_less(left);
     }
     Ok(drawn)
@@ -43,15 +43,15 @@ fn one_less(left: Option<u32>) -> Option<u32>
 }
 
 /// Flags the places to which an edge leads from one of the front, and gives those that were not flagged before.
-fn enter_behind(
+fn enter_after(
     alloc: Global,
-    game: &Arena,
+    game: &ForwardGame,
     front: &[u32],
     drawn: &mut Vec<bool>,
 ) -> Result<Vec<u32>, AllocError>
     requires front { All (λ place. place < length game.now) front.now }
     requires entries { vec_len drawn.old ≡ length game.now }
-    ensures entered { IfOk result (λ next. AreEntered (IsBehind game.now front.now) drawn.old.items [] drawn.new.items next.items) }
+    ensures entered { IfOk result (λ next. AreEntered (IsAfter game.now front.now) drawn.old.items [] drawn.new.items next.items) }
 {
     game.keeps_limits();
     let mut next = Vec::new(alloc);

@@ -6,13 +6,13 @@ ghost use Rattle.omega_game.specs.Game.{node_at};
 ghost use Rattle.omega_game_drawing.specs.Nodes.{colour_of, drawn_node, dots, edge_beyond, edge_end, edge_to, edge_to_dots, fill_part, is_chosen, leads_on, node_label, node_text, node_text_if_drawn, shape_of, successor_line};
 
 use omega_dot::write_name_line;
-use omega_game::{Arena, Player, Refusal};
+use omega_game::{ForwardGame, Player, Refusal};
 use omega_text::write_number;
 
 /// Appends what stands for the node at a place, with its winner and its choice if they are known: nothing where it is
 /// not drawn.
 pub(crate) fn write_place(
-    game: &Arena,
+    game: &ForwardGame,
     drawn: &[bool],
     place: u32,
     winner: Option<Player>,
@@ -34,7 +34,7 @@ pub(crate) fn write_place(
 
 /// Appends the line of the node at a place.
 fn write_line(
-    game: &Arena,
+    game: &ForwardGame,
     place: u32,
     winner: Option<Player>,
     out: &mut Vec<u8>,
@@ -65,7 +65,7 @@ fn write_shape(owner: Player, out: &mut Vec<u8>) -> Result<(), Refusal>
 }
 
 /// Appends the label of the node at a place.
-fn write_label(game: &Arena, place: u32, out: &mut Vec<u8>) -> Result<(), Refusal>
+fn write_label(game: &ForwardGame, place: u32, out: &mut Vec<u8>) -> Result<(), Refusal>
     requires { place < length game.now }
     ensures ok { OnOk result (out.new.items ≡ out.old.items ++ node_label (node_at game.now place)) }
     ensures memory { IsOkUnless result Refusal.Memory }
@@ -107,7 +107,7 @@ fn write_colour(winner: Player, out: &mut Vec<u8>) -> Result<(), Refusal>
 
 /// Appends the edges of the node at a place to nodes that are drawn.
 fn write_edges(
-    game: &Arena,
+    game: &ForwardGame,
     drawn: &[bool],
     place: u32,
     choice: Option<u32>,
@@ -127,7 +127,7 @@ fn write_edges(
 
 /// Appends the edge to a successor, where the node there is drawn.
 fn write_edge_to(
-    game: &Arena,
+    game: &ForwardGame,
     drawn: &[bool],
     place: u32,
     choice: Option<u32>,
@@ -149,7 +149,7 @@ fn write_edge_to(
 
 /// Appends the edge from the node at a place to a successor.
 fn write_edge(
-    game: &Arena,
+    game: &ForwardGame,
     place: u32,
     choice: Option<u32>,
     successor: u32,
@@ -192,7 +192,7 @@ fn is_chosen(choice: Option<u32>, place: u32) -> bool
 
 /// Appends an edge to `...` where the node at a place leads on to a node that is not drawn.
 fn write_edge_beyond(
-    game: &Arena,
+    game: &ForwardGame,
     drawn: &[bool],
     place: u32,
     out: &mut Vec<u8>,
@@ -211,7 +211,7 @@ fn write_edge_beyond(
 }
 
 /// Whether an edge leads from the node at a place to a node that is not drawn.
-fn leads_on(game: &Arena, drawn: &[bool], place: u32) -> bool
+fn leads_on(game: &ForwardGame, drawn: &[bool], place: u32) -> bool
     requires place { place < length game.now }
     requires entries { length drawn.now ≡ length game.now }
     ensures { result ≡ leads_on drawn.now (node_at game.now place) }
@@ -226,7 +226,7 @@ fn leads_on(game: &Arena, drawn: &[bool], place: u32) -> bool
 }
 
 /// Appends `...` after the node at a place.
-fn write_dots(game: &Arena, place: u32, out: &mut Vec<u8>) -> Result<(), Refusal>
+fn write_dots(game: &ForwardGame, place: u32, out: &mut Vec<u8>) -> Result<(), Refusal>
     requires { place < length game.now }
     ensures ok { OnOk result (out.new.items ≡ out.old.items ++ dots (node_at game.now place)) }
     ensures memory { IsOkUnless result Refusal.Memory }
@@ -238,7 +238,7 @@ fn write_dots(game: &Arena, place: u32, out: &mut Vec<u8>) -> Result<(), Refusal
 }
 
 /// Appends the edge from the node at a place to `...`.
-fn write_edge_to_dots(game: &Arena, place: u32, out: &mut Vec<u8>) -> Result<(), Refusal>
+fn write_edge_to_dots(game: &ForwardGame, place: u32, out: &mut Vec<u8>) -> Result<(), Refusal>
     requires { place < length game.now }
     ensures ok { OnOk result (out.new.items ≡ out.old.items ++ edge_to_dots (node_at game.now place)) }
     ensures memory { IsOkUnless result Refusal.Memory }

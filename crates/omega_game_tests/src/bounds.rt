@@ -30,7 +30,7 @@ fn are_bounds(built: Result<Game, Refusal>, zero: u128, one: u128) -> bool {
 
 /// Whether this is the bound of a game for a player, 0 where there is none.
 fn is_bound(game: &Game, player: Player, wanted: u128) -> bool {
-    match bound(game.arena(), player) {
+    match bound(game.forward(), player) {
         Some(lifts) => lifts == wanted && lifts > 0,
         None => wanted == 0,
     }
@@ -65,7 +65,7 @@ fn are_counted(built: Result<Game, Refusal>, counts: &[PriorityCount]) -> bool {
 }
 
 #[test]
-fn priorities_with_their_bearers(rt: HostRuntime) {
+fn priorities_with_their_nodes(rt: HostRuntime) {
     assert!(rt; are_counted(game_of(rt.alloc(), &SHARED), &COUNTS));
 }
 

@@ -1,7 +1,7 @@
 //! `check_strategy`: from which places strategies win.
-use crate::samples::{self, Row, add, assert_row, finish, game_of, is_given, line, strategy_for};
+use crate::samples::{self, Row, assert_row, game_of, is_given, strategy_for};
 use omega_game::Player::{One, Zero};
-use omega_game::{Game, GameBuilder, Player, Refusal, check_strategy};
+use omega_game::{Game, Player, Refusal, check_strategy};
 use std::alloc::Global;
 use std::process::Abort;
 
@@ -14,7 +14,7 @@ fn answer(
     choices: &[Option<u32>],
 ) -> Result<bool, Refusal> {
     match strategy_for(alloc, game, player, places, choices) {
-        Ok(strategy) => check_strategy(alloc, game.arena(), player, places, &strategy),
+        Ok(strategy) => check_strategy(alloc, game.forward(), player, places, &strategy),
         Err(refusal) => Err(refusal),
     }
 }
@@ -23,9 +23,9 @@ fn answer(
 type Asked = (Player, &'static [u32], &'static [Option<u32>], bool);
 
 /// Player 0 can only go from 0 to 1, which bears an odd priority and leads to itself.
-static ODD_BEHIND: [Row; 2] = [(0, 0, Zero, &[1], None), (1, 1, Zero, &[1], None)];
+static ODD_AFTER: [Row; 2] = [(0, 0, Zero, &[1], None), (1, 1, Zero, &[1], None)];
 
-static ODD_BEHIND_ASKED: [Asked; 6] = [
+static ODD_AFTER_ASKED: [Asked; 6] = [
     (Zero, &[0], &[Some(1), Some(1)], false),
     (Zero, &[0], &[Some(1), None], false),
     (Zero, &[1], &[Some(1), None], false),
@@ -133,81 +133,11 @@ fn assert_game(rt: &impl Abort, alloc: Global, rows: &[Row], asked: &[Asked]) {
 // a losing closed walk inside a winning one.
 #[test]
 fn small_games(rt: HostRuntime) {
-    assert_game(&rt, rt.alloc(), &ODD_BEHIND, &ODD_BEHIND_ASKED);
+    assert_game(&rt, rt.alloc(), &ODD_AFTER, &ODD_AFTER_ASKED);
     assert_game(&rt, rt.alloc(), &samples::THREE, &THREE_ASKED);
     assert_game(&rt, rt.alloc(), &FAR, &FAR_ASKED);
     assert_game(&rt, rt.alloc(), &BRANCHES, &BRANCHES_ASKED);
     assert_game(&rt, rt.alloc(), &ODD_ABOVE, &ODD_ABOVE_ASKED);
     assert_game(&rt, rt.alloc(), &EVEN_ABOVE, &EVEN_ABOVE_ASKED);
     assert_game(&rt, rt.alloc(), &NESTED, &NESTED_ASKED);
-}
-
-/// Whether player 0 wins from the first place without a choice, or else player 1 does.
-fn decides(alloc: Global, built: Result<Game, Refusal>, wins: bool) -> bool {
-    match built {
-        Ok(game) => match without_a_choice(alloc, &game) {
-            Ok((zero, one)) => zero == wins && one != wins,
-            Err(_) => false,
-        },
-        Err(_) => false,
-    }
-}
-
-/// Whether the strategy without a choice wins from the first place, for player 0 and for player 1.
-fn without_a_choice(alloc: Global, game: &Game) -> Result<(bool, bool), Refusal> {
-    let none = vec![in alloc; None; game.len()]?;
-    let zero = answer(alloc, game, Zero, &[0], none.as_slice())?;
-    let one = answer(alloc, game, One, &[0], none.as_slice())?;
-    Ok((zero, one))
-}
-
-#[test]
-fn the_greatest_of_a_line_or_a_cycle_decides(rt: HostRuntime) {
-    for end in 1..11 {
-        let row = end as usize;
-        assert_row(
-            &rt,
-            row,
-            decides(rt.alloc(), line(rt.alloc(), end, end, 0, 1), false),
-        );
-        assert_row(
-            &rt,
-            row,
-            decides(rt.alloc(), line(rt.alloc(), end, 0, 0, 1), false),
-        );
-        assert_row(
-            &rt,
-            row,
-            decides(rt.alloc(), line(rt.alloc(), end, end, 0, 2), true),
-        );
-        assert_row(
-            &rt,
-            row,
-            decides(rt.alloc(), line(rt.alloc(), end, 0, 0, 2), true),
-        );
-    }
-}
-
-/// Adds a cycle of falling odd priorities after one even priority above them all.
-fn add_falling(builder: &mut GameBuilder, nodes: u16) -> Result<(), Refusal> {
-    let last = u32::from(nodes);
-    add(builder, 0, 2 * last + 2, Zero, 1)?;
-    for place in 1..last {
-        add(builder, place, 2 * (last - place) + 1, Zero, place + 1)?;
-    }
-    add(builder, last.max(1), 1, Zero, 0)
-}
-
-/// The game of such a cycle.
-fn falling(alloc: Global, nodes: u16) -> Result<Game, Refusal> {
-    let mut builder = GameBuilder::new(alloc);
-    match add_falling(&mut builder, nodes) {
-        Ok(()) => finish(builder),
-        Err(refusal) => Err(refusal),
-    }
-}
-
-#[test]
-fn a_long_cycle_of_falling_priorities(rt: HostRuntime) {
-    assert!(rt; decides(rt.alloc(), falling(rt.alloc(), 50_000), true));
 }

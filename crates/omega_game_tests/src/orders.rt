@@ -12,7 +12,7 @@ fn answer(alloc: Global, game: &Game, player: Player, order: &[u32]) -> Result<b
     match strategy_for(alloc, game, player, &[0], &[None, None]) {
         Ok(strategy) => check_strategy_by_order(
             alloc,
-            game.arena(),
+            game.forward(),
             player,
             &[0],
             &strategy,
@@ -119,11 +119,11 @@ fn answer_for_both(alloc: Global, game: &Game, asked: &AskedOfBoth) -> Result<bo
             choice: Seq::from_vec(vec![in alloc; None; game.len()]?),
         },
     };
-    let fit = solution.zero.fits(game.arena(), Zero) && solution.one.fits(game.arena(), One);
+    let fit = solution.zero.fits(game.forward(), Zero) && solution.one.fits(game.forward(), One);
     if solution.winners.len() != game.len() || !fit {
         return Err(Refusal::Io);
     }
-    check_solution_by_order(alloc, game.arena(), &solution, order)
+    check_solution_by_order(alloc, game.forward(), &solution, order)
 }
 
 /// Whether the order of a row shows what it should of both.

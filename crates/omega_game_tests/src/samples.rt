@@ -92,35 +92,6 @@ pub(crate) fn list(builder: &mut GameBuilder, successor: u32) -> Result<(), Refu
     builder.add_successor(successor)
 }
 
-/// Adds nodes of player 0 from 0 to `end`, each leading to the next and the last to `back`.
-fn add_line(
-    builder: &mut GameBuilder,
-    end: u32,
-    back: u32,
-    priority: u32,
-    last: u32,
-) -> Result<(), Refusal> {
-    for id in 0..end {
-        add(builder, id, priority, Zero, id + 1)?;
-    }
-    add(builder, end, last, Zero, back)
-}
-
-/// The game of such nodes, all of one priority but the last.
-pub(crate) fn line(
-    alloc: Global,
-    end: u32,
-    back: u32,
-    priority: u32,
-    last: u32,
-) -> Result<Game, Refusal> {
-    let mut builder = GameBuilder::new(alloc);
-    match add_line(&mut builder, end, back, priority, last) {
-        Ok(()) => finish(builder),
-        Err(refusal) => Err(refusal),
-    }
-}
-
 /// The specifications of the rows, or Io where one is not well formed.
 pub(crate) fn specs_of(alloc: Global, rows: &[Row]) -> Result<Vec<NodeSpec>, Refusal>
     ensures { IfOk result (λ specs. All IsWellFormed specs.items) }
@@ -197,7 +168,7 @@ pub(crate) fn strategy_for(
     let strategy = Strategy { choice };
     let count = game.len();
     let inside = places.iter().all(|place| (*place as usize) < count);
-    if !inside || !strategy.fits(game.arena(), player) {
+    if !inside || !strategy.fits(game.forward(), player) {
         return Err(Refusal::Io);
     }
     Ok(strategy)

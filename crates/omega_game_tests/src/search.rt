@@ -1,4 +1,2 @@
 //! The search, and what it suggests.
-mod random;
 mod rows;
-mod shapes;

@@ -13,7 +13,7 @@ fn answer(alloc: Global, game: &Game, player: Player) -> Result<Option<bool>, Re
     match strategy_for(alloc, game, player, places.as_slice(), none.as_slice()) {
         Ok(strategy) => check_strategy_fast(
             alloc,
-            game.arena(),
+            game.forward(),
             player,
             places.as_slice(),
             &strategy,

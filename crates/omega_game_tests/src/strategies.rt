@@ -13,7 +13,7 @@ fn fits(
 ) -> Result<bool, Refusal> {
     let choice = Seq::from_vec(Vec::from_slice(alloc, choices)?);
     let strategy = Strategy { choice };
-    Ok(strategy.fits(game.arena(), player))
+    Ok(strategy.fits(game.forward(), player))
 }
 
 /// A game, a player and choices, and whether they fit.

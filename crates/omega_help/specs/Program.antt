@@ -1,5 +1,5 @@
 -- The command line as `clap` has it: the subcommands, with the options and the operand of each.
-use Rattle.std.specs.Prelude.{List, [], ◌∷◌, Some, true, false, codes}
+use Rattle.std.specs.Prelude.{ℕ, List, [], ◌∷◌, Some, true, false, codes}
 use Rattle.clap.specs.Simple.{new_shape}
 use Rattle.clap.specs.Words.{App, Rule, Shape, Text, new_rule}
 use Rattle.clap.specs.declared.builder.action.ArgAction.TheVariants.{SetTrue}
@@ -7,6 +7,10 @@ use Rattle.clap.specs.declared.builder.action.ArgAction.TheVariants.{SetTrue}
 -- an option without a text
 abbrev pub flag : Text → Rule
 flag name = record (new_rule name) { long = Some name; action = Some SetTrue }
+
+-- an option without a text, for which a letter stands too
+abbrev pub lettered : ℕ → Text → Rule
+lettered letter name = record (flag name) { short = Some letter }
 
 -- an option with a text, which may be left out
 abbrev pub optional : Text → Rule
@@ -24,46 +28,50 @@ operand name = record (new_rule name) { value_names = 1 }
 abbrev pub with_options : Text → List Rule → Shape
 with_options name options = record (new_shape name) { rules = options }
 
--- ---- the subcommands, each with the operand that names a file
+-- ---- the subcommands, each with the flag for more on a refusal and the operand that names a file
+
+-- the flag that asks for what is said of a refusal besides its line; 118 is the letter v
+abbrev pub verbose : Rule
+verbose = lettered 118 (codes "verbose")
 
 abbrev pub show : Shape
-show = with_options (codes "show") (required (codes "format") ∷ operand (codes "file") ∷ [])
+show = with_options (codes "show") (required (codes "format") ∷ verbose ∷ operand (codes "file") ∷ [])
 
 abbrev pub check : Shape
-check = with_options (codes "check") (required (codes "format") ∷ operand (codes "file") ∷ [])
+check = with_options (codes "check") (required (codes "format") ∷ verbose ∷ operand (codes "file") ∷ [])
 
 abbrev pub canon : Shape
-canon = with_options (codes "canon") (required (codes "format") ∷ optional (codes "from") ∷ operand (codes "file") ∷ [])
+canon = with_options (codes "canon") (required (codes "format") ∷ optional (codes "from") ∷ verbose ∷ operand (codes "file") ∷ [])
 
 abbrev pub solve : Shape
 solve =
     with_options (codes "solve")
-    (optional (codes "player") ∷ optional (codes "from") ∷ flag (codes "search") ∷ optional (codes "budget") ∷ flag (codes "progress") ∷ operand (codes "file") ∷ [])
+    (optional (codes "player") ∷ optional (codes "from") ∷ flag (codes "search") ∷ optional (codes "budget") ∷ flag (codes "progress") ∷ verbose ∷ operand (codes "file") ∷ [])
 
 abbrev pub verify : Shape
 verify =
     with_options (codes "verify")
-    (optional (codes "game") ∷ optional (codes "automaton") ∷ optional (codes "from") ∷ flag (codes "explain") ∷ operand (codes "file") ∷ [])
+    (optional (codes "game") ∷ optional (codes "automaton") ∷ optional (codes "from") ∷ flag (codes "explain") ∷ verbose ∷ operand (codes "file") ∷ [])
 
 abbrev pub empty : Shape
 empty =
     with_options (codes "empty")
-    (flag (codes "search") ∷ flag (codes "word") ∷ optional (codes "budget") ∷ flag (codes "progress") ∷ operand (codes "file") ∷ [])
+    (flag (codes "search") ∷ flag (codes "word") ∷ optional (codes "budget") ∷ flag (codes "progress") ∷ verbose ∷ operand (codes "file") ∷ [])
 
 abbrev pub game : Shape
-game = with_options (codes "game") (operand (codes "file") ∷ [])
+game = with_options (codes "game") (verbose ∷ operand (codes "file") ∷ [])
 
 abbrev pub meet : Shape
-meet = with_options (codes "meet") (required (codes "with") ∷ operand (codes "file") ∷ [])
+meet = with_options (codes "meet") (required (codes "with") ∷ verbose ∷ operand (codes "file") ∷ [])
 
 abbrev pub complement : Shape
-complement = with_options (codes "complement") (operand (codes "file") ∷ [])
+complement = with_options (codes "complement") (verbose ∷ operand (codes "file") ∷ [])
 
 abbrev pub draw : Shape
 draw =
     with_options (codes "draw")
     (required (codes "format") ∷ optional (codes "from") ∷ optional (codes "depth") ∷ optional (codes "solution") ∷ flag (codes "legend")
-    ∷ flag (codes "lasso") ∷ operand (codes "file") ∷ [])
+    ∷ flag (codes "lasso") ∷ verbose ∷ operand (codes "file") ∷ [])
 
 -- ---- the program
 

@@ -2,7 +2,7 @@ ghost use Rattle.std.specs.Prelude.{◌≡◌, IfOk};
 ghost use Rattle.omega_help.specs.Program.{canon};
 ghost use Rattle.clap.specs.Words.{shape_of};
 
-use crate::options::{FILE, FORMAT, OptionHelp, Value};
+use crate::options::{FILE, FORMAT, OptionHelp, VERBOSE, Value};
 use crate::subcommand::subcommand;
 use clap::Command;
 use std::alloc::{AllocError, Global};
@@ -59,6 +59,7 @@ const OPTIONS: &[OptionHelp] = &[
         value: Value::Optional("ID"),
         help: "Write only the part of a game that the node with this identifier reaches",
     },
+    VERBOSE,
     FILE,
 ];
 

@@ -2,7 +2,7 @@ ghost use Rattle.std.specs.Prelude.{◌≡◌, IfOk};
 ghost use Rattle.omega_help.specs.Program.{check};
 ghost use Rattle.clap.specs.Words.{shape_of};
 
-use crate::options::{FILE, FORMAT, OptionHelp};
+use crate::options::{FILE, FORMAT, OptionHelp, VERBOSE};
 use crate::subcommand::subcommand;
 use clap::Command;
 use std::alloc::{AllocError, Global};
@@ -47,7 +47,7 @@ fault between two automata if it comes before that. But 4 comes before all else.
 Exit status: 0 accepted, 1 the text is refused, 2 the command line is wrong, 4 out of memory, 5 a read
 or a write failed.";
 
-const OPTIONS: &[OptionHelp] = &[FORMAT, FILE];
+const OPTIONS: &[OptionHelp] = &[FORMAT, VERBOSE, FILE];
 
 /// The subcommand that judges a text.
 pub fn check_command<'a>(alloc: Global) -> Result<Command<'a>, AllocError>

@@ -2,7 +2,7 @@ ghost use Rattle.std.specs.Prelude.{◌≡◌, IfOk};
 ghost use Rattle.omega_help.specs.Program.{complement};
 ghost use Rattle.clap.specs.Words.{shape_of};
 
-use crate::options::{FILE, OptionHelp};
+use crate::options::{FILE, OptionHelp, VERBOSE};
 use crate::subcommand::subcommand;
 use clap::Command;
 use std::alloc::{AllocError, Global};
@@ -57,7 +57,7 @@ steps do not decide whether they can hold.
 Exit status: 0 done, 1 the text or the task is refused, 2 the command line is wrong, 4 out of memory, 5
 a read or a write failed.";
 
-const OPTIONS: &[OptionHelp] = &[FILE];
+const OPTIONS: &[OptionHelp] = &[VERBOSE, FILE];
 
 /// The subcommand that writes the complement of a deterministic automaton.
 pub fn complement_command<'a>(alloc: Global) -> Result<Command<'a>, AllocError>

@@ -2,7 +2,7 @@ ghost use Rattle.std.specs.Prelude.{◌≡◌, IfOk};
 ghost use Rattle.omega_help.specs.Program.{draw};
 ghost use Rattle.clap.specs.Words.{shape_of};
 
-use crate::options::{FILE, FORMAT, LASSO, LEGEND, OptionHelp, SOLUTION, Value};
+use crate::options::{FILE, FORMAT, LASSO, LEGEND, OptionHelp, SOLUTION, VERBOSE, Value};
 use crate::subcommand::subcommand;
 use clap::Command;
 use std::alloc::{AllocError, Global};
@@ -55,10 +55,10 @@ with --from only, and --lasso with --format hoa only.
 
 Faults of the text come first; `omega check --help` lists them. A text with --ABORT--, with no automaton
 or with several is not one automaton, and is refused as 3 Syntax. Faults of a game, 54 behind them, come
-before those of its solution, 53 BadSolution among these. With --solution another line says which text is
-refused: `omega: in the game` or `omega: in the solution`. A solution that fits the game is drawn, right
-or wrong, since `omega verify` judges it. A file that can't be read is refused as 61 Io, and another line
-has its name. With --lasso the refusals 41 and 42 come as from `omega empty --search`.
+before those of its solution, 53 BadSolution among these. A solution that fits the game is drawn, right
+or wrong, since `omega verify` judges it. A file that can't be read is refused as 61 Io. With --lasso the
+refusals 41 and 42 come as from `omega empty --search`. With --verbose a second line says which of two
+texts is refused, `omega: in the game` or `omega: in the solution`, or has the name of the file.
 
 Exit status: 0 done, 1 a text or the task is refused, 2 the command line is wrong, 4 out of memory, 5 a
 read or a write failed.";
@@ -78,6 +78,7 @@ const OPTIONS: &[OptionHelp] = &[
     SOLUTION,
     LEGEND,
     LASSO,
+    VERBOSE,
     FILE,
 ];
 

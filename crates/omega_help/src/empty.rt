@@ -2,7 +2,7 @@ ghost use Rattle.std.specs.Prelude.{◌≡◌, IfOk};
 ghost use Rattle.omega_help.specs.Program.{empty};
 ghost use Rattle.clap.specs.Words.{shape_of};
 
-use crate::options::{BUDGET, FILE, OptionHelp, PROGRESS, Value, WORD};
+use crate::options::{BUDGET, FILE, OptionHelp, PROGRESS, VERBOSE, Value, WORD};
 use crate::subcommand::subcommand;
 use clap::Command;
 use std::alloc::{AllocError, Global};
@@ -85,6 +85,7 @@ const OPTIONS: &[OptionHelp] = &[
     WORD,
     BUDGET,
     PROGRESS,
+    VERBOSE,
     FILE,
 ];
 

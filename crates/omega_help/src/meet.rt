@@ -2,7 +2,7 @@ ghost use Rattle.std.specs.Prelude.{◌≡◌, IfOk};
 ghost use Rattle.omega_help.specs.Program.{meet};
 ghost use Rattle.clap.specs.Words.{shape_of};
 
-use crate::options::{FILE, OptionHelp, WITH};
+use crate::options::{FILE, OptionHelp, VERBOSE, WITH};
 use crate::subcommand::subcommand;
 use clap::Command;
 use std::alloc::{AllocError, Global};
@@ -49,10 +49,10 @@ decides it. What `tool:`, `name:` and `properties:` say is left out.
 
 Faults of the other automaton's text come first, then those of the text in FILE; `omega check --help`
 lists them. A text with --ABORT--, with no automaton or with several is not one automaton, and is refused
-as 3 Syntax. After the line of such a fault another says which text has it, `omega: in the other automaton`
+as 3 Syntax. With --verbose a second line says which text has the fault, `omega: in the other automaton`
 or `omega: in the automaton`:
 
-  $ echo 'HOA: v1 Acceptance: 0 t --BODY-- State: 0' | omega meet --with never.hoa
+  $ echo 'HOA: v1 Acceptance: 0 t --BODY-- State: 0' | omega meet --verbose --with never.hoa
   omega: 3 Syntax at 42
   omega: in the automaton
 
@@ -60,12 +60,13 @@ Then, if a start or an edge of one of them lists several states joined by &, the
 41 UniversalBranch. It is 55 TooLarge if the product would have over 1048576 states or 8388608 edges, or
 would be over another limit of automata. 42 TooManyPropositions comes only where two labels together
 mention over 12 propositions, and 4194304 steps do not decide whether they can hold together. A file that
-can't be read is refused as 61 Io, and another line has its name. Files are read before standard input.
+can't be read is refused as 61 Io, and with --verbose a second line has its name. Files are read before
+standard input.
 
 Exit status: 0 done, 1 a text or the task is refused, 2 the command line is wrong, 4 out of memory, 5 a
 read or a write failed.";
 
-const OPTIONS: &[OptionHelp] = &[WITH, FILE];
+const OPTIONS: &[OptionHelp] = &[WITH, VERBOSE, FILE];
 
 /// The subcommand that writes an automaton of the words that two automata accept.
 pub fn meet_command<'a>(alloc: Global) -> Result<Command<'a>, AllocError>

@@ -18,6 +18,8 @@ pub struct OptionHelp {
 pub enum Value {
     /// Nothing: it is a flag, which is not set where it is not given.
     None,
+    /// The same of a flag for which this letter stands too, after one dash.
+    Letter(char),
     /// A text. The option may be left out.
     Optional(&'static str),
     /// A text. The option has to be given.
@@ -35,6 +37,9 @@ impl OptionHelp {
         let arg = Arg::new(alloc, self.name).help(self.help);
         match self.value {
             Value::None => arg.long(self.name).action(ArgAction::SetTrue),
+            Value::Letter(letter) => {
+                arg.long(self.name).short(letter).action(ArgAction::SetTrue)
+            }
             Value::Optional(name) => arg.long(self.name).value_name(name),
             Value::Required(name) => arg.long(self.name).value_name(name).required(true),
             Value::Operand(name) => arg.value_name(name),
@@ -47,6 +52,13 @@ pub const FILE: OptionHelp = OptionHelp {
     name: "file",
     value: Value::Operand("FILE"),
     help: "The file to read; - or none for standard input",
+};
+
+/// The flag that asks for what is said of a refusal besides its line.
+pub const VERBOSE: OptionHelp = OptionHelp {
+    name: "verbose",
+    value: Value::Letter('v'),
+    help: "Name on standard error the text that is refused, or the file that cannot be read",
 };
 
 /// The option that says what kind of text is read.

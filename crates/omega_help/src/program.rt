@@ -1,5 +1,6 @@
 ghost use Rattle.std.specs.Prelude.{◌≡◌, IfOk, map, string_bytes};
-ghost use Rattle.clap.specs.Words.{FailsBy, app_of, fault_of, subcommand_of, shape_of, subcommand_rows_of, with_subcommand};
+ghost use Rattle.clap.specs.Words.{FailsBy, app_of, fault_of, shape_of};
+ghost use Rattle.clap.specs.Words.{subcommand_of, subcommand_rows_of, with_subcommand};
 ghost use Rattle.omega_help.specs.Program.{program};
 ghost use Rattle.omega_help.specs.private.building.Building.{shape_for, without_subcommands};
 
@@ -42,8 +43,8 @@ automaton, `omega meet` reads two, and `omega draw` draws one automaton or a gam
 A command reads the file that its last word names, as in `omega solve game.pg`. Without a name, or with
 -, it reads standard input. It writes its answer to standard output. If a text or the task is refused, a
 line on standard error says why, such as `omega: 3 Syntax at 0` for a text that is no game from its first
-byte on. Bytes are counted from 0. If a command reads two texts, a second line says which of them is
-refused. If a file can't be read, a second line has its name.
+byte on. Bytes are counted from 0. With --verbose, or -v, a second line says which text is refused if a
+command reads two texts, and which file if one can't be read.
 
 Exit status:
   0  done
@@ -59,7 +60,8 @@ Exit status:
 /// What `clap` finds in the words of a command line, of which the first is the program's name. Where help or the
 /// version is asked for, the error has the text.
 pub fn matches_of<'a>(alloc: Global, words: &'a [String]) -> Result<ArgMatches<'a>, Error>
-    ensures found { IfOk result (λ found. subcommand_rows_of found ≡ subcommand_of program (map string_bytes words.now)) }
+    ensures found { IfOk result (λ found.
+        subcommand_rows_of found ≡ subcommand_of program (map string_bytes words.now)) }
     ensures kinds { FailsBy (fault_of program (map string_bytes words.now)) result }
 {
     let whole = whole_program(alloc)?;

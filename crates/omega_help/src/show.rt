@@ -2,7 +2,7 @@ ghost use Rattle.std.specs.Prelude.{◌≡◌, IfOk};
 ghost use Rattle.omega_help.specs.Program.{show};
 ghost use Rattle.clap.specs.Words.{shape_of};
 
-use crate::options::{FILE, FORMAT, OptionHelp};
+use crate::options::{FILE, FORMAT, OptionHelp, VERBOSE};
 use crate::subcommand::subcommand;
 use clap::Command;
 use std::alloc::{AllocError, Global};
@@ -41,7 +41,7 @@ If a text is refused, nothing is written on standard output, and a line on stand
 Exit status: 0 done, 1 the text is refused, 2 the command line is wrong, 4 out of memory, 5 a read or
 a write failed.";
 
-const OPTIONS: &[OptionHelp] = &[FORMAT, FILE];
+const OPTIONS: &[OptionHelp] = &[FORMAT, VERBOSE, FILE];
 
 /// The subcommand that describes a text.
 pub fn show_command<'a>(alloc: Global) -> Result<Command<'a>, AllocError>

@@ -2,7 +2,7 @@ ghost use Rattle.std.specs.Prelude.{◌≡◌, IfOk};
 ghost use Rattle.omega_help.specs.Program.{solve};
 ghost use Rattle.clap.specs.Words.{shape_of};
 
-use crate::options::{BUDGET, FILE, OptionHelp, PLAYER, PROGRESS, Value};
+use crate::options::{BUDGET, FILE, OptionHelp, PLAYER, PROGRESS, VERBOSE, Value};
 use crate::subcommand::subcommand;
 use clap::Command;
 use std::alloc::{AllocError, Global};
@@ -78,6 +78,7 @@ const OPTIONS: &[OptionHelp] = &[
     },
     BUDGET,
     PROGRESS,
+    VERBOSE,
     FILE,
 ];
 

@@ -2,7 +2,7 @@ ghost use Rattle.std.specs.Prelude.{◌≡◌, IfOk};
 ghost use Rattle.omega_help.specs.Program.{verify};
 ghost use Rattle.clap.specs.Words.{shape_of};
 
-use crate::options::{AUTOMATON, EXPLAIN, FILE, GAME, OptionHelp, Value};
+use crate::options::{AUTOMATON, EXPLAIN, FILE, GAME, OptionHelp, VERBOSE, Value};
 use crate::subcommand::subcommand;
 use clap::Command;
 use std::alloc::{AllocError, Global};
@@ -72,19 +72,18 @@ is `no`. A start or an edge of the automaton that lists several states joined by
 41 UniversalBranch. 42 TooManyPropositions comes only where a label of one of the lasso's edges mentions
 over 12 propositions, and 4194304 steps do not decide whether it can hold.
 
-If both texts are at fault, the fault of the game or the automaton is reported. After the line of a
-fault another says which text has it: `omega: in the game` or `omega: in the solution`, and
+If both texts are at fault, the fault of the game or the automaton is reported. With --verbose a second
+line says which text has the fault: `omega: in the game` or `omega: in the solution`, and
 `omega: in the automaton` or `omega: in the lasso`.
 
   $ echo 'paritysol 2; 0 0 2; 1 0; 2 0' | omega verify --game game.pg
   omega: 3 Syntax at 29
-  omega: in the solution
-  $ echo 'stem 0 cycle' | omega verify --automaton automaton.hoa
+  $ echo 'stem 0 cycle' | omega verify --verbose --automaton automaton.hoa
   omega: 3 Syntax at 13
   omega: in the lasso
 
-A file that can't be read is refused as 61 Io, and another line has its name. Files are read before
-standard input.
+A file that can't be read is refused as 61 Io, and with --verbose a second line has its name. Files are
+read before standard input.
 
 Exit status: 0 yes, 1 a text or the task is refused, 2 the command line is wrong, 4 out of memory, 5 a
 read or a write failed, 6 no.";
@@ -98,6 +97,7 @@ const OPTIONS: &[OptionHelp] = &[
         help: "Judge a solution of only the part that the node with this identifier reaches",
     },
     EXPLAIN,
+    VERBOSE,
     FILE,
 ];
 

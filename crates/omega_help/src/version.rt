@@ -1,4 +1,4 @@
-/// The version of the program, and the toolchain by which it was proved, in the words of `rt version`.
+/// The version of the program, and the logic in which it is proved, the line of the file `TOOLCHAIN`.
 pub const VERSION: &str = "\
-1.4.0
-proved by rattle-kit-13f logic dac8208d650f15bf";
+1.5.0
+proved in logic dac8208d650f15bf";

@@ -40,19 +40,19 @@ ended seen items kept (Some refusal) within fed answered =
     refused_at_end seen items kept refusal kept.refused (λ long. within (ap (λ said. Some said) long)) fed answered
 
 -- pieces that were taken after others
-taken_behind : (pieces : List (List ℕ)) (old new : Kept) (seen : List ℕ) (before items : List Item) → IsFed seen before old → TakesPieces old pieces items new
+taken_after : (pieces : List (List ℕ)) (old new : Kept) (seen : List ℕ) (before items : List Item) → IsFed seen before old → TakesPieces old pieces items new
     → IsFed (seen ++ bytes_of pieces) (before ++ items) new
-taken_behind [] old new seen before items fed taken =
+taken_after [] old new seen before items fed taken =
     subst (λ kept. IsFed (seen ++ []) (before ++ items) kept) taken.0
     (subst (λ bytes. IsFed bytes (before ++ items) old) (sym (append-nil seen))
     (subst (λ all. IsFed seen all old) (sym (ap (λ list. before ++ list) taken.1 ∙ append-nil before)) fed))
-taken_behind (piece ∷ pieces) old new seen before items fed taken =
+taken_after (piece ∷ pieces) old new seen before items fed taken =
     subst (λ bytes. IsFed bytes (before ++ items) new) (append_assoc seen piece (bytes_of pieces))
     (subst (λ all. IsFed ((seen ++ piece) ++ bytes_of pieces) all new) (append_assoc before taken.1 taken.2 ∙ sym (ap (λ list. before ++ list) taken.5))
-    (taken_behind pieces taken.0 new (seen ++ piece) (before ++ taken.1) taken.2 (taken.3 seen before fed) taken.4))
+    (taken_after pieces taken.0 new (seen ++ piece) (before ++ taken.1) taken.2 (taken.3 seen before fed) taken.4))
 
 pub pieces_are_fed : PiecesAreFed
-pieces_are_fed pieces items kept fed = taken_behind pieces fed.empty kept [] [] items fed.fresh fed.taken
+pieces_are_fed pieces items kept fed = taken_after pieces fed.empty kept [] [] items fed.fresh fed.taken
 
 module _ (readings : Readings) (exact : GoesOneWay hoa_format) (cuts_one : CutsAreOne hoa_format) (seen : List ℕ) where
   ends_one : (items others : List Item) (one other : Option Refusal) → IsEnd seen items one → IsEnd seen others other → (items ≡ others) × AnswersAreAlike seen one other

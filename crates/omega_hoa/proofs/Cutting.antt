@@ -44,7 +44,7 @@ module _ {Kind : Type 0} (format : TextFormat Kind) (exact : GoesOneWay format) 
       → (from ≤ to) × (to ≤ length source)
   cuts_forward source from to [] within cuts = (omega (arith, cuts), omega (arith, cuts))
   cuts_forward source from to (lexeme ∷ lexemes) within cuts =
-      let part = exact.behind source from lexeme cuts.0 in
+      let part = exact.following source from lexeme cuts.0 in
       let rest = cuts_forward source lexeme.span.end to lexemes part.within cuts.1 in
       (omega (arith, part.forward, part.nonempty, rest.0), rest.1)
 
@@ -68,9 +68,9 @@ part source base to = take (to - base) (drop base source)
 
 -- the longest unit before some bytes is the longest before fewer of them
 longest_before_fewer : (text rest : List ℕ) (count : ℕ) → IsLongest text rest → IsLongest text (take count rest)
-longest_before_fewer text rest count longest = λ more behind sort is longer unit.
-    longest more (behind ++ drop count rest) sort
-    (sym (take-append-drop count rest) ∙ ap (λ bytes. bytes ++ drop count rest) is ∙ append_assoc more behind (drop count rest)) longer unit
+longest_before_fewer text rest count longest = λ more following sort is longer unit.
+    longest more (following ++ drop count rest) sort
+    (sym (take-append-drop count rest) ∙ ap (λ bytes. bytes ++ drop count rest) is ∙ append_assoc more following (drop count rest)) longer unit
 
 -- so many bytes of a gap, a token and a rest
 take_three : (gap text rest : List ℕ) (count more : ℕ) → count ≡ length gap + (length text + more) → take count (gap ++ (text ++ rest)) ≡ gap ++ (text ++ take more rest)
@@ -80,7 +80,7 @@ take_three gap text rest count more is = ap (λ n. take n (gap ++ (text ++ rest)
 -- a token of a text is one of a part of it
 pub part_follows : (source : List ℕ) (base to at : ℕ) (lexeme : Lexeme HoaKind) → base ≤ at → lexeme.span.end ≤ to → Follows source at lexeme
     → Follows (part source base to) (at - base) (moved base lexeme)
-part_follows source base to at lexeme behind within follows =
+part_follows source base to at lexeme following within follows =
     let more = to - lexeme.span.end in
     let from = at - base in
     let left = length follows.gap + (length lexeme.text + more) in
@@ -102,11 +102,11 @@ part_follows source base to at lexeme behind within follows =
 -- tokens of a text are those of a part of it
 pub part_cuts : GoesOneWay hoa_format → (source : List ℕ) (base to at end : ℕ) (lexemes : List (Lexeme HoaKind)) → base ≤ at → end ≤ to
     → Cuts hoa_format source at lexemes end → Cuts hoa_format (part source base to) (at - base) (map (moved base) lexemes) (end - base)
-part_cuts exact source base to at end [] behind within cuts = ap (λ n. n - base) cuts
-part_cuts exact source base to at end (lexeme ∷ lexemes) behind within cuts =
-    let place = exact.behind source at lexeme cuts.0 in
+part_cuts exact source base to at end [] following within cuts = ap (λ n. n - base) cuts
+part_cuts exact source base to at end (lexeme ∷ lexemes) following within cuts =
+    let place = exact.following source at lexeme cuts.0 in
     let onward = cuts_forward hoa_format exact source lexeme.span.end end lexemes place.within cuts.1 in (
-      part_follows source base to at lexeme behind (omega (arith, onward.0)) cuts.0,
+      part_follows source base to at lexeme following (omega (arith, onward.0)) cuts.0,
       part_cuts exact source base to lexeme.span.end end lexemes (omega (arith, place.forward, place.nonempty)) within cuts.1,
     )
 
@@ -150,7 +150,7 @@ pub same_cuts : GoesOneWay hoa_format → (one other : List ℕ) (from to : ℕ)
     → Cuts hoa_format one from lexemes to → Cuts hoa_format other from lexemes to
 same_cuts exact one other from to [] same cuts = cuts
 same_cuts exact one other from to (lexeme ∷ lexemes) same cuts =
-    let place = exact.behind one from lexeme cuts.0 in (
+    let place = exact.following one from lexeme cuts.0 in (
       same_follows one other from lexeme same cuts.0,
       same_cuts exact one other lexeme.span.end to lexemes (same_further one other from lexeme.span.end (omega (arith, place.forward, place.nonempty)) same) cuts.1,
     )

@@ -5,7 +5,7 @@ use Rattle.omega_text.specs.Cut.{Cuts, IsCut}
 use Rattle.omega_text.specs.Lexeme.{Lexeme}
 use Rattle.omega_text.specs.hoa.Format.{hoa_format}
 use Rattle.omega_text.specs.hoa.Laws.{is_closed}
-use Rattle.omega_text.specs.hoa.Pieces.{FaultsBehind, IsCutUpToFault, lexeme_in, lexemes_in, settled_lexemes}
+use Rattle.omega_text.specs.hoa.Pieces.{FaultsAfter, IsCutUpToFault, lexeme_in, lexemes_in, settled_lexemes}
 use Rattle.omega_text.specs.declared.hoa.kind.HoaKind.{HoaKind}
 use Rattle.omega_text.specs.declared.hoa.kind.HoaKind.TheVariants.{Abort, End, HeaderName}
 use Rattle.omega_text.specs.declared.hoa.placed.PlacedToken.{PlacedToken}
@@ -19,7 +19,7 @@ use Rattle.omega_hoa.specs.private.dividing.Ending.{IsAtEnd, IsLast, IsWholeStre
 use Rattle.omega_hoa.specs.declared.item.Item.{Item}
 use Rattle.omega_hoa.proofs.Cutting.{cuts_split}
 use Rattle.omega_hoa.proofs.Dividing.{open_push}
-use Rattle.omega_hoa.proofs.Settling.{fault_behind}
+use Rattle.omega_hoa.proofs.Settling.{fault_after}
 
 -- the tokens of a text up to its fault or its end
 finished_cuts : (fault : Option TextFault) (seen : List ℕ) (lexemes : List (Lexeme HoaKind)) → IsCutUpToFault fault seen lexemes → (end : ℕ) × Cuts hoa_format seen 0 lexemes end
@@ -27,21 +27,21 @@ finished_cuts None seen lexemes cut = (cut.end, cut.cuts)
 finished_cuts (Some fault) seen lexemes faults = (faults.end, faults.cuts)
 
 -- a fault after divided tokens
-faults_behind : (seen : List ℕ) (lexemes : List (Lexeme HoaKind)) (items : List Item) (begins : ℕ) (inside : Bool) (fault : TextFault) → IsDivided seen lexemes items begins inside
-    → FaultsBehind seen lexemes fault → IsStreamFault seen items (Text fault)
-faults_behind seen lexemes items begins inside fault divided faults = record {
+faults_after : (seen : List ℕ) (lexemes : List (Lexeme HoaKind)) (items : List Item) (begins : ℕ) (inside : Bool) (fault : TextFault) → IsDivided seen lexemes items begins inside
+    → FaultsAfter seen lexemes fault → IsStreamFault seen items (Text fault)
+faults_after seen lexemes items begins inside fault divided faults = record {
   front = divided.front;
   rest = divided.rest;
   from = faults.end;
   cuts = subst (λ ls. Cuts hoa_format seen 0 ls faults.end) divided.split faults.cuts;
   before = divided.before;
-  refused = fault_behind seen divided.rest faults.end inside fault divided.behind faults.faults;
+  refused = fault_after seen divided.rest faults.end inside fault divided.following faults.faults;
 }
 
 -- a token after whole segments that is not `HOA:`
-stray_behind : (seen : List ℕ) (lexemes others : List (Lexeme HoaKind)) (items : List Item) (begins to : ℕ) (token : PlacedToken) → IsDivided seen lexemes items begins false
+stray_after : (seen : List ℕ) (lexemes others : List (Lexeme HoaKind)) (items : List Item) (begins to : ℕ) (token : PlacedToken) → IsDivided seen lexemes items begins false
     → Cuts hoa_format seen 0 (lexemes ++ lexeme_in seen token ∷ others) to → (token.kind ≡ HeaderName → ⊥) → IsStreamFault seen items (Text (Syntax token.span.start))
-stray_behind seen lexemes others items begins to token divided cuts other =
+stray_after seen lexemes others items begins to token divided cuts other =
     let parts = cuts_split hoa_format seen 0 to lexemes (lexeme_in seen token ∷ others) cuts in
     record {
       front = divided.front;
@@ -49,7 +49,7 @@ stray_behind seen lexemes others items begins to token divided cuts other =
       from = parts.0;
       cuts = subst (λ ls. Cuts hoa_format seen 0 ls parts.0) divided.split parts.1;
       before = divided.before;
-      refused = inl (divided.behind, (lexeme_in seen token, parts.2.0, λ opens. other opens.kind, refl));
+      refused = inl (divided.following, (lexeme_in seen token, parts.2.0, λ opens. other opens.kind, refl));
     }
 
 -- a token, if there is one, ends no segment
@@ -73,7 +73,7 @@ module _ (settled : Settled) (last : IsLast settled) (seen : List ℕ) (lexemes 
   stray_end token is at_end =
       let cut = finished_cuts settled.fault seen (lexemes ++ settled_lexemes seen settled) at_end.finished in
       let unclosed : is_closed token.kind ≡ false = subst (λ first. IfSome first (λ token. is_closed token.kind ≡ false)) is last.unclosed in
-      stray_behind seen lexemes (lexemes_in seen settled.second) items begins cut.0 token at_end.divided
+      stray_after seen lexemes (lexemes_in seen settled.second) items begins cut.0 token at_end.divided
       (subst (λ first. Cuts hoa_format seen 0 (lexemes ++ (lexemes_in seen first ++ lexemes_in seen settled.second)) cut.0) is cut.1)
       (λ header. let closed : true ≡ false = sym (ap is_closed header) ∙ unclosed in cc)
 
@@ -83,8 +83,8 @@ module _ (settled : Settled) (last : IsLast settled) (seen : List ℕ) (lexemes 
 
   -- a fault is
   pub fault_outside_end : (fault : TextFault) → settled.first ≡ None → settled.fault ≡ Some fault → IsAtEnd settled false seen lexemes items begins → IsStreamFault seen items (Text fault)
-  fault_outside_end fault first is at_end = faults_behind seen lexemes items begins false fault at_end.divided
-      (subst (λ ls. FaultsBehind seen ls fault) (none_settled first)
+  fault_outside_end fault first is at_end = faults_after seen lexemes items begins false fault at_end.divided
+      (subst (λ ls. FaultsAfter seen ls fault) (none_settled first)
       (subst (λ some. IsCutUpToFault some seen (lexemes ++ settled_lexemes seen settled)) is at_end.finished))
 
   -- nothing is
@@ -95,7 +95,7 @@ module _ (settled : Settled) (last : IsLast settled) (seen : List ℕ) (lexemes 
         lexemes = lexemes;
         cut = subst (λ ls. IsCut hoa_format seen ls) (none_settled first)
             (subst (λ some. IsCutUpToFault some seen (lexemes ++ settled_lexemes seen settled)) is at_end.finished);
-        stream = subst (λ ls. IsStream ls items) (sym (divided.split ∙ ap (λ rest. divided.front ++ rest) divided.behind ∙ append-nil divided.front)) divided.before;
+        stream = subst (λ ls. IsStream ls items) (sym (divided.split ∙ ap (λ rest. divided.front ++ rest) divided.following ∙ append-nil divided.front)) divided.before;
       }
 
   -- a segment goes on with a token that ends none
@@ -114,13 +114,13 @@ module _ (settled : Settled) (last : IsLast settled) (seen : List ℕ) (lexemes 
         split = ap (λ ls. ls ++ (one ++ other)) divided.split ∙ append_assoc divided.front divided.rest (one ++ other)
             ∙ ap (λ ls. divided.front ++ ls) (sym (append_assoc divided.rest one other));
         before = divided.before;
-        behind = open_more (divided.rest ++ one) settled.second (open_more divided.rest settled.first divided.behind (unclosed_ends_none settled.first last.unclosed)) (subst EndsNone (sym last.second) tt);
+        following = open_more (divided.rest ++ one) settled.second (open_more divided.rest settled.first divided.following (unclosed_ends_none settled.first last.unclosed)) (subst EndsNone (sym last.second) tt);
         cuts = divided.cuts;
       }
 
   -- a fault inside a segment
   pub fault_inside_end : (fault : TextFault) → settled.fault ≡ Some fault → IsAtEnd settled true seen lexemes items begins → IsStreamFault seen items (Text fault)
-  fault_inside_end fault is at_end = faults_behind seen (lexemes ++ settled_lexemes seen settled) items begins true fault (divided_end at_end.divided)
+  fault_inside_end fault is at_end = faults_after seen (lexemes ++ settled_lexemes seen settled) items begins true fault (divided_end at_end.divided)
       (subst (λ some. IsCutUpToFault some seen (lexemes ++ settled_lexemes seen settled)) is at_end.finished)
 
   -- a segment without end
@@ -135,5 +135,5 @@ module _ (settled : Settled) (last : IsLast settled) (seen : List ℕ) (lexemes 
         from = cut.end;
         cuts = subst (λ tokens. Cuts hoa_format seen 0 tokens cut.end) divided.split cut.cuts;
         before = divided.before;
-        refused = inr (inl (divided.behind, (cut.rest, all)));
+        refused = inr (inl (divided.following, (cut.rest, all)));
       }

@@ -24,7 +24,7 @@ use Rattle.omega_hoa.specs.private.dividing.Next.{Extends, IsProgress}
 use Rattle.omega_hoa.specs.declared.item.Item.{Item}
 use Rattle.omega_hoa.specs.declared.progress.ReadProgress.{ReadProgress}
 use Rattle.omega_hoa.proofs.Cutting.{cuts_end, cuts_forward, cuts_split, same_cuts, same_further}
-use Rattle.omega_hoa.proofs.Results.{holds_behind}
+use Rattle.omega_hoa.proofs.Results.{holds_after}
 use Rattle.omega_text.proofs.formats.Cutting.{cuts_join}
 use Rattle.omega_text.proofs.hoa_texts.Pieces.{kept_settled}
 
@@ -67,7 +67,7 @@ too_long seen items kept piece taken long = inl (
   refl,
   record {
     front = seen;
-    behind = piece;
+    following = piece;
     split = refl;
     taken = record { lexemes = taken.lexemes; settled = taken.settled; divided = taken.divided; bytes = taken.bytes; total = taken.total; short = taken.short };
     long = omega (arith, length-append seen piece, taken.total, long);
@@ -81,8 +81,8 @@ refused_longer seen piece items kept refusal refused = elim refused [
     past.0,
     record {
       front = past.1.front;
-      behind = past.1.behind ++ piece;
-      split = ap (λ bytes. bytes ++ piece) past.1.split ∙ append_assoc past.1.front past.1.behind piece;
+      following = past.1.following ++ piece;
+      split = ap (λ bytes. bytes ++ piece) past.1.split ∙ append_assoc past.1.front past.1.following piece;
       taken = past.1.taken;
       long = let long = past.1.long in omega (arith, long, length-append seen piece);
     },
@@ -105,7 +105,7 @@ refused_takes kept piece refusal is = λ seen items fed.
 pub takes_piece : (old new : List Item) (kept now : Kept) (piece : List ℕ) (extends : Extends old new)
     → ((seen : List ℕ) (items : List Item) → IsFed seen items kept → Appends old new items (λ all. IsFed (seen ++ piece) all now)) → TakesPiece kept piece extends.0 now
 takes_piece old new kept now piece extends taken = λ seen items fed.
-    holds_behind old new items (λ all. IsFed (seen ++ piece) all now) extends (taken seen items fed)
+    holds_after old new items (λ all. IsFed (seen ++ piece) all now) extends (taken seen items fed)
 
 -- whole segments end within the text
 pub divided_within : GoesOneWay hoa_format → (seen : List ℕ) (lexemes : List (Lexeme HoaKind)) (items : List Item) (begins : ℕ) (inside : Bool) → IsDivided seen lexemes items begins inside → begins ≤ length seen
@@ -126,19 +126,19 @@ module _ (exact : GoesOneWay hoa_format) (seen : List ℕ) (items : List Item) (
   pub known_lexemes : List (Lexeme HoaKind)
   known_lexemes = taken.divided.front ++ known.divided.rest
 
-  same_behind : drop kept.begins known.seen ≡ drop kept.begins seen
-  same_behind = sym known.taken.bytes ∙ taken.bytes
+  same_after : drop kept.begins known.seen ≡ drop kept.begins seen
+  same_after = sym known.taken.bytes ∙ taken.bytes
 
   begins_inside : (kept.begins ≤ length known.seen) × (kept.begins ≤ length seen)
   begins_inside = (omega (arith, known.taken.total), omega (arith, taken.total))
 
   same_with : (rest : List ℕ) → drop kept.begins (known.seen ++ rest) ≡ drop kept.begins (seen ++ rest)
-  same_with rest = drop-append-le kept.begins known.seen rest begins_inside.0 ∙ ap (λ bytes. bytes ++ rest) same_behind
+  same_with rest = drop-append-le kept.begins known.seen rest begins_inside.0 ∙ ap (λ bytes. bytes ++ rest) same_after
       ∙ sym (drop-append-le kept.begins seen rest begins_inside.1)
 
   -- those after the whole segments stand in both
-  known_behind : (rest : List ℕ) → Cuts hoa_format (known.seen ++ rest) kept.begins known.divided.rest at.end
-  known_behind rest =
+  known_following : (rest : List ℕ) → Cuts hoa_format (known.seen ++ rest) kept.begins known.divided.rest at.end
+  known_following rest =
       let all = subst (λ ls. Cuts hoa_format (known.seen ++ rest) 0 ls at.end) known.divided.split (at.cuts rest tt) in
       let parts = cuts_split hoa_format (known.seen ++ rest) 0 at.end known.divided.front known.divided.rest all in
       subst (λ n. Cuts hoa_format (known.seen ++ rest) n known.divided.rest at.end)
@@ -147,12 +147,12 @@ module _ (exact : GoesOneWay hoa_format) (seen : List ℕ) (items : List Item) (
   further : kept.begins ≤ at.end
   further =
       let within : kept.begins ≤ length (known.seen ++ []) = omega (arith, begins_inside.0, ap length (append-nil known.seen)) in
-      (cuts_forward hoa_format exact (known.seen ++ []) kept.begins at.end known.divided.rest within (known_behind [])).0
+      (cuts_forward hoa_format exact (known.seen ++ []) kept.begins at.end known.divided.rest within (known_following [])).0
 
   cuts_known : (rest : List ℕ) → Any rest → Cuts hoa_format (seen ++ rest) 0 known_lexemes at.end
   unfolding known_lexemes
   cuts_known rest any = cuts_join hoa_format (seen ++ rest) 0 kept.begins at.end taken.divided.front known.divided.rest (taken.divided.cuts rest)
-      (same_cuts exact (known.seen ++ rest) (seen ++ rest) kept.begins at.end known.divided.rest (same_with rest) (known_behind rest))
+      (same_cuts exact (known.seen ++ rest) (seen ++ rest) kept.begins at.end known.divided.rest (same_with rest) (known_following rest))
 
   pub known_read : HasRead seen known_lexemes tokenizer
   known_read = record {
@@ -162,7 +162,7 @@ module _ (exact : GoesOneWay hoa_format) (seen : List ℕ) (items : List Item) (
       gap = at.gap;
       begun = at.begun;
       cuts = cuts_known;
-      split = sym (same_further known.seen seen kept.begins at.end further same_behind) ∙ at.split;
+      split = sym (same_further known.seen seen kept.begins at.end further same_after) ∙ at.split;
       within = omega (arith, at.within, known.taken.total, taken.total);
       passed = at.passed;
       start = at.start;
@@ -179,7 +179,7 @@ module _ (exact : GoesOneWay hoa_format) (seen : List ℕ) (items : List Item) (
     rest = known.divided.rest;
     split = refl;
     before = taken.divided.before;
-    behind = known.divided.behind;
+    following = known.divided.following;
     cuts = taken.divided.cuts;
   }
 
@@ -218,7 +218,7 @@ read_settled seen lexemes tokenizer read sound =
 -- before the first byte
 module _ (bytes : List ℕ) (tokenizer : HoaTokenizer) (empty : bytes ≡ []) (read : HasRead [] [] tokenizer) (sound : tokenizer.fault ≡ None) where
   nothing_divided : IsDivided [] [] [] 0 false
-  nothing_divided = record { front = []; rest = []; split = refl; before = refl; behind = refl; cuts = λ more. refl }
+  nothing_divided = record { front = []; rest = []; split = refl; before = refl; following = refl; cuts = λ more. refl }
 
   pub nothing_fed : IsTaken [] [] (record { bytes = bytes; begins = 0; inside = false; refused = None })
   nothing_fed = record {

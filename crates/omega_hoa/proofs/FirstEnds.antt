@@ -8,7 +8,7 @@ use Rattle.omega_hoa.specs.Stream.{IsOpen, IsSegment, NoneEnds, Opens, is_end}
 pub record PartedAlike (inside front : List (Lexeme HoaKind)) (last end : Lexeme HoaKind) (rest others : List (Lexeme HoaKind)) : Type 0 where
   pub before : inside ≡ front
   pub mark : last ≡ end
-  pub behind : rest ≡ others
+  pub following : rest ≡ others
 
 -- no token that ends a segment is one that ends none
 no_mark : (one end : Lexeme HoaKind) → is_end one.kind ≡ false → one ≡ end → is_end end.kind ≡ true → ⊥
@@ -16,14 +16,14 @@ no_mark one end none same is = let e : false ≡ true = sym none ∙ ap (λ lexe
 
 pub first_end : (inside front rest others : List (Lexeme HoaKind)) (last end : Lexeme HoaKind) → NoneEnds inside → NoneEnds front → is_end last.kind ≡ true → is_end end.kind ≡ true
     → inside ++ last ∷ rest ≡ front ++ end ∷ others → PartedAlike inside front last end rest others
-first_end [] [] rest others last end none unended is ends same = record { before = refl; mark = cc; behind = cc }
+first_end [] [] rest others last end none unended is ends same = record { before = refl; mark = cc; following = cc }
 first_end [] (first ∷ front) rest others last end none unended is ends same = absurd (no_mark first last unended.0 (let e : first ≡ last = cc in e) is)
 first_end (one ∷ inside) [] rest others last end none unended is ends same = absurd (no_mark one end none.0 (let e : one ≡ end = cc in e) ends)
 first_end (one ∷ inside) (first ∷ front) rest others last end none unended is ends same =
     let head : one ≡ first = cc in
     let tail : inside ++ last ∷ rest ≡ front ++ end ∷ others = cc in
     let parts = first_end inside front rest others last end none.1 unended.1 is ends tail in
-    record { before = ap (λ it. it ∷ inside) head ∙ ap (λ all. first ∷ all) parts.before; mark = parts.mark; behind = parts.behind }
+    record { before = ap (λ it. it ∷ inside) head ∙ ap (λ all. first ∷ all) parts.before; mark = parts.mark; following = parts.following }
 
 -- tokens without a mark are parted by none
 pub never_ended : (inside front others : List (Lexeme HoaKind)) (end : Lexeme HoaKind) → NoneEnds inside → is_end end.kind ≡ true → inside ≡ front ++ end ∷ others → ⊥
@@ -44,7 +44,7 @@ segment_split mark segment rest is = ap (λ all. all ++ rest) is.split ∙ appen
 -- two segments at the front of the same tokens are one, with the same mark and the same tokens after
 pub record SegmentsAreOne (mark other : HoaKind) (segment front rest others : List (Lexeme HoaKind)) : Type 0 where
   pub same : segment ≡ front
-  pub behind : rest ≡ others
+  pub following : rest ≡ others
   pub marks : mark ≡ other
 
 pub segments_one : (mark other : HoaKind) (segment front rest others : List (Lexeme HoaKind)) → is_end mark ≡ true → is_end other ≡ true → IsSegment mark segment → IsSegment other front
@@ -55,7 +55,7 @@ segments_one mark other segment front rest others is ends one two same =
     (sym (segment_split mark segment rest one) ∙ same ∙ segment_split other front others two) in
     record {
       same = one.split ∙ ap (λ all. all ++ one.last ∷ []) parts.before ∙ ap (λ last. two.inside ++ last ∷ []) parts.mark ∙ sym two.split;
-      behind = parts.behind;
+      following = parts.following;
       marks = sym one.ends ∙ ap (λ last. last.kind) parts.mark ∙ two.ends;
     }
 

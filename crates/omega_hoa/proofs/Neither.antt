@@ -66,8 +66,8 @@ module _ (first : Lexeme HoaKind) (rest : List (Lexeme HoaKind)) (opens : Opens 
   begun_before : (mark : Marked rest) → IsOpen (first ∷ mark.inside)
   begun_before mark = record { first = first; rest = mark.inside; split = refl; opens = opens; unended = mark.unended }
 
-  split_behind : (mark : Marked rest) → first ∷ rest ≡ ((first ∷ mark.inside) ++ mark.last ∷ []) ++ mark.rest
-  split_behind mark = ap (λ all. first ∷ all) (mark.split ∙ sym (append_assoc mark.inside (mark.last ∷ []) mark.rest))
+  split_after : (mark : Marked rest) → first ∷ rest ≡ ((first ∷ mark.inside) ++ mark.last ∷ []) ++ mark.rest
+  split_after mark = ap (λ all. first ∷ all) (mark.split ∙ sym (append_assoc mark.inside (mark.last ∷ []) mark.rest))
 
 -- a segment that is no automaton and has no fault is none
 module _ (there : MeaningsAreThere) (lexemes : List (Lexeme HoaKind)) (whole : IsSegment End lexemes) where
@@ -135,7 +135,7 @@ module _ (there : MeaningsAreThere) (source : List ℕ) (short : length source �
       | inr mark ↦
           let before = begun_before first rest opens mark in
           elim (end_or_abort mark.last.kind mark.ends) [
-            | inl end ↦ whole_segment ((first ∷ mark.inside) ++ mark.last ∷ []) mark.rest (ended (first ∷ mark.inside) mark.last End before end) (split ∙ split_behind first rest opens mark)
+            | inl end ↦ whole_segment ((first ∷ mark.inside) ++ mark.last ∷ []) mark.rest (ended (first ∷ mark.inside) mark.last End before end) (split ∙ split_after first rest opens mark)
             | inr abort ↦ tokens_refused (Text (Syntax mark.last.span.start))
                 (inl (mark.last.span.start, refl, inr (inr (inr (first ∷ mark.inside, mark.last, mark.rest, split ∙ ap (λ all. first ∷ all) mark.split, before, abort, refl)))))
           ]
@@ -236,7 +236,7 @@ module _ (there : MeaningsAreThere) (exact : GoesOneWay hoa_format) (source : Li
         | inr mark ↦
             let segment = (first ∷ mark.inside) ++ mark.last ∷ [] in
             let before = begun_before first rest opens mark in
-            let halves = cuts_split hoa_format source at end segment mark.rest (subst (λ ls. Cuts hoa_format source at ls end) (split_behind first rest opens mark) more) in
+            let halves = cuts_split hoa_format source at end segment mark.rest (subst (λ ls. Cuts hoa_format source at ls end) (split_after first rest opens mark) more) in
             let all = joined_cuts source 0 at halves.0 front segment cuts halves.1 in
             let fewer : length mark.rest ≤ count = omega (arith, few, ap length mark.split, length-append mark.inside (mark.last ∷ mark.rest)) in
             elim (end_or_abort mark.last.kind mark.ends) [

@@ -13,7 +13,7 @@ use Rattle.omega_text.specs.declared.refusal.text.TextFault.{TextFault}
 use Rattle.omega_text.specs.declared.refusal.text.TextFault.TheVariants.{Lex, Number, Syntax, TooLong}
 use Rattle.omega_hoa.specs.Laws.{AreAlike, AreOfSegment}
 use Rattle.omega_hoa.specs.Segment.{IsSegmentFault}
-use Rattle.omega_hoa.specs.Stream.{IsFaultInside, IsFaultOutside, IsItemOf, IsOpen, IsRefusedBehind, IsSegment, IsStream, IsStreamFault, Opens, is_end}
+use Rattle.omega_hoa.specs.Stream.{IsFaultInside, IsFaultOutside, IsItemOf, IsOpen, IsRefusedAfter, IsSegment, IsStream, IsStreamFault, Opens, is_end}
 use Rattle.omega_hoa.specs.declared.item.Item.{Item}
 use Rattle.omega_hoa.specs.declared.item.Item.TheVariants.{Automaton as AutomatonItem, Aborted}
 use Rattle.omega_hoa.proofs.FirstEnds.{open_is_no_segment, segment_opens, segments_one}
@@ -78,13 +78,13 @@ module _ (readings : Readings) where
   -- the same items, and the same tokens after
   record SameItems (items others : List Item) (rest left : List (Lexeme HoaKind)) : Type 0 where
     same : items ≡ others
-    behind : rest ≡ left
+    following : rest ≡ left
 
   items_one : (front before rest left : List (Lexeme HoaKind)) (items others : List Item) → IsStream front items → IsStream before others → NoItem rest → NoItem left
       → front ++ rest ≡ before ++ left → SameItems items others rest left
   items_one front before rest left [] [] here there none nothing same = record {
     same = refl;
-    behind = sym (ap (λ ls. ls ++ rest) here) ∙ same ∙ ap (λ ls. ls ++ left) there;
+    following = sym (ap (λ ls. ls ++ rest) here) ∙ same ∙ ap (λ ls. ls ++ left) there;
   }
   items_one front before rest left [] (item ∷ others) here there none nothing same =
       absurd (none item there.0 (there.1 ++ left) there.3
@@ -97,8 +97,8 @@ module _ (readings : Readings) where
       (ends_marked item here.0 here.3) (ends_marked other there.0 there.3)
       (sym (append_assoc here.0 here.1 rest) ∙ sym (ap (λ ls. ls ++ rest) here.2) ∙ same ∙ ap (λ ls. ls ++ left) there.2 ∙ append_assoc there.0 there.1 left) in
       let first : item ≡ other = item_one there.0 item other (subst (λ ls. IsItemOf ls item) parts.same here.3) there.3 in
-      let more = items_one here.1 there.1 rest left items others here.4 there.4 none nothing parts.behind in
-      record { same = ap (λ it. it ∷ items) first ∙ ap (λ all. other ∷ all) more.same; behind = more.behind }
+      let more = items_one here.1 there.1 rest left items others here.4 there.4 none nothing parts.following in
+      record { same = ap (λ it. it ∷ items) first ∙ ap (λ all. other ∷ all) more.same; following = more.following }
 
   -- the items of a stream are one list
   pub streams_one : (lexemes : List (Lexeme HoaKind)) (items others : List Item) → IsStream lexemes items → IsStream lexemes others → items ≡ others
@@ -152,7 +152,7 @@ why_inside source rest from (Text (Syntax at)) begun fault = short begun fault.0
 why_inside source rest from (Text TooLong) begun fault = absurd fault
 why_inside source rest from refusal begun fault = absurd fault
 
-why : (source : List ℕ) (rest : List (Lexeme HoaKind)) (from : ℕ) (refusal : Refusal) → IsRefusedBehind source rest from refusal → Why source rest from refusal
+why : (source : List ℕ) (rest : List (Lexeme HoaKind)) (from : ℕ) (refusal : Refusal) → IsRefusedAfter source rest from refusal → Why source rest from refusal
 why source rest from refusal refused = elim refused [
   | inl outside ↦ why_outside source rest from refusal outside.0 outside.1
   | inr others ↦ elim others [
@@ -220,8 +220,8 @@ module _ (readings : Readings) (exact : GoesOneWay hoa_format) (source : List �
       let none = none_at from to more (λ lexeme follows. exact.no_token_and_fault source from lexeme fault follows faults) cuts in
       subst NoItem (sym (ap (λ ls. rest ++ ls) none.0 ∙ append-nil rest)) (part_has_none rest part)
   refused_none rest more from to refusal (stray empty lexeme follows other three) cuts =
-      λ item segment behind is same.
-      let first = segment_opens (mark_of item) segment behind (ends_marked item segment is) in
+      λ item segment following is same.
+      let first = segment_opens (mark_of item) segment following (ends_marked item segment is) in
       stray_begins from to more lexeme first.0 first.1 follows other cuts (none_append rest more (first.0 ∷ first.1) empty (same ∙ first.2)) first.3
   refused_none rest more from to refusal (short begun ends three) cuts =
       let none = none_at from to more (λ lexeme follows. exact.no_token_at_end source from lexeme follows ends) cuts in
@@ -305,7 +305,7 @@ module _ (readings : Readings) (exact : GoesOneWay hoa_format) (source : List �
       let none : NoItem there.rest = subst NoItem (append-nil there.rest) (refused_none there.rest [] there.from there.from other another refl) in
       let parts = items_one readings here.front there.front (here.rest ++ goes.more) there.rest items others here.before there.before
       (refused_none here.rest goes.more here.from there.from one reason goes.cuts) none same in
-      let agree = alike here.rest goes.more there.rest here.from there.from one other reason another goes.cuts parts.behind in (
+      let agree = alike here.rest goes.more there.rest here.from there.from one other reason another goes.cuts parts.following in (
         parts.same,
         elim agree [
           | inl equal ↦ inl equal
@@ -351,7 +351,7 @@ module _ (readings : Readings) (exact : GoesOneWay hoa_format) (source : List �
       let parts = items_one readings fault.front lexemes (fault.rest ++ more) [] others items fault.before stream
       (refused_none fault.rest more fault.from to refusal reason cuts) none_at_end
       (sym (append_assoc fault.front fault.rest more) ∙ sym is ∙ sym (append-nil lexemes)) in
-      refused_goes_on fault.rest more fault.from to refusal reason cuts ends parts.behind in
+      refused_goes_on fault.rest more fault.from to refusal reason cuts ends parts.following in
       elim (one_goes_on exact source 0 fault.from cut.end (fault.front ++ fault.rest) lexemes fault.cuts cut.cuts) [
         | inl goes ↦ through goes.more cut.end cut.rest goes.cuts goes.is
         | inr goes ↦

@@ -92,16 +92,16 @@ unsegmented count lexemes at has = elim has [
 ]
 
 -- what begins with a segment so far begins with `HOA:`
-stray_or_open : (lexemes inside behind : List (Lexeme HoaKind)) (first : Lexeme HoaKind) (rest : List (Lexeme HoaKind)) → lexemes ≡ first ∷ rest → (Opens first → ⊥) → IsOpen inside → lexemes ≡ inside ++ behind → ⊥
-stray_or_open lexemes inside behind first rest is other begun same =
-    let equal : first ∷ rest ≡ begun.first ∷ (begun.rest ++ behind) = sym is ∙ same ∙ ap (λ ls. ls ++ behind) begun.split in
+stray_or_open : (lexemes inside following : List (Lexeme HoaKind)) (first : Lexeme HoaKind) (rest : List (Lexeme HoaKind)) → lexemes ≡ first ∷ rest → (Opens first → ⊥) → IsOpen inside → lexemes ≡ inside ++ following → ⊥
+stray_or_open lexemes inside following first rest is other begun same =
+    let equal : first ∷ rest ≡ begun.first ∷ (begun.rest ++ following) = sym is ∙ same ∙ ap (λ ls. ls ++ following) begun.split in
     let head : begun.first ≡ first = cc in
     other (subst Opens head begun.opens)
 
 -- and is not empty
-none_or_open : (lexemes inside behind : List (Lexeme HoaKind)) → lexemes ≡ [] → IsOpen inside → lexemes ≡ inside ++ behind → ⊥
-none_or_open lexemes inside behind is begun same =
-    clashes lexemes (begun.rest ++ behind) begun.first is (same ∙ ap (λ ls. ls ++ behind) begun.split)
+none_or_open : (lexemes inside following : List (Lexeme HoaKind)) → lexemes ≡ [] → IsOpen inside → lexemes ≡ inside ++ following → ⊥
+none_or_open lexemes inside following is begun same =
+    clashes lexemes (begun.rest ++ following) begun.first is (same ∙ ap (λ ls. ls ++ following) begun.split)
 
 -- the place is one
 place_one : (count : ℕ) (lexemes : List (Lexeme HoaKind)) (at place : ℕ) → Unsegmented count lexemes at → Unsegmented count lexemes place → at ≡ place
@@ -144,16 +144,16 @@ module _ (readings : Readings) where
           ]
           | inr follows ↦ elim mine.1 [
             | inl is ↦ absurd (three_unread here.segment one is mine.0 follows.0.0 (subst (λ ls. IsRawOf ls follows.0.0) (sym parts.same) follows.0.1))
-            | inr none ↦ absurd (clashes here.rest follows.1.1 follows.1.0 none (parts.behind ∙ follows.1.2))
+            | inr none ↦ absurd (clashes here.rest follows.1.1 follows.1.0 none (parts.following ∙ follows.1.2))
           ]
         ]
         | inr follows ↦ elim there.refused [
           | inl theirs ↦ elim theirs.1 [
             | inl is ↦ absurd (three_unread there.segment other is theirs.0 follows.0.0 (subst (λ ls. IsRawOf ls follows.0.0) parts.same follows.0.1))
-            | inr none ↦ absurd (clashes there.rest follows.1.1 follows.1.0 none (sym parts.behind ∙ follows.1.2))
+            | inr none ↦ absurd (clashes there.rest follows.1.1 follows.1.0 none (sym parts.following ∙ follows.1.2))
           ]
           | inr others ↦
-              let equal : follows.1.0 ∷ follows.1.1 ≡ others.1.0 ∷ others.1.1 = sym follows.1.2 ∙ parts.behind ∙ others.1.2 in
+              let equal : follows.1.0 ∷ follows.1.1 ≡ others.1.0 ∷ others.1.1 = sym follows.1.2 ∙ parts.following ∙ others.1.2 in
               let head : follows.1.0 ≡ others.1.0 = cc in
               inl (follows.1.3 ∙ ap (λ it. Text (Syntax it.span.start)) head ∙ sym others.1.3)
         ]
@@ -185,7 +185,7 @@ module _ (readings : Readings) where
             let parts = segments_one End End segment.segment is.lexemes segment.rest [] refl refl segment.whole is.segment (sym segment.split ∙ all) in
             elim segment.refused [
               | inl mine ↦ readings.not_both is.lexemes automaton refusal is.value (subst (λ ls. IsSegmentFault ls refusal) parts.same mine.0)
-              | inr follows ↦ clashes segment.rest follows.1.1 follows.1.0 parts.behind follows.1.2
+              | inr follows ↦ clashes segment.rest follows.1.1 follows.1.0 parts.following follows.1.2
             ]
       ]
 

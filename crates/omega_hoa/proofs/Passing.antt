@@ -49,7 +49,7 @@ divided_more seen lexemes more items begins division inside plain divided = reco
   rest = divided.rest ++ more;
   split = ap (λ all. all ++ more) divided.split ∙ append_assoc divided.front divided.rest more;
   before = divided.before;
-  behind = subst (λ is. IsRest is (divided.rest ++ more)) (sym inside) (open_more divided.rest more (subst (λ is. IsRest is divided.rest) inside divided.behind) plain);
+  following = subst (λ is. IsRest is (divided.rest ++ more)) (sym inside) (open_more divided.rest more (subst (λ is. IsRest is divided.rest) inside divided.following) plain);
   cuts = divided.cuts;
 }
 

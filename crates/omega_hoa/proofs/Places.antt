@@ -51,19 +51,19 @@ start_counted begins (lexeme ∷ lexemes) at start = elim start [
 pub start_within : GoesOneWay hoa_format → (source : List ℕ) (from end : ℕ) (lexemes : List (Lexeme HoaKind)) (at : ℕ) → Cuts hoa_format source from lexemes end → IsStartOf lexemes at → at ≤ length source
 start_within exact source from end [] at cuts start = absurd start
 start_within exact source from end (lexeme ∷ lexemes) at cuts start = elim start [
-  | inl here ↦ let place = exact.behind source from lexeme cuts.0 in omega (arith, here, place.nonempty, place.within)
+  | inl here ↦ let place = exact.following source from lexeme cuts.0 in omega (arith, here, place.nonempty, place.within)
   | inr later ↦ start_within exact source lexeme.span.end end lexemes at cuts.1 later
 ]
 
 -- a token of a part begins where it does in the text
 pub start_back : GoesOneWay hoa_format → (source : List ℕ) (base from end : ℕ) (lexemes : List (Lexeme HoaKind)) → base ≤ from → Cuts hoa_format source from lexemes end → (at : ℕ)
     → IsStartOf (map (counted_from base) (map (moved base) lexemes)) at → IsStartOf lexemes at
-start_back exact source base from end [] behind cuts at start = absurd start
-start_back exact source base from end (lexeme ∷ lexemes) behind cuts at start =
-    let place = exact.behind source from lexeme cuts.0 in
+start_back exact source base from end [] following cuts at start = absurd start
+start_back exact source base from end (lexeme ∷ lexemes) following cuts at start =
+    let place = exact.following source from lexeme cuts.0 in
     elim start [
-      | inl here ↦ inl (omega (arith, behind, place.forward, here))
-      | inr later ↦ inr (start_back exact source base lexeme.span.end end lexemes (omega (arith, behind, place.forward, place.nonempty)) cuts.1 at later)
+      | inl here ↦ inl (omega (arith, following, place.forward, here))
+      | inr later ↦ inr (start_back exact source base lexeme.span.end end lexemes (omega (arith, following, place.forward, place.nonempty)) cuts.1 at later)
     ]
 
 -- of some tokens one more is passed

@@ -41,6 +41,6 @@ pub extends_then : {X : Type 0} (old middle new : List X) → Extends old middle
 extends_then old middle new first more = (first.0 ++ more.0, more.1 ∙ ap (λ list. list ++ more.0) first.1 ∙ append_assoc old first.0 more.0)
 
 -- what was appended is the same after each list of values
-pub holds_behind : {X : Type 0} (old new values : List X) (Holds : List X → Type 0) (extends : Extends old new) → Appends old new values Holds → Holds (values ++ extends.0)
-holds_behind old new values Holds extends more =
+pub holds_after : {X : Type 0} (old new values : List X) (Holds : List X → Type 0) (extends : Extends old new) → Appends old new values Holds → Holds (values ++ extends.0)
+holds_after old new values Holds extends more =
     subst (λ added. Holds (values ++ added)) (append_cancel_left old more.added extends.0 (sym more.is ∙ extends.1)) more.holds

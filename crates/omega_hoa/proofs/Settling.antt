@@ -16,7 +16,7 @@ use Rattle.omega_text.specs.declared.refusal.Refusal.TheVariants.{Text}
 use Rattle.omega_text.specs.declared.refusal.text.TextFault.{TextFault}
 use Rattle.omega_text.specs.declared.refusal.text.TextFault.TheVariants.{Lex, Number, Syntax, TooLong}
 use Rattle.omega_hoa.specs.Feeding.{IsDivided, IsRefusedThen, IsRest}
-use Rattle.omega_hoa.specs.Stream.{IsFaultInside, IsFaultOutside, IsRefusedBehind, IsStreamFault}
+use Rattle.omega_hoa.specs.Stream.{IsFaultInside, IsFaultOutside, IsRefusedAfter, IsStreamFault}
 use Rattle.omega_hoa.specs.private.dividing.Next.{IsNextDivision, IsNextSettled, IsNothing, IsProgress, IsRefusedNow, IsWindow}
 use Rattle.omega_hoa.specs.declared.division.Division.{Division}
 use Rattle.omega_hoa.specs.declared.item.Item.{Item}
@@ -38,9 +38,9 @@ fault_inside source from (Syntax at) faults = absurd faults.fault_there
 fault_inside source from TooLong faults = absurd faults.fault_there
 
 -- and wherever it stands
-pub fault_behind : (source : List ℕ) (rest : List (Lexeme HoaKind)) (from : ℕ) (inside : Bool) (fault : TextFault) → IsRest inside rest → HasFaultFrom source from fault → IsRefusedBehind source rest from (Text fault)
-fault_behind source rest from true fault behind faults = inr (inl (behind, fault_inside source from fault faults))
-fault_behind source rest from false fault behind faults = inl (behind, fault_outside source from fault faults)
+pub fault_after : (source : List ℕ) (rest : List (Lexeme HoaKind)) (from : ℕ) (inside : Bool) (fault : TextFault) → IsRest inside rest → HasFaultFrom source from fault → IsRefusedAfter source rest from (Text fault)
+fault_after source rest from true fault following faults = inr (inl (following, fault_inside source from fault faults))
+fault_after source rest from false fault following faults = inl (following, fault_outside source from fault faults)
 
 -- a text whose tokens are divided is refused by the fault after them
 pub fault_refuses : (seen : List ℕ) (lexemes : List (Lexeme HoaKind)) (items : List Item) (begins : ℕ) (inside : Bool) (fault : TextFault) → IsDivided seen lexemes items begins inside
@@ -51,7 +51,7 @@ fault_refuses seen lexemes items begins inside fault divided settles more = reco
   from = settles.end;
   cuts = subst (λ ls. Cuts hoa_format (seen ++ more) 0 ls settles.end) divided.split (settles.cuts more);
   before = divided.before;
-  refused = fault_behind (seen ++ more) divided.rest settles.end inside fault divided.behind (settles.faults more);
+  refused = fault_after (seen ++ more) divided.rest settles.end inside fault divided.following (settles.faults more);
 }
 
 -- what is settled are tokens of the text however it goes on
@@ -128,7 +128,7 @@ divided_on seen rest lexemes items begins inside divided = record {
   rest = divided.rest;
   split = divided.split;
   before = divided.before;
-  behind = divided.behind;
+  following = divided.following;
   cuts = λ more. subst (λ source. Cuts hoa_format source 0 divided.front begins) (sym (append_assoc seen rest more)) (divided.cuts (rest ++ more));
 }
 
@@ -146,7 +146,7 @@ module _ (bytes : List ℕ) (first place : ℕ) (progress : ReadProgress) (prior
   -- the bytes are a window of the text up to there
   pub window_there : IsWindow bytes first (prior ++ take (place + 1) bytes)
   window_there = record {
-    behind = drop (place + 1) bytes;
+    following = drop (place + 1) bytes;
     is = sym (ap (drop first) to_come ∙ drop_at prior bytes first (sym so_far.there));
     within = omega (arith, length-append prior (take (place + 1) bytes), length-take-le (place + 1) bytes (omega arith), so_far.there);
   }
@@ -202,9 +202,9 @@ module _ (bytes : List ℕ) (first place : ℕ) (progress : ReadProgress) (prior
   ]
 
 -- a refusal after some items that were appended, where nothing was appended then
-pub refused_behind : (seen : List ℕ) (old middle new items added : List Item) (refusal : Refusal) → middle ≡ old ++ added → new ≡ middle
+pub refused_after : (seen : List ℕ) (old middle new items added : List Item) (refusal : Refusal) → middle ≡ old ++ added → new ≡ middle
     → IsRefusedNow seen (items ++ added) refusal → IsRefusedThen seen old new items refusal
-refused_behind seen old middle new items added refusal is same refused = elim refused [
+refused_after seen old middle new items added refusal is same refused = elim refused [
   | inl memory ↦ inl memory
   | inr fault ↦ inr (record { added = added; is = same ∙ is; holds = fault })
 ]

@@ -45,12 +45,12 @@ window_bytes bytes first seen start end window from forward within =
     let place : first + (start - first) ≡ start = omega arith in
     let long : count ≤ length (drop start seen) = omega (arith, length-drop start seen) in
     ap (λ all. take count (drop (start - first) all)) window.is
-    ∙ ap (take count) (drop-drop (start - first) first (seen ++ window.behind) ∙ ap (λ n. drop n (seen ++ window.behind)) place
-    ∙ drop-append-le start seen window.behind (omega arith))
-    ∙ take-append-le count (drop start seen) window.behind long
+    ∙ ap (take count) (drop-drop (start - first) first (seen ++ window.following) ∙ ap (λ n. drop n (seen ++ window.following)) place
+    ∙ drop-append-le start seen window.following (omega arith))
+    ∙ take-append-le count (drop start seen) window.following long
 
 -- a token after whole segments and a rest
-pub record IsBehind (source : List ℕ) (front rest : List (Lexeme HoaKind)) (begins : ℕ) (last : Lexeme HoaKind) : Type 0 where
+pub record IsAfter (source : List ℕ) (front rest : List (Lexeme HoaKind)) (begins : ℕ) (last : Lexeme HoaKind) : Type 0 where
   pub middle : ℕ
   pub before : Cuts hoa_format source 0 (front ++ rest) middle
   pub inside : Cuts hoa_format source begins rest middle
@@ -65,8 +65,8 @@ module _ (exact : GoesOneWay hoa_format) (bytes : List ℕ) (first : ℕ) (divis
   split_next = sym (append_assoc next.divided.front next.divided.rest (lexeme_in seen token ∷ [])) ∙ ap (λ all. all ++ lexeme_in seen token ∷ []) (sym next.divided.split)
 
   -- where the next token stands
-  pub behind : (more : List ℕ) → IsBehind (seen ++ more) next.divided.front next.divided.rest division.begins (lexeme_in seen token)
-  behind more =
+  pub following : (more : List ℕ) → IsAfter (seen ++ more) next.divided.front next.divided.rest division.begins (lexeme_in seen token)
+  following more =
       let source = seen ++ more in
       let last = lexeme_in seen token in
       let front = next.divided.front in
@@ -90,12 +90,12 @@ module _ (exact : GoesOneWay hoa_format) (bytes : List ℕ) (first : ℕ) (divis
   -- it stands after the whole segments, within the text
   pub next_place : (division.begins ≤ token.span.start) × (token.span.start ≤ token.span.end) × (token.span.end ≤ length seen) × (division.begins ≤ length seen)
   next_place =
-      let there = behind [] in
+      let there = following [] in
       let source = seen ++ [] in
       let long : length source ≡ length seen = ap length (append-nil seen) in
       let whole = cuts_forward hoa_format exact source 0 division.begins next.divided.front (omega arith) (next.divided.cuts []) in
       let inside = cuts_forward hoa_format exact source division.begins there.middle next.divided.rest whole.1 there.inside in
-      let place = exact.behind source there.middle (lexeme_in seen token) there.follows in
+      let place = exact.following source there.middle (lexeme_in seen token) there.follows in
       (omega (arith, inside.0, place.forward), omega (arith, place.nonempty), omega (arith, long, place.within), omega (arith, long, whole.1))
 
   -- its bytes, where they are given
@@ -108,33 +108,33 @@ module _ (exact : GoesOneWay hoa_format) (bytes : List ℕ) (first : ℕ) (divis
   next_within = let place = next_place in let window = next.window in omega (arith, place.2, window.within)
 
   -- outside segments no token is left after the whole ones
-  nothing_behind : division.inside ≡ false → next.divided.rest ≡ []
-  nothing_behind outside = subst (λ inside. IsRest inside next.divided.rest) outside next.divided.behind
+  nothing_after : division.inside ≡ false → next.divided.rest ≡ []
+  nothing_after outside = subst (λ inside. IsRest inside next.divided.rest) outside next.divided.following
 
   -- inside one, the tokens left are an open segment
-  pub open_behind : division.inside ≡ true → IsOpen next.divided.rest
-  open_behind inside = subst (λ is. IsRest is next.divided.rest) inside next.divided.behind
+  pub open_after : division.inside ≡ true → IsOpen next.divided.rest
+  open_after inside = subst (λ is. IsRest is next.divided.rest) inside next.divided.following
 
   -- it begins a segment
   pub begun : division.inside ≡ false → Opens (lexeme_in seen token) → IsDivided seen (lexemes ++ lexeme_in seen token ∷ []) items division.begins true
   begun outside opens = record {
     front = next.divided.front;
     rest = lexeme_in seen token ∷ [];
-    split = sym split_next ∙ ap (λ rest. next.divided.front ++ (rest ++ lexeme_in seen token ∷ [])) (nothing_behind outside);
+    split = sym split_next ∙ ap (λ rest. next.divided.front ++ (rest ++ lexeme_in seen token ∷ [])) (nothing_after outside);
     before = next.divided.before;
-    behind = opened (lexeme_in seen token) opens;
+    following = opened (lexeme_in seen token) opens;
     cuts = next.divided.cuts;
   }
 
   -- outside segments it is refused if it is another
   pub stray : division.inside ≡ false → (Opens (lexeme_in seen token) → ⊥) → (more : List ℕ) → IsStreamFault (seen ++ more) items (Text (Syntax token.span.start))
-  stray outside other more = let there = behind more in record {
+  stray outside other more = let there = following more in record {
     front = next.divided.front;
     rest = next.divided.rest;
     from = there.middle;
     cuts = there.before;
     before = next.divided.before;
-    refused = inl (nothing_behind outside, (lexeme_in seen token, there.follows, other, refl));
+    refused = inl (nothing_after outside, (lexeme_in seen token, there.follows, other, refl));
   }
 
   -- inside a segment it is one token more
@@ -144,7 +144,7 @@ module _ (exact : GoesOneWay hoa_format) (bytes : List ℕ) (first : ℕ) (divis
     rest = next.divided.rest ++ lexeme_in seen token ∷ [];
     split = sym split_next;
     before = next.divided.before;
-    behind = open_push next.divided.rest (lexeme_in seen token) (open_behind inside) no_end;
+    following = open_push next.divided.rest (lexeme_in seen token) (open_after inside) no_end;
     cuts = next.divided.cuts;
   }
 
@@ -155,20 +155,20 @@ module _ (exact : GoesOneWay hoa_format) (bytes : List ℕ) (first : ℕ) (divis
     rest = [];
     split = sym split_next ∙ sym (append-nil (next.divided.front ++ (next.divided.rest ++ lexeme_in seen token ∷ [])));
     before = stream_push next.divided.front (next.divided.rest ++ lexeme_in seen token ∷ []) items item next.divided.before of;
-    behind = refl;
-    cuts = λ more. subst (λ ls. Cuts hoa_format (seen ++ more) 0 ls token.span.end) (append_assoc next.divided.front next.divided.rest (lexeme_in seen token ∷ [])) (behind more).whole;
+    following = refl;
+    cuts = λ more. subst (λ ls. Cuts hoa_format (seen ++ more) 0 ls token.span.end) (append_assoc next.divided.front next.divided.rest (lexeme_in seen token ∷ [])) (following more).whole;
   }
 
   -- an aborted segment has its item
   pub aborted : division.inside ≡ true → token.kind ≡ Abort → IsItemOf (next.divided.rest ++ lexeme_in seen token ∷ []) Aborted
-  aborted inside is = ended next.divided.rest (lexeme_in seen token) Abort (open_behind inside) is
+  aborted inside is = ended next.divided.rest (lexeme_in seen token) Abort (open_after inside) is
 
   -- the segment's bytes are cut into its tokens, with their places counted from its beginning
   pub segment_cut : IsCut hoa_format (take (token.span.end - division.begins) (drop (division.begins - first) bytes)) (map (moved division.begins) (next.divided.rest ++ lexeme_in seen token ∷ []))
   segment_cut =
       let place = next_place in
       let all = next.divided.rest ++ lexeme_in seen token ∷ [] in
-      let cuts = subst (λ source. Cuts hoa_format source division.begins all token.span.end) (append-nil seen) (behind []).segment in
+      let cuts = subst (λ source. Cuts hoa_format source division.begins all token.span.end) (append-nil seen) (following []).segment in
       subst (λ source. IsCut hoa_format source (map (moved division.begins) all))
       (sym (window_bytes bytes first seen division.begins token.span.end next.window next.from (omega (arith, place.0, place.1)) place.2))
       (part_cut exact seen division.begins token.span.end all place.3 cuts)
@@ -179,9 +179,9 @@ module _ (exact : GoesOneWay hoa_format) (bytes : List ℕ) (first : ℕ) (divis
       → IsItemOf (next.divided.rest ++ lexeme_in seen token ∷ []) (AutomatonItem automaton)
   automaton_item automaton inside is reads =
       let all = next.divided.rest ++ lexeme_in seen token ∷ [] in (
-        ended next.divided.rest (lexeme_in seen token) End (open_behind inside) is,
+        ended next.divided.rest (lexeme_in seen token) End (open_after inside) is,
         automaton_same (map (moved division.begins) all) all automaton (same_moved division.begins all)
-            (reads (map (moved division.begins) all) segment_cut (segment_moved division.begins End all (ended next.divided.rest (lexeme_in seen token) End (open_behind inside) is))),
+            (reads (map (moved division.begins) all) segment_cut (segment_moved division.begins End all (ended next.divided.rest (lexeme_in seen token) End (open_after inside) is))),
       )
 
   -- a fault that was read of these bytes refuses the text
@@ -190,8 +190,8 @@ module _ (exact : GoesOneWay hoa_format) (bytes : List ℕ) (first : ℕ) (divis
       → IsRefusedNow seen items refusal
   segment_refused refusal inside is reads =
       let all = next.divided.rest ++ lexeme_in seen token ∷ [] in
-      let segment = ended next.divided.rest (lexeme_in seen token) End (open_behind inside) is in
-      let back = start_back exact (seen ++ []) division.begins division.begins token.span.end all (omega arith) (behind []).segment in
+      let segment = ended next.divided.rest (lexeme_in seen token) End (open_after inside) is in
+      let back = start_back exact (seen ++ []) division.begins division.begins token.span.end all (omega arith) (following []).segment in
       elim (memory_or (IsSegmentFault all) refusal
       (fault_here division.begins all back refusal (reads (map (moved division.begins) all) segment_cut (segment_moved division.begins End all segment)))) [
         | inl memory ↦ inl memory
@@ -199,7 +199,7 @@ module _ (exact : GoesOneWay hoa_format) (bytes : List ℕ) (first : ℕ) (divis
           front = next.divided.front;
           rest = all;
           from = token.span.end;
-          cuts = subst (λ ls. Cuts hoa_format (seen ++ more) 0 ls token.span.end) (append_assoc next.divided.front next.divided.rest (lexeme_in seen token ∷ [])) (behind more).whole;
+          cuts = subst (λ ls. Cuts hoa_format (seen ++ more) 0 ls token.span.end) (append_assoc next.divided.front next.divided.rest (lexeme_in seen token ∷ [])) (following more).whole;
           before = next.divided.before;
           refused = inr (inr (segment, fault));
         })

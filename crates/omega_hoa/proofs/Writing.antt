@@ -31,8 +31,8 @@ none_ends [] back none more = more
 none_ends (lexeme ∷ front) back none more = (none.0, none_ends front back none.1 more)
 
 -- a symbol in front that is no mark of an end changes nothing
-behind : (symbol : AutomatonSymbol) (symbols : List AutomatonSymbol) → MarksNone symbol → EndSpelled symbols → EndSpelled (symbol ∷ symbols)
-behind symbol symbols none automaton_symbols tokens rest spells =
+following : (symbol : AutomatonSymbol) (symbols : List AutomatonSymbol) → MarksNone symbol → EndSpelled symbols → EndSpelled (symbol ∷ symbols)
+following symbol symbols none automaton_symbols tokens rest spells =
     let first = stands_before symbol tokens spells.middle none spells.front in
     let then = automaton_symbols spells.middle rest spells.back in
     record {
@@ -56,58 +56,58 @@ optional_keeps row keeps None others automaton_symbols = automaton_symbols
 optional_keeps row keeps (Some it) others automaton_symbols = keeps it others automaton_symbols
 
 int_keeps : KeepsEnd int_row
-int_keeps n others automaton_symbols = behind (number n) others tt automaton_symbols
+int_keeps n others automaton_symbols = following (number n) others tt automaton_symbols
 
 string_keeps : KeepsEnd string_row
-string_keeps bytes others automaton_symbols = behind (text bytes) others tt automaton_symbols
+string_keeps bytes others automaton_symbols = following (text bytes) others tt automaton_symbols
 
 word_keeps : KeepsEnd word_row
-word_keeps bytes others automaton_symbols = behind (word bytes) others tt automaton_symbols
+word_keeps bytes others automaton_symbols = following (word bytes) others tt automaton_symbols
 
 value_keeps : KeepsEnd value_row
-value_keeps (value.Boolean true) others automaton_symbols = behind (sign kind.True) others refl automaton_symbols
-value_keeps (value.Boolean false) others automaton_symbols = behind (sign kind.False) others refl automaton_symbols
-value_keeps (value.Number n) others automaton_symbols = behind (number n) others tt automaton_symbols
-value_keeps (value.Text bytes) others automaton_symbols = behind (text bytes) others tt automaton_symbols
-value_keeps (value.Word bytes) others automaton_symbols = behind (word bytes) others tt automaton_symbols
+value_keeps (value.Boolean true) others automaton_symbols = following (sign kind.True) others refl automaton_symbols
+value_keeps (value.Boolean false) others automaton_symbols = following (sign kind.False) others refl automaton_symbols
+value_keeps (value.Number n) others automaton_symbols = following (number n) others tt automaton_symbols
+value_keeps (value.Text bytes) others automaton_symbols = following (text bytes) others tt automaton_symbols
+value_keeps (value.Word bytes) others automaton_symbols = following (word bytes) others tt automaton_symbols
 
 parameter_keeps : KeepsEnd parameter_row
-parameter_keeps (parameter.Boolean true) others automaton_symbols = behind (sign kind.True) others refl automaton_symbols
-parameter_keeps (parameter.Boolean false) others automaton_symbols = behind (sign kind.False) others refl automaton_symbols
-parameter_keeps (parameter.Number n) others automaton_symbols = behind (number n) others tt automaton_symbols
-parameter_keeps (parameter.Word bytes) others automaton_symbols = behind (word bytes) others tt automaton_symbols
+parameter_keeps (parameter.Boolean true) others automaton_symbols = following (sign kind.True) others refl automaton_symbols
+parameter_keeps (parameter.Boolean false) others automaton_symbols = following (sign kind.False) others refl automaton_symbols
+parameter_keeps (parameter.Number n) others automaton_symbols = following (number n) others tt automaton_symbols
+parameter_keeps (parameter.Word bytes) others automaton_symbols = following (word bytes) others tt automaton_symbols
 
 joined_keeps : KeepsEnd joined_row
-joined_keeps n others automaton_symbols = behind (sign kind.And) (number n ∷ others) refl (behind (number n) others tt automaton_symbols)
+joined_keeps n others automaton_symbols = following (sign kind.And) (number n ∷ others) refl (following (number n) others tt automaton_symbols)
 
 conj_keeps : KeepsEnd conj_row
 conj_keeps [] others automaton_symbols = automaton_symbols
-conj_keeps (first ∷ more) others automaton_symbols = behind (number first) (each joined_row more others) tt (each_keeps joined_row joined_keeps more others automaton_symbols)
+conj_keeps (first ∷ more) others automaton_symbols = following (number first) (each joined_row more others) tt (each_keeps joined_row joined_keeps more others automaton_symbols)
 
 label_keeps : KeepsEnd label_row
 label_keeps tree others automaton_symbols =
-    behind (sign kind.OpenBracket) (label tree ∷ sign kind.CloseBracket ∷ others) refl
-    (behind (label tree) (sign kind.CloseBracket ∷ others) tt (behind (sign kind.CloseBracket) others refl automaton_symbols))
+    following (sign kind.OpenBracket) (label tree ∷ sign kind.CloseBracket ∷ others) refl
+    (following (label tree) (sign kind.CloseBracket ∷ others) tt (following (sign kind.CloseBracket) others refl automaton_symbols))
 
 sig_keeps : KeepsEnd sig_row
 sig_keeps marks others automaton_symbols =
-    behind (sign kind.OpenBrace) (each int_row marks (sign kind.CloseBrace ∷ others)) refl
-    (each_keeps int_row int_keeps marks (sign kind.CloseBrace ∷ others) (behind (sign kind.CloseBrace) others refl automaton_symbols))
+    following (sign kind.OpenBrace) (each int_row marks (sign kind.CloseBrace ∷ others)) refl
+    (each_keeps int_row int_keeps marks (sign kind.CloseBrace ∷ others) (following (sign kind.CloseBrace) others refl automaton_symbols))
 
 content_keeps : KeepsEnd content_row
-content_keeps (item.States count) others automaton_symbols = behind (number count) others tt automaton_symbols
+content_keeps (item.States count) others automaton_symbols = following (number count) others tt automaton_symbols
 content_keeps (item.Start states) others automaton_symbols = conj_keeps states others automaton_symbols
-content_keeps (item.Propositions count names) others automaton_symbols = behind (number count) (each string_row names others) tt (each_keeps string_row string_keeps names others automaton_symbols)
-content_keeps (item.Alias name definition) others automaton_symbols = behind (alias name) (label definition ∷ others) tt (behind (label definition) others tt automaton_symbols)
-content_keeps (item.Acceptance count tree) others automaton_symbols = behind (number count) (formula tree ∷ others) tt (behind (formula tree) others tt automaton_symbols)
-content_keeps (item.AccName name) others automaton_symbols = behind (word name.name) (each parameter_row name.parameters others) tt (each_keeps parameter_row parameter_keeps name.parameters others automaton_symbols)
-content_keeps (item.Tool first second) others automaton_symbols = behind (text first) (optional_row string_row second others) tt (optional_keeps string_row string_keeps second others automaton_symbols)
-content_keeps (item.Name bytes) others automaton_symbols = behind (text bytes) others tt automaton_symbols
+content_keeps (item.Propositions count names) others automaton_symbols = following (number count) (each string_row names others) tt (each_keeps string_row string_keeps names others automaton_symbols)
+content_keeps (item.Alias name definition) others automaton_symbols = following (alias name) (label definition ∷ others) tt (following (label definition) others tt automaton_symbols)
+content_keeps (item.Acceptance count tree) others automaton_symbols = following (number count) (formula tree ∷ others) tt (following (formula tree) others tt automaton_symbols)
+content_keeps (item.AccName name) others automaton_symbols = following (word name.name) (each parameter_row name.parameters others) tt (each_keeps parameter_row parameter_keeps name.parameters others automaton_symbols)
+content_keeps (item.Tool first second) others automaton_symbols = following (text first) (optional_row string_row second others) tt (optional_keeps string_row string_keeps second others automaton_symbols)
+content_keeps (item.Name bytes) others automaton_symbols = following (text bytes) others tt automaton_symbols
 content_keeps (item.Properties words) others automaton_symbols = each_keeps word_row word_keeps words others automaton_symbols
 content_keeps (item.Unknown name values) others automaton_symbols = each_keeps value_row value_keeps values others automaton_symbols
 
 item_keeps : KeepsEnd item_row
-item_keeps it others automaton_symbols = behind (header _) (content_row it others) tt (content_keeps it others automaton_symbols)
+item_keeps it others automaton_symbols = following (header _) (content_row it others) tt (content_keeps it others automaton_symbols)
 
 edge_keeps : KeepsEnd edge_row
 edge_keeps edge others automaton_symbols =
@@ -119,9 +119,9 @@ state_keeps state others automaton_symbols =
     let edges = each edge_row state.edges others in
     let marks = optional_row sig_row state.marks edges in
     let name = optional_row string_row state.name marks in
-    behind (header _) (optional_row label_row state.label (number state.number ∷ name)) tt
+    following (header _) (optional_row label_row state.label (number state.number ∷ name)) tt
     (optional_keeps label_row label_keeps state.label (number state.number ∷ name)
-    (behind (number state.number) name tt
+    (following (number state.number) name tt
     (optional_keeps string_row string_keeps state.name marks
     (optional_keeps sig_row sig_keeps state.marks edges
     (each_keeps edge_row edge_keeps state.edges others automaton_symbols)))))
@@ -140,16 +140,16 @@ pub written_ends : (raw : RawAutomaton) → EndSpelled (word raw.version ∷ eac
 written_ends raw =
     let states = each state_row raw.states (sign kind.End ∷ []) in
     let items = each item_row raw.items (sign kind.Body ∷ states) in
-    behind (word raw.version) items tt
+    following (word raw.version) items tt
     (each_keeps item_row item_keeps raw.items (sign kind.Body ∷ states)
-    (behind (sign kind.Body) states refl
+    (following (sign kind.Body) states refl
     (each_keeps state_row state_keeps raw.states (sign kind.End ∷ []) end_alone)))
 
 -- so does the whole
 whole_ends : (raw : RawAutomaton) → EndSpelled (automaton_symbols raw)
 whole_ends raw =
     let states = each state_row raw.states (sign kind.End ∷ []) in
-    behind (header _) (word raw.version ∷ each item_row raw.items (sign kind.Body ∷ states)) tt (written_ends raw)
+    following (header _) (word raw.version ∷ each item_row raw.items (sign kind.Body ∷ states)) tt (written_ends raw)
 
 -- the only token that ends a segment is the last
 only_end : (inside front rest : List (Lexeme HoaKind)) (last end : Lexeme HoaKind) → NoneEnds inside → inside ++ last ∷ [] ≡ front ++ end ∷ rest → end.kind ≡ kind.End → rest ≡ []

@@ -46,7 +46,7 @@ pub record IsSegmentRefused (lexemes : List (Lexeme HoaKind)) (refusal : Refusal
   pub refused : (IsSegmentFault segment refusal × ((number_of refusal ≡ 3) ⊎ (rest ≡ [])))
       ⊎ (IsInGrammar segment × ((next : Lexeme HoaKind) × (more : List (Lexeme HoaKind)) × (rest ≡ next ∷ more) × (refusal ≡ Text (Syntax next.span.start))))
 
--- the refusal of tokens that are not those of one automaton, in a text of this length
+-- the refusal of tokens that do not make one automaton, in a text of this length
 abbrev pub AreRefused : ℕ → List (Lexeme HoaKind) → Refusal → Type 0
 AreRefused length lexemes refusal = ((at : ℕ) × (refusal ≡ Text (Syntax at)) × HasNoSegmentAt length lexemes at) ⊎ IsSegmentRefused lexemes refusal
 

@@ -1,4 +1,4 @@
--- What a stream that was fed with bytes keeps of them, and what was given of them.
+-- What a stream keeps of the bytes that it was fed, and the items that it gave.
 use Rattle.std.specs.Prelude.{◌≡◌, ℕ, ◌+◌, ◌<◌, ◌≤◌, ◌⊎◌, Bool, true, false, List, [], ◌++◌, length, drop, MatchOption}
 use Rattle.omega_text.specs.Cut.{Cuts}
 use Rattle.omega_text.specs.Lexeme.{Lexeme}
@@ -13,7 +13,7 @@ use Rattle.omega_hoa.specs.Kept.{Kept}
 use Rattle.omega_hoa.specs.Stream.{IsOpen, IsStream, IsStreamFault}
 use Rattle.omega_hoa.specs.declared.item.Item.{Item}
 
--- the tokens after the last whole segment: those of one that has not ended, or none
+-- the tokens after the last whole segment: the beginning of one that has not ended, or none
 abbrev pub IsRest : Bool → List (Lexeme HoaKind) → Type 0
 IsRest true lexemes = IsOpen lexemes
 IsRest false lexemes = lexemes ≡ []
@@ -25,7 +25,7 @@ pub record IsDivided (seen : List ℕ) (lexemes : List (Lexeme HoaKind)) (items 
   pub rest : List (Lexeme HoaKind)
   pub split : lexemes ≡ front ++ rest
   pub before : IsStream front items
-  pub behind : IsRest inside rest
+  pub following : IsRest inside rest
   pub cuts : (more : List ℕ) → Cuts hoa_format (seen ++ more) 0 front begins
 
 -- the bytes so far were taken, no fault of tokens is settled, and the items of their whole segments were given
@@ -40,8 +40,8 @@ pub record IsTaken (seen : List ℕ) (items : List Item) (kept : Kept) : Type 0 
 -- the bytes passed the limit: those before the piece that did were taken, and none from there on
 pub record IsPastLimit (seen : List ℕ) (items : List Item) (kept : Kept) : Type 0 where
   pub front : List ℕ
-  pub behind : List ℕ
-  pub split : seen ≡ front ++ behind
+  pub following : List ℕ
+  pub split : seen ≡ front ++ following
   pub taken : IsTaken front items kept
   pub long : most_text < length seen
 

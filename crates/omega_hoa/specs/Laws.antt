@@ -1,5 +1,4 @@
--- What holds of texts of one automaton, of streams, of streams in pieces, and of automata in tokens,
--- whatever the code does.
+-- Laws of texts of one automaton, of streams, of streams in pieces, and of automata in tokens, whatever the code does.
 use Rattle.std.specs.Prelude.{◌≡◌, ℕ, ◌⊎◌, List, [], ◌∷◌, ◌++◌, Option, Some, None, MatchOption}
 use Rattle.std.specs.List.{AllByRecursion, flat_map}
 use Rattle.omega_text.specs.Cases.{never, or_text}
@@ -22,8 +21,8 @@ use Rattle.omega_hoa.specs.Segment.{IsNoRaw, IsRawOf, IsSyntaxWithin}
 use Rattle.omega_hoa.specs.Stream.{IsSegment, IsStreamFault, IsStreamRefusal, IsStreamText}
 use Rattle.omega_hoa.specs.declared.item.Item.{Item}
 
--- two refusals 3 of the tokens of one whole segment, which are those of no automaton: each stands at the start of one
--- of the tokens, and at which is shown by tests alone
+-- two refusals 3 of the tokens of one whole segment that no automaton is written as: each is at the start of one of the
+-- tokens; only tests show at which
 pub record AreOfSegment (segment : List (Lexeme HoaKind)) (one other : Refusal) : Type 0 where
   pub whole : IsSegment End segment
   pub unread : IsNoRaw segment
@@ -68,8 +67,8 @@ StreamsAreUnrefused = (source : List ℕ) (items : List Item) (refusal : Refusal
 abbrev pub StreamsOrRefused : Type 0
 StreamsOrRefused = (source : List ℕ) → ((items : List Item) → IsStreamText source items → ⊥) → ((refusal : Refusal) → IsStreamRefusal source refusal → ⊥) → ⊥
 
--- what a stream answers at its end that was fed with these bytes, and gave these items:
--- nothing where they are a stream, else what refuses them, or what refused them before
+-- the answer at its end of a stream that was fed with these bytes and gave these items: nothing if they are a stream,
+-- else their refusal, or the refusal that came before
 abbrev pub IsAnsweredAtEnd : List ℕ → List Item → Kept → Option Refusal → Type 0
 IsAnsweredAtEnd seen items kept None = IsStreamText seen items
 IsAnsweredAtEnd seen items kept (Some refusal) = MatchOption kept.refused (IsStreamFault seen items refusal) (λ before. refusal ≡ before)
@@ -81,8 +80,8 @@ AnswersAreAlike source None (Some other) = ⊥
 AnswersAreAlike source (Some one) None = ⊥
 AnswersAreAlike source (Some one) (Some other) = AreAlike source one other
 
--- two streams that were fed with the same bytes, in whichever pieces, and of which none passed the limit,
--- gave the same items and answer alike at their ends
+-- two streams that were fed with the same bytes, in any pieces, gave the same items and answer alike at their ends,
+-- unless one passed the limit
 abbrev pub CutsChangeNothing : Type 0
 CutsChangeNothing = (seen : List ℕ) (items others : List Item) (kept left : Kept) (one other : Option Refusal) → IsFed seen items kept → IsFed seen others left
     → (one ≡ Some (Text TooLong) → ⊥) → (other ≡ Some (Text TooLong) → ⊥) → IsAnsweredAtEnd seen items kept one → IsAnsweredAtEnd seen others left other

@@ -1,4 +1,4 @@
--- What the tokens of one segment that ends with `--END--` are: those of an automaton, or faulty.
+-- The tokens of one segment that ends with `--END--`: they spell an automaton, or are faulty.
 use Rattle.std.specs.Prelude.{◌≡◌, ℕ, ◌⊎◌, Some, List, [], ◌∷◌}
 use Rattle.omega_text.specs.Cases.{never, or_automaton, or_text}
 use Rattle.omega_text.specs.Lexeme.{Lexeme}
@@ -13,21 +13,21 @@ use Rattle.omega_automaton.specs.Automaton.{Description}
 use Rattle.omega_automaton.specs.Faults.{automaton_fault_of}
 use Rattle.omega_automaton.specs.Meaning.{Means}
 
--- the tokens, all of them, are those of an automaton as it is written
+-- all the tokens spell an automaton as it is written
 abbrev pub IsRawOf : List (Lexeme HoaKind) → RawAutomaton → Type 0
 IsRawOf lexemes raw = ReadsAutomaton lexemes raw []
 
--- they are those of no automaton as it is written
+-- they spell no automaton as it is written
 abbrev pub IsNoRaw : List (Lexeme HoaKind) → Type 0
 IsNoRaw lexemes = (raw : RawAutomaton) → IsRawOf lexemes raw → ⊥
 
--- they are those of an automaton as it is written, which means this one
+-- they spell an automaton as it is written, which means this one
 pub record IsAutomatonOf (lexemes : List (Lexeme HoaKind)) (automaton : Description) : Type 0 where
   pub raw : RawAutomaton
   pub written : IsRawOf lexemes raw
   pub means : Means raw automaton
 
--- they are those of an automaton as it is written, which has this fault
+-- they spell an automaton as it is written, which has this fault
 pub record HasMeaningFault (lexemes : List (Lexeme HoaKind)) (fault : AutomatonFault) : Type 0 where
   pub raw : RawAutomaton
   pub written : IsRawOf lexemes raw
@@ -43,6 +43,6 @@ abbrev pub IsSyntaxWithin : List (Lexeme HoaKind) → TextFault → Type 0
 IsSyntaxWithin lexemes (Syntax at) = IsStartOf lexemes at
 IsSyntaxWithin lexemes fault = ⊥
 
--- why the tokens are not an automaton's: 3 at one of them where no automaton is written so, else by what it means
+-- why the tokens are not an automaton's: 3 at one of them if they spell no automaton, else a fault of its meaning
 abbrev pub IsSegmentFault : List (Lexeme HoaKind) → Refusal → Type 0
 IsSegmentFault lexemes = or_text (λ fault. IsNoRaw lexemes × IsSyntaxWithin lexemes fault) (or_automaton (HasMeaningFault lexemes) never)

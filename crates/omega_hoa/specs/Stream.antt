@@ -28,7 +28,7 @@ is_end End = true
 is_end Abort = true
 is_end kind = false
 
--- none of the tokens is such a mark
+-- no token is such a mark
 abbrev pub NoneEnds : List (Lexeme HoaKind) → Type 0
 NoneEnds [] = Unit {0}
 NoneEnds (lexeme ∷ lexemes) = (is_end lexeme.kind ≡ false) × NoneEnds lexemes
@@ -60,8 +60,8 @@ IsStream lexemes [] = lexemes ≡ []
 IsStream lexemes (item ∷ items) = (segment : List (Lexeme HoaKind)) × (rest : List (Lexeme HoaKind))
     × (lexemes ≡ segment ++ rest) × IsItemOf segment item × IsStream rest items
 
--- outside segments, a text goes on from a place with a fault of tokens, or with a token other than `HOA:`,
--- where it is refused 3
+-- outside segments, a text goes on from a place with a fault of tokens, or with a token other than `HOA:`, at which it
+-- is refused 3
 abbrev pub IsFaultOutside : List ℕ → ℕ → TextFault → Type 0
 IsFaultOutside source from (Lex at) = HasFaultFrom source from (Lex at)
 IsFaultOutside source from (Number at) = HasFaultFrom source from (Number at)
@@ -75,10 +75,10 @@ IsFaultInside source from (Number at) = HasFaultFrom source from (Number at)
 IsFaultInside source from (Syntax at) = Ends source from × (at ≡ length source)
 IsFaultInside source from TooLong = ⊥
 
--- after whole segments stand these tokens, up to a place, and what refuses the text: a fault outside segments,
--- a fault inside one, or a whole one that is no automaton
-abbrev pub IsRefusedBehind : List ℕ → List (Lexeme HoaKind) → ℕ → Refusal → Type 0
-IsRefusedBehind source lexemes from refusal = ((lexemes ≡ []) × or_text (IsFaultOutside source from) never refusal)
+-- after whole segments come these tokens, up to a place, and then the refusal of the text: a fault outside segments, a
+-- fault inside one, or a whole one that is no automaton
+abbrev pub IsRefusedAfter : List ℕ → List (Lexeme HoaKind) → ℕ → Refusal → Type 0
+IsRefusedAfter source lexemes from refusal = ((lexemes ≡ []) × or_text (IsFaultOutside source from) never refusal)
     ⊎ ((IsOpen lexemes × or_text (IsFaultInside source from) never refusal)
     ⊎ (IsSegment End lexemes × IsSegmentFault lexemes refusal))
 
@@ -89,7 +89,7 @@ pub record IsStreamFault (source : List ℕ) (items : List Item) (refusal : Refu
   pub from : ℕ
   pub cuts : Cuts hoa_format source 0 (front ++ rest) from
   pub before : IsStream front items
-  pub refused : IsRefusedBehind source rest from refusal
+  pub refused : IsRefusedAfter source rest from refusal
 
 -- the text of a stream with these items
 pub record IsStreamText (source : List ℕ) (items : List Item) : Type 0 where

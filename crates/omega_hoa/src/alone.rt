@@ -12,12 +12,18 @@ use omega_automaton::Automaton;
 use omega_text::{HoaKind, MOST_TEXT, Refusal, TextFault, TokenKind};
 use std::alloc::Global;
 
-/// The automaton of a text that holds one segment, ended by `--END--`. 1 to 4, 20 to 33 or 60: the refusal of the text,
-/// or memory.
+/// Reads the automaton of a text that holds one segment, ended by `--END--`. Refused with a `TextFault`, an
+/// `AutomatonFault` or [Refusal::Memory].
 ///
-/// A fault of tokens comes first, wherever it stands; then 3: at the first token if that is not `HOA:`, at the length
-/// of a text without the end of a segment, at an `--ABORT--` that ends it, inside the segment, at a token after it.
-/// What the segment means comes last. The bytes are looked at once, those of the segment once more.
+/// A fault of tokens comes first, wherever it is. Then comes [TextFault::Syntax]:
+///
+/// - at the first token if that is not `HOA:`;
+/// - at the length of a text without the end of a segment;
+/// - at an `--ABORT--` that ends the segment;
+/// - inside the segment;
+/// - at a token after it.
+///
+/// The meaning of the segment comes last. The bytes are looked at once, and those of the segment once more.
 pub fn read_one(alloc: Global, bytes: &[u8]) -> Result<Automaton, Refusal>
     ensures automaton { IfOk result (IsAutomatonText bytes.now) }
     ensures refused { IfErr result (or_memory (IsAutomatonRefusal bytes.now)) }
@@ -36,7 +42,7 @@ pub fn read_one(alloc: Global, bytes: &[u8]) -> Result<Automaton, Refusal>
     }
 }
 
-/// The automaton of a text that is one segment, up to a place.
+/// Reads the automaton of a text that is one segment up to `end`.
 fn read_whole(alloc: Global, bytes: &[u8], end: usize) -> Result<Automaton, Refusal>
     requires short { length bytes.now ≤ most_text }
     requires whole { HasWhole bytes.now end }
@@ -47,7 +53,7 @@ fn read_whole(alloc: Global, bytes: &[u8], end: usize) -> Result<Automaton, Refu
     read_segment(alloc, &bytes[..end], 0)
 }
 
-/// The refusal of a text that is one segment, up to a place, and tokens after it, the first at another place.
+/// Returns the refusal of a text that is one segment up to `end`, and has tokens after it, the first at `next`.
 fn read_followed(alloc: Global, bytes: &[u8], end: usize, next: usize) -> Refusal
     requires short { length bytes.now ≤ most_text }
     requires followed { HasFollowed bytes.now end next }

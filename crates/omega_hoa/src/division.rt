@@ -12,18 +12,20 @@ use crate::segment::read_segment;
 use omega_text::{HoaKind, PlacedToken, Refusal, Settled, Span, TextFault, TokenKind};
 use std::alloc::Global;
 
-/// How the tokens of a stream are divided so far: where the last whole segment ends,
-/// and whether another has begun after it.
+/// How the tokens of a stream are divided so far: the end of the last whole segment, and whether another has begun
+/// after it.
 #[derive(Clone, Copy, Debug, PartialEq, Eq)]
 pub(crate) struct Division {
     pub(crate) begins: usize,
     pub(crate) inside: bool,
 }
 
-/// The division with the tokens that a byte settles; the items of segments that they end are pushed. 1 to 3, 20 to 33
-/// or 60: the refusal of the text, or memory; the items of the segments before stand there then.
+/// Adds the tokens that a byte settles to `division`, and appends the items of segments that they end to `out`.
 ///
-/// The bytes are those of the text from `first` on.
+/// Refused with a `TextFault` but never [TextFault::TooLong], with an `AutomatonFault` or with [Refusal::Memory].
+/// After a refusal `out` has the items of the segments before.
+///
+/// `bytes` are those of the text from `first` on.
 pub(crate) fn take_all(
     alloc: Global,
     bytes: &[u8],
@@ -47,10 +49,12 @@ pub(crate) fn take_all(
     }
 }
 
-/// The division with one token more, if there is one; the item of a segment that it ends is pushed. 1 to 3, 20 to 33 or
-/// 60: the refusal of the text, or memory; nothing is pushed then.
+/// Adds one more token to `division`, if there is one, and appends the item of a segment that it ends to `out`.
 ///
-/// The bytes are those of the text from `first` on.
+/// Refused with a `TextFault` but never [TextFault::TooLong], with an `AutomatonFault` or with [Refusal::Memory].
+/// After a refusal nothing is appended.
+///
+/// `bytes` are those of the text from `first` on.
 fn take_settled(
     alloc: Global,
     bytes: &[u8],
@@ -73,7 +77,7 @@ fn take_settled(
     }
 }
 
-/// Inside a segment: the mark of its end ends it, any other token is one more.
+/// Adds a token inside a segment: the mark of its end ends it, any other token is one more.
 fn take_inside(
     alloc: Global,
     bytes: &[u8],
@@ -103,7 +107,7 @@ fn take_inside(
     }
 }
 
-/// The item of the segment that a token ends, or none where it ends none.
+/// Returns the item of the segment that `token` ends, or none if it ends none.
 fn item_at(
     alloc: Global,
     bytes: &[u8],
@@ -133,7 +137,7 @@ fn item_at(
     }
 }
 
-/// Outside segments: `HOA:` begins one, any other token is refused 3.
+/// Adds a token outside segments: `HOA:` begins one, and any other token is refused with [TextFault::Syntax].
 fn begin_segment(
     bytes: &[u8],
     first: usize,
@@ -159,14 +163,14 @@ fn begin_segment(
     }
 }
 
-/// Whether a token of this kind and these bytes is `HOA:`.
+/// Whether a token of this `kind` and `text` is `HOA:`.
 pub(crate) fn opens(kind: HoaKind, text: &[u8]) -> bool
     ensures { IsTrue result ↔ ((kind ≡ HeaderName) × (text.now ≡ codes "HOA:")) }
 {
     kind == HoaKind::HeaderName && text == b"HOA:".as_slice()
 }
 
-/// The bytes of a span, where they are given from `first` on.
+/// Returns the bytes of `span`, if `bytes` are those of the text from `first` on.
 fn stretch(bytes: &[u8], first: usize, span: Span) -> &[u8]
     requires from { first ≤ span.start }
     requires forward { span.start ≤ span.end }

@@ -8,8 +8,8 @@ ghost use Rattle.omega_hoa.specs.private.dividing.Ending.{EndsRefused, EndsWhole
 
 use omega_text::{Refusal, Settled, TextFault};
 
-/// Where the bytes end outside segments: a token that is settled there is refused 3, for `HOA:` is settled before, and
-/// then comes the fault of tokens.
+/// Ends the bytes outside segments. A token that is settled there is refused with [TextFault::Syntax], since `HOA:` is
+/// settled before; then comes the fault of tokens.
 pub(crate) fn end_outside(settled: Settled) -> Result<(), Refusal>
     requires { IsLast settled }
     ensures ok { OnOk result (EndsWhole settled false) }
@@ -27,8 +27,8 @@ pub(crate) fn end_outside(settled: Settled) -> Result<(), Refusal>
     }
 }
 
-/// Where the bytes, so many, end inside a segment: the fault of tokens, or 3 at their end, for the marks that end a
-/// segment are settled before.
+/// Returns the refusal of `count` bytes that end inside a segment: the fault of tokens, or [TextFault::Syntax] at their
+/// end. The marks that end a segment are settled before.
 pub(crate) fn end_inside(settled: Settled, count: usize) -> Refusal
     requires { IsLast settled }
     ensures refused { (seen : List ℕ) (lexemes : List (Lexeme HoaKind)) (items : List Item) (begins : ℕ) → count ≡ length seen → IsAtEnd settled true seen lexemes items begins

@@ -1,6 +1,6 @@
 use omega_automaton::Automaton;
 
-/// What a segment of a stream gives.
+/// The result of a segment of a stream.
 #[derive(Drop)]
 pub enum Item {
     /// The automaton of a segment that ends with `--END--`.

@@ -1,5 +1,5 @@
-//! What holds of texts of one automaton, of streams and of automata in tokens, whatever the code does:
-//! each call does nothing and states one law.
+//! Laws of texts of one automaton, of streams and of automata in tokens, whatever the code does. Each function does
+//! nothing and states one law.
 ghost use Rattle.omega_hoa.specs.Laws.{AutomataAreOne, AutomataAreUnrefused, AutomataFillSegments, AutomataOrRefused, CutsChangeNothing, PiecesAreFed, PiecesChangeNothing, RefusalsAreOne, StreamFaultsAreOne, StreamsAreOne, StreamsAreUnrefused, StreamsOrRefused};
 
 use omega_automaton::{meanings_are_one, meanings_are_there};
@@ -7,7 +7,7 @@ use omega_raw::raws_are_one;
 use omega_text::laws::{cut_or_fault, cuts_are_one, cuts_have_no_fault, faults_are_one};
 use omega_text::{HoaKind, TokenKind};
 
-/// A text is that of at most one automaton.
+/// States that a text is that of at most one automaton.
 pub fn automata_are_one()
     ensures { AutomataAreOne }
 {
@@ -16,7 +16,8 @@ pub fn automata_are_one()
     meanings_are_one();
 }
 
-/// A text that is not that of one automaton has at most one refusal, but for the place of 3 inside its segment.
+/// States that a text that is not that of one automaton has at most one refusal, except for the place of
+/// [TextFault::Syntax] inside its segment.
 pub fn refusals_are_one()
     ensures { RefusalsAreOne }
 {
@@ -27,7 +28,7 @@ pub fn refusals_are_one()
     meanings_are_one();
 }
 
-/// The text of an automaton has no refusal.
+/// States that the text of an automaton has no refusal.
 pub fn automata_are_unrefused()
     ensures { AutomataAreUnrefused }
 {
@@ -37,7 +38,7 @@ pub fn automata_are_unrefused()
     meanings_are_one();
 }
 
-/// No text is neither that of an automaton nor refused.
+/// States that no text is neither that of an automaton nor refused.
 pub fn automata_or_refused()
     ensures { AutomataOrRefused }
 {
@@ -45,7 +46,7 @@ pub fn automata_or_refused()
     meanings_are_there();
 }
 
-/// A text is a stream with at most one list of items.
+/// States that a text is a stream with at most one list of items.
 pub fn streams_are_one()
     ensures { StreamsAreOne }
 {
@@ -54,8 +55,8 @@ pub fn streams_are_one()
     meanings_are_one();
 }
 
-/// A text that is no stream is refused after at most one list of items, and has at most one refusal but for the place
-/// of 3 inside a segment.
+/// States that a text that is no stream is refused after at most one list of items, and has at most one refusal, except
+/// for the place of [TextFault::Syntax] inside a segment.
 pub fn stream_faults_are_one()
     ensures { StreamFaultsAreOne }
 {
@@ -64,7 +65,7 @@ pub fn stream_faults_are_one()
     meanings_are_one();
 }
 
-/// A stream has no refusal.
+/// States that a stream has no refusal.
 pub fn streams_are_unrefused()
     ensures { StreamsAreUnrefused }
 {
@@ -73,7 +74,7 @@ pub fn streams_are_unrefused()
     meanings_are_one();
 }
 
-/// No text is neither a stream nor refused.
+/// States that no text is neither a stream nor refused.
 pub fn streams_or_refused()
     ensures { StreamsOrRefused }
 {
@@ -82,10 +83,12 @@ pub fn streams_or_refused()
     meanings_are_there();
 }
 
-/// In whichever pieces a text within the limit is fed to a `Stream`, its items are the same, and what is answered at
-/// its end is alike: nothing, or the same refusal but for the place of 3 inside a segment. So it is of streams that are
-/// known to be fed with the same bytes (`fed`), and of every two lists of pieces with the same bytes (`pieces`), since
-/// pieces that are fed one after the other are their bytes fed (`together`).
+/// States that the pieces in which a text within the limit is fed to a `Stream` change nothing. Its items are the same,
+/// and the answers at its end are alike: nothing, or the same refusal, except for the place of [TextFault::Syntax]
+/// inside a segment.
+///
+/// This holds of streams that are known to be fed with the same bytes (`fed`), and of every two lists of pieces with
+/// the same bytes (`pieces`), since feeding pieces one after the other feeds their bytes (`together`).
 pub fn pieces_change_nothing()
     ensures fed { CutsChangeNothing }
     ensures together { PiecesAreFed }
@@ -97,7 +100,8 @@ pub fn pieces_change_nothing()
     meanings_are_one();
 }
 
-/// An automaton that the tokens of a text begin with fills a whole segment: of its tokens the last alone ends one.
+/// States that an automaton at the front of the tokens of a text fills a whole segment: only the last of its tokens
+/// ends one.
 pub fn automata_fill_segments()
     ensures { AutomataFillSegments }
 {}

@@ -1,6 +1,6 @@
 //! Automata of the Hanoi format, one to a text or in streams, read whole or in pieces.
 //!
-//! Numbers of refusals are those of `Refusal`; docs/formats.md says when each comes.
+//! docs/formats.md says when each `Refusal` comes.
 #![tactic(auto)]
 
 mod alone;

@@ -9,12 +9,12 @@ ghost use Rattle.omega_hoa.specs.private.outlines.Outline.{HasOutline, IsOutline
 use crate::division::opens;
 use omega_text::{HoaKind, TextFault, Token, next_hoa_token};
 
-/// What the tokens of a text are that is to hold one segment, ended by `--END--`, seen from outside.
+/// The tokens of a text that is to hold one segment, ended by `--END--`, without the inside of the segment.
 #[derive(Clone, Copy, Debug, PartialEq, Eq)]
 pub(crate) enum TextOutline {
-    /// There is none.
+    /// There is no token.
     Empty,
-    /// The first, at this place, is another than `HOA:`.
+    /// The first token, at this place, is not `HOA:`.
     Stray { at: usize },
     /// A segment without end.
     Open,
@@ -22,11 +22,12 @@ pub(crate) enum TextOutline {
     Aborted { at: usize },
     /// A segment that ends with `--END--`, up to this place.
     Whole { end: usize },
-    /// The same, and after it a token at this place.
+    /// A segment that ends with `--END--`, up to `end`, and after it a token at `next`.
     Followed { end: usize, next: usize },
 }
 
-/// What the tokens of a text are: 1 or 2 at the least place of a fault. The bytes are looked at once.
+/// Returns the outline of the tokens of `source`, or [TextFault::Lex] or [TextFault::Number] at the least place of a
+/// fault. The bytes are looked at once.
 pub(crate) fn outline_of(source: &[u8]) -> Result<TextOutline, TextFault>
     ensures outline { IfOk result (HasOutline source.now) }
     ensures fault { IfErr result (IsFault hoa_format source.now) }
@@ -40,7 +41,7 @@ pub(crate) fn outline_of(source: &[u8]) -> Result<TextOutline, TextFault>
     Ok(outline)
 }
 
-/// The outline of tokens with one more.
+/// Returns the outline of tokens after one more.
 fn with_token(outline: TextOutline, token: &Token<'_, HoaKind>) -> TextOutline
     ensures { (lexemes : List (Lexeme HoaKind)) → IsOutline lexemes outline → IsOutline (lexemes ++ lexeme_of token.now ∷ []) result }
 {
@@ -55,7 +56,7 @@ fn with_token(outline: TextOutline, token: &Token<'_, HoaKind>) -> TextOutline
     }
 }
 
-/// After no token.
+/// Returns the outline of the first token.
 fn begun(token: &Token<'_, HoaKind>) -> TextOutline
     ensures { IsOutline (lexeme_of token.now ∷ []) result }
 {
@@ -68,7 +69,7 @@ fn begun(token: &Token<'_, HoaKind>) -> TextOutline
     }
 }
 
-/// Inside a segment.
+/// Returns the outline of an open segment after one more token.
 fn gone_on(token: &Token<'_, HoaKind>) -> TextOutline
     ensures { (lexemes : List (Lexeme HoaKind)) → IsOpen lexemes → IsOutline (lexemes ++ lexeme_of token.now ∷ []) result }
 {

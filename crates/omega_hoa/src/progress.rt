@@ -14,10 +14,12 @@ pub(crate) struct ReadProgress {
     pub(crate) division: Division,
 }
 
-/// Reads the bytes from a place to their end, and pushes the items of the segments that end there. 1 to 3, 20 to 33 or
-/// 60: the refusal of the text, or memory; the items of the segments before stand there then.
+/// Reads the bytes from `from` to their end, and appends the items of the segments that end there to `out`.
 ///
-/// The bytes are those of the text from `first` on. Each is scanned once, those of a segment that ends once more.
+/// Refused with a `TextFault` but never [TextFault::TooLong], with an `AutomatonFault` or with [Refusal::Memory].
+/// After a refusal `out` has the items of the segments before.
+///
+/// `bytes` are those of the text from `first` on. Each is scanned once, and those of a segment that ends once more.
 pub(crate) fn read_bytes(
     alloc: Global,
     bytes: &[u8],
@@ -45,8 +47,8 @@ pub(crate) fn read_bytes(
     Ok(reached)
 }
 
-/// Inside a segment, reads the bytes from a place on, up to one that may end it or settles a fault;
-/// and that one's place.
+/// Reads bytes inside a segment from `from` on, up to one that may end it or settles a fault. Also returns the place of
+/// that byte.
 fn pass_inside(
     bytes: &[u8],
     first: usize,
@@ -71,7 +73,7 @@ fn pass_inside(
     (after, end)
 }
 
-/// Reads the byte at a place.
+/// Reads the byte at `place`.
 fn read_byte(
     alloc: Global,
     bytes: &[u8],

@@ -7,11 +7,12 @@ use crate::stream::Stream;
 use omega_text::Refusal;
 use std::alloc::Global;
 
-/// The items of a stream of automata, in order. 1 to 4, 20 to 33 or 60: the refusal of the text, or memory.
+/// Reads the items of a stream of automata, in order. Refused with a `TextFault`, an `AutomatonFault` or
+/// [Refusal::Memory].
 ///
-/// The first refused segment decides, and before it the first fault outside segments; inside a segment a fault of
-/// tokens comes before 3, and 3 before what the segment means. The bytes are looked at once,
-/// those of whole segments once more.
+/// The first refused segment decides, and before it the first fault outside segments. Inside a segment a fault of
+/// tokens comes before [TextFault::Syntax], and that before a fault of the segment's meaning. The bytes are looked at
+/// once, and those of whole segments once more.
 pub fn read_stream(alloc: Global, bytes: &[u8]) -> Result<Vec<Item>, Refusal>
     ensures items { IfOk result (λ items. IsStreamText bytes.now items.items) }
     ensures refused { IfErr result (or_memory (IsStreamRefusal bytes.now)) }

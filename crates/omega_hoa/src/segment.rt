@@ -14,10 +14,11 @@ use omega_text::laws::cuts_are_one;
 use omega_text::{HoaKind, Refusal, TextCursor, TextFault, TokenKind, TokenSource};
 use std::alloc::Global;
 
-/// The automaton of a segment that ends with `--END--`, whose bytes begin at a place of a longer text. 3, 20 to 33 or
-/// 60: its fault, or memory. The place of 3 counts from the first byte of that text.
+/// Reads the automaton of a segment that ends with `--END--`, whose bytes begin at `begins` of a longer text. Refused
+/// with its [TextFault::Syntax] or `AutomatonFault`, or with [Refusal::Memory]. The place of [TextFault::Syntax] counts
+/// from the first byte of that text.
 ///
-/// The bytes are read once, and up to the place of 3 once more.
+/// The bytes are read once, and up to the place of that fault once more.
 pub(crate) fn read_segment(alloc: Global, bytes: &[u8], begins: usize) -> Result<Automaton, Refusal>
     requires cut { (lexemes : List (Lexeme HoaKind)) × IsCut hoa_format bytes.now lexemes }
     requires room { begins + length bytes.now < 2 ^ 64 }
@@ -30,7 +31,8 @@ pub(crate) fn read_segment(alloc: Global, bytes: &[u8], begins: usize) -> Result
     automaton_of(alloc, raw)
 }
 
-/// The automaton of such a segment as it is written, whatever it means. 3 or 60.
+/// Reads the automaton of such a segment as it is written, whatever it means. Refused with [TextFault::Syntax] or
+/// [Refusal::Memory].
 pub(crate) fn read_written(
     alloc: Global,
     bytes: &[u8],
@@ -55,7 +57,7 @@ pub(crate) fn read_written(
     }
 }
 
-/// Where the first token begins that stands at a place or after it, or the last if none does.
+/// Returns where the first token at `at` or after it begins, or where the last token begins if there is none.
 fn token_start(bytes: &[u8], at: usize) -> usize
     requires { (lexemes : List (Lexeme HoaKind)) × IsCut hoa_format bytes.now lexemes }
     ensures { (lexemes : List (Lexeme HoaKind)) → IsCut hoa_format bytes.now lexemes → (lexemes ≡ [] → ⊥) → IsStartOf lexemes result }

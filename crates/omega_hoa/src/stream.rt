@@ -14,10 +14,10 @@ use omega_text::{ByteTokenizer, HoaKind, HoaTokenizer, MOST_TEXT, Refusal, TextF
 use std::alloc::Global;
 use std::marker::Model;
 
-/// Reads a stream of automata that comes in pieces, cut anywhere.
+/// A reader of a stream of automata that comes in pieces, cut anywhere.
 ///
-/// It keeps the bytes after the last whole segment, where they begin, how they are cut so far,
-/// and a refusal once there is one.
+/// It keeps the bytes after the last whole segment, the place where they begin, how they are cut so far, and a refusal
+/// once there is one.
 #[derive(Drop)]
 pub struct Stream {
     bytes: Vec<u8>,
@@ -43,7 +43,7 @@ impl Stream {
     ghost use Rattle.omega_hoa.specs.Feeding.{Appends, IsFed, IsRefusedThen, TakesPiece};
     ghost use Rattle.omega_hoa.specs.Laws.{IsAnsweredAtEnd};
 
-    /// Before the first byte. No memory is taken.
+    /// Makes a stream before its first byte. No memory is taken.
     pub fn new(alloc: Global) -> Stream
         ensures fed { IsFed [] [] result }
         ensures unrefused { result.refused ≡ None }
@@ -59,17 +59,17 @@ impl Stream {
         }
     }
 
-    /// Reads the next piece, and appends the items of the segments that end in it. 1 to 4, 20 to 33 or 60: in the call
-    /// whose piece settles it.
+    /// Reads the next piece, and appends the items of the segments that end in it to `out`. Refused with a `TextFault`
+    /// or an `AutomatonFault` in the call whose piece settles it, or with [Refusal::Memory].
     ///
-    /// A piece that would bring the bytes above `MOST_TEXT` is refused 4, and nothing of it is taken. After 60 the
-    /// stream and `out` are as before, and the piece may be fed again. After any other refusal the items before it
-    /// stand in `out`, and each later call answers it.
+    /// A piece that would bring the bytes above `MOST_TEXT` is refused with [TextFault::TooLong], and nothing of it is
+    /// taken. After [Refusal::Memory] the stream and `out` are as before, and the piece may be fed again. After any
+    /// other refusal `out` has the items before it, and each later call returns the same refusal.
     ///
     /// The law `pieces_change_nothing` asks of each call what `taken` says here.
     ///
-    /// A piece is kept until its segments have ended. Each byte is scanned once,
-    /// those of a segment that ends once more.
+    /// A piece is kept until its segments have ended. Each byte is scanned once, and those of a segment that ends once
+    /// more.
     pub fn feed(&mut self, piece: &[u8], out: &mut Vec<Item>) -> Result<(), Refusal>
         ensures refused_before { IfSome self.old.refused (λ refusal. (result ≡ Err refusal) × (self.new ≡ self.old) × (out.new.items ≡ out.old.items)) }
         ensures too_long { self.old.refused ≡ None → most_text < self.old.begins + length self.old.bytes + length piece.now
@@ -88,10 +88,11 @@ impl Stream {
         }
     }
 
-    /// Ends the stream. 1, 2, 3 or the refusal that is kept. No memory is taken.
+    /// Ends the stream. Refused with [TextFault::Lex], [TextFault::Number], [TextFault::Syntax] or the refusal that is
+    /// kept. No memory is taken.
     ///
-    /// A fault of tokens that the end settles comes first; then 3 at a token outside segments that the end settles, or
-    /// at the length of the bytes inside one.
+    /// A fault of tokens that the end settles comes first. Then comes [TextFault::Syntax], at a token outside segments
+    /// that the end settles, or at the length of the bytes inside one.
     pub fn finish(self) -> Result<(), Refusal>
         ensures refused_before { IfSome self.refused (λ refusal. result ≡ Err refusal) }
         ensures ok { OnOk result ((seen : List ℕ) (items : List Item) → IsFed seen items self → IsStreamText seen items) }
@@ -113,7 +114,7 @@ impl Stream {
         }
     }
 
-    /// The same where nothing was refused.
+    /// Reads the next piece as `feed` does, if nothing was refused before.
     fn feed_sound(&mut self, piece: &[u8], out: &mut Vec<Item>) -> Result<(), Refusal>
         requires { self.old.refused ≡ None }
         ensures too_long { most_text < self.old.begins + length self.old.bytes + length piece.now
@@ -172,7 +173,7 @@ impl Stream {
     }
 }
 
-/// Reads the bytes from a place to their end, as `read_bytes` does; where memory is refused nothing is pushed.
+/// Reads the bytes from `from` to their end, as `read_bytes` does. If memory is refused, nothing is appended.
 fn read_piece(
     alloc: Global,
     bytes: &[u8],
@@ -196,7 +197,7 @@ fn read_piece(
     answer
 }
 
-/// The bytes without so many at their front. Where the others are no more than those, they are copied at once.
+/// Drops the first `count` bytes. If at most `count` bytes are left, they are copied at once.
 fn drop_front(bytes: &mut Vec<u8>, count: usize)
     requires { count ≤ vec_len bytes.old }
     ensures { bytes.new.items ≡ drop count bytes.old.items }

@@ -9,19 +9,19 @@ use Rattle.std.specs.Io.KnownBytes.{Appends}
 pub record IsWriting (before now : Option (List ℕ)) (text rest : List ℕ) : Type 0 where
   pub count : ℕ
   pub within : count ≤ length text
-  pub behind : rest ≡ drop count text
+  pub following : rest ≡ drop count text
   pub taken : Appends before now (take count text)
 
 -- the next write took so many bytes of the rest
 pub IsWriting-goes_on : (before now after : Option (List ℕ)) (text rest next : List ℕ) (count : ℕ) → IsWriting before now text rest
     → count ≤ length rest → Appends now after (take count rest) → next ≡ drop count rest → IsWriting before after text next
 IsWriting-goes_on before now after text rest next count writing bound written left =
-    let here : rest ≡ drop writing.count text = writing.behind in
-    let short : length rest ≡ length text - writing.count = rw (writing.behind) (length-drop writing.count text) in
+    let here : rest ≡ drop writing.count text = writing.following in
+    let short : length rest ≡ length text - writing.count = rw (writing.following) (length-drop writing.count text) in
     let both = Appends-trans before now after _ _ writing.taken written in
     record {
       count = writing.count + count;
       within = omega (arith, writing.within);
-      behind = left ∙ rw writing.behind (drop-drop count writing.count text);
-      taken = rw take-add (rw (← writing.behind) both);
+      following = left ∙ rw writing.following (drop-drop count writing.count text);
+      taken = rw take-add (rw (← writing.following) both);
     }

@@ -4,6 +4,8 @@ pub use Rattle.omega_text.specs.Limits
 pub use Rattle.omega_text.specs.Refusal
 pub mod Exit
 pub mod Failures
+pub mod Lines
 pub mod Reading
 pub mod RefusalLine
+pub mod Refused
 pub mod Writing

@@ -5,7 +5,7 @@ use Rattle.std.specs.Option.{unwrap_or}
 use Rattle.std.proofs.lemmas.List.Elements.{All-cons, All-get_or, All-head, All-nil, All-push, All-tail}
 use Rattle.std.proofs.lemmas.Option.{same_Some}
 use Rattle.omega_automaton.specs.Automaton.{BodyEdge, Description, edge_at}
-use Rattle.omega_empty.specs.Lasso.{IsLasso, IsStart, IsStep, IsUsable, Leads}
+use Rattle.omega_runs.specs.Lasso.{IsLasso, IsStart, IsStep, IsUsable, Leads}
 use Rattle.omega_lasso_judge.specs.Conditions.{AreLinked, FollowsEdge, IsLassoWalk, IsUsableNumber, LeavesStart, once_round}
 
 -- what holds of all of some items and others
@@ -13,9 +13,9 @@ pub all_front : (P : ℕ → Type 0) (xs ys : List ℕ) → All P (xs ++ ys) →
 all_front P [] ys all = All-nil P
 all_front P (x ∷ xs) ys all = All-cons P x xs (All-head P x (xs ++ ys) all) (all_front P xs ys (All-tail P x (xs ++ ys) all))
 
-pub all_behind : (P : ℕ → Type 0) (xs ys : List ℕ) → All P (xs ++ ys) → All P ys
-all_behind P [] ys all = all
-all_behind P (x ∷ xs) ys all = all_behind P xs ys (All-tail P x (xs ++ ys) all)
+pub all_after : (P : ℕ → Type 0) (xs ys : List ℕ) → All P (xs ++ ys) → All P ys
+all_after P [] ys all = all
+all_after P (x ∷ xs) ys all = all_after P xs ys (All-tail P x (xs ++ ys) all)
 
 -- the first edge of the cycle after the last
 pub round_is : (stem cycle : List ℕ) → 0 < length cycle → (stem ++ cycle) ++ get_or cycle 0 0 ∷ [] ≡ once_round stem cycle
@@ -24,7 +24,7 @@ round_is stem (first ∷ cycle) longer = append_assoc stem (first ∷ cycle) (fi
 
 pub all_round : (P : ℕ → Type 0) (stem cycle : List ℕ) → 0 < length cycle → All P (stem ++ cycle) → All P ((stem ++ cycle) ++ get_or cycle 0 0 ∷ [])
 all_round P stem cycle longer all =
-    All-push P (stem ++ cycle) (get_or cycle 0 0) all (All-get_or P cycle 0 0 longer (all_behind P stem cycle all))
+    All-push P (stem ++ cycle) (get_or cycle 0 0) all (All-get_or P cycle 0 0 longer (all_after P stem cycle all))
 
 pub first_round : (stem cycle : List ℕ) → 0 < length cycle → get_or ((stem ++ cycle) ++ get_or cycle 0 0 ∷ []) 0 0 ≡ get_or (stem ++ cycle) 0 0
 first_round [] [] longer = absurd (omega arith)
@@ -51,9 +51,9 @@ module _ (a : Description) where
   linked_from numbers links k below =
       subst (λ (n : ℕ). FollowsEdge a (get_or numbers k 0) (get_or numbers n 0)) (sym (add-one k)) (links k (omega arith))
 
-  links_behind : (xs ys : List ℕ) → Links (xs ++ ys) → Links ys
-  links_behind [] ys links = links
-  links_behind (x ∷ xs) ys links = links_behind xs ys (λ k below. links (suc k) (omega arith))
+  links_after : (xs ys : List ℕ) → Links (xs ++ ys) → Links ys
+  links_after [] ys links = links
+  links_after (x ∷ xs) ys links = links_after xs ys (λ k below. links (suc k) (omega arith))
 
   -- a usable edge leads to the state that the next one leaves
   step : (number next : ℕ) → IsUsableNumber a number → FollowsEdge a number next → IsStep a (left_state number) number (left_state next)
@@ -89,13 +89,13 @@ module _ (a : Description) where
   lasso_of stem [] connected usable = let longer : 0 < 0 = connected.begun.edges.longer in absurd (omega arith)
   lasso_of stem (first ∷ cycle) connected usable =
       let links : Links (stem ++ first ∷ (cycle ++ first ∷ [])) = links_from (once_round stem (first ∷ cycle)) connected.linked in
-      let around : Links ((first ∷ cycle) ++ first ∷ []) = links_behind stem (first ∷ (cycle ++ first ∷ [])) links in
+      let around : Links ((first ∷ cycle) ++ first ∷ []) = links_after stem (first ∷ (cycle ++ first ∷ [])) links in
       record {
         start = left_state (get_or (stem ++ first ∷ cycle) 0 0);
-        knot = left_state first;
+        loop_state = left_state first;
         begins = starting (get_or (stem ++ first ∷ cycle) 0 0) connected.begun.begins;
         stem_leads = subst (λ (number : ℕ). Leads a (left_state number) stem (left_state first)) (same_first stem (cycle ++ first ∷ []) first cycle)
             (leads stem first (cycle ++ first ∷ []) links (all_front (IsUsableNumber a) stem (first ∷ cycle) usable));
-        cycle_leads = leads (first ∷ cycle) first [] around (all_behind (IsUsableNumber a) stem (first ∷ cycle) usable);
+        cycle_leads = leads (first ∷ cycle) first [] around (all_after (IsUsableNumber a) stem (first ∷ cycle) usable);
         longer = connected.begun.edges.longer;
       }

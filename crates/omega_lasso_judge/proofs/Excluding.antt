@@ -4,7 +4,7 @@ use Rattle.std.proofs.lemmas.Bool.{false≢true}
 use Rattle.std.proofs.lemmas.List.Elements.{All-append, All-cons, All-get_or, All-nil, All-weaker}
 use Rattle.std.proofs.lemmas.Option.{slice_get_within}
 use Rattle.omega_automaton.specs.Automaton.{Description, edges_of}
-use Rattle.omega_empty.specs.Lasso.{IsAcceptingLasso, IsLasso, IsStart, IsStep, Leads}
+use Rattle.omega_runs.specs.Lasso.{IsAcceptingLasso, IsLasso, IsStart, IsStep, Leads}
 use Rattle.omega_lasso_judge.specs.Conditions.{FailsFirst, FollowsEdge, IsLassoWalk, IsNumber, IsUsableNumber, LeavesStart, once_round}
 use Rattle.omega_lasso_judge.specs.Fault.{IsLassoFault}
 use Rattle.omega_lasso_judge.specs.declared.fault.LassoFault.{LassoFault}
@@ -63,31 +63,31 @@ module _ (a : Description) where
   starts_at start number begins leaves =
       record { edge = leaves.1.edge; numbered = leaves.1.numbered; starts = subst (IsStart a) (sym leaves.1.leaves) begins }
 
-  first_starts : (start knot : ℕ) (stem : List ℕ) (first : ℕ) (cycle : List ℕ) → IsStart a start → Leads a start stem knot → Leaves first knot
+  first_starts : (start loop_state : ℕ) (stem : List ℕ) (first : ℕ) (cycle : List ℕ) → IsStart a start → Leads a start stem loop_state → Leaves first loop_state
       → LeavesStart a (get_or (stem ++ first ∷ cycle) 0 0)
-  first_starts start knot [] first cycle begins leads leaves = starts_at start first begins (subst (Leaves first) (sym leads) leaves)
-  first_starts start knot (number ∷ stem) first cycle begins leads leaves = starts_at start number begins (leaves_at start number stem knot leads)
+  first_starts start loop_state [] first cycle begins leads leaves = starts_at start first begins (subst (Leaves first) (sym leads) leaves)
+  first_starts start loop_state (number ∷ stem) first cycle begins leads leaves = starts_at start number begins (leaves_at start number stem loop_state leads)
 
   pub all_usable : (stem cycle : List ℕ) → IsLasso a stem cycle → All (IsUsableNumber a) (stem ++ cycle)
   all_usable stem cycle lasso =
-      All-append (IsUsableNumber a) stem cycle (usable_on lasso.start stem lasso.knot lasso.stem_leads) (usable_on lasso.knot cycle lasso.knot lasso.cycle_leads)
+      All-append (IsUsableNumber a) stem cycle (usable_on lasso.start stem lasso.loop_state lasso.stem_leads) (usable_on lasso.loop_state cycle lasso.loop_state lasso.cycle_leads)
 
   -- a lasso is connected
   pub connected : (stem cycle : List ℕ) → IsLasso a stem cycle → IsLassoWalk a stem cycle
   connected stem [] lasso = let longer : 0 < 0 = lasso.longer in absurd (omega arith)
   connected stem (first ∷ cycle) lasso =
-      let leaves = leaves_at lasso.knot first cycle lasso.knot lasso.cycle_leads in
-      let around : Links a ((first ∷ cycle) ++ first ∷ []) = links_on lasso.knot (first ∷ cycle) lasso.knot first [] lasso.cycle_leads leaves (alone first) in
+      let leaves = leaves_at lasso.loop_state first cycle lasso.loop_state lasso.cycle_leads in
+      let around : Links a ((first ∷ cycle) ++ first ∷ []) = links_on lasso.loop_state (first ∷ cycle) lasso.loop_state first [] lasso.cycle_leads leaves (alone first) in
       record {
         begun = record {
           edges = record {
             longer = lasso.longer;
             numbered = All-weaker (IsUsableNumber a) (IsNumber a) is_number (stem ++ first ∷ cycle) (all_usable stem (first ∷ cycle) lasso);
           };
-          begins = first_starts lasso.start lasso.knot stem first cycle lasso.begins lasso.stem_leads leaves;
+          begins = first_starts lasso.start lasso.loop_state stem first cycle lasso.begins lasso.stem_leads leaves;
         };
         linked = linked_from a (once_round stem (first ∷ cycle))
-            (links_on lasso.start stem lasso.knot first (cycle ++ first ∷ []) lasso.stem_leads leaves around);
+            (links_on lasso.start stem lasso.loop_state first (cycle ++ first ∷ []) lasso.stem_leads leaves around);
       }
 
   pub none_fails : (condition : ℕ → Type 0) (numbers : List ℕ) (number : ℕ) → All condition numbers → FailsFirst condition numbers number → ⊥

@@ -7,7 +7,7 @@ use Rattle.std.proofs.lemmas.Bool.{cases_Bool, cases_eq, eq-eqb, ne_eqb, eqb-tru
 use Rattle.std.proofs.lemmas.List.{map_more, take_more}
 use Rattle.omega_acc.specs.formula.Acceptance.{AccTree, accepts, conjunction, constant, disjunction, fin, holds, inf, occurs}
 use Rattle.omega_automaton.specs.Automaton.{BodyEdge, Description, edge_at}
-use Rattle.omega_empty.specs.Lasso.{marks_at, marks_of}
+use Rattle.omega_runs.specs.Lasso.{marks_at, marks_of}
 use Rattle.omega_lasso_judge.specs.private.Runs.{AreRuns, GoesOn, holds_by, longer_run, occurs_by, run_in}
 
 module _ {X : Type 0} (p : X → Bool) where

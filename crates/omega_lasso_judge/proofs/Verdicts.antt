@@ -5,12 +5,12 @@ use Rattle.std.proofs.lemmas.Bool.{false≢true}
 use Rattle.std.proofs.lemmas.Option.{MatchOption-at_none}
 use Rattle.omega_acc.specs.formula.Acceptance.{accepts}
 use Rattle.omega_automaton.specs.Automaton.{Description}
-use Rattle.omega_empty.specs.Lasso.{IsAcceptingLasso, marks_at}
+use Rattle.omega_runs.specs.Lasso.{IsAcceptingLasso, marks_at}
 use Rattle.omega_lasso_judge.specs.Conditions.{IsLassoWalk, IsNumber, IsUsableNumber}
 use Rattle.omega_lasso_judge.specs.declared.fault.LassoFault.{LassoFault}
 use Rattle.omega_lasso_judge.specs.declared.fault.LassoFault.TheVariants.{NotAccepted}
 use Rattle.omega_lasso_judge.specs.private.Judged.{IsRefereed}
-use Rattle.omega_lasso_judge.proofs.Connecting.{all_behind, lasso_of}
+use Rattle.omega_lasso_judge.proofs.Connecting.{all_after, lasso_of}
 use Rattle.omega_lasso_judge.proofs.Excluding.{not_accepting}
 
 -- where there is none
@@ -19,7 +19,7 @@ at_none {X} found P is holds = MatchOption-at_none P (λ (x : X). Unit {0}) is h
 
 -- each number of the cycle is that of an edge
 pub cycle_numbered : (a : Description) (stem cycle : List ℕ) → IsLassoWalk a stem cycle → All (IsNumber a) cycle
-cycle_numbered a stem cycle connected = all_behind (IsNumber a) stem cycle connected.begun.edges.numbered
+cycle_numbered a stem cycle connected = all_after (IsNumber a) stem cycle connected.begun.edges.numbered
 
 module _ (a : Description) (stem cycle : List ℕ) where
   pub judged_accepting : (found : Option LassoFault) → found ≡ None → IsLassoWalk a stem cycle → All (IsUsableNumber a) (stem ++ cycle)

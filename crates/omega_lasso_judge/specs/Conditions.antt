@@ -2,7 +2,7 @@
 -- docs/formats.md, automata).
 use Rattle.std.specs.Prelude.{◌≡◌, ℕ, ◌+◌, ◌<◌, List, [], ◌∷◌, ◌++◌, length, take, All, Some, slice_index}
 use Rattle.omega_automaton.specs.Automaton.{BodyEdge, Description, edge_at, edge_count}
-use Rattle.omega_empty.specs.Lasso.{IsStart, IsUsable}
+use Rattle.omega_runs.specs.Lasso.{IsStart, IsUsable}
 
 -- a number of a list stops, and each number in front of it passes
 pub record IsFirst (passes stops : ℕ → Type 0) (numbers : List ℕ) (number : ℕ) : Type 0 where

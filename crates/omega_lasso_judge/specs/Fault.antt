@@ -2,7 +2,7 @@
 use Rattle.std.specs.Prelude.{◌≡◌, ℕ, ◌<◌, ◌++◌, [], false, List, length, map, slice_index}
 use Rattle.omega_acc.specs.formula.Acceptance.{accepts}
 use Rattle.omega_automaton.specs.Automaton.{Description}
-use Rattle.omega_empty.specs.Lasso.{IsLasso, marks_at}
+use Rattle.omega_runs.specs.Lasso.{IsLasso, marks_at}
 use Rattle.omega_lasso_judge.specs.Conditions.{FailsFirst, HasEdges, IsBegun, IsFirstApart, IsLassoWalk, IsNumber, IsUsableNumber, LeavesStart, once_round}
 use Rattle.omega_lasso_judge.specs.declared.fault.LassoFault.{LassoFault}
 use Rattle.omega_lasso_judge.specs.declared.fault.LassoFault.TheVariants.{Apart, NeverTrue, NoCycle, NoStart, NotAccepted, NotThere}

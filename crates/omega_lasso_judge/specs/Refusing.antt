@@ -5,9 +5,9 @@ use Rattle.omega_text.specs.declared.refusal.Refusal.{Refusal}
 use Rattle.omega_text.specs.declared.refusal.task.TaskFault.{TaskFault}
 use Rattle.omega_text.specs.declared.refusal.task.TaskFault.TheVariants.{BadSolution, Budget, NotDeterministic, NotParity, TooLarge, TooManyPropositions, TooWide, UniversalBranch, UnknownNode}
 use Rattle.omega_automaton.specs.Automaton.{BodyEdge, Description, edge_at}
-use Rattle.omega_automaton.specs.Branching.{has_branch}
-use Rattle.omega_empty.specs.Judging.{IsWide}
-use Rattle.omega_empty.specs.Lasso.{label_of}
+use Rattle.omega_automaton.specs.Branching.{has_universal_branching}
+use Rattle.omega_runs.specs.Judging.{IsWide}
+use Rattle.omega_runs.specs.Lasso.{label_of}
 use Rattle.omega_lasso_judge.specs.Conditions.{IsFirst, IsLassoWalk, IsUsableNumber}
 
 -- the label of an edge mentions more propositions than are always judged
@@ -24,9 +24,9 @@ IsUndecidedAlong a numbers = (number : ℕ) × IsFirst (IsUsableNumber a) (IsWid
 -- theirs has to be judged that mentions too many propositions
 abbrev pub IsJudgingFault : Description → (stem cycle : List ℕ) → TaskFault → Type 0
 IsJudgingFault a stem cycle NotParity = ⊥
-IsJudgingFault a stem cycle UniversalBranch = has_branch a ≡ true
+IsJudgingFault a stem cycle UniversalBranch = has_universal_branching a ≡ true
 IsJudgingFault a stem cycle TooManyPropositions =
-    (has_branch a ≡ false) × IsLassoWalk a stem cycle × IsUndecidedAlong a (stem ++ cycle)
+    (has_universal_branching a ≡ false) × IsLassoWalk a stem cycle × IsUndecidedAlong a (stem ++ cycle)
 IsJudgingFault a stem cycle TooWide = ⊥
 IsJudgingFault a stem cycle Budget = ⊥
 IsJudgingFault a stem cycle BadSolution = ⊥

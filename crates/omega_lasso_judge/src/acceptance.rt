@@ -3,9 +3,9 @@ ghost use Rattle.std.specs.Prelude.{◌≡◌, length, map, nat_eq, All, IfOk, I
 ghost use Rattle.indexmap.specs.IndexMap.{get};
 ghost use Rattle.omega_acc.specs.formula.Acceptance.{accepts};
 ghost use Rattle.omega_acc.specs.formula.Shape.{acc_tree_of_shape};
-ghost use Rattle.omega_empty.specs.Lasso.{marks_at};
+ghost use Rattle.omega_runs.specs.Lasso.{marks_at};
 ghost use Rattle.omega_lasso_judge.specs.Conditions.{IsNumber};
-ghost use Rattle.omega_edge_table.specs.Places.{ArePlaces};
+ghost use Rattle.omega_runs.specs.Places.{ArePlaces};
 ghost use Rattle.omega_lasso_judge.specs.private.Runs.{holds_by, occurs_by};
 
 use crate::edge_table::EdgeTable;

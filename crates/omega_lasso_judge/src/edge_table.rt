@@ -1,10 +1,10 @@
 //! The edges of an automaton by their numbers.
 ghost use Rattle.std.specs.Prelude.{◌≡◌, ◌<◌, Some};
 ghost use Rattle.omega_automaton.specs.Automaton.{edge_at, edge_count};
-ghost use Rattle.omega_edge_table.specs.Places.{ArePlaces};
+ghost use Rattle.omega_runs.specs.Places.{ArePlaces};
 
 use omega_automaton::{Automaton, EdgeRef, State};
-use omega_edge_table::{EdgePlace, edge_of};
+use omega_runs::{EdgePlace, edge_of};
 
 /// An automaton, and where its edges stand, by their numbers.
 #[derive(Clone, Copy)]

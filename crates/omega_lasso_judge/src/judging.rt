@@ -1,10 +1,10 @@
 ghost use Rattle.std.specs.Prelude.{◌≡◌, ◌++◌, ◌<◌, ◌↔◌, false, length, IfErr, IfNone, IfOk, IfSome, IsNone, IsOkUnless, OnOk};
-ghost use Rattle.omega_automaton.specs.Branching.{has_branch};
-ghost use Rattle.omega_empty.specs.Lasso.{IsAcceptingLasso};
+ghost use Rattle.omega_automaton.specs.Branching.{has_universal_branching};
+ghost use Rattle.omega_runs.specs.Lasso.{IsAcceptingLasso};
 ghost use Rattle.omega_lasso_judge.specs.Conditions.{HasEdges, IsLassoWalk, IsFirstApart, AreLinked, once_round};
 ghost use Rattle.omega_lasso_judge.specs.Fault.{IsLassoFault};
 ghost use Rattle.omega_lasso_judge.specs.Refusing.{IsJudgeRefusal};
-ghost use Rattle.omega_edge_table.specs.Places.{ArePlaces};
+ghost use Rattle.omega_runs.specs.Places.{ArePlaces};
 ghost use Rattle.omega_lasso_judge.specs.private.Judged.{IsLabelRefusal, IsRefereed};
 
 use crate::acceptance::is_accepted;
@@ -12,8 +12,8 @@ use crate::edge_table::EdgeTable;
 use crate::fault::LassoFault;
 use crate::labels::first_never_true;
 use crate::links::{first_apart, first_not_there, leaves_start};
-use omega_automaton::{Automaton, Refusal, has_branch};
-use omega_edge_table::edge_places;
+use omega_automaton::{Automaton, Refusal, has_universal_branching};
+use omega_runs::edge_places;
 use omega_text::TaskFault;
 use std::alloc::Global;
 
@@ -22,9 +22,9 @@ use std::alloc::Global;
 /// given.
 ///
 /// Refused are, the first by number: 41 (a start or an edge lists several states), 42 (the label of an edge of the
-/// lasso mentions over `MOST_MENTIONED` propositions, and `can_be_true` gave it up), or 60. The cost is linear in the
-/// automaton and the lasso, and beyond that of `can_be_true` for each edge of the lasso; the acceptance formula is
-/// walked by a recursion as deep as it is.
+/// lasso mentions over `MOST_MENTIONED` propositions, and `is_satisfiable` gave it up), or 60. The cost is linear in
+/// the automaton and the lasso, and beyond that of `is_satisfiable` for each edge of the lasso; the acceptance formula
+/// is walked by a recursion as deep as it is.
 pub fn judge_lasso(
     alloc: Global,
     automaton: &Automaton,
@@ -33,10 +33,10 @@ pub fn judge_lasso(
 ) -> Result<Option<LassoFault>, Refusal>
     ensures accepting { IfOk result (λ found. IsNone found ↔ IsAcceptingLasso automaton.now stem.now cycle.now) }
     ensures fault { IfOk result (λ found. IfSome found (IsLassoFault automaton.now stem.now cycle.now)) }
-    ensures given { OnOk result (has_branch automaton.now ≡ false) }
+    ensures given { OnOk result (has_universal_branching automaton.now ≡ false) }
     ensures refused { IfErr result (IsJudgeRefusal automaton.now stem.now cycle.now) }
 {
-    if has_branch(automaton) {
+    if has_universal_branching(automaton) {
         return Err(Refusal::Task(TaskFault::UniversalBranch));
     }
     let places = edge_places(alloc, automaton)?;

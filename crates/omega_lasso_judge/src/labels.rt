@@ -1,23 +1,18 @@
 //! Whether the labels of edges can be true.
 ghost use Rattle.std.specs.Prelude.{◌≡◌, ◌↔◌, All, IfErr, IfNone, IfOk, IfSome, IsTrue};
-ghost use Rattle.std.specs.Option.{option_copied};
 ghost use Rattle.omega_text.specs.Cases.{never, or_memory, or_task};
 ghost use Rattle.omega_text.specs.declared.refusal.task.TaskFault.TheVariants.{TooManyPropositions};
-ghost use Rattle.omega_acc.specs.label.Satisfiable.{IsSatisfiable};
-ghost use Rattle.omega_empty.specs.Judging.{IsWide};
-ghost use Rattle.omega_empty.specs.Lasso.{IsUsable};
 ghost use Rattle.omega_lasso_judge.specs.Conditions.{FailsFirst, IsNumber, IsUsableNumber};
 ghost use Rattle.omega_lasso_judge.specs.Refusing.{IsUndecidedAlong, IsWideEdge};
-ghost use Rattle.omega_edge_table.specs.Places.{ArePlaces};
+ghost use Rattle.omega_runs.specs.Places.{ArePlaces};
 
 use crate::edge_table::EdgeTable;
-use omega_acc::Label;
 use omega_automaton::Refusal;
-use omega_satisfying::can_be_true;
+use omega_runs::can_hold;
 use std::alloc::Global;
 
 /// The first of some edges whose label is never true. 42 where a label in front of that mentions over
-/// `MOST_MENTIONED` propositions and `can_be_true` gave it up, or 60.
+/// `MOST_MENTIONED` propositions and is given up, or 60.
 pub(crate) fn first_never_true(
     alloc: Global,
     table: &EdgeTable<'_>,
@@ -48,19 +43,5 @@ fn is_usable(alloc: Global, table: &EdgeTable<'_>, number: u32) -> Result<bool, 
     match &found.source.label {
         Some(label) => can_hold(alloc, Some(label)),
         None => can_hold(alloc, found.edge.label()),
-    }
-}
-
-/// Whether a label can be true, as one that is not there is. 42 or 60.
-fn can_hold(alloc: Global, label: Option<&Label>) -> Result<bool, Refusal>
-    ensures judged { IfOk result (λ possible. IsTrue possible ↔ IfSome (option_copied label.entry) IsSatisfiable) }
-    ensures refused { IfErr result (or_task (λ fault. (fault ≡ TooManyPropositions) × IsWide (option_copied label.entry)) (or_memory never)) }
-{
-    match label {
-        None => Ok(true),
-        Some(label) => {
-            let possible = can_be_true(alloc, label)?;
-            Ok(possible)
-        }
     }
 }

@@ -1,8 +1,8 @@
 //! Whether numbers are those of edges, and how the edges follow one another.
 ghost use Rattle.std.specs.Prelude.{◌≡◌, ◌<◌, ◌↔◌, [], ◌∷◌, All, IfNone, IfSome, IsTrue};
-ghost use Rattle.omega_empty.specs.Lasso.{IsStart};
+ghost use Rattle.omega_runs.specs.Lasso.{IsStart};
 ghost use Rattle.omega_lasso_judge.specs.Conditions.{AreLinked, FailsFirst, FollowsEdge, IsFirstApart, IsNumber, LeavesStart};
-ghost use Rattle.omega_edge_table.specs.Places.{ArePlaces};
+ghost use Rattle.omega_runs.specs.Places.{ArePlaces};
 
 use crate::edge_table::EdgeTable;
 use omega_automaton::Automaton;

@@ -2,9 +2,9 @@
 ghost use Rattle.std.specs.Prelude.{◌≡◌, ◌++◌, ◌∷◌, [], ◌<◌, ◌^◌, List, ℕ, length, map, nat_eq, All, IfOk, IsOkUnless, OnOk};
 ghost use Rattle.std.specs.Option.{unwrap_or};
 ghost use Rattle.indexmap.specs.IndexMap.{get};
-ghost use Rattle.omega_empty.specs.Lasso.{marks_at};
+ghost use Rattle.omega_runs.specs.Lasso.{marks_at};
 ghost use Rattle.omega_lasso_judge.specs.Conditions.{IsNumber};
-ghost use Rattle.omega_edge_table.specs.Places.{ArePlaces};
+ghost use Rattle.omega_runs.specs.Places.{ArePlaces};
 ghost use Rattle.omega_lasso_judge.specs.private.Runs.{AreRuns, GoesOn};
 
 use crate::edge_table::EdgeTable;

@@ -17,7 +17,7 @@ lexical bytes place TooLong is = is
 
 pub lasso_exact : GoesOneWay lasso_format
 lasso_exact = record {
-  behind = λ source from lexeme follows. record { forward = follows.gap.forward; nonempty = follows.token.nonempty; within = follows.within };
+  following = λ source from lexeme follows. record { forward = follows.gap.forward; nonempty = follows.token.nonempty; within = follows.within };
   lexical = λ source from fault faults. lexical _ faults.place fault faults.fault_there;
   one_token = one_follows;
   one_fault = one_faults;

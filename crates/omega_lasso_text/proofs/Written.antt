@@ -34,8 +34,8 @@ module _ (source gap text rest : List ℕ) (from : ℕ) (kind : LassoKind) (valu
       omega (arith, length-drop from source, length-append gap (text ++ rest), length-append text rest)
 
   -- what stands after the white space
-  behind_gap : drop (from + length gap) source ≡ text ++ rest
-  behind_gap = sym (drop-drop (length gap) from source) ∙ ap (drop (length gap)) is ∙ drop_at gap (text ++ rest) (length gap) refl
+  after_gap : drop (from + length gap) source ≡ text ++ rest
+  after_gap = sym (drop-drop (length gap) from source) ∙ ap (drop (length gap)) is ∙ drop_at gap (text ++ rest) (length gap) refl
 
   -- the white space
   written_gap : AllPass is_white gap → IsGap source from (from + length gap)
@@ -59,7 +59,7 @@ module _ (source gap text rest : List ℕ) (from : ℕ) (kind : LassoKind) (valu
       (begins_at (text ++ rest) (from + length gap) (length text) kind value longest (subst (Spells kind value) (sym front) spells)) in
       record {
         gap = written_gap white;
-        token = subst (λ bytes. BeginsWith bytes (lexeme_at (from + length gap) kind value text)) (sym behind_gap) begins;
+        token = subst (λ bytes. BeginsWith bytes (lexeme_at (from + length gap) kind value text)) (sym after_gap) begins;
         within = omega (arith, sizes);
       }
 
@@ -113,14 +113,14 @@ module _ (gaps : EndsAreGaps) (numerals : NumbersAreLongest) (words : WordsAreLo
   token_written gap text rest kind value symbols white spells longest then source from within e =
       let follows = written_follows source gap text rest from kind value e within white spells longest in
       let place = from + length gap + length text in
-      let behind : drop place source ≡ rest =
+      let following : drop place source ≡ rest =
       ap (λ n. drop n source) (let sum : place ≡ from + (length gap + length text) = omega arith in sum)
       ∙ sym (drop-drop (length gap + length text) from source)
       ∙ ap (drop (length gap + length text)) e
       ∙ sym (drop-drop (length text) (length gap) (gap ++ (text ++ rest)))
       ∙ ap (drop (length text)) (drop-append_seam gap (text ++ rest))
       ∙ drop-append_seam text rest in
-      let next = then source place follows.within behind in
+      let next = then source place follows.within following in
       record {
         lexemes = lexeme_at (from + length gap) kind value text ∷ next.lexemes;
         end = next.end;
@@ -134,12 +134,12 @@ module _ (gaps : EndsAreGaps) (numerals : NumbersAreLongest) (words : WordsAreLo
       → IsWritten (numbers_text numbers ++ 10 ∷ rest) (map number numbers ++ symbols)
   numbers_written [] rest symbols small then = then
   numbers_written (n ∷ numbers) rest symbols small then =
-      let behind = numbers_text numbers ++ 10 ∷ rest in
+      let following = numbers_text numbers ++ 10 ∷ rest in
       let fits = All-head (λ n. n ≤ most_number) n numbers small in
       subst (λ text. IsWritten text (number n ∷ (map number numbers ++ symbols)))
       (sym (append_assoc (32 ∷ decimal n) (numbers_text numbers) (10 ∷ rest)))
-      (token_written (32 ∷ []) (decimal n) behind Number n (map number numbers ++ symbols) (one_white 32 refl) (fits, refl)
-      (numerals n behind (ends_number numbers rest))
+      (token_written (32 ∷ []) (decimal n) following Number n (map number numbers ++ symbols) (one_white 32 refl) (fits, refl)
+      (numerals n following (ends_number numbers rest))
       (numbers_written numbers rest symbols (All-tail (λ n. n ≤ most_number) n numbers small) then))
 
   -- a word, numbers and a line feed

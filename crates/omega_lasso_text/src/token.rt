@@ -1,7 +1,7 @@
 ghost use Rattle.std.specs.Prelude.{◌≡◌, ◌≢◌, ◌≤◌, codes, length, IfErr, IfNone, IfOk, IfSome};
 ghost use Rattle.std.specs.List.{prefix_len};
 ghost use Rattle.omega_text.specs.Bytes.{is_word_byte};
-ghost use Rattle.omega_text.specs.Format.{IsPartBehind};
+ghost use Rattle.omega_text.specs.Format.{IsPartAfter};
 ghost use Rattle.omega_text.specs.Lexeme.{lexeme_of};
 ghost use Rattle.omega_text.specs.pg.Cut.{IsGap};
 ghost use Rattle.omega_lasso_text.specs.Cut.{Follows};
@@ -24,7 +24,7 @@ pub(crate) fn next_lasso_token(
     ensures token { IfOk result (λ found. IfSome found (λ token. Follows source.now at (lexeme_of token))) }
     ensures end { IfOk result (λ found. IfNone found (IsGap source.now at (length source.now))) }
     ensures fault { IfErr result (HasFaultFrom source.now at) }
-    ensures progress { IfOk result (λ found. IfSome found (λ token. IsPartBehind source.now at token.span)) }
+    ensures progress { IfOk result (λ found. IfSome found (λ token. IsPartAfter source.now at token.span)) }
 {
     match next_pg_token(source, at) {
         Ok(None) => Ok(None),

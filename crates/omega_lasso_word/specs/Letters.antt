@@ -2,9 +2,9 @@
 use Rattle.std.specs.Prelude.{ℕ, ◌+◌, Bool, if◌then◌else◌, nat_lt, List, [], ◌∷◌, ◌++◌, get_or, Option, None, Some, codes}
 use Rattle.omega_acc.specs.label.Label.{LabelTree, conjunction, constant, disjunction, negation, proposition}
 use Rattle.omega_automaton.specs.Automaton.{BodyEdge, Description, edge_at}
-use Rattle.omega_empty.specs.Lasso.{label_of}
-use Rattle.omega_empty.specs.Words.{has_bit, index_in}
-use Rattle.omega_written.specs.Names.{is_identifier}
+use Rattle.omega_runs.specs.Lasso.{label_of}
+use Rattle.omega_runs.specs.Words.{has_bit, index_in}
+use Rattle.omega_edge_labels.specs.Names.{is_identifier}
 
 -- a name, in quotes where it is no identifier
 abbrev pub name_text : List ℕ → List ℕ
@@ -29,14 +29,14 @@ abbrev pub literal_text : ℕ → ℕ → List ℕ → List ℕ
 literal_text index p name = if has_bit index p then name_text name else codes "!" ++ name_text name
 
 -- those of the propositions from one on, each after `&`
-abbrev pub literals_behind : ℕ → ℕ → List (List ℕ) → List ℕ
-literals_behind index p [] = []
-literals_behind index p (name ∷ names) = (codes " & " ++ literal_text index p name) ++ literals_behind index (p + 1) names
+abbrev pub literals_after : ℕ → ℕ → List (List ℕ) → List ℕ
+literals_after index p [] = []
+literals_after index p (name ∷ names) = (codes " & " ++ literal_text index p name) ++ literals_after index (p + 1) names
 
 -- the valuation of an index; `1` where there are no propositions
 abbrev pub valuation_text : ℕ → List (List ℕ) → List ℕ
 valuation_text index [] = codes "1"
-valuation_text index (name ∷ names) = literal_text index 0 name ++ literals_behind index 1 names
+valuation_text index (name ∷ names) = literal_text index 0 name ++ literals_after index 1 names
 
 -- the letter of an edge with this label, or with none and so by its index within its state
 abbrev pub text_of_letter : List (List ℕ) → ℕ → Option LabelTree → List ℕ

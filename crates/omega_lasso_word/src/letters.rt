@@ -6,8 +6,8 @@ ghost use Rattle.omega_acc.specs.label.Shape.{label_tree_of_shape};
 
 use crate::names::write_name;
 use omega_acc::{Label, LabelShape};
+use omega_edge_labels::has_bit;
 use omega_text::{ByteString, Refusal};
-use omega_written::has_bit;
 
 /// Appends a label by the names of the propositions.
 pub(crate) fn write_label(

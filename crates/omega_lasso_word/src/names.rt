@@ -3,8 +3,8 @@
 ghost use Rattle.std.specs.Prelude.{◌≡◌, ◌++◌, IsOkUnless, OnOk};
 ghost use Rattle.omega_lasso_word.specs.Letters.{name_text};
 
+use omega_edge_labels::is_identifier;
 use omega_text::Refusal;
-use omega_written::is_identifier;
 
 /// Appends a name, in quotes where it is no identifier.
 pub(crate) fn write_name(name: &[u8], out: &mut Vec<u8>) -> Result<(), Refusal>

@@ -1,13 +1,13 @@
 ghost use Rattle.std.specs.Prelude.{◌≡◌, ◌++◌, ◌<◌, codes, length, IfOk, IsOkUnless, OnOk};
 ghost use Rattle.std.specs.List.{flat_map};
-ghost use Rattle.omega_empty.specs.Lasso.{label_of};
-ghost use Rattle.omega_edge_table.specs.Places.{ArePlaces};
+ghost use Rattle.omega_runs.specs.Lasso.{label_of};
+ghost use Rattle.omega_runs.specs.Places.{ArePlaces};
 ghost use Rattle.omega_lasso_word.specs.Letters.{letter_text, text_of_letter};
 ghost use Rattle.omega_lasso_word.specs.WordText.{cycle_text, stem_text, word_text};
 
 use crate::letters::{write_label, write_valuation};
 use omega_automaton::{Automaton, EdgeRef, State};
-use omega_edge_table::{EdgePlace, edge_of, edge_places};
+use omega_runs::{EdgePlace, edge_of, edge_places};
 use omega_text::{ByteString, Refusal};
 use std::alloc::Global;
 

@@ -5,8 +5,8 @@ use Rattle.std.specs.List.{range_with_len}
 use Rattle.std.proofs.lemmas.Bool.{cases_eq}
 use Rattle.std.proofs.lemmas.List.{ext_get_or, length-set, get_or-set_same, get_or-set_other, length-replicate, get_or-replicate}
 use Rattle.std.proofs.lemmas.List.FromFn.{length-map-range_with_len, get_or-map-range_with_len}
-use Rattle.omega_lift.specs.Allowance.{measure_at}
-use Rattle.omega_lift.specs.Measure.{Measure}
+use Rattle.omega_lift_laws.specs.Allowance.{measure_at}
+use Rattle.omega_lift_laws.specs.Measure.{Measure}
 
 -- the measures of the first n places, given place by place
 abbrev pub listed : (ℕ → Measure) → ℕ → List Measure

@@ -5,18 +5,18 @@ use Rattle.std.proofs.lemmas.Bool.{cases_eq}
 use Rattle.std.proofs.lemmas.List.{get_or_default, get_or-map, length-map, length-take, length-drop, length-replicate, get_or-replicate, take-replicate, drop-replicate}
 use Rattle.std.proofs.lemmas.List.Sums.{count_by-le-length}
 use Rattle.std.proofs.Math.Nat.{zero-div, zero-mod}
-use Rattle.omega_game.specs.Bound.{bearers, losing_priorities}
+use Rattle.omega_game.specs.Bound.{occurrences, losing_priorities}
 use Rattle.omega_game.specs.Player.{loses}
-use Rattle.omega_lift.specs.Allowance.{measure_at}
-use Rattle.omega_lift.specs.Laws.{AllowancesAreLeastSufficient, AllowancesExceed}
-use Rattle.omega_lift.specs.Least.{limits_of}
-use Rattle.omega_lift.specs.Measure.{Measure, IsMeasure, compare_from, entries_from, zero_measure}
+use Rattle.omega_lift_laws.specs.Allowance.{measure_at}
+use Rattle.omega_lift_laws.specs.Laws.{AllowancesAreLeastSufficient, AllowancesExceed}
+use Rattle.omega_lift_laws.specs.Least.{limits_of}
+use Rattle.omega_lift_laws.specs.Measure.{Measure, IsMeasure, compare_from, entries_from, zero_measure}
 use Rattle.omega_measure.specs.declared.field.Field.{Field}
 use Rattle.omega_measure.specs.private.layout.Field.{AreAtMost, AreFields, ArePacked, IsInside, IsPackedRow, field_places, digit_in, digits_in, entry_limits, front_order, last_field, limits_in, measure_of, top_field, value, word_places}
 use Rattle.omega_measure.specs.private.layout.Due.{is_short}
 use Rattle.omega_measure.specs.private.layout.Packed.{ArePackedRows, packed_content, packed_measure}
 use Rattle.omega_measure.specs.private.layout.Rows.{AreAtLimits, IsLastBelow, WritesRow, allowance_of, compare_kept, row_of}
-use Rattle.omega_measure.specs.private.layout.Shape.{Borne, width_of}
+use Rattle.omega_measure.specs.private.layout.Shape.{Setting, width_of}
 use Rattle.omega_measure.specs.Table.{Content, Exceeds, IsAllowanceIn, Raises, zero_content}
 use Rattle.omega_measure.proofs.Allowances.{allowance_is, due_from}
 use Rattle.omega_measure.proofs.Digits.{value-zeros}
@@ -132,42 +132,42 @@ module _ (fields : List Field) (row : List ℕ) (are : AreFields (length row) fi
 
 -- ---- a table
 
-module _ (borne : Borne) (fields : List Field) (size : ℕ) (words : List ℕ) where
-  pub length-packed : length (packed_content borne fields size words).measures ≡ length borne.priorities
-  length-packed = length-listed (packed_measure fields size words) (length borne.priorities)
+module _ (setting : Setting) (fields : List Field) (size : ℕ) (words : List ℕ) where
+  pub length-packed : length (packed_content setting fields size words).measures ≡ length setting.priorities
+  length-packed = length-listed (packed_measure fields size words) (length setting.priorities)
 
-  pub measure_at-packed : (v : ℕ) → v < length borne.priorities → measure_at (packed_content borne fields size words).measures v ≡ packed_measure fields size words v
-  measure_at-packed v l = measure_at-listed (packed_measure fields size words) (length borne.priorities) v l
+  pub measure_at-packed : (v : ℕ) → v < length setting.priorities → measure_at (packed_content setting fields size words).measures v ≡ packed_measure fields size words v
+  measure_at-packed v l = measure_at-listed (packed_measure fields size words) (length setting.priorities) v l
 
-  module _ (rows : ArePackedRows borne fields size words) where
-    pub packed_fits : (v : ℕ) → v < length borne.priorities → v * size + size ≤ length words
-    packed_fits v l = omega (arith, rows_before v (length borne.priorities) size l, rows.rows)
+  module _ (rows : ArePackedRows setting fields size words) where
+    pub packed_fits : (v : ℕ) → v < length setting.priorities → v * size + size ≤ length words
+    packed_fits v l = omega (arith, rows_before v (length setting.priorities) size l, rows.rows)
 
-    pub length-packed_row : (v : ℕ) → v < length borne.priorities → length (row_of size words v) ≡ size
+    pub length-packed_row : (v : ℕ) → v < length setting.priorities → length (row_of size words v) ≡ size
     length-packed_row v l = omega (arith, length-take size (drop (v * size) words), length-drop (v * size) words, packed_fits v l)
 
-    digits_at : (v : ℕ) → v < length borne.priorities → AreDigits (entry_limits fields) (digits_in fields (row_of size words v))
+    digits_at : (v : ℕ) → v < length setting.priorities → AreDigits (entry_limits fields) (digits_in fields (row_of size words v))
     digits_at v l = AreDigits-row size fields (row_of size words v) rows.fields_are (rows.packed v l)
 
-    pub IsMeasure-packed : (v : ℕ) → v < length borne.priorities → IsMeasure borne.player borne.priorities (measure_at (packed_content borne fields size words).measures v)
+    pub IsMeasure-packed : (v : ℕ) → v < length setting.priorities → IsMeasure setting.player setting.priorities (measure_at (packed_content setting fields size words).measures v)
     IsMeasure-packed v l =
-        subst (IsMeasure borne.player borne.priorities) (sym (measure_at-packed v l))
-        (IsMeasure-digits borne.player borne.priorities (digits_in fields (row_of size words v)) (subst (λ ls. AreDigits ls (digits_in fields (row_of size words v))) rows.limits (digits_at v l)))
+        subst (IsMeasure setting.player setting.priorities) (sym (measure_at-packed v l))
+        (IsMeasure-digits setting.player setting.priorities (digits_in fields (row_of size words v)) (subst (λ ls. AreDigits ls (digits_in fields (row_of size words v))) rows.limits (digits_at v l)))
 
-    pub length-fields : length fields ≡ width_of borne.player borne.priorities + 1
+    pub length-fields : length fields ≡ width_of setting.player setting.priorities + 1
     length-fields =
         let limits = ap length (limits_packed (entry_limits fields) fields rows.fields_are.packed) in
-        let entries = ap length rows.limits ∙ length-map (losing_priorities borne.player borne.priorities) (bearers borne.priorities) in
+        let entries = ap length rows.limits ∙ length-map (losing_priorities setting.player setting.priorities) (occurrences setting.priorities) in
         omega (arith, limits, entries, length-map fields (λ field. field.limit))
 
-    pub kept_within : (p kept : ℕ) → kept ≡ entries_from borne.player borne.priorities p → kept < length fields
-    kept_within p kept is = omega (arith, is, length-fields, count_by-le-length (λ q. nat_le p q) (losing_priorities borne.player borne.priorities))
+    pub kept_within : (p kept : ℕ) → kept ≡ entries_from setting.player setting.priorities p → kept < length fields
+    kept_within p kept is = omega (arith, is, length-fields, count_by-le-length (λ q. nat_le p q) (losing_priorities setting.player setting.priorities))
 
-    module _ (table : Content) (view : packed_content borne fields size words ≡ table) where
-      pub in_packed : (v : ℕ) → v < length table.measures → v < length borne.priorities
+    module _ (table : Content) (view : packed_content setting fields size words ≡ table) where
+      pub in_packed : (v : ℕ) → v < length table.measures → v < length setting.priorities
       in_packed v l = omega (arith, subst (λ t. v < length t.measures) (sym view) l, length-packed)
 
-      pub packed_top_iff : (v : ℕ) (flag : Bool) → v < length borne.priorities → (flag ≡ true) ↔ (get_or (digits_in fields (row_of size words v)) 0 0 ≢ 0) → (flag ≡ true) ↔ (measure_at table.measures v ≡ None)
+      pub packed_top_iff : (v : ℕ) (flag : Bool) → v < length setting.priorities → (flag ≡ true) ↔ (get_or (digits_in fields (row_of size words v)) 0 0 ≢ 0) → (flag ≡ true) ↔ (measure_at table.measures v ≡ None)
       packed_top_iff v flag l iff =
           let digits = digits_in fields (row_of size words v) in
           let some : 0 < length digits = omega (arith, length-map fields (digit_in (row_of size words v)), length-fields) in
@@ -177,7 +177,7 @@ module _ (borne : Borne) (fields : List Field) (size : ℕ) (words : List ℕ) w
           ((λ set. is ∙ says.1 (iff.0 set)), (λ top. iff.1 (λ zero_is. says.0 zero_is (sym is ∙ top))))
 
       pub packed_compare_is :
-          (a b p kept : ℕ) (d : Field) (order : Ordering) → a < length borne.priorities → b < length borne.priorities → kept ≡ entries_from borne.player borne.priorities p
+          (a b p kept : ℕ) (d : Field) (order : Ordering) → a < length setting.priorities → b < length setting.priorities → kept ≡ entries_from setting.player setting.priorities p
           → order ≡ front_order (get_or fields kept d).word (get_or fields kept d).shift (row_of size words a) (row_of size words b)
           → order ≡ compare_from table.player table.priorities p (measure_at table.measures a) (measure_at table.measures b)
       packed_compare_is a b p kept d order a_in b_in k is =
@@ -190,41 +190,41 @@ module _ (borne : Borne) (fields : List Field) (size : ℕ) (words : List ℕ) w
           ∙ front_order-digits size fields rows.fields_are row_a row_b (length-packed_row a a_in) (length-packed_row b b_in) (rows.packed a a_in) (rows.packed b b_in) kept l
           ∙ sym (compare-digits (entry_limits fields) (digits_in fields row_a) (digits_in fields row_b) kept (digits_at a a_in) (digits_at b b_in))
           ∙ ap (λ n. compare_kept n (packed_measure fields size words a) (packed_measure fields size words b)) k
-          ∙ ap (λ x. compare_from borne.player borne.priorities p x (packed_measure fields size words b)) (sym (measure_at-packed a a_in))
-          ∙ ap (λ y. compare_from borne.player borne.priorities p (measure_at (packed_content borne fields size words).measures a) y) (sym (measure_at-packed b b_in)))
+          ∙ ap (λ x. compare_from setting.player setting.priorities p x (packed_measure fields size words b)) (sym (measure_at-packed a a_in))
+          ∙ ap (λ y. compare_from setting.player setting.priorities p (measure_at (packed_content setting fields size words).measures a) y) (sym (measure_at-packed b b_in)))
 
       pub packed_due_iff :
-          (least : AllowancesAreLeastSufficient) (exceed : AllowancesExceed) (v w : ℕ) (order : Ordering) (top strict short : Bool) → v < length borne.priorities → w < length borne.priorities
-          → order ≡ compare_from table.player table.priorities (slice_index borne.priorities v) (measure_at table.measures v) (measure_at table.measures w)
-          → (top ≡ true) ↔ (measure_at table.measures v ≡ None) → strict ≡ loses borne.player (slice_index borne.priorities v) → short ≡ is_short order top strict
+          (least : AllowancesAreLeastSufficient) (exceed : AllowancesExceed) (v w : ℕ) (order : Ordering) (top strict short : Bool) → v < length setting.priorities → w < length setting.priorities
+          → order ≡ compare_from table.player table.priorities (slice_index setting.priorities v) (measure_at table.measures v) (measure_at table.measures w)
+          → (top ≡ true) ↔ (measure_at table.measures v ≡ None) → strict ≡ loses setting.player (slice_index setting.priorities v) → short ≡ is_short order top strict
           → (short ≡ true) ↔ Exceeds table v w
       packed_due_iff least exceed v w order top strict short v_in w_in o t s e =
           subst (λ t. (short ≡ true) ↔ Exceeds t v w) view
-          (due_from least exceed (packed_content borne fields size words) v w order top strict short (IsMeasure-packed v v_in) (IsMeasure-packed w w_in)
-          (subst (λ t. order ≡ compare_from t.player t.priorities (slice_index borne.priorities v) (measure_at t.measures v) (measure_at t.measures w)) (sym view) o)
+          (due_from least exceed (packed_content setting fields size words) v w order top strict short (IsMeasure-packed v v_in) (IsMeasure-packed w w_in)
+          (subst (λ t. order ≡ compare_from t.player t.priorities (slice_index setting.priorities v) (measure_at t.measures v) (measure_at t.measures w)) (sym view) o)
           (subst (λ t. (top ≡ true) ↔ (measure_at t.measures v ≡ None)) (sym view) t) s e)
 
 -- the table after v has its allowance towards w
 module _
-    (least : AllowancesAreLeastSufficient) (borne : Borne) (fields : List Field) (size : ℕ) (words new_words : List ℕ) (kept v w : ℕ) (strict : Bool)
-    (rows : ArePackedRows borne fields size words) (v_in : v < length borne.priorities) (w_in : w < length borne.priorities)
-    (kept_is : kept ≡ entries_from borne.player borne.priorities (slice_index borne.priorities v))
-    (strict_is : strict ≡ loses borne.player (slice_index borne.priorities v))
+    (least : AllowancesAreLeastSufficient) (setting : Setting) (fields : List Field) (size : ℕ) (words new_words : List ℕ) (kept v w : ℕ) (strict : Bool)
+    (rows : ArePackedRows setting fields size words) (v_in : v < length setting.priorities) (w_in : w < length setting.priorities)
+    (kept_is : kept ≡ entries_from setting.player setting.priorities (slice_index setting.priorities v))
+    (strict_is : strict ≡ loses setting.player (slice_index setting.priorities v))
     (others : WritesRow size words new_words v (row_of size new_words v))
     (packed : IsPackedRow fields (row_of size new_words v))
     (allows : measure_of (digits_in fields (row_of size new_words v)) ≡ allowance_of strict kept (entry_limits fields) (measure_of (digits_in fields (row_of size words w)))) where
   abbrev packed_old : Content
-  packed_old = packed_content borne fields size words
+  packed_old = packed_content setting fields size words
 
   abbrev packed_allowance : Measure
   packed_allowance = allowance_of strict kept (entry_limits fields) (measure_at packed_old.measures w)
 
   is_allowance : IsAllowanceIn packed_old v w packed_allowance
   is_allowance =
-      allowance_is least borne.player borne.priorities (slice_index borne.priorities v) (measure_at packed_old.measures w) strict kept (entry_limits fields)
-      (IsMeasure-packed borne fields size words rows w w_in) strict_is kept_is rows.limits
+      allowance_is least setting.player setting.priorities (slice_index setting.priorities v) (measure_at packed_old.measures w) strict kept (entry_limits fields)
+      (IsMeasure-packed setting fields size words rows w w_in) strict_is kept_is rows.limits
 
-  pub ArePackedRows-raised : ArePackedRows borne fields size new_words
+  pub ArePackedRows-raised : ArePackedRows setting fields size new_words
   ArePackedRows-raised = record {
     fields_are = rows.fields_are;
     limits = rows.limits;
@@ -232,19 +232,19 @@ module _
     packed = λ u l.
         elim (cases_eq u v) [
           | inl same ↦ subst (λ k. IsPackedRow fields (row_of size new_words k)) (sym same) packed
-          | inr ne ↦ subst (IsPackedRow fields) (sym (others.others u ne (packed_fits borne fields size words rows u l))) (rows.packed u l)
+          | inr ne ↦ subst (IsPackedRow fields) (sym (others.others u ne (packed_fits setting fields size words rows u l))) (rows.packed u l)
         ];
   }
 
-  pub Raises-packed : Raises packed_old v w (packed_content borne fields size new_words)
+  pub Raises-packed : Raises packed_old v w (packed_content setting fields size new_words)
   Raises-packed = record {
     allowance = packed_allowance;
     is = is_allowance;
     replaced =
-        ap (λ measures. record { player = borne.player; priorities = borne.priorities; measures = measures })
-        (listed-written (packed_measure fields size words) (packed_measure fields size new_words) (length borne.priorities) v packed_allowance v_in
-        (allows ∙ ap (allowance_of strict kept (entry_limits fields)) (sym (measure_at-packed borne fields size words w w_in)))
-        (λ u ne l. ap (λ row. measure_of (digits_in fields row)) (others.others u ne (packed_fits borne fields size words rows u l))));
+        ap (λ measures. record { player = setting.player; priorities = setting.priorities; measures = measures })
+        (listed-written (packed_measure fields size words) (packed_measure fields size new_words) (length setting.priorities) v packed_allowance v_in
+        (allows ∙ ap (allowance_of strict kept (entry_limits fields)) (sym (measure_at-packed setting fields size words w w_in)))
+        (λ u ne l. ap (λ row. measure_of (digits_in fields row)) (others.others u ne (packed_fits setting fields size words rows u l))));
   }
 
 -- ---- the table of a new solver
@@ -266,20 +266,20 @@ zero_digits : (n : ℕ) (fields : List Field) → digits_in fields (replicate n 
 zero_digits n [] = refl
 zero_digits n (field ∷ fields) = ap (λ d. d ∷ digits_in fields (replicate n 0)) (zero_digit n field) ∙ ap (λ ds. 0 ∷ ds) (zero_digits n fields)
 
-module _ (borne : Borne) (fields : List Field) (size : ℕ) (words limits : List ℕ) (packed : ArePacked limits fields) (limits_are : limits ≡ limits_of borne.player borne.priorities)
-    (size_is : size ≡ (last_field fields).word + 1) (zeros : words ≡ replicate (length borne.priorities * size) 0) where
+module _ (setting : Setting) (fields : List Field) (size : ℕ) (words limits : List ℕ) (packed : ArePacked limits fields) (limits_are : limits ≡ limits_of setting.player setting.priorities)
+    (size_is : size ≡ (last_field fields).word + 1) (zeros : words ≡ replicate (length setting.priorities * size) 0) where
   entries_are : entry_limits fields ≡ limits
   entries_are = ap (drop 1) (limits_packed limits fields packed)
 
   are_fields : AreFields size fields
   are_fields = record { packed = subst (λ ls. ArePacked ls fields) (sym entries_are) packed; room = omega (arith, size_is) }
 
-  row_is : (v : ℕ) → v < length borne.priorities → row_of size words v ≡ replicate size 0
+  row_is : (v : ℕ) → v < length setting.priorities → row_of size words v ≡ replicate size 0
   row_is v l =
-      let fits = rows_before v (length borne.priorities) size l in
+      let fits = rows_before v (length setting.priorities) size l in
       ap (λ xs. row_of size xs v) zeros
-      ∙ ap (take size) (drop-replicate (v * size) (length borne.priorities * size) 0)
-      ∙ take-replicate size (length borne.priorities * size - v * size) 0 (omega (arith, fits))
+      ∙ ap (take size) (drop-replicate (v * size) (length setting.priorities * size) 0)
+      ∙ take-replicate size (length setting.priorities * size - v * size) 0 (omega (arith, fits))
 
   zero_row : IsPackedRow fields (replicate size 0)
   zero_row = record {
@@ -295,20 +295,20 @@ module _ (borne : Borne) (fields : List Field) (size : ℕ) (words limits : List
       zero_head zero = refl
       zero_head (suc n) = refl
 
-  pub ArePackedRows-zero : ArePackedRows borne fields size words
+  pub ArePackedRows-zero : ArePackedRows setting fields size words
   ArePackedRows-zero = record {
     fields_are = are_fields;
     limits = entries_are ∙ limits_are;
-    rows = ap length zeros ∙ length-replicate (length borne.priorities * size) 0;
+    rows = ap length zeros ∙ length-replicate (length setting.priorities * size) 0;
     packed = λ v l. subst (IsPackedRow fields) (sym (row_is v l)) zero_row;
   }
 
-  zero_measure_is : (v : ℕ) → v < length borne.priorities → packed_measure fields size words v ≡ zero_measure borne.player borne.priorities
+  zero_measure_is : (v : ℕ) → v < length setting.priorities → packed_measure fields size words v ≡ zero_measure setting.player setting.priorities
   zero_measure_is v l =
       ap (λ row. measure_of (digits_in fields row)) (row_is v l) ∙ ap measure_of (zero_digits size fields)
-      ∙ ap (λ n. measure_of (replicate n 0)) (length-fields borne fields size words ArePackedRows-zero ∙ add-one (width_of borne.player borne.priorities))
+      ∙ ap (λ n. measure_of (replicate n 0)) (length-fields setting fields size words ArePackedRows-zero ∙ add-one (width_of setting.player setting.priorities))
 
-  pub packed_content-zero : packed_content borne fields size words ≡ zero_content borne.player borne.priorities
+  pub packed_content-zero : packed_content setting fields size words ≡ zero_content setting.player setting.priorities
   packed_content-zero =
-      ap (λ measures. record { player = borne.player; priorities = borne.priorities; measures = measures })
-      (listed-same (packed_measure fields size words) (length borne.priorities) (zero_measure borne.player borne.priorities) zero_measure_is)
+      ap (λ measures. record { player = setting.player; priorities = setting.priorities; measures = measures })
+      (listed-same (packed_measure fields size words) (length setting.priorities) (zero_measure setting.player setting.priorities) zero_measure_is)

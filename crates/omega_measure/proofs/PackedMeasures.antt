@@ -7,10 +7,10 @@ use Rattle.std.specs.Cmp.Lexicographic.{slice_cmp}
 use Rattle.std.proofs.lemmas.Cmp.{nat_list_cmp_total, tied_itself}
 use Rattle.std.proofs.lemmas.Grind.{same_number_lists}
 use Rattle.std.proofs.lemmas.List.{get_or-map, length-map}
-use Rattle.omega_game.specs.Bound.{bearers, losing_priorities}
+use Rattle.omega_game.specs.Bound.{occurrences, losing_priorities}
 use Rattle.omega_game.specs.declared.player.Player.{Player}
-use Rattle.omega_lift.specs.Least.{limits_of, raised}
-use Rattle.omega_lift.specs.Measure.{IsMeasure, Measure}
+use Rattle.omega_lift_laws.specs.Least.{limits_of, raised}
+use Rattle.omega_lift_laws.specs.Measure.{IsMeasure, Measure}
 use Rattle.omega_measure.specs.private.layout.Field.{AreAtMost, measure_of}
 use Rattle.omega_measure.specs.private.layout.Rows.{IsLastBelow, allowance_of, compare_kept}
 use Rattle.omega_measure.proofs.Digits.{nat_cmp-greater, nat_cmp-less}
@@ -101,8 +101,8 @@ IsMeasure-digits player priorities (zero ∷ xs) digits =
     let losing = losing_priorities player priorities in
     let long = length-at_most (limits_of player priorities) xs digits.small.1 in
     record {
-      count = long ∙ length-map losing (bearers priorities);
+      count = long ∙ length-map losing (occurrences priorities);
       limits = λ k l.
           let small = at_most_at (limits_of player priorities) xs k digits.small.1 l in
-          omega (arith, small, get_or-map (bearers priorities) losing k 0 0 (omega (arith, l, long, length-map losing (bearers priorities))));
+          omega (arith, small, get_or-map (occurrences priorities) losing k 0 0 (omega (arith, l, long, length-map losing (occurrences priorities))));
     }

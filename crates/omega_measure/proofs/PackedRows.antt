@@ -189,7 +189,7 @@ module _ (n : ℕ) (fields : List Field) (are : AreFields n fields) where
 
     -- a digit raised by `by` (0 or 1), and all after it cleared
     module _ (k by m z : ℕ) (l : k < length fields) (fits : get_or (digits_in fields row) k 0 + by ≤ get_or (limits_in fields) k 0) (free : 0 < k → get_or (digits_in fields row) 0 0 ≡ 0)
-        (behind : m + suc k ≡ length fields) (words_behind : z + suc (get_or fields k top_field).word ≡ n) where
+        (following : m + suc k ≡ length fields) (words_after : z + suc (get_or fields k top_field).word ≡ n) where
       abbrev pub new_word : ℕ
       new_word = (get_or row (get_or fields k top_field).word 0 / 2 ^ (get_or fields k top_field).shift + by) * 2 ^ (get_or fields k top_field).shift
 
@@ -226,10 +226,10 @@ module _ (n : ℕ) (fields : List Field) (are : AreFields n fields) where
           ]
 
       pub length-new_row : length new_row ≡ n
-      length-new_row = length_replaced row (get_or fields k top_field).word z new_word (words_behind ∙ sym size) ∙ size
+      length-new_row = length_replaced row (get_or fields k top_field).word z new_word (words_after ∙ sym size) ∙ size
 
       new_at_most : AreAtMost (limits_in fields) new_digits
-      new_at_most = at_most_replaced (limits_in fields) (digits_in fields row) k m (get_or (digits_in fields row) k 0 + by) packed.limits (behind ∙ sym length-digits) fits
+      new_at_most = at_most_replaced (limits_in fields) (digits_in fields row) k m (get_or (digits_in fields row) k 0 + by) packed.limits (following ∙ sym length-digits) fits
 
       new_whole : value (word_places n) new_row ≡ value (field_places n fields) new_digits
       new_whole =
@@ -237,9 +237,9 @@ module _ (n : ℕ) (fields : List Field) (are : AreFields n fields) where
           let inside = fields_inside k l in
           let front = word_front row size small_words field.word inside.word in
           let v = value (word_places n) row in
-          let words_at = value-replaced (64 * n) (word_places n) row field.word z new_word (words_in row size small_words) (words_behind ∙ sym (length-word_places n)) in
+          let words_at = value-replaced (64 * n) (word_places n) row field.word z new_word (words_in row size small_words) (words_after ∙ sym (length-word_places n)) in
           let words = subst (λ t. value (word_places n) new_row + get_or row field.word 0 * 2 ^ t ≡ (v / 2 ^ t + new_word) * 2 ^ t) (word_places-at n field.word inside.word) words_at in
-          let digits_at = value-replaced (place_of n start) (field_places n fields) (digits_in fields row) k m (get_or (digits_in fields row) k 0 + by) (digits_in_places (digits_in fields row) packed.limits) (behind ∙ sym length-field_places) in
+          let digits_at = value-replaced (place_of n start) (field_places n fields) (digits_in fields row) k m (get_or (digits_in fields row) k 0 + by) (digits_in_places (digits_in fields row) packed.limits) (following ∙ sym length-field_places) in
           let digits_t = subst (λ t. value (field_places n fields) new_digits + get_or (digits_in fields row) k 0 * 2 ^ t ≡ (value (field_places n fields) (digits_in fields row) / 2 ^ t + (get_or (digits_in fields row) k 0 + by)) * 2 ^ t) (field_places-at n fields k l) digits_at in
           let digits = subst (λ u. value (field_places n fields) new_digits + get_or (digits_in fields row) k 0 * 2 ^ place_of n field ≡ (u / 2 ^ place_of n field + (get_or (digits_in fields row) k 0 + by)) * 2 ^ place_of n field) (sym whole_row) digits_t in
           same_value v (64 * (n - 1 - field.word)) (place_of n field) field.shift front.0 (get_or row field.word 0) (get_or (digits_in fields row) k 0) new_word by
@@ -251,7 +251,7 @@ module _ (n : ℕ) (fields : List Field) (are : AreFields n fields) where
       new_top : get_or new_digits 0 0 ≢ 0 → (i : ℕ) → 0 < i → get_or new_digits i 0 ≡ 0
       new_top set i some =
           elim (cases_lt 0 k) [
-            | inl later ↦ absurd (set (head_replaced (digits_in fields row) k m (get_or (digits_in fields row) k 0 + by) later (behind ∙ sym length-digits) ∙ free later))
+            | inl later ↦ absurd (set (head_replaced (digits_in fields row) k m (get_or (digits_in fields row) k 0 + by) later (following ∙ sym length-digits) ∙ free later))
             | inr first ↦
                 let e : k ≡ 0 = omega arith in
                 subst (λ j. get_or (take j (digits_in fields row) ++ (get_or (digits_in fields row) k 0 + by) ∷ replicate m 0) i 0 ≡ 0) (sym e) (tail_zero (get_or (digits_in fields row) k 0 + by) m i some)

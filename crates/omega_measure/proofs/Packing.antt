@@ -55,7 +55,7 @@ top-follows = record {
   few = omega arith;
   within = omega arith;
   room = omega arith;
-  behind = omega arith;
+  following = omega arith;
 }
 
 pub chained_from_start : (limits : List ℕ) (fields : List Field) → ArePacked limits fields → AreChained start (1 ∷ limits) fields
@@ -66,14 +66,14 @@ word-le-last : (before : Field) (limits : List ℕ) (fields : List Field) → be
 word-le-last before limits [] room chained = omega arith
 word-le-last before [] (field ∷ fields) room chained = absurd chained
 word-le-last before (l ∷ limits) (field ∷ fields) room chained =
-    let rest = word-le-last field limits fields chained.0.room chained.1 in omega (arith, rest, chained.0.behind)
+    let rest = word-le-last field limits fields chained.0.room chained.1 in omega (arith, rest, chained.0.following)
 
 -- the place of a field in a row of n words
 abbrev pub place_of : ℕ → Field → ℕ
 place_of n field = 64 * (n - 1 - field.word) + field.shift
 
-place_behind : (n : ℕ) (before field : Field) (limit : ℕ) → before.word < n → field.word < n → FollowsField before limit field → place_of n field + field.bits ≤ place_of n before
-place_behind n before field limit b_in c_in follows = omega (arith, follows.behind)
+place_after : (n : ℕ) (before field : Field) (limit : ℕ) → before.word < n → field.word < n → FollowsField before limit field → place_of n field + field.bits ≤ place_of n before
+place_after n before field limit b_in c_in follows = omega (arith, follows.following)
 
 module _ (n : ℕ) where
   pub length-chained : (before : Field) (limits : List ℕ) (fields : List Field) → AreChained before limits fields → length fields ≡ length limits
@@ -101,10 +101,10 @@ module _ (n : ℕ) where
   gap_before before [] (field ∷ fields) k b_in chained last l = absurd chained
   gap_before before (limit ∷ limits) (field ∷ fields) zero b_in chained last l =
       let word = word-le-last field limits fields chained.0.room chained.1 in
-      place_behind n before field limit b_in (omega (arith, word, last)) chained.0
+      place_after n before field limit b_in (omega (arith, word, last)) chained.0
   gap_before before (limit ∷ limits) (field ∷ fields) (suc k) b_in chained last l =
       let word = word-le-last field limits fields chained.0.room chained.1 in
-      let here = place_behind n before field limit b_in (omega (arith, word, last)) chained.0 in
+      let here = place_after n before field limit b_in (omega (arith, word, last)) chained.0 in
       let rest = gap_before field limits fields k (omega (arith, word, last)) chained.1 last (omega arith) in
       omega (arith, here, rest)
 
@@ -130,7 +130,7 @@ module _ (n : ℕ) where
   digits_within before (limit ∷ limits) (field ∷ fields) (d ∷ ds) b_in chained last small =
       let word = word-le-last field limits fields chained.0.room chained.1 in
       let c_in : field.word < n = omega (arith, word, last) in
-      let here = place_behind n before field limit b_in c_in chained.0 in
+      let here = place_after n before field limit b_in c_in chained.0 in
       let t = place_of n field in
       let room = mul-le (d + 1) (2 ^ t) (2 ^ field.bits) (2 ^ t) (omega (arith, small.0, chained.0.wide)) (omega arith) in
       let power = pow-add 2 field.bits t in

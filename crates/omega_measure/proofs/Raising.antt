@@ -3,7 +3,7 @@ use Rattle.std.proofs.Common.{◌≡◌, ℕ, zero, suc, ◌+◌, ◌-◌, ◌<�
 use Rattle.std.specs.Option.{option_map_or}
 use Rattle.std.proofs.lemmas.Bool.{lt-ltb, le-ltb}
 use Rattle.std.proofs.lemmas.List.{append-nil, append_assoc, length-set, length-take, length-drop, take_more_set, drop-drop, drop_all}
-use Rattle.omega_lift.specs.Least.{raised, cleared_after}
+use Rattle.omega_lift_laws.specs.Least.{raised, cleared_after}
 use Rattle.omega_measure.specs.private.layout.Rows.{AreAtLimits, IsLastBelow}
 use borrow.Rule.Slice.PartMut.{put_mid}
 
@@ -29,13 +29,13 @@ raised_some (suc kept) [] [] at n fits same left last = absurd (omega arith)
 raised_some (suc kept) [] (x ∷ xs) at n fits same left last = absurd (omega arith)
 raised_some (suc kept) (l ∷ ls) [] at n fits same left last = absurd (omega arith)
 raised_some (suc kept) (l ∷ ls) (x ∷ xs) zero n fits same left last =
-    let rest = raised_none kept ls xs (λ k p q. last.behind (suc k) (omega arith) (omega arith)) in
+    let rest = raised_none kept ls xs (λ k p q. last.following (suc k) (omega arith) (omega arith)) in
     let size : length xs ≡ n = omega arith in
     ap (λ o. option_map_or (λ ys. Some (x ∷ ys)) o (cond (ltb x l) (Some (suc x ∷ replicate (length xs) 0)) None)) rest
     ∙ ap (λ b. cond b (Some (suc x ∷ replicate (length xs) 0)) None) (lt-ltb x l last.below)
     ∙ ap (λ m. Some (suc x ∷ replicate m 0)) size
 raised_some (suc kept) (l ∷ ls) (x ∷ xs) (suc at) n fits same left last =
-    let tail : IsLastBelow xs ls kept at = record { within = omega (arith, last.within); below = last.below; behind = λ k p q. last.behind (suc k) (omega arith) (omega arith) } in
+    let tail : IsLastBelow xs ls kept at = record { within = omega (arith, last.within); below = last.below; following = λ k p q. last.following (suc k) (omega arith) (omega arith) } in
     let rest = raised_some kept ls xs at n (omega arith) (omega arith) (omega arith) tail in
     ap (λ o. option_map_or (λ ys. Some (x ∷ ys)) o (cond (ltb x l) (Some (suc x ∷ replicate (length xs) 0)) None)) rest
 

@@ -38,8 +38,8 @@ WritesRow-paste width old v s fits long =
                   ∙ take-append-le (u * width + width) (take (v * width) old) (take width s) (omega (arith, ends, length-take-le (v * width) old start))
                   ∙ take-take (u * width + width) (v * width) old ends in
                   row_of-slice width (paste old (v * width) s width) u ∙ ap (drop (u * width)) old_front ∙ sym (row_of-slice width old u)
-              | inr behind ↦
-                  let begins = rows_before v u width behind in
+              | inr following ↦
+                  let begins = rows_before v u width following in
                   let skip = u * width - (v * width + width) in
                   let place : v * width + width + skip ≡ u * width = omega (arith, begins) in
                   let old_back =

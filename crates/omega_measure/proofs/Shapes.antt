@@ -4,7 +4,7 @@ use Rattle.std.specs.Prelude.{map}
 use Rattle.std.proofs.lemmas.List.{get_or_default, get_or-map, length-map, map-append, take_more}
 use Rattle.omega_game.specs.Game.{Node, no_node, priorities, priority_at}
 use Rattle.omega_game.specs.declared.player.Player.{Player}
-use Rattle.omega_lift.specs.Measure.{entries_from}
+use Rattle.omega_lift_laws.specs.Measure.{entries_from}
 use Rattle.omega_measure.specs.private.layout.Falling.{count_from}
 use Rattle.omega_measure.specs.private.layout.Shape.{IsShape}
 
@@ -17,7 +17,7 @@ kept_at player priorities losing limits kept place r shape within read =
     read ∙ get_or_default kept place r 0 (omega (arith, long))
     ∙ ap (λ xs. get_or xs place 0) shape.kept_from
     ∙ get_or-map (λ p. count_from p losing) priorities place 0 0 within
-    ∙ ap (count_from (get_or priorities place 0)) shape.losing_borne
+    ∙ ap (count_from (get_or priorities place 0)) shape.losing_in_use
 
 -- one more place's count
 pub count_more :

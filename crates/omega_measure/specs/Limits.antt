@@ -1,6 +1,6 @@
--- The limit of tables of measures, in numbers.
+-- The limit of tables of measures, as a number.
 use Rattle.std.specs.Prelude.{ℕ}
 
--- the most measure cells of a table: nodes times losing priorities that are borne
+-- the most measure cells of a table: nodes times losing priorities in use
 abbrev pub most_cells : ℕ
 most_cells = 67108864

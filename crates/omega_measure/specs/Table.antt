@@ -1,16 +1,16 @@
--- Tables of measures: what one contains, which games have none, and how a measure is raised.
+-- Tables of measures: their content, the games that are too wide for one, and how a measure is raised.
 use Rattle.std.specs.Prelude.{◌≡◌, ℕ, ◌*◌, Bool, true, List, length, nat_lt, slice_set, slice_index}
 use Rattle.omega_game.specs.declared.player.Player.{Player}
 use Rattle.omega_game.specs.Bound.{losing_priorities}
-use Rattle.omega_lift.specs.Measure.{Measure, IsAbove}
-use Rattle.omega_lift.specs.Allowance.{IsAllowance, measure_at}
-use Rattle.omega_lift.specs.Run.{zero_table}
+use Rattle.omega_lift_laws.specs.Measure.{Measure, IsAbove}
+use Rattle.omega_lift_laws.specs.Allowance.{IsAllowance, measure_at}
+use Rattle.omega_lift_laws.specs.Run.{zero_table}
 use Rattle.omega_text.specs.Cases.{never, or_memory, or_task}
 use Rattle.omega_game.specs.declared.Refusal.{Refusal}
 use Rattle.omega_game.specs.declared.TaskFault.TheVariants.{TooWide}
 use Rattle.omega_measure.specs.Limits.{most_cells}
 
--- what a table contains: the player, the nodes' priorities by place, and a measure for each place
+-- the content of a table: the player, the nodes' priorities by place, and a measure for each place
 pub record Content : Type 0 where
   pub player : Player
   pub priorities : List ℕ
@@ -45,7 +45,7 @@ pub record Raises (old : Content) (v w : ℕ) (new : Content) : Type 0 where
   pub is : IsAllowanceIn old v w allowance
   pub replaced : new ≡ with_measure old v allowance
 
--- whether nodes times losing priorities borne are over the limit
+-- whether nodes times losing priorities in use are over the limit
 abbrev pub is_too_wide : Player → List ℕ → Bool
 is_too_wide player priorities =
     nat_lt most_cells (length priorities * length (losing_priorities player priorities))

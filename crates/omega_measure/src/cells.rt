@@ -6,17 +6,17 @@ ghost use Rattle.omega_measure.specs.Limits.{most_cells};
 ghost use Rattle.omega_measure.specs.Table.{is_too_wide};
 
 use crate::limits::MOST_CELLS;
-use omega_game::{Arena, Player, PriorityCount};
+use omega_game::{ForwardGame, Player, PriorityCount};
 
-/// Whether a table of the player's measures over a game has at most `MOST_CELLS` cells. Takes no memory, and a step for
-/// each priority that is borne.
-pub fn fits(game: &Arena, player: Player) -> bool
+/// Whether a table of the measures of `player` over `game` has at most `MOST_CELLS` cells. Requests no memory, and
+/// takes a step for each priority in use.
+pub fn fits(game: &ForwardGame, player: Player) -> bool
     ensures { result ≡ not (is_too_wide player (priorities game.now)) }
 {
     !is_too_wide(game.len(), losing_among(game.priority_counts(), player))
 }
 
-/// How many of the priorities that are counted lose for the player.
+/// Counts the priorities that lose for `player`.
 fn losing_among(counts: &[PriorityCount], player: Player) -> usize
     ensures { result ≡ count_by (λ count. loses player count.priority) counts.now }
 {
@@ -26,7 +26,7 @@ fn losing_among(counts: &[PriorityCount], player: Player) -> usize
         .count()
 }
 
-/// Whether so many nodes with so many entries each have more cells than a table may have.
+/// Whether `nodes` rows of `entries` entries each have more cells than a table may have.
 pub(crate) fn is_too_wide(nodes: usize, entries: usize) -> bool
     requires { 0 < nodes }
     ensures wide { result ≡ nat_lt most_cells (nodes * entries) }

@@ -1,5 +1,5 @@
-/// Where the flag for top or an entry stands in a row of words: its word, how many bits of the word are after it, how
-/// many bits it has, and the greatest number that it holds.
+/// The place of the flag for top, or of an entry, in a row of words: its word, the number of bits after it in that
+/// word, its number of bits, and the greatest number that it holds.
 #[derive(Clone, Copy)]
 pub(crate) struct Field {
     pub(crate) word: u32,

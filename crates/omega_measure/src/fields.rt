@@ -5,7 +5,7 @@ use crate::field::Field;
 use omega_game::Refusal;
 use std::alloc::Global;
 
-/// The fields of a row: that of the flag for top, and after it those of entries up to the limits.
+/// Lays out the fields of a row: the flag for top, and then an entry for each of `limits`.
 pub(crate) fn fields_of(alloc: Global, limits: &[u32]) -> Result<Vec<Field>, Refusal>
     requires few { length limits.now < 2 ^ 32 - 1 }
     ensures packed { IfOk result (λ fields. ArePacked limits.now fields.items) }
@@ -22,7 +22,7 @@ pub(crate) fn fields_of(alloc: Global, limits: &[u32]) -> Result<Vec<Field>, Ref
     Ok(fields)
 }
 
-/// The field of the flag for top.
+/// Returns the field of the flag for top.
 fn top() -> Field
     ensures { result ≡ top_field }
 {
@@ -34,8 +34,8 @@ fn top() -> Field
     }
 }
 
-/// The field after another for an entry up to a limit: in the same word where there is room,
-/// else in front of the next.
+/// Returns the field after `before` for an entry up to `limit`: in the same word if it has room, else first in the next
+/// word.
 fn next(before: Field, limit: u32) -> Field
     requires room { before.shift < 64 }
     requires word { before.word < 2 ^ 32 - 1 }

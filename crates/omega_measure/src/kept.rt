@@ -6,7 +6,7 @@ ghost use Rattle.omega_measure.specs.private.layout.Falling.{count_from};
 use omega_game::Refusal;
 use std::alloc::Global;
 
-/// How many of falling numbers are at least p.
+/// Counts the falling `numbers` that are at least `p`.
 pub(crate) fn count_from(numbers: &[u32], p: u32) -> usize
     requires { IsStrictlyFalling numbers.now }
     ensures { result ≡ count_from p numbers.now }
@@ -14,7 +14,7 @@ pub(crate) fn count_from(numbers: &[u32], p: u32) -> usize
     numbers.partition_point(|number| *number >= p)
 }
 
-/// For each place how many of the falling numbers are at least its priority.
+/// Counts for each of `priorities` the falling `losing` that are at least that priority.
 pub(crate) fn kept_of(
     alloc: Global,
     priorities: &[u32],
@@ -26,7 +26,7 @@ pub(crate) fn kept_of(
     ensures memory { IsOkUnless result Refusal.Memory }
 {
     let mut kept = Vec::with_capacity(alloc, priorities.len())?;
-    // Neighbours often bear the same priority: it is searched for once.
+    // Neighbours often have the same priority, which is then searched for once.
     let mut sought = 0;
     let mut count = count_from(losing, sought);
     for priority in priorities {

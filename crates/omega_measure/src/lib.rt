@@ -1,6 +1,6 @@
 //! Tables of small progress measures (Jurdziński 2000), one measure for each node of a game.
 //!
-//! Numbers of refusals are those of `Refusal`; docs/formats.md says when each comes.
+//! docs/formats.md says when each refusal comes.
 #![tactic(auto)]
 
 mod cells;

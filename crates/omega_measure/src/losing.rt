@@ -1,13 +1,13 @@
 ghost use Rattle.std.specs.Prelude.{◌≡◌, IfOk, IsOkUnless};
 ghost use Rattle.omega_game.specs.Bound.{losing_priorities};
 ghost use Rattle.omega_game.specs.Game.{priorities};
-ghost use Rattle.omega_lift.specs.Least.{limits_of};
+ghost use Rattle.omega_lift_laws.specs.Least.{limits_of};
 ghost use Rattle.omega_game.specs.private.priorities.Tally.{IsStrictlyFalling};
 
 use omega_game::{Game, Player, Refusal};
 use std::alloc::Global;
 
-/// The priorities that are borne and lose for the player, the greatest first, and how many nodes bear each.
+/// Returns the losing priorities in use, the greatest first, and the number of nodes with each.
 pub(crate) fn losing_of(
     alloc: Global,
     game: &Game,

@@ -8,13 +8,13 @@ use crate::shape::Shape;
 use crate::table::MeasureTable;
 use crate::words::{compare_at, is_top_at, raise_at};
 use omega_game::{Game, Player, Refusal};
-use omega_lift::{allowances_are_least_sufficient, allowances_exceed};
+use omega_lift_laws::{allowances_are_least_sufficient, allowances_exceed};
 use std::alloc::Global;
 use std::cmp::Ordering;
 use std::marker::Model;
 
-/// A table that packs each measure in words of 64 bits: one bit for top, and then the entries, that for the greatest
-/// priority first, each with as many bits as its limit needs and none across two words.
+/// A table that packs each measure in words of 64 bits: one bit for top, and then the entries, the one for the greatest
+/// priority first. Each entry has as many bits as its limit needs, and none lies across two words.
 #[derive(Drop)]
 pub struct PackedTable {
     shape: Shape,
@@ -96,7 +96,7 @@ impl MeasureTable for PackedTable {
     }
 }
 
-/// How many words a row has.
+/// Returns the number of words of a row.
 fn row_size(fields: &[Field]) -> usize
     requires { 0 < length fields.now }
     ensures { result ≡ (last_field fields.now).word + 1 }

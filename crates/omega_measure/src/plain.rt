@@ -5,7 +5,7 @@ use crate::rows::{compare_at, raise_at};
 use crate::shape::Shape;
 use crate::table::MeasureTable;
 use omega_game::{Game, Player, Refusal};
-use omega_lift::{allowances_are_least_sufficient, allowances_exceed};
+use omega_lift_laws::{allowances_are_least_sufficient, allowances_exceed};
 use std::alloc::Global;
 use std::cmp::Ordering;
 use std::marker::Model;

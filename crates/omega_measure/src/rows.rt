@@ -1,11 +1,11 @@
 ghost use Rattle.std.specs.Prelude.{◌≡◌, ◌≢◌, ℕ, ◌+◌, ◌*◌, ◌<◌, ◌≤◌, false, true, Some, None, length, take, slice_index, slice_index_or, IsTrue, MatchOption};
-ghost use Rattle.omega_lift.specs.Least.{raised};
+ghost use Rattle.omega_lift_laws.specs.Least.{raised};
 ghost use Rattle.omega_measure.specs.Limits.{most_cells};
 ghost use Rattle.omega_measure.specs.private.layout.Rows.{AreAtLimits, IsLastBelow, WritesMeasure, WritesRow, allowance_of, allowed, compare_kept, measure_in, row_of};
 
 use std::cmp::Ordering;
 
-/// The row of a place.
+/// Returns the row of `place`.
 pub(crate) fn row<T>(entries: &[T], width: usize, place: usize) -> &[T]
     requires { place * width + width ≤ length entries.now }
     ensures { result.now ≡ row_of width entries.now place }
@@ -14,7 +14,7 @@ pub(crate) fn row<T>(entries: &[T], width: usize, place: usize) -> &[T]
     &entries[start..start + width]
 }
 
-/// The measures at two places compared on their first entries; top is above all others.
+/// Compares the measures at `a` and `b` on their first `kept` entries; top is above all others.
 pub(crate) fn compare_at(
     tops: &[bool],
     entries: &[u32],
@@ -42,7 +42,7 @@ pub(crate) fn compare_at(
     }
 }
 
-/// The last of the first `kept` entries that is below its limit.
+/// Returns the index of the last of the first `kept` entries that is below its limit.
 fn last_below(row: &[u32], limits: &[u32], kept: usize) -> Option<usize>
     requires rows { length row.now ≡ length limits.now }
     requires within { kept ≤ length row.now }
@@ -56,8 +56,8 @@ fn last_below(row: &[u32], limits: &[u32], kept: usize) -> Option<usize>
     None
 }
 
-/// Raises the last of the first `kept` entries that is below its limit by one, and clears all after it. False where
-/// none is.
+/// Adds one to the last of the first `kept` entries that is below its limit, and clears all after it. Returns false if
+/// there is no such entry.
 fn raise_row(row: &mut [u32], limits: &[u32], kept: usize) -> bool
     requires rows { length row.old ≡ length limits.now }
     requires within { kept ≤ length row.old }
@@ -74,7 +74,7 @@ fn raise_row(row: &mut [u32], limits: &[u32], kept: usize) -> bool
     }
 }
 
-/// Makes of a row the least that suffices towards it on its first `kept` entries. False where none below top does.
+/// Replaces a row by its allowance, compared on the first `kept` entries. Returns false if the allowance is top.
 fn allow_row(row: &mut [u32], limits: &[u32], kept: usize, strict: bool) -> bool
     requires rows { length row.old ≡ length limits.now }
     requires within { kept ≤ length row.old }
@@ -88,7 +88,8 @@ fn allow_row(row: &mut [u32], limits: &[u32], kept: usize, strict: bool) -> bool
     true
 }
 
-/// The same for the row of a place.
+/// Replaces the row of `place` by its allowance, compared on the first `kept` entries. Returns false if the allowance
+/// is top.
 fn allow_at(entries: &mut [u32], limits: &[u32], kept: usize, strict: bool, place: usize) -> bool
     requires row { place * length limits.now + length limits.now ≤ length entries.old }
     requires within { kept ≤ length limits.now }
@@ -103,7 +104,7 @@ fn allow_at(entries: &mut [u32], limits: &[u32], kept: usize, strict: bool, plac
     allow_row(&mut entries[start..start + width], limits, kept, strict)
 }
 
-/// Copies the row of a place over that of another.
+/// Copies the row of `from` over the row of `to`.
 pub(crate) fn copy_row<T: Copy>(entries: &mut [T], width: usize, from: usize, to: usize)
     requires source { from * width + width ≤ length entries.old }
     requires target { to * width + width ≤ length entries.old }
@@ -113,7 +114,7 @@ pub(crate) fn copy_row<T: Copy>(entries: &mut [T], width: usize, from: usize, to
     entries.copy_within(start..start + width, to * width);
 }
 
-/// Gives `v`, whose measure is below top, the least measure that suffices towards that of `w`.
+/// Replaces the measure of `v`, which is below top, by the least measure that suffices towards that of `w`.
 pub(crate) fn raise_at(
     tops: &mut [bool],
     entries: &mut [u32],

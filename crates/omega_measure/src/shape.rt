@@ -2,8 +2,8 @@ ghost use Rattle.std.specs.Prelude.{◌≡◌, ℕ, ◌*◌, ◌<◌, ◌≤◌,
 ghost use Rattle.omega_game.specs.Game.{priorities};
 ghost use Rattle.omega_game.specs.Limits.{most_nodes};
 ghost use Rattle.omega_game.specs.Player.{loses};
-ghost use Rattle.omega_lift.specs.Least.{limits_of};
-ghost use Rattle.omega_lift.specs.Measure.{entries_from};
+ghost use Rattle.omega_lift_laws.specs.Least.{limits_of};
+ghost use Rattle.omega_lift_laws.specs.Measure.{entries_from};
 ghost use Rattle.omega_measure.specs.Limits.{most_cells};
 ghost use Rattle.omega_measure.specs.Table.{IsPrepareRefusal, is_too_wide};
 ghost use Rattle.omega_measure.specs.private.layout.Shape.{width_of};
@@ -15,8 +15,8 @@ use omega_game::{Game, Player, Refusal, TaskFault};
 use std::alloc::Global;
 use std::marker::Model;
 
-/// What the measures of a player over a game are made of: an entry for each priority that is borne and loses, its
-/// limit, and how many entries count at each place.
+/// The shape of the measures of a player over a game: the losing priorities in use, one for each entry, the limit of
+/// each entry, and the number of entries that count at each place.
 #[derive(Drop)]
 pub(crate) struct Shape {
     player: Player,
@@ -27,9 +27,9 @@ pub(crate) struct Shape {
 }
 
 impl Model for Shape {
-    ghost use Rattle.omega_measure.specs.private.layout.Shape.{Borne, IsShape};
+    ghost use Rattle.omega_measure.specs.private.layout.Shape.{Setting, IsShape};
 
-    ghost Value = { Borne };
+    ghost Value = { Setting };
 
     ghost view = { λ s. record { player = s.player; priorities = s.priorities.items } };
 
@@ -37,7 +37,8 @@ impl Model for Shape {
 }
 
 impl Shape {
-    /// The shape of the player's measures over a game. 50 where they have more than `MOST_CELLS` entries in all, or 60.
+    /// Returns the shape of the measures of `player` over `game`. Fails with [TaskFault::TooWide] if they have more
+    /// than `MOST_CELLS` entries in all.
     pub(crate) fn prepare(alloc: Global, game: &Game, player: Player) -> Result<Shape, Refusal>
         ensures shape { IfOk result (λ shape. shape ≡ record { player = player; priorities = priorities game.now }) }
         ensures fits { IsOk result → is_too_wide player (priorities game.now) ≡ false }
@@ -58,7 +59,7 @@ impl Shape {
         })
     }
 
-    /// How many places there are.
+    /// Returns the number of places.
     pub(crate) fn len(&self) -> usize
         ensures count { result ≡ length self.now.priorities }
         ensures few { result ≤ most_nodes }
@@ -66,7 +67,7 @@ impl Shape {
         self.priorities.len()
     }
 
-    /// How many entries a measure below top has.
+    /// Returns the number of entries of a measure below top.
     pub(crate) fn width(&self) -> usize
         ensures width { result ≡ width_of self.now.player self.now.priorities }
         ensures narrow { length self.now.priorities * result ≤ most_cells }
@@ -74,7 +75,7 @@ impl Shape {
         self.losing.len()
     }
 
-    /// The greatest entries, that for the greatest priority first.
+    /// Returns the limit of each entry, that for the greatest priority first.
     pub(crate) fn limits(&self) -> &[u32]
         ensures limits { result.now ≡ limits_of self.now.player self.now.priorities }
         ensures few { length result.now ≤ most_cells }
@@ -82,7 +83,7 @@ impl Shape {
         self.limits.as_slice()
     }
 
-    /// How many entries are for priorities at least that of a place.
+    /// Returns the number of entries for priorities at least that of `place`.
     pub(crate) fn kept(&self, place: u32) -> usize
         requires { place < length self.now.priorities }
         ensures { result ≡ entries_from self.now.player self.now.priorities (slice_index self.now.priorities place) }
@@ -90,14 +91,14 @@ impl Shape {
         self.kept[place as usize] as usize
     }
 
-    /// How many entries are for priorities at least p.
+    /// Returns the number of entries for priorities at least `p`.
     pub(crate) fn kept_from(&self, p: u32) -> usize
         ensures { result ≡ entries_from self.now.player self.now.priorities p }
     {
         count_from(&self.losing, p)
     }
 
-    /// Whether the priority of a place loses.
+    /// Whether the priority of `place` loses.
     pub(crate) fn is_strict(&self, place: u32) -> bool
         requires { place < length self.now.priorities }
         ensures { result ≡ loses self.now.player (slice_index self.now.priorities place) }
@@ -106,7 +107,7 @@ impl Shape {
     }
 }
 
-/// The nodes' priorities by place.
+/// Lists the nodes' priorities by place.
 fn priorities_of(alloc: Global, game: &Game) -> Result<Vec<u32>, Refusal>
     ensures priorities { IfOk result (λ found. found.items ≡ priorities game.now) }
     ensures some { IfOk result (λ found. 0 < length found.items) }

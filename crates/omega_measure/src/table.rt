@@ -1,22 +1,21 @@
 ghost use Rattle.std.specs.Prelude.{◌≡◌, ◌↔◌, ◌<◌, false, length, slice_index, IsTrue, IsOk, IfOk, IfErr, None};
 ghost use Rattle.omega_game.specs.Game.{priorities};
-ghost use Rattle.omega_lift.specs.Allowance.{measure_at};
-ghost use Rattle.omega_lift.specs.Measure.{compare_from};
+ghost use Rattle.omega_lift_laws.specs.Allowance.{measure_at};
+ghost use Rattle.omega_lift_laws.specs.Measure.{compare_from};
 ghost use Rattle.omega_measure.specs.Table.{Content, Exceeds, IsPrepareRefusal, Raises, is_too_wide, zero_content};
 
 use omega_game::{Game, Player, Refusal};
 use std::alloc::Global;
 use std::cmp::Ordering;
 
-/// A table with a measure for each place of a game: top, or an entry for each priority that is borne and loses for
-/// the player (Jurdziński 2000). Only `prepare` answers that memory was refused, so that a table takes there all that
-/// it needs.
+/// A table with a measure for each place of a game: top, or an entry for each losing priority in use (Jurdziński 2000).
+/// Only `prepare` requests memory, so a table takes there all that it needs.
 pub trait MeasureTable: Drop {
-    /// The player, the nodes' priorities and the measures, however they are kept.
+    /// The player, the nodes' priorities and the measures, in whatever form they are kept.
     ghost content: { Self → Content };
 
-    /// The table in which every entry of every measure is 0. 50 where nodes times losing priorities borne are over
-    /// `MOST_CELLS`, or 60.
+    /// Makes the table in which every entry of every measure is 0. Fails with [TaskFault::TooWide] if nodes times
+    /// losing priorities in use are over `MOST_CELLS`.
     fn prepare(alloc: Global, game: &Game, player: Player) -> Result<Self, Refusal>
     where
         Self: Sized,
@@ -24,21 +23,21 @@ pub trait MeasureTable: Drop {
         ensures fits { IsOk result → is_too_wide player (priorities game.now) ≡ false }
         ensures refused { IfErr result (IsPrepareRefusal player (priorities game.now)) };
 
-    /// Whether the measure at a place is top.
+    /// Whether the measure at `place` is top.
     fn is_top(&self, place: u32) -> bool
         requires { place < length (content self.now).measures }
         ensures { IsTrue result ↔ (measure_at (content self.now).measures place ≡ None) };
 
-    /// The measures at two places compared on the entries for priorities at least `p`; top is above all others. How
-    /// many entries these are is searched for among the losing priorities.
+    /// Compares the measures at `a` and `b` on the entries for priorities at least `p`; top is above all others. Finds
+    /// the number of these entries by a search among the losing priorities.
     fn compare(&self, a: u32, b: u32, p: u32) -> Ordering
         requires first { a < length (content self.now).measures }
         requires second { b < length (content self.now).measures }
         ensures { let table = content self.now in
             result ≡ compare_from table.player table.priorities p (measure_at table.measures a) (measure_at table.measures b) };
 
-    /// The same on the entries for priorities at least that of a place. How many entries these are was found when the
-    /// table was made.
+    /// Compares the measures at `a` and `b` on the entries for priorities at least that of `place`. The number of these
+    /// entries was found when the table was made.
     fn compare_for(&self, place: u32, a: u32, b: u32) -> Ordering
         requires at { place < length (content self.now).measures }
         requires first { a < length (content self.now).measures }

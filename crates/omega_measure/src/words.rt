@@ -15,7 +15,7 @@ const TOP: Field = Field {
     limit: 1,
 };
 
-/// What stands in a field of a row.
+/// Returns the number in `field` of a row.
 fn digit(row: &[u64], field: Field) -> u64
     requires { IsInside (length row.now) field }
     ensures { result ≡ digit_in row.now field }
@@ -23,7 +23,7 @@ fn digit(row: &[u64], field: Field) -> u64
     (row[field.word as usize] >> field.shift) & ((1 << field.bits) - 1)
 }
 
-/// Two rows compared on the words before that of a field, and on the bits of its word from the field up.
+/// Compares two rows on the words before that of `field`, and on the bits of its word from the field up.
 fn compare_rows(a: &[u64], b: &[u64], field: Field) -> Ordering
     requires first { IsInside (length a.now) field }
     requires second { IsInside (length b.now) field }
@@ -39,7 +39,7 @@ fn compare_rows(a: &[u64], b: &[u64], field: Field) -> Ordering
         .then((a[word] >> shift).cmp(&(b[word] >> shift)))
 }
 
-/// The last of the first fields up to `kept` that holds less than it can, where the first does.
+/// Returns the last of the fields up to `kept` that holds less than its limit. The first field must hold less.
 fn last_below(row: &[u64], fields: &[Field], kept: usize) -> usize
     requires within { kept < length fields.now }
     requires fields { AreFields (length row.now) fields.now }
@@ -55,7 +55,7 @@ fn last_below(row: &[u64], fields: &[Field], kept: usize) -> usize
     0
 }
 
-/// The word of a field in a row, added to from the field up, and cleared after it.
+/// Returns the word of `field` with `by` added to it from the field up, and with the bits after the field cleared.
 fn front(row: &[u64], field: Field, by: u64) -> u64
     requires field { IsInside (length row.now) field }
     requires fits { (slice_index row.now field.word / 2 ^ field.shift + by) * 2 ^ field.shift < 2 ^ 64 }
@@ -64,7 +64,7 @@ fn front(row: &[u64], field: Field, by: u64) -> u64
     ((row[field.word as usize] >> field.shift) + by) << field.shift
 }
 
-/// Adds to a row from a field up, and clears all after that field.
+/// Adds `by` to a row from `field` up, and clears all after that field.
 fn raise_front(row: &mut [u64], field: Field, by: u64)
     requires field { IsInside (length row.old) field }
     requires fits { (slice_index row.old field.word / 2 ^ field.shift + by) * 2 ^ field.shift < 2 ^ 64 }
@@ -76,7 +76,7 @@ fn raise_front(row: &mut [u64], field: Field, by: u64)
     row[word + 1..].fill(0);
 }
 
-/// Makes of a row below top the least that suffices towards it on its first `kept` entries.
+/// Replaces a row below top by its allowance, compared on the first `kept` entries.
 fn allow_words(row: &mut [u64], fields: &[Field], kept: usize, strict: bool)
     requires fields { AreFields (length row.old) fields.now }
     requires within { kept < length fields.now }
@@ -92,7 +92,7 @@ fn allow_words(row: &mut [u64], fields: &[Field], kept: usize, strict: bool)
     }
 }
 
-/// The word that is the least row that suffices towards a row of one word below top, on its first `kept` entries.
+/// Returns the word of the allowance of a row below top that has one word, compared on the first `kept` entries.
 fn allowed_word(row: &[u64], fields: &[Field], kept: usize, strict: bool) -> u64
     requires one { length row.now ≡ 1 }
     requires fields { AreFields (length row.now) fields.now }
@@ -109,7 +109,7 @@ fn allowed_word(row: &[u64], fields: &[Field], kept: usize, strict: bool) -> u64
     }
 }
 
-/// Whether the flag for top is set in the row of a place.
+/// Whether the flag for top is set in the row of `place`.
 pub(crate) fn is_top_at(words: &[u64], size: usize, fields: &[Field], place: usize) -> bool
     requires row { place * size + size ≤ length words.now }
     requires fields { AreFields size fields.now }
@@ -118,7 +118,7 @@ pub(crate) fn is_top_at(words: &[u64], size: usize, fields: &[Field], place: usi
     digit(row(words, size, place), TOP) != 0
 }
 
-/// The measures at two places compared on their first entries; top is above all others.
+/// Compares the measures at `a` and `b` on the entries up to `field`; top is above all others.
 pub(crate) fn compare_at(words: &[u64], size: usize, field: Field, a: usize, b: usize) -> Ordering
     requires first { a * size + size ≤ length words.now }
     requires second { b * size + size ≤ length words.now }
@@ -131,7 +131,7 @@ pub(crate) fn compare_at(words: &[u64], size: usize, field: Field, a: usize, b: 
     compare_rows(row(words, size, a), row(words, size, b), field)
 }
 
-/// The same for the row of a place.
+/// Replaces the row of `place`, which is below top, by its allowance, compared on the first `kept` entries.
 fn allow_at(
     words: &mut [u64],
     size: usize,
@@ -152,8 +152,8 @@ fn allow_at(
     allow_words(&mut words[start..start + size], fields, kept, strict);
 }
 
-/// Gives `v` the least measure that suffices towards that of `w`.
-// The rows of most tables have one word: they have a path of their own, and the other is called.
+/// Replaces the measure of `v` by the least measure that suffices towards that of `w`.
+// Most tables have rows of one word, which have their own path. The other path is a call.
 #[inline(always)]
 pub(crate) fn raise_at(
     words: &mut [u64],
@@ -185,7 +185,7 @@ pub(crate) fn raise_at(
     }
 }
 
-/// The same for rows of any number of words.
+/// Replaces the measure of `v` in the same way, for rows of any number of words.
 #[inline(never)]
 fn raise_row_at(
     words: &mut [u64],

@@ -1,4 +1,4 @@
--- The lemmas of orders and of sets of ranks.
+-- The lemmas of orders and of sets of positions.
 mod Bits
 mod Kept
 mod Rising

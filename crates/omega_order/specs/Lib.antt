@@ -1,4 +1,4 @@
--- What contracts of orders cite; in `private` what only private contracts cite.
-pub mod Ranking
-pub mod RankSet
+-- What contracts of orders cite, and in `private` what private contracts alone cite.
+pub mod Permutation
+pub mod PositionSet
 pub mod private

@@ -1,47 +1,48 @@
-//! Which words of a set of ranks are not empty, so that a search passes over the others.
-use crate::rank_set::all_ranks;
+//! Which words of a set of positions are not empty, so that a search passes over the others.
+use crate::position_set::all_positions;
 use std::alloc::{AllocError, Global};
 
-/// How many ranks a word of the set has.
-const RANKS: usize = 64;
+/// The number of positions in a word of the set.
+const POSITIONS: usize = 64;
 
-/// How many ranks a word here stands for.
-const RANKS_NOTED: usize = 4096;
+/// The number of positions that a word here accounts for.
+const POSITIONS_NOTED: usize = 4096;
 
-/// A bit for each word of a set of ranks: whether it is filled. Nothing is claimed of it but that it is safe: a rank
-/// that is found by it is looked up in the set.
+/// A bit for each word of a set of positions: whether it is filled. Only safety is proved. A position that is found by
+/// it is looked up in the set.
 #[derive(Drop)]
 pub struct FilledWords {
     bits: Vec<u64>,
 }
 
 impl FilledWords {
-    /// All words of a set that has so many ranks. An error where a request for memory is refused.
-    pub fn all(alloc: Global, ranks: u32) -> Result<FilledWords, AllocError> {
-        let bits = all_ranks(alloc, ranks / 64)?;
+    /// Marks all words of a set of `positions` positions as filled. Returns an error if a request for memory is
+    /// refused.
+    pub fn all(alloc: Global, positions: u32) -> Result<FilledWords, AllocError> {
+        let bits = all_positions(alloc, positions / 64)?;
         Ok(FilledWords { bits })
     }
 
-    /// Notes that a rank was put into the set.
+    /// Notes that `position` was put into the set.
     #[inline(always)]
-    pub fn note_inserted(&mut self, rank: usize) {
-        let at = rank / RANKS_NOTED;
+    pub fn note_inserted(&mut self, position: usize) {
+        let at = position / POSITIONS_NOTED;
         if at < self.bits.len() {
-            self.bits[at] |= 1 << (rank / RANKS % 64);
+            self.bits[at] |= 1 << (position / POSITIONS % 64);
         }
     }
 
-    /// Notes that a rank was taken out of the set, whose words these are now.
+    /// Notes that `position` was taken out of the set, whose words are now `words`.
     #[inline(always)]
-    pub fn note_removed(&mut self, words: &[u64], rank: usize) {
-        let word = rank / RANKS;
-        let at = rank / RANKS_NOTED;
+    pub fn note_removed(&mut self, words: &[u64], position: usize) {
+        let word = position / POSITIONS;
+        let at = position / POSITIONS_NOTED;
         if at < self.bits.len() && word < words.len() && words[word] == 0 {
             self.bits[at] &= !(1 << (word % 64));
         }
     }
 
-    /// The first filled word from one on.
+    /// Returns the first filled word from `word` on.
     fn next_from(&self, word: usize) -> Option<usize> {
         let first = word / 64;
         if first >= self.bits.len() {
@@ -61,15 +62,15 @@ impl FilledWords {
     }
 }
 
-/// The least rank of a set from a rank on, by the words of the set that are filled.
-/// Whoever uses it tests that it is in the set.
+/// Returns the least position of a set from `from` on, found by the words of the set that are filled. The caller tests
+/// that it is in the set.
 #[inline(always)]
 pub fn least_from(words: &[u64], filled: &FilledWords, from: usize) -> Option<usize> {
-    let first = from / RANKS;
+    let first = from / POSITIONS;
     if first >= words.len() {
         return None;
     }
-    let rest = words[first] & (u64::MAX << (from % RANKS));
+    let rest = words[first] & (u64::MAX << (from % POSITIONS));
     if rest != 0 {
         return Some(bit_at(first, rest));
     }
@@ -80,7 +81,7 @@ pub fn least_from(words: &[u64], filled: &FilledWords, from: usize) -> Option<us
     Some(bit_at(next, words[next]))
 }
 
-/// The place of the least bit of a word at a place.
+/// Returns the index of the lowest set bit of `word`, counted from the first word. `place` is the index of `word`.
 #[inline(always)]
 fn bit_at(place: usize, word: u64) -> usize {
     place

@@ -1,6 +1,8 @@
-//! Orders of a game's places in which few lifts are made, and what a schedule keeps along one: the ranks of the places,
-//! sets of ranks, and a pace. Proved is that each place has a rank of its own and that sets are sets; how good an order
-//! or a pace is, nothing claims.
+//! Orders of a game's places in which few lifts are made, and what a schedule keeps along one: the positions of the
+//! places, sets of positions, and a pace.
+//!
+//! It is proved that each place has a position of its own, and that sets are sets. Nothing is proved of how good an
+//! order or a pace is.
 #![tactic(auto)]
 
 mod components;
@@ -8,11 +10,11 @@ mod filled_words;
 mod nested;
 mod numbers;
 mod pace;
-pub mod rank_set;
-mod ranking;
+mod permutation;
+pub mod position_set;
 
 pub use filled_words::{FilledWords, least_from};
 pub use numbers::numbers_below;
-pub use omega_game::Arena;
+pub use omega_game::ForwardGame;
 pub use pace::Pace;
-pub use ranking::Ranking;
+pub use permutation::Permutation;

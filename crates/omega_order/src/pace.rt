@@ -1,39 +1,41 @@
-//! When a nested schedule sweeps over the ranks, and when it stays with the least.
+//! When a nested schedule sweeps over the positions, and when it stays with the least.
 
-/// Sweeps and focus in turn. A sweep goes over the pending ranks from the least to the greatest, and leaves what
-/// becomes pending after it to the next one. In focus always the least pending rank is taken, as long as there is
-/// fuel. So a short cycle counts to top in focus while the others wait, and a region that must rise together does so in
-/// sweeps. Each goes on in proportion to what the other took, and both grow, so that a long focus is not disturbed.
-/// Nothing is claimed of it but that it is safe: numbers that would wrap stay where they are.
+/// Sweeps and focus in turn. A sweep goes over the pending positions from the least to the greatest, and leaves to the
+/// next sweep what becomes pending among the positions that it passed. In focus the least pending position is always
+/// taken, as long as there is fuel.
+///
+/// So a short cycle counts to top in focus while the other positions are pending, and a region that must rise together
+/// does so in sweeps. Each goes on in proportion to what the other took. Both grow, so that a long focus is not
+/// disturbed. Only safety is proved: numbers that would wrap stay as they are.
 #[derive(Drop)]
 pub struct Pace {
-    /// Where to look for the next rank.
+    /// Where to look for the next position.
     pub cursor: usize,
-    /// Where the next sweep begins: no rank before it is pending that this sweep leaves after.
+    /// Where the next sweep begins: the least position that this sweep left to it.
     pub low: usize,
-    /// How many takes are left to focus; none in a sweep.
+    /// The number of takes left to focus; zero in a sweep.
     fuel: u64,
-    /// What sweeps have cost since the last focus.
+    /// The cost of the sweeps since the last focus.
     spent: u64,
-    /// What they may cost before the next.
+    /// The cost that these sweeps may have before the next focus.
     quota: u64,
-    /// Whether the rank taken last was taken in focus.
+    /// Whether the position taken last was taken in focus.
     in_focus: bool,
-    /// How often in a row the rank taken last was taken again.
+    /// How often in a row the position taken last was taken again.
     repeats: u64,
 }
 
-/// A turn of focus, and the sweeps after it, may each take this many times what the sweeps before them took.
+/// A focus, and the sweeps after it, may each take this many times what the sweeps before them took.
 const GROWTH: u64 = 4;
 
-/// How often in a row a sweep takes a rank again.
+/// How often in a row a sweep takes a position again.
 const MOST_REPEATS: u64 = 64;
 
-/// So many ranks that are passed over cost a sweep as much as a take.
-const RANKS_PER_TAKE: usize = 512;
+/// The number of positions passed over that cost a sweep as much as a take.
+const POSITIONS_PER_TAKE: usize = 512;
 
 impl Pace {
-    /// Begins with a sweep over all ranks.
+    /// Begins with a sweep over all positions.
     pub fn new() -> Pace {
         Pace {
             cursor: 0,
@@ -46,24 +48,25 @@ impl Pace {
         }
     }
 
-    /// Goes on after a rank that is taken. One before the cursor is the first of another sweep, or of a focus.
+    /// Goes on after `position`, which is taken. A position before the cursor is the first of another sweep or of a
+    /// focus.
     #[inline(always)]
-    pub fn take(&mut self, rank: usize) {
-        if rank < self.cursor {
+    pub fn take(&mut self, position: usize) {
+        if position < self.cursor {
             self.turn();
         }
         self.in_focus = self.fuel > 0;
         if self.in_focus {
             self.fuel -= 1;
         } else {
-            let passed = rank.saturating_sub(self.cursor) / RANKS_PER_TAKE;
+            let passed = position.saturating_sub(self.cursor) / POSITIONS_PER_TAKE;
             self.spent = self.spent.saturating_add(1 + passed as u64);
         }
-        self.cursor = rank.saturating_add(1);
+        self.cursor = position.saturating_add(1);
         self.repeats = 0;
     }
 
-    /// Ends a sweep, or a focus, after which nothing is pending.
+    /// Ends a sweep or a focus after which nothing is pending.
     fn turn(&mut self) {
         self.cursor = self.low;
         self.low = usize::MAX;
@@ -74,20 +77,20 @@ impl Pace {
         }
     }
 
-    /// Goes back to a rank that is added, at once or in the next sweep.
+    /// Goes back to `position`, which was added, at once or in the next sweep.
     #[inline(always)]
-    pub fn add(&mut self, rank: usize) {
-        if rank >= self.cursor {
+    pub fn add(&mut self, position: usize) {
+        if position >= self.cursor {
             return;
         }
         if self.in_focus {
-            self.cursor = rank;
+            self.cursor = position;
         } else {
-            self.low = self.low.min(rank);
+            self.low = self.low.min(position);
         }
     }
 
-    /// Whether the rank taken last is taken again at once.
+    /// Decides whether the position taken last is taken again at once.
     #[inline(always)]
     pub fn repeat(&mut self) -> bool {
         if self.in_focus {

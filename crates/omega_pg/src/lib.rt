@@ -7,8 +7,10 @@ mod game;
 pub mod laws;
 mod solution;
 
-pub use game::reading::{read_arena, read_game};
+pub use game::reading::{read_forward_game, read_game};
 pub use game::writing::write_game;
-pub use omega_game::{Arena, Game, GameFault, Player, Refusal, Seq, Solution, Strategy, TaskFault};
+pub use omega_game::{
+    ForwardGame, Game, GameFault, Player, Refusal, Seq, Solution, Strategy, TaskFault,
+};
 pub use solution::reading::read_solution;
 pub use solution::writing::write_solution;

@@ -6,16 +6,16 @@ use Rattle.omega_acc.specs.formula.Acceptance.{conjunction}
 use Rattle.omega_acc.specs.formula.Kind.{buchi_formula}
 use Rattle.omega_automaton.specs.Automaton.{Description}
 use Rattle.omega_text.specs.declared.refusal.Refusal.{Refusal}
-use Rattle.omega_product.specs.Acceptance.{IsBuchi, buchi_name, moved_behind}
+use Rattle.omega_product.specs.Acceptance.{IsBuchi, buchi_name, moved_after}
 use Rattle.omega_product.specs.Written.{IsAcceptanceWritten}
 use Rattle.omega_product.specs.declared.acceptance.WrittenAcceptance.{WrittenAcceptance}
 
 pub conjoined_written : (one other : Description) (result : Result WrittenAcceptance Refusal)
     → ((first second : ℕ) → IsBuchi one first → IsBuchi other second → ⊥) → IfOk result (λ written. written.name ≡ None)
-    → IfOk result (λ written. written.formula ≡ acc_written (conjunction one.acceptance (moved_behind one.sets other.acceptance)))
+    → IfOk result (λ written. written.formula ≡ acc_written (conjunction one.acceptance (moved_after one.sets other.acceptance)))
     → IfOk result (λ written. IsAcceptanceWritten one other written.name written.formula)
 conjoined_written one other (Ok written) others name formula = record {
-  tree = conjunction one.acceptance (moved_behind one.sets other.acceptance);
+  tree = conjunction one.acceptance (moved_after one.sets other.acceptance);
   joint = inr (record { others = others; name_is = name; formula_is = refl });
   written = formula;
 }

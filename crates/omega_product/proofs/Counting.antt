@@ -5,7 +5,7 @@ use Rattle.std.proofs.lemmas.List.{length-append, length-map, take_all}
 use Rattle.std.proofs.lemmas.List.Sums.{sum_by-cons, sum_by_more, sum_by_more_le}
 use Rattle.omega_automaton.specs.Automaton.{Description}
 use Rattle.omega_raw.specs.declared.raw_state.RawState.{RawState}
-use Rattle.omega_written.specs.Limits.{most_edges}
+use Rattle.omega_edge_labels.specs.Limits.{most_edges}
 use Rattle.omega_product.specs.Pairs.{AreReached, Pair, first_leaving, partners, second_leaving, targets_between, targets_of}
 use Rattle.omega_product.specs.Product.{joint_transitions, taken_together}
 use Rattle.omega_product.specs.Refusing.{IsProductTooLarge, many_edges}

@@ -5,7 +5,7 @@ use Rattle.std.proofs.lemmas.Bool.{cases_lt, lt-ltb}
 use Rattle.std.proofs.lemmas.List.{map-append}
 use Rattle.omega_acc.specs.formula.Acceptance.{AccTree, conjunction, constant, disjunction, fin, inf}
 use Rattle.omega_automaton.specs.Automaton.{Description}
-use Rattle.omega_product.specs.Acceptance.{moved_behind}
+use Rattle.omega_product.specs.Acceptance.{moved_after}
 use Rattle.omega_product.specs.Joining.{joined_names, places_among}
 use Rattle.omega_acc.specs.declared.formula.name.AccName.{AccName}
 use Rattle.omega_acc.specs.formula.Raw.{RawAccTree}
@@ -16,12 +16,12 @@ use Rattle.omega_product.specs.private.Tables.{standing_at}
 use Rattle.omega_product.proofs.Steps.{flat_one}
 
 -- after no set a formula is itself
-pub moved_nowhere : (f : AccTree) → moved_behind 0 f ≡ f
+pub moved_nowhere : (f : AccTree) → moved_after 0 f ≡ f
 moved_nowhere (constant value) = refl
 moved_nowhere (inf negated set) = let e : 0 + set ≡ set = omega arith in ap (inf negated) e
 moved_nowhere (fin negated set) = let e : 0 + set ≡ set = omega arith in ap (fin negated) e
-moved_nowhere (conjunction left right) = ap (λ l. conjunction l (moved_behind 0 right)) (moved_nowhere left) ∙ ap (conjunction left) (moved_nowhere right)
-moved_nowhere (disjunction left right) = ap (λ l. disjunction l (moved_behind 0 right)) (moved_nowhere left) ∙ ap (disjunction left) (moved_nowhere right)
+moved_nowhere (conjunction left right) = ap (λ l. conjunction l (moved_after 0 right)) (moved_nowhere left) ∙ ap (conjunction left) (moved_nowhere right)
+moved_nowhere (disjunction left right) = ap (λ l. disjunction l (moved_after 0 right)) (moved_nowhere left) ∙ ap (disjunction left) (moved_nowhere right)
 
 -- a place that is not found is after the last
 pub place_within : {X : Type 0} (p : X → Bool) (xs : List X) → position_or_len p xs ≤ length xs

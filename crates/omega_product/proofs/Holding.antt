@@ -1,4 +1,4 @@
--- Whether a label can be true is told by the values of its propositions.
+-- The values of a label's propositions decide whether it can be true.
 use Rattle.std.proofs.Common.{◌≡◌, ◌==◌, ◌↔◌, ℕ, ◌⊎◌, inl, inr, Bool, true, false, not, ◌&&◌, ◌||◌, if◌then◌else◌, IsTrue, List, [], ◌∷◌, Contains, refl, sym, ap, ap₂, ◌∙◌, eqb-true, eq-eqb, true≢false}
 use Rattle.std.proofs.lemmas.List.Elements.{Contains-append_left, Contains-append_right}
 use Rattle.omega_acc.specs.label.Label.{LabelTree, conjunction, constant, disjunction, negation, proposition, propositions, truth}
@@ -91,14 +91,14 @@ true_somewhere label wanted holds (p ∷ ps) held known =
     go true e rest = or_first (is_true_under_some ps (with_value p true held) label) (is_true_under_some ps (with_value p false held) label) (rest true e)
     go false e rest = or_second (is_true_under_some ps (with_value p true held) label) (is_true_under_some ps (with_value p false held) label) (rest false e)
 
--- whether a label can be true is told
+-- `can_hold` says whether a label can be true
 pub can_hold_iff : (label : LabelTree) → (can_hold label ≡ true) ↔ IsSatisfiable label
 can_hold_iff label = (
   some_true (propositions label) (λ p. false) label,
   λ s. true_somewhere label s.0 s.1 (propositions label) (λ p. false) (λ p h. inl h),
 )
 
--- what is judged to be possible is told
+-- a judgement of whether a label can be true is what `can_hold` says
 pub judged_holds : (label : LabelTree) (possible : Bool) → IsTrue possible ↔ IsSatisfiable label → possible ≡ can_hold label
 judged_holds label possible judged = same possible (can_hold label) (λ h. (can_hold_iff label).1 (judged.0 h)) (λ h. judged.1 ((can_hold_iff label).0 h))
   where

@@ -22,7 +22,7 @@ use Rattle.omega_raw.specs.declared.raw_state.RawState.{RawState}
 use Rattle.omega_text.specs.Limits.{most_number}
 use Rattle.omega_product.specs.Acceptance.{IsJointAcceptance}
 use Rattle.omega_product.specs.Limits.{IsWithin}
-use Rattle.omega_written.specs.Limits.{most_edges, most_states}
+use Rattle.omega_edge_labels.specs.Limits.{most_edges, most_states}
 use Rattle.omega_product.specs.Pairs.{AreReached, Pair, first_leaving, pair_number, second_leaving, start_pairs}
 use Rattle.omega_product.specs.Product.{IsJointEdge, IsPairState, IsProduct, joint_transitions}
 use Rattle.omega_product.specs.declared.transition.Transition.{Transition}
@@ -105,32 +105,32 @@ module _ (mean : WrittenLabelsMean) (formulas : WrittenFormulasMean) (one other 
     tool = means.tool ∙ first tool_in (λ states. refl) (λ n. refl);
     name = means.name ∙ first name_in (λ states. refl) (λ n. refl);
     states = means.states;
-    starts = means.starts ∙ starts_behind name;
+    starts = means.starts ∙ starts_after name;
     propositions = means.propositions;
     sets = means.sets;
     accepted = subst (λ (n : Option AccName). IsJointAcceptance one other n a.acceptance) (sym (means.acc_name ∙ named name))
         (subst (IsJointAcceptance one other name) (same_some _ _ (sym (formulas tree).means ∙ means.acceptance)) joint);
-    properties = means.properties ∙ no_properties_behind name;
-    unknown = means.unknown ∙ nothing_behind name unknown_in (λ states. refl) (λ n. refl);
-    defined = states_meant (definitions_of (raw_product one other pairs name (acc_written tree))) (nothing_behind name alias_in (λ states. refl) (λ n. refl)) pairs a.defined means.defined;
+    properties = means.properties ∙ no_properties_after name;
+    unknown = means.unknown ∙ nothing_after name unknown_in (λ states. refl) (λ n. refl);
+    defined = states_meant (definitions_of (raw_product one other pairs name (acc_written tree))) (nothing_after name alias_in (λ states. refl) (λ n. refl)) pairs a.defined means.defined;
   }
     where
-      nothing_behind : {X : Type 0} (name : Option AccName) (says : RawItem → Option X) → ((states : List ℕ) → says (item.Start states) ≡ None)
+      nothing_after : {X : Type 0} (name : Option AccName) (says : RawItem → Option X) → ((states : List ℕ) → says (item.Start states) ≡ None)
           → ((n : AccName) → says (item.AccName n) ≡ None) → filter_map says (name_items name ++ map (raw_start pairs) (start_pairs one other)) ≡ []
-      nothing_behind None says none unnamed = nothing_said pairs says none (start_pairs one other)
-      nothing_behind (Some n) says none unnamed = rw (unnamed n) (nothing_said pairs says none (start_pairs one other))
+      nothing_after None says none unnamed = nothing_said pairs says none (start_pairs one other)
+      nothing_after (Some n) says none unnamed = rw (unnamed n) (nothing_said pairs says none (start_pairs one other))
 
       first : {X : Type 0} (says : RawItem → Option X) → ((states : List ℕ) → says (item.Start states) ≡ None)
           → ((n : AccName) → says (item.AccName n) ≡ None) → first_said says (name_items name ++ map (raw_start pairs) (start_pairs one other)) ≡ None
-      first {X = X} says none unnamed = ap (λ (l : List X). slice_get l 0) (nothing_behind name says none unnamed)
+      first {X = X} says none unnamed = ap (λ (l : List X). slice_get l 0) (nothing_after name says none unnamed)
 
-      starts_behind : (name : Option AccName) → filter_map start_in (name_items name ++ map (raw_start pairs) (start_pairs one other)) ≡ map (λ pair. pair_number pairs pair ∷ []) (start_pairs one other)
-      starts_behind None = starts_said pairs (start_pairs one other)
-      starts_behind (Some n) = starts_said pairs (start_pairs one other)
+      starts_after : (name : Option AccName) → filter_map start_in (name_items name ++ map (raw_start pairs) (start_pairs one other)) ≡ map (λ pair. pair_number pairs pair ∷ []) (start_pairs one other)
+      starts_after None = starts_said pairs (start_pairs one other)
+      starts_after (Some n) = starts_said pairs (start_pairs one other)
 
-      no_properties_behind : (name : Option AccName) → flat_map properties_in (name_items name ++ map (raw_start pairs) (start_pairs one other)) ≡ []
-      no_properties_behind None = no_properties pairs (start_pairs one other)
-      no_properties_behind (Some n) = no_properties pairs (start_pairs one other)
+      no_properties_after : (name : Option AccName) → flat_map properties_in (name_items name ++ map (raw_start pairs) (start_pairs one other)) ≡ []
+      no_properties_after None = no_properties pairs (start_pairs one other)
+      no_properties_after (Some n) = no_properties pairs (start_pairs one other)
 
       named : (name : Option AccName) → first_said acc_name_in (name_items name ++ map (raw_start pairs) (start_pairs one other)) ≡ name
       named None = ap (λ (l : List AccName). slice_get l 0) (nothing_said pairs acc_name_in (λ states. refl) (start_pairs one other))

@@ -5,8 +5,8 @@ use Rattle.std.proofs.lemmas.Grind.{flat_map-append}
 use Rattle.std.proofs.lemmas.List.{length-append, take-append-le, take_all, take_more}
 use Rattle.indexmap.specs.IndexSet.{insert_all, insert_key}
 use Rattle.omega_automaton.specs.Automaton.{Description}
-use Rattle.omega_written.specs.Limits.{most_states}
-use Rattle.omega_product.specs.Pairs.{AreFound, AreReached, Pair, found_behind, same_pair, start_pairs, targets_of}
+use Rattle.omega_edge_labels.specs.Limits.{most_states}
+use Rattle.omega_product.specs.Pairs.{AreFound, AreReached, Pair, found_after, same_pair, start_pairs, targets_of}
 
 append_nil : {X : Type 0} (xs : List X) → xs ++ [] ≡ xs
 append_nil [] = refl
@@ -39,10 +39,10 @@ all_extends (x ∷ xs) ks =
       is = rest.is ∙ ap (λ (front : List Pair). front ++ rest.extra) one.is ∙ append_assoc ks one.extra rest.extra;
     }
 
--- the search with so many pairs done
+-- the search after `done` pairs were expanded
 pub record IsUnderWay (one other : Description) (pairs : List Pair) (at : ℕ) : Type 0 where
-  pub reached : pairs ≡ found_behind one other (take at pairs)
-  pub each : (k : ℕ) → k < at → k < length (found_behind one other (take k pairs))
+  pub reached : pairs ≡ found_after one other (take at pairs)
+  pub each : (k : ℕ) → k < at → k < length (found_after one other (take k pairs))
   pub within : at ≤ length pairs
   pub few : at ≤ most_states
 
@@ -70,32 +70,32 @@ gone_on one other pairs more at pair way below here few is =
           ∙ sym (insert_both [] (start_pairs one other ++ flat_map (targets_of one other) (take at pairs)) (targets_of one other pair))
           ∙ ap (insert_all same_pair []) (append_assoc (start_pairs one other) (flat_map (targets_of one other) (take at pairs)) (targets_of one other pair))
           ∙ ap (λ (ts : List Pair). insert_all same_pair [] (start_pairs one other ++ ts)) (sym targets)
-          ∙ ap (found_behind one other) (sym done);
+          ∙ ap (found_after one other) (sym done);
       each = λ k least. step k least (same k (omega arith));
       within = omega (arith, ap length long, length-append pairs extended.extra);
       few = omega arith;
     }
   where
-    step : (k : ℕ) → k < at + 1 → take k more ≡ take k pairs → k < length (found_behind one other (take k more))
+    step : (k : ℕ) → k < at + 1 → take k more ≡ take k pairs → k < length (found_after one other (take k more))
     step k least e = go (last k least)
       where
         last : (k : ℕ) → k < at + 1 → (k < at) ⊎ (k ≡ at)
         last k least = grind arith
 
-        go : (k < at) ⊎ (k ≡ at) → k < length (found_behind one other (take k more))
-        go (inl before) = subst (λ (done : List Pair). k < length (found_behind one other done)) (sym e) (way.each k before)
+        go : (k < at) ⊎ (k ≡ at) → k < length (found_after one other (take k more))
+        go (inl before) = subst (λ (done : List Pair). k < length (found_after one other done)) (sym e) (way.each k before)
         go (inr now) =
-            let whole : length pairs ≡ length (found_behind one other (take at pairs)) = ap length way.reached in
-            let moved : length (found_behind one other (take at pairs)) ≡ length (found_behind one other (take k pairs)) =
-            ap (λ n. length (found_behind one other (take n pairs))) (sym now) in
-            subst (λ (done : List Pair). k < length (found_behind one other done)) (sym e) (omega (arith, whole, moved, now, below))
+            let whole : length pairs ≡ length (found_after one other (take at pairs)) = ap length way.reached in
+            let moved : length (found_after one other (take at pairs)) ≡ length (found_after one other (take k pairs)) =
+            ap (λ n. length (found_after one other (take n pairs))) (sym now) in
+            subst (λ (done : List Pair). k < length (found_after one other done)) (sym e) (omega (arith, whole, moved, now, below))
 
 pub done_with : (one other : Description) (pairs : List Pair) (at : ℕ) → IsUnderWay one other pairs at → length pairs ≤ at → AreReached one other pairs
 done_with one other pairs at way past =
     let e : at ≡ length pairs = omega (arith, way.within, past) in
     record {
       found = λ k below. way.each k (omega arith);
-      all = way.reached ∙ ap (found_behind one other) (take_all at pairs past);
+      all = way.reached ∙ ap (found_after one other) (take_all at pairs past);
     }
 
 -- what is found so far, and in the end
@@ -104,4 +104,4 @@ found_so_far one other pairs at way = record { found = way.each; all = way.reach
 
 pub found_all : (one other : Description) (pairs : List Pair) → AreReached one other pairs → AreFound one other (length pairs) pairs
 found_all one other pairs reached =
-    record { found = reached.found; all = reached.all ∙ ap (found_behind one other) (sym (take_all (length pairs) pairs (omega arith))) }
+    record { found = reached.found; all = reached.all ∙ ap (found_after one other) (sym (take_all (length pairs) pairs (omega arith))) }

@@ -6,8 +6,8 @@ use Rattle.omega_text.specs.declared.refusal.task.TaskFault.{TaskFault}
 use Rattle.omega_text.specs.declared.refusal.task.TaskFault.TheVariants.{BadSolution, Budget, NotDeterministic, NotParity, TooLarge, TooManyPropositions, TooWide, UniversalBranch, UnknownNode}
 use Rattle.omega_automaton.specs.Automaton.{Description}
 use Rattle.omega_product.specs.Refusing.{HaveNoBranch, IsJoinFault, IsProductFault, IsProductTooLarge}
-use Rattle.omega_written.specs.Fitting.{IsLarge}
-use Rattle.omega_written.proofs.Refusals.{large_task, task_weaker}
+use Rattle.omega_edge_labels.specs.Fitting.{IsLarge}
+use Rattle.omega_edge_labels.proofs.Refusals.{large_task, task_weaker}
 
 -- a part that is too large makes the product so
 pub large_join : (one other : Description) (P : Type 0) → (P → IsProductTooLarge one other) → (refusal : Refusal) → IsLarge P refusal

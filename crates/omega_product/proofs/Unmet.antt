@@ -10,13 +10,13 @@ use Rattle.omega_acc.specs.label.Satisfiable.{mentioned}
 use Rattle.omega_acc.specs.label.Shape.{FitsALabel}
 use Rattle.omega_satisfying.specs.Undecided.{IsUndecidedLabel}
 use Rattle.omega_automaton.specs.Automaton.{Description}
-use Rattle.omega_written.specs.Fitting.{FitsAText, IsUnfit}
-use Rattle.omega_written.proofs.Depths.{unfit_text}
+use Rattle.omega_edge_labels.specs.Fitting.{FitsAText, IsUnfit}
+use Rattle.omega_edge_labels.proofs.Depths.{unfit_text}
 use Rattle.omega_product.specs.Pairs.{AreFound, Pair, first_leaving, second_leaving}
 use Rattle.omega_product.specs.Refusing.{AreMet, IsJoinFault, unfit_meeting}
 use Rattle.omega_product.specs.private.Meeting.{HasUnmet, HasUnmetPartner, IsUnmet}
 use Rattle.omega_product.specs.declared.transition.Transition.{Transition}
-use Rattle.omega_written.proofs.Refusals.{task_weaker}
+use Rattle.omega_edge_labels.proofs.Refusals.{task_weaker}
 
 -- an element of a list by its index
 pub listed_at : {X : Type 0} (xs : List X) (i : ℕ) (x : X) → i < length xs → x ≡ get_or xs i x → Contains xs x

@@ -1,5 +1,5 @@
--- The acceptance of a product: that of both, the sets of the second after those of the first (HOA v1, acceptance
--- names).
+-- The acceptance of a product: that of both, with the sets of the second numbered after those of the first (HOA v1,
+-- acceptance names).
 use Rattle.std.specs.Prelude.{◌≡◌, ◌⊎◌, ◌==◌, ℕ, ◌+◌, if◌then◌else◌, [], ◌∷◌, Option, Some, None, codes}
 use Rattle.omega_acc.specs.formula.Acceptance.{AccTree}
 use Rattle.omega_acc.specs.formula.Acceptance as acc
@@ -15,26 +15,26 @@ use Rattle.omega_acc.specs.declared.formula.name.Parameter.TheVariants.{Number}
 use Rattle.omega_automaton.specs.Automaton.{Description}
 use Rattle.omega_automaton.specs.AcceptanceKind.{HasKind}
 
--- an acceptance formula whose sets are after so many others
-abbrev pub moved_behind : ℕ → AccTree → AccTree
-moved_behind before (acc.constant value) = acc.constant value
-moved_behind before (acc.inf negated set) = acc.inf negated (before + set)
-moved_behind before (acc.fin negated set) = acc.fin negated (before + set)
-moved_behind before (acc.conjunction left right) = acc.conjunction (moved_behind before left) (moved_behind before right)
-moved_behind before (acc.disjunction left right) = acc.disjunction (moved_behind before left) (moved_behind before right)
+-- an acceptance formula with `before` added to the number of each set
+abbrev pub moved_after : ℕ → AccTree → AccTree
+moved_after before (acc.constant value) = acc.constant value
+moved_after before (acc.inf negated set) = acc.inf negated (before + set)
+moved_after before (acc.fin negated set) = acc.fin negated (before + set)
+moved_after before (acc.conjunction left right) = acc.conjunction (moved_after before left) (moved_after before right)
+moved_after before (acc.disjunction left right) = acc.disjunction (moved_after before left) (moved_after before right)
 
--- how many sets have to occur in a parity kind that is Büchi
+-- how many sets must be visited infinitely often in a parity kind, if it is Büchi
 abbrev pub parity_buchi_sets : Order → Parity → ℕ → Option ℕ
 parity_buchi_sets Max Even count = if count == 1 then Some 1 else None
 parity_buchi_sets Max Odd count = None
 parity_buchi_sets Min parity count = None
 
--- how many sets have to occur, where a kind is Büchi or generalized Büchi
+-- how many sets must be visited infinitely often, if a kind is Büchi or generalized Büchi
 abbrev pub buchi_sets : AccKind → Option ℕ
 buchi_sets (kind.Parity parity) = parity_buchi_sets parity.order parity.parity parity.count
 buchi_sets (kind.GenBuchi sets) = Some sets
 
--- an automaton is Büchi or generalized Büchi, by so many sets
+-- an automaton is Büchi or generalized Büchi, with `sets` sets
 pub record IsBuchi (a : Description) (sets : ℕ) : Type 0 where
   pub kind : AccKind
   pub kind_is : HasKind a kind
@@ -53,11 +53,11 @@ pub record IsBuchiOfBoth (one other : Description) (name : Option AccName) (form
   pub name_is : name ≡ Some (buchi_name (first + second))
   pub formula_is : formula ≡ buchi_formula (first + second)
 
--- not both are, and this is the conjunction of their formulas, without a name
+-- not both automata are Büchi or generalized Büchi, and this is the conjunction of their formulas, without a name
 pub record IsConjoined (one other : Description) (name : Option AccName) (formula : AccTree) : Type 0 where
   pub others : (first second : ℕ) → IsBuchi one first → IsBuchi other second → ⊥
   pub name_is : name ≡ None
-  pub formula_is : formula ≡ acc.conjunction one.acceptance (moved_behind one.sets other.acceptance)
+  pub formula_is : formula ≡ acc.conjunction one.acceptance (moved_after one.sets other.acceptance)
 
 -- the acceptance of a product by its name and its formula
 abbrev pub IsJointAcceptance : Description → Description → Option AccName → AccTree → Type 0

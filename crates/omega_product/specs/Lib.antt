@@ -1,4 +1,4 @@
--- Automata together: what public contracts cite; in `private` what private ones alone do.
+-- Products of automata: what public contracts cite, and in `private` what private contracts alone cite.
 pub use Rattle.omega_text.specs.Cases
 pub use Rattle.omega_text.specs.Refusal
 pub mod Joining

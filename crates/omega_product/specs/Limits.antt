@@ -2,9 +2,9 @@
 use Rattle.std.specs.Prelude.{◌≤◌}
 use Rattle.omega_text.specs.Limits.{most_number}
 use Rattle.omega_automaton.specs.Automaton.{Description, edge_count}
-use Rattle.omega_written.specs.Limits.{most_edges, most_states}
+use Rattle.omega_edge_labels.specs.Limits.{most_edges, most_states}
 
--- an automaton is not larger than a product may be; its sets have numbers that a text can have
+-- an automaton is not larger than a product may be, and a text has numbers for its sets
 pub record IsWithin (a : Description) : Type 0 where
   pub states : a.states ≤ most_states
   pub edges : edge_count a ≤ most_edges

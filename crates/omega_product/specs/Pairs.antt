@@ -1,5 +1,4 @@
--- Pairs of states, and which of them a product has: those that are reached, in the order in which a search breadth
--- first finds them.
+-- Pairs of states, and the reachable ones, which are the states of a product, in the order of a breadth-first search.
 use Rattle.std.specs.Prelude.{◌≡◌, ℕ, ◌<◌, Bool, ◌&&◌, ◌==◌, List, [], ◌++◌, length, map, take, filter, slice_index_or, codes, decimal}
 use Rattle.std.specs.List.{flat_map, position_or_len}
 use Rattle.indexmap.specs.IndexSet.{insert_all}
@@ -9,7 +8,7 @@ use Rattle.omega_product.specs.Joining.{joined_names, places_among}
 use Rattle.omega_product.specs.Transitions.{Standing, can_hold, transitions_at}
 use Rattle.omega_product.specs.declared.transition.Transition.{Transition}
 
--- a state of the first and one of the second
+-- a state of the first automaton and one of the second
 abbrev pub Pair : Type 0
 Pair = ℕ × ℕ
 
@@ -17,7 +16,7 @@ Pair = ℕ × ℕ
 abbrev pub same_pair : Pair → Pair → Bool
 same_pair a b = (a.0 == b.0) && (a.1 == b.1)
 
--- how the first automaton stands within the product
+-- how the product sees the first automaton
 abbrev pub first_standing : Description → Description → Standing
 first_standing one other = record {
   count = length one.propositions;
@@ -25,7 +24,7 @@ first_standing one other = record {
   before = 0;
 }
 
--- how the second does: its sets are after those of the first
+-- how the product sees the second automaton: its sets are numbered after those of the first
 abbrev pub second_standing : Description → Description → Standing
 second_standing one other = record {
   count = length other.propositions;
@@ -33,15 +32,15 @@ second_standing one other = record {
   before = one.sets;
 }
 
--- whether an edge of the first and one of the second can be taken together: both labels hold somewhere
+-- whether an edge of the first and one of the second can be taken together: some values make both labels true
 abbrev pub can_meet : Transition → Transition → Bool
 can_meet transition other = can_hold (conjunction transition.label other.label)
 
--- those of the second that can be taken together with an edge of the first
+-- the edges of the second that can be taken together with an edge of the first
 abbrev pub partners : Transition → List Transition → List Transition
 partners transition others = filter (can_meet transition) others
 
--- the pairs that edges of a state and of another lead to
+-- the pairs that two edges lead to, one of each list
 abbrev pub targets_between : List Transition → List Transition → List Pair
 targets_between transitions others =
     flat_map (λ transition. map (λ other. (transition.target, other.target)) (partners transition others)) transitions
@@ -54,7 +53,7 @@ first_leaving one other pair = transitions_at (first_standing one other) one.def
 abbrev pub second_leaving : Description → Description → Pair → List Transition
 second_leaving one other pair = transitions_at (second_standing one other) other.defined pair.1
 
--- the pairs that a pair leads to
+-- the pairs that a pair leads to in one step
 abbrev pub targets_of : Description → Description → Pair → List Pair
 targets_of one other pair = targets_between (first_leaving one other pair) (second_leaving one other pair)
 
@@ -62,25 +61,26 @@ targets_of one other pair = targets_between (first_leaving one other pair) (seco
 abbrev pub start_state : List ℕ → ℕ
 start_state start = slice_index_or start 0 0
 
--- the pairs of starts, those of the first in their order and for each those of the second
+-- the pairs of starts, in the order of those of the first, and for each in the order of those of the second
 abbrev pub start_pairs : Description → Description → List Pair
 start_pairs one other =
     flat_map (λ start. map (λ start'. (start_state start, start_state start')) other.starts) one.starts
 
--- the pairs found once some are done with: the starts, and what those lead to, each once
-abbrev pub found_behind : Description → Description → List Pair → List Pair
-found_behind one other done = insert_all same_pair [] (start_pairs one other ++ flat_map (targets_of one other) done)
+-- the pairs found after the pairs `done` were expanded: the starts and the targets of `done`, each once
+abbrev pub found_after : Description → Description → List Pair → List Pair
+found_after one other done = insert_all same_pair [] (start_pairs one other ++ flat_map (targets_of one other) done)
 
--- the pairs that are found once so many of them are done with, each of which is found once those before it are
+-- the state of the breadth-first search after `done` pairs were expanded: each of these was found by expanding those
+-- before it
 pub record AreFound (one other : Description) (done : ℕ) (pairs : List Pair) : Type 0 where
-  pub found : (k : ℕ) → k < done → k < length (found_behind one other (take k pairs))
-  pub all : pairs ≡ found_behind one other (take done pairs)
+  pub found : (k : ℕ) → k < done → k < length (found_after one other (take k pairs))
+  pub all : pairs ≡ found_after one other (take done pairs)
 
--- the pairs that are reached, as they are found breadth first: each is found once those before it are done with,
--- and none is left
+-- the reachable pairs, as the least fixed point of expanding, in the order of the queue: each is found by expanding
+-- those before it, and expanding all finds no other
 pub record AreReached (one other : Description) (pairs : List Pair) : Type 0 where
-  pub found : (k : ℕ) → k < length pairs → k < length (found_behind one other (take k pairs))
-  pub all : pairs ≡ found_behind one other pairs
+  pub found : (k : ℕ) → k < length pairs → k < length (found_after one other (take k pairs))
+  pub all : pairs ≡ found_after one other pairs
 
 -- the number of a pair among the pairs
 abbrev pub pair_number : List Pair → Pair → ℕ

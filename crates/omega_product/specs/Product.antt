@@ -1,4 +1,4 @@
--- The product of two automata: it accepts what both accept.
+-- The product of two automata, which accepts the words that both accept.
 use Rattle.std.specs.Prelude.{◌≡◌, ◌+◌, List, [], ◌∷◌, ◌++◌, length, map, Some, None}
 use Rattle.std.specs.List.{AllZip, flat_map}
 use Rattle.omega_acc.specs.label.Label.{conjunction}
@@ -11,7 +11,7 @@ use Rattle.omega_product.specs.Joining.{joined_names}
 use Rattle.omega_product.specs.Pairs.{AreReached, Pair, first_leaving, pair_name, pair_number, partners, second_leaving, start_pairs}
 use Rattle.omega_product.specs.declared.transition.Transition.{Transition}
 
--- an edge of the first and one of the second taken together
+-- the joint edge of an edge of the first and one of the second
 abbrev pub taken_together : List Pair → Transition → Transition → Transition
 taken_together pairs transition other = record {
   label = conjunction transition.label other.label;
@@ -19,7 +19,7 @@ taken_together pairs transition other = record {
   marks = transition.marks ++ other.marks;
 }
 
--- the edges of two states taken together: those of the first in their order, and for each those of the second
+-- the joint edges of two states, in the order of those of the first, and for each in the order of those of the second
 abbrev pub joint_transitions : List Pair → List Transition → List Transition → List Transition
 joint_transitions pairs transitions others =
     flat_map (λ transition. map (taken_together pairs transition) (partners transition others)) transitions
@@ -30,7 +30,7 @@ pub record IsJointEdge (transition : Transition) (edge : Edge) : Type 0 where
   pub targets : edge.targets ≡ transition.target ∷ []
   pub marks : AreMarksOf transition.marks edge.marks
 
--- a state of the product: a pair, by its number and its name, with the edges of both taken together
+-- a state of the product: a pair, by its number and its name, with the joint edges of its two states
 pub record IsPairState (one other : Description) (pairs : List Pair) (pair : Pair) (state : State) : Type 0 where
   pub label : state.label ≡ None
   pub number : state.number ≡ pair_number pairs pair

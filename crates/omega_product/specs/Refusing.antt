@@ -1,5 +1,5 @@
--- Which refusal a product meets: 41, 42 where it is not decided whether two labels can hold together, or 55 where it
--- would be too large, or want of memory.
+-- Which refusal a product meets: 41, or 42 if it is undecided whether two labels can hold together, or 55 if it would
+-- be too large, or 60 for memory.
 use Rattle.std.specs.Prelude.{◌≡◌, ◌<◌, ℕ, ◌+◌, ◌||◌, true, false, List, length, Contains, Some, sum_by}
 use Rattle.omega_text.specs.Cases.{never, or_memory, or_task}
 use Rattle.omega_text.specs.Limits.{most_number}
@@ -15,25 +15,25 @@ use Rattle.omega_acc.specs.label.Label.{conjunction}
 use Rattle.omega_acc.specs.label.Satisfiable.{mentioned}
 use Rattle.omega_acc.specs.label.Shape.{FitsALabel}
 use Rattle.omega_automaton.specs.Automaton.{Description}
-use Rattle.omega_automaton.specs.Branching.{has_branch}
+use Rattle.omega_automaton.specs.Branching.{has_universal_branching}
 use Rattle.omega_automaton.specs.Faults.{automaton_fault_of}
 use Rattle.omega_automaton.specs.Limits.{most_propositions}
 use Rattle.omega_automaton.specs.declared.state.State.{State}
-use Rattle.omega_product.specs.Acceptance.{moved_behind}
+use Rattle.omega_product.specs.Acceptance.{moved_after}
 use Rattle.omega_product.specs.Joining.{joined_names}
 use Rattle.omega_product.specs.Pairs.{AreFound, AreReached, Pair, first_leaving, first_standing, second_leaving, second_standing, targets_of}
 use Rattle.omega_product.specs.Transitions.{Standing, transitions_from}
 use Rattle.omega_product.specs.Written.{IsWrittenProduct}
 use Rattle.omega_product.specs.declared.transition.Transition.{Transition}
 use Rattle.omega_raw.specs.declared.raw_automaton.RawAutomaton.{RawAutomaton}
-use Rattle.omega_written.specs.Fitting.{FitsAText}
-use Rattle.omega_written.specs.Limits.{most_edges, most_states}
+use Rattle.omega_edge_labels.specs.Fitting.{FitsAText}
+use Rattle.omega_edge_labels.specs.Limits.{most_edges, most_states}
 
--- 41 does not apply: each start and each edge of both lists one state
+-- there is no universal branching: each start and each edge of both lists one state
 abbrev pub HaveNoBranch : Description → Description → Type 0
-HaveNoBranch one other = (has_branch one || has_branch other) ≡ false
+HaveNoBranch one other = (has_universal_branching one || has_universal_branching other) ≡ false
 
--- an edge of the first and one of the second that leave a pair which is reached
+-- an edge of the first and one of the second, which leave the two states of a reachable pair
 pub record AreMet (one other : Description) (transition partner : Transition) : Type 0 where
   pub pairs : List Pair
   pub done : ℕ
@@ -43,40 +43,40 @@ pub record AreMet (one other : Description) (transition partner : Transition) : 
   pub first : Contains (first_leaving one other pair) transition
   pub second : Contains (second_leaving one other pair) partner
 
--- two such edges mention so many propositions that it may not be decided whether their labels can hold together
+-- two such edges mention so many propositions that it may be undecided whether their labels can hold together
 pub record HasWideMeeting (one other : Description) : Type 0 where
   pub transition : Transition
   pub partner : Transition
   pub met : AreMet one other transition partner
   pub wide : most_mentioned < length (mentioned (conjunction transition.label partner.label))
 
--- the label of two such edges together is too deep or too large for a text
+-- the joint label of two such edges is too deep or too large for a text
 pub record HasUnfitMeeting (one other : Description) : Type 0 where
   pub transition : Transition
   pub partner : Transition
   pub met : AreMet one other transition partner
   pub unfit : FitsAText (conjunction transition.label partner.label) → ⊥
 
--- the label of one of some edges, as a product sees them, is too deep or too large
+-- some edge, as a product sees it, has a label that is too deep or too large
 pub record HasUnfitEdge (transitions : List Transition) : Type 0 where
   pub transition : Transition
   pub listed : Contains transitions transition
   pub unfit : FitsALabel transition.label → ⊥
 
--- the same of an edge of some states
+-- an edge of some state has such a label
 pub record HasUnfitLabel (standing : Standing) (states : List State) : Type 0 where
   pub state : State
   pub listed : Contains states state
   pub edge : HasUnfitEdge (transitions_from standing state 0 state.edges)
 
--- more pairs are reached than there may be states
+-- more pairs are reachable than a product may have states
 pub record HasManyPairs (one other : Description) : Type 0 where
   pub pairs : List Pair
   pub done : ℕ
   pub found : AreFound one other done pairs
   pub many : most_states < length pairs
 
--- more edges leave the pairs that are reached than there may be
+-- more edges leave the reachable pairs than a product may have
 pub record HasManyEdges (one other : Description) : Type 0 where
   pub pairs : List Pair
   pub reached : AreReached one other pairs
@@ -93,7 +93,7 @@ pub record BreaksLimit (one other : Description) : Type 0 where
 pub data IsProductTooLarge (one other : Description) : Type 0 where
   many_sets : most_number < one.sets + other.sets → IsProductTooLarge one other
   many_names : most_propositions < length (joined_names one.propositions other.propositions) → IsProductTooLarge one other
-  deep_acceptance : most_depth < raw_acc_depth (acc_written (acc.conjunction one.acceptance (moved_behind one.sets other.acceptance))) → IsProductTooLarge one other
+  deep_acceptance : most_depth < raw_acc_depth (acc_written (acc.conjunction one.acceptance (moved_after one.sets other.acceptance))) → IsProductTooLarge one other
   unfit_first : HasUnfitLabel (first_standing one other) one.defined → IsProductTooLarge one other
   unfit_second : HasUnfitLabel (second_standing one other) other.defined → IsProductTooLarge one other
   unfit_meeting : HasUnfitMeeting one other → IsProductTooLarge one other
@@ -101,7 +101,7 @@ pub data IsProductTooLarge (one other : Description) : Type 0 where
   many_edges : HasManyEdges one other → IsProductTooLarge one other
   broken_limit : BreaksLimit one other → IsProductTooLarge one other
 
--- 42 or 55, where 41 does not apply
+-- 42 or 55, if there is no universal branching
 abbrev pub IsJoinFault : Description → Description → TaskFault → Type 0
 IsJoinFault one other NotParity = ⊥
 IsJoinFault one other UniversalBranch = ⊥
@@ -113,10 +113,10 @@ IsJoinFault one other UnknownNode = ⊥
 IsJoinFault one other TooLarge = IsProductTooLarge one other
 IsJoinFault one other (NotDeterministic state) = ⊥
 
--- 41, or else 42 or 55
+-- 41 if there is universal branching, otherwise 42 or 55
 abbrev pub IsProductFault : Description → Description → TaskFault → Type 0
 IsProductFault one other NotParity = ⊥
-IsProductFault one other UniversalBranch = (has_branch one || has_branch other) ≡ true
+IsProductFault one other UniversalBranch = (has_universal_branching one || has_universal_branching other) ≡ true
 IsProductFault one other TooManyPropositions = HaveNoBranch one other × HasWideMeeting one other
 IsProductFault one other TooWide = ⊥
 IsProductFault one other Budget = ⊥

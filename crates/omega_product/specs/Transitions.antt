@@ -1,21 +1,22 @@
--- The edges of an automaton as its product with another sees them: labels and marks of states moved to edges, labels
--- for edges that have none, propositions joined by name, sets after those of the other (HOA v1, semantics).
+-- The edges of an automaton as its product with another sees them (HOA v1, semantics). Labels and marks of states are
+-- moved to edges, edges without a label get one, propositions are joined by name, and sets are numbered after those of
+-- the other.
 use Rattle.std.specs.Prelude.{ℕ, ◌+◌, ◌==◌, Bool, true, false, ◌||◌, if◌then◌else◌, List, [], ◌∷◌, ◌++◌, map, slice_index_or}
 use Rattle.omega_acc.specs.label.Label.{LabelTree, propositions, truth}
 use Rattle.omega_automaton.specs.declared.edge.Edge.{Edge}
 use Rattle.omega_automaton.specs.declared.state.State.{State}
 use Rattle.omega_product.specs.Joining.{relabelled}
 use Rattle.omega_product.specs.declared.transition.Transition.{Transition}
-use Rattle.omega_written.specs.Labels.{label_at}
+use Rattle.omega_edge_labels.specs.Labels.{label_at}
 
--- how an automaton stands within a product: its count of propositions, their places among the joined ones,
--- and how many sets stand before its own
+-- how a product sees an automaton: its number of propositions, their places among the joined ones, and how many sets
+-- are numbered before its own
 pub record Standing : Type 0 where
   pub count : ℕ
   pub places : List ℕ
   pub before : ℕ
 
--- an edge of a state by its index
+-- the edge of a state with an index
 abbrev pub transition_of : Standing → State → ℕ → Edge → Transition
 transition_of standing state index edge = record {
   label = relabelled standing.places (label_at standing.count state index edge);
@@ -23,19 +24,19 @@ transition_of standing state index edge = record {
   marks = map (λ set. standing.before + set) (state.marks ++ edge.marks);
 }
 
--- edges of a state, the first of which has an index
+-- edges of a state, counted from an index
 abbrev pub transitions_from : Standing → State → ℕ → List Edge → List Transition
 transitions_from standing state index [] = []
 transitions_from standing state index (edge ∷ edges) =
     transition_of standing state index edge ∷ transitions_from standing state (index + 1) edges
 
--- the edges of the state of a number among states, none where none has it
+-- the edges of the first state with a number, empty if there is no such state
 abbrev pub transitions_at : Standing → List State → ℕ → List Transition
 transitions_at standing [] number = []
 transitions_at standing (state ∷ states) number =
     if state.number == number then transitions_from standing state 0 state.edges else transitions_at standing states number
 
--- propositions, but one of them holds or not as said
+-- the values `held`, but with `value` for the proposition `p`
 abbrev pub with_value : ℕ → Bool → (ℕ → Bool) → ℕ → Bool
 with_value p value held q = if q == p then value else held q
 

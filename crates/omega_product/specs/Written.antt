@@ -1,5 +1,5 @@
--- A product as a text writes it, before it is judged: labels and the acceptance with parentheses only where they are
--- needed.
+-- A product as a text writes it, before it is judged. Labels and the acceptance have parentheses only where they need
+-- them.
 use Rattle.std.specs.Prelude.{◌≡◌, ℕ, ◌+◌, List, [], ◌∷◌, ◌++◌, length, map, Option, Some, None, codes}
 use Rattle.omega_acc.specs.formula.Acceptance.{AccTree}
 use Rattle.omega_acc.specs.formula.Raw.{RawAccTree}
@@ -50,8 +50,8 @@ abbrev pub name_items : Option AccName → List RawItem
 name_items None = []
 name_items (Some name) = item.AccName name ∷ []
 
--- the header, by the names of the propositions, the count of sets, the name and the formula of the acceptance, and the
--- pairs that begin
+-- the header, by the names of the propositions, the number of sets, the name and the formula of the acceptance, and the
+-- pairs of starts
 abbrev pub raw_items : List (List ℕ) → ℕ → Option AccName → RawAccTree → List Pair → List Pair → List RawItem
 raw_items names sets name formula starts pairs =
     (item.States (length pairs) ∷ item.Propositions (length names) names ∷ item.Acceptance sets formula ∷ []) ++ name_items name
@@ -67,13 +67,13 @@ raw_product one other pairs name formula =
     raw_of (raw_items (joined_names one.propositions other.propositions) (one.sets + other.sets) name formula (start_pairs one other) pairs)
     (map (raw_state_of one other pairs) pairs)
 
--- this is the acceptance of a product, as it is written
+-- this is the acceptance of a product, as a text writes it
 pub record IsAcceptanceWritten (one other : Description) (name : Option AccName) (formula : RawAccTree) : Type 0 where
   pub tree : AccTree
   pub joint : IsJointAcceptance one other name tree
   pub written : formula ≡ acc_written tree
 
--- this is the product of two automata, as it is written
+-- this is the product of two automata, as a text writes it
 pub record IsWrittenProduct (one other : Description) (written : RawAutomaton) : Type 0 where
   pub pairs : List Pair
   pub reached : AreReached one other pairs
@@ -82,7 +82,7 @@ pub record IsWrittenProduct (one other : Description) (written : RawAutomaton) :
   pub accepted : IsAcceptanceWritten one other name formula
   pub is : written ≡ raw_product one other pairs name formula
 
--- the automaton is what a product that is written so means
+-- the automaton is the meaning of such a written product
 pub record IsWritten (one other a : Description) : Type 0 where
   pub written : RawAutomaton
   pub product : IsWrittenProduct one other written

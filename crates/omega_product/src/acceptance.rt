@@ -1,4 +1,4 @@
-//! The acceptance of a product, as it is written.
+//! The acceptance of a product, as a text writes it.
 
 ghost use Rattle.std.specs.Prelude.{◌≡◌, ◌+◌, ◌<◌, ◌≤◌, IfErr, IfOk, Some};
 ghost use Rattle.omega_text.specs.Cases.{IsMemory};
@@ -8,34 +8,35 @@ ghost use Rattle.omega_acc.specs.formula.Acceptance.{conjunction, disjunction};
 ghost use Rattle.omega_acc.specs.formula.Kind.{buchi_formula};
 ghost use Rattle.omega_acc.specs.formula.Raw.{raw_acc_depth};
 ghost use Rattle.omega_acc.specs.formula.Shape.{acc_tree_of_shape};
-ghost use Rattle.omega_product.specs.Acceptance.{buchi_name as name_of_buchi, moved_behind};
-ghost use Rattle.omega_written.specs.Fitting.{IsLarge};
+ghost use Rattle.omega_product.specs.Acceptance.{buchi_name as name_of_buchi, moved_after};
+ghost use Rattle.omega_edge_labels.specs.Fitting.{IsLarge};
 ghost use Rattle.omega_product.specs.Written.{IsAcceptanceWritten};
 
 use crate::buchi::buchi_sets;
-use crate::numbers::behind;
+use crate::numbers::following;
 use omega_acc::{AccName, AccShape, Parameter, RawAcc};
 use omega_automaton::Automaton;
+use omega_edge_labels::written_formula;
 use omega_text::{ByteString, Refusal, Seq};
-use omega_written::written_formula;
 use std::alloc::Global;
 
-/// An acceptance as it is written: its name, if it has one, and its formula.
+/// An acceptance as a text writes it: its name, if it has one, and its formula.
 #[derive(Drop)]
 pub(crate) struct WrittenAcceptance {
     pub(crate) name: Option<AccName>,
     pub(crate) formula: RawAcc,
 }
 
-/// The acceptance of both: that of the first, and that of the second after its sets; generalized Büchi where both are
-/// Büchi or generalized Büchi. 55 where it is too deep.
+/// Returns the acceptance of the product. If `one` and `other` are both Büchi or generalized Büchi, it is generalized
+/// Büchi. Otherwise it is the conjunction of the two, with the sets of `other` numbered after those of `one`. Fails
+/// with [TaskFault::TooLarge] if the formula is too deep.
 pub(crate) fn joint_acceptance(
     alloc: Global,
     one: &Automaton,
     other: &Automaton,
 ) -> Result<WrittenAcceptance, Refusal>
     ensures ok { IfOk result (λ written. IsAcceptanceWritten one.now other.now written.name written.formula) }
-    ensures err { IfErr result (IsLarge (most_depth < raw_acc_depth (acc_written (conjunction one.now.acceptance (moved_behind one.now.sets other.now.acceptance))))) }
+    ensures err { IfErr result (IsLarge (most_depth < raw_acc_depth (acc_written (conjunction one.now.acceptance (moved_after one.now.sets other.now.acceptance))))) }
 {
     match buchi_sets(one) {
         None => conjoined(alloc, one, other),
@@ -46,7 +47,7 @@ pub(crate) fn joint_acceptance(
     }
 }
 
-/// The generalized Büchi acceptance of so many sets.
+/// Returns the generalized Büchi acceptance of `sets` sets.
 fn buchi_of_both(alloc: Global, sets: u32) -> Result<WrittenAcceptance, Refusal>
     requires some { 1 ≤ sets }
     requires few { sets ≤ most_depth }
@@ -62,7 +63,7 @@ fn buchi_of_both(alloc: Global, sets: u32) -> Result<WrittenAcceptance, Refusal>
     })
 }
 
-/// The name of the generalized Büchi acceptance of so many sets.
+/// Returns the name of the generalized Büchi acceptance of `sets` sets.
 fn buchi_name(alloc: Global, sets: u32) -> Result<AccName, Refusal>
     ensures ok { IfOk result (λ name. name ≡ name_of_buchi sets) }
     ensures err { IfErr result IsMemory }
@@ -75,7 +76,7 @@ fn buchi_name(alloc: Global, sets: u32) -> Result<AccName, Refusal>
     })
 }
 
-/// The generalized Büchi formula of so many sets.
+/// Returns the generalized Büchi formula of `sets` sets.
 fn buchi_formula(alloc: Global, sets: u32) -> Result<RawAcc, Refusal>
     requires some { 1 ≤ sets }
     requires few { sets ≤ most_depth }
@@ -90,15 +91,15 @@ fn buchi_formula(alloc: Global, sets: u32) -> Result<RawAcc, Refusal>
     Ok(formula)
 }
 
-/// The conjunction of both formulas, without a name. 55 where it is too deep.
+/// Returns the conjunction of both formulas, without a name. Fails with [TaskFault::TooLarge] if it is too deep.
 fn conjoined(
     alloc: Global,
     one: &Automaton,
     other: &Automaton,
 ) -> Result<WrittenAcceptance, Refusal>
     ensures name { IfOk result (λ written. written.name ≡ None) }
-    ensures formula { IfOk result (λ written. written.formula ≡ acc_written (conjunction one.now.acceptance (moved_behind one.now.sets other.now.acceptance))) }
-    ensures err { IfErr result (IsLarge (most_depth < raw_acc_depth (acc_written (conjunction one.now.acceptance (moved_behind one.now.sets other.now.acceptance))))) }
+    ensures formula { IfOk result (λ written. written.formula ≡ acc_written (conjunction one.now.acceptance (moved_after one.now.sets other.now.acceptance))) }
+    ensures err { IfErr result (IsLarge (most_depth < raw_acc_depth (acc_written (conjunction one.now.acceptance (moved_after one.now.sets other.now.acceptance))))) }
 {
     let first = one.acceptance().shape(alloc)?;
     let second = moved_acceptance(alloc, other, one.set_count())?;
@@ -110,25 +111,25 @@ fn conjoined(
     })
 }
 
-/// The formula of an automaton whose sets are after so many others.
+/// Returns the formula of `automaton` with `before` added to the number of each set.
 fn moved_acceptance(alloc: Global, automaton: &Automaton, before: u32) -> Result<AccShape, Refusal>
-    ensures ok { IfOk result (λ shape. acc_tree_of_shape shape ≡ moved_behind before automaton.now.acceptance) }
+    ensures ok { IfOk result (λ shape. acc_tree_of_shape shape ≡ moved_after before automaton.now.acceptance) }
     ensures err { IfErr result IsMemory }
 {
     let shape = automaton.acceptance().shape(alloc)?;
     moved(alloc, &shape, before)
 }
 
-/// A formula whose sets are after so many others. Refusal 60 also where a number would not fit, which no set of a
-/// product has.
+/// Adds `before` to the number of each set of the formula. Also fails with [Refusal::Memory] if a number does not fit,
+/// which can't happen for a product.
 fn moved(alloc: Global, shape: &AccShape, before: u32) -> Result<AccShape, Refusal>
-    ensures ok { IfOk result (λ moved. acc_tree_of_shape moved ≡ moved_behind before (acc_tree_of_shape shape.now)) }
+    ensures ok { IfOk result (λ moved. acc_tree_of_shape moved ≡ moved_after before (acc_tree_of_shape shape.now)) }
     ensures err { IfErr result IsMemory }
 {
     match shape {
         AccShape::Constant(value) => Ok(AccShape::Constant(*value)),
-        AccShape::Inf(negated, set) => Ok(AccShape::Inf(*negated, behind(before, *set)?)),
-        AccShape::Fin(negated, set) => Ok(AccShape::Fin(*negated, behind(before, *set)?)),
+        AccShape::Inf(negated, set) => Ok(AccShape::Inf(*negated, following(before, *set)?)),
+        AccShape::Fin(negated, set) => Ok(AccShape::Fin(*negated, following(before, *set)?)),
         AccShape::And(left, right) => {
             let left = moved(alloc, left, before)?;
             let right = moved(alloc, right, before)?;
@@ -142,7 +143,7 @@ fn moved(alloc: Global, shape: &AccShape, before: u32) -> Result<AccShape, Refus
     }
 }
 
-/// Both formulas joined by `&`.
+/// Joins two formulas by `&`.
 fn both(alloc: Global, left: AccShape, right: AccShape) -> Result<AccShape, Refusal>
     ensures ok { IfOk result (λ shape. acc_tree_of_shape shape ≡ conjunction (acc_tree_of_shape left) (acc_tree_of_shape right)) }
     ensures err { IfErr result IsMemory }
@@ -152,7 +153,7 @@ fn both(alloc: Global, left: AccShape, right: AccShape) -> Result<AccShape, Refu
     Ok(AccShape::And(left, right))
 }
 
-/// Both formulas joined by `|`.
+/// Joins two formulas by `|`.
 fn either(alloc: Global, left: AccShape, right: AccShape) -> Result<AccShape, Refusal>
     ensures ok { IfOk result (λ shape. acc_tree_of_shape shape ≡ disjunction (acc_tree_of_shape left) (acc_tree_of_shape right)) }
     ensures err { IfErr result IsMemory }

@@ -9,7 +9,7 @@ ghost use Rattle.omega_product.specs.Acceptance.{IsBuchi, buchi_sets as sets_of_
 use omega_acc::{AccKind, Order, Parity, acceptance_kind};
 use omega_automaton::Automaton;
 
-/// By how many sets an automaton is Büchi or generalized Büchi, none where it is neither. Takes no memory.
+/// Returns the number of sets of `automaton` if it is Büchi or generalized Büchi. Requests no memory.
 pub(crate) fn buchi_sets(automaton: &Automaton) -> Option<u32>
     ensures sets { MatchOption result ((sets : ℕ) → IsBuchi automaton.now sets → ⊥) (IsBuchi automaton.now) }
     ensures some { IfSome result (λ sets. 1 ≤ sets) }
@@ -21,7 +21,7 @@ pub(crate) fn buchi_sets(automaton: &Automaton) -> Option<u32>
     }
 }
 
-/// The acceptance kind of an automaton, if it has one.
+/// Returns the acceptance kind of `automaton`, if it has one.
 fn kind_of(automaton: &Automaton) -> Option<AccKind>
     ensures { MatchOption result ((kind : AccKind) → HasKind automaton.now kind → ⊥) (HasKind automaton.now) }
 {
@@ -36,7 +36,7 @@ fn kind_of(automaton: &Automaton) -> Option<AccKind>
     }
 }
 
-/// How many sets have to occur, where a kind is Büchi or generalized Büchi.
+/// Returns how many sets must be visited infinitely often, if `kind` is Büchi or generalized Büchi.
 fn sets_of(kind: AccKind) -> Option<u32>
     ensures { result ≡ sets_of_kind kind }
 {

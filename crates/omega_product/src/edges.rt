@@ -6,7 +6,7 @@ ghost use Rattle.omega_acc.specs.label.Label.{conjunction};
 ghost use Rattle.omega_acc.specs.label.Shape.{label_tree_of_shape};
 ghost use Rattle.omega_product.specs.Pairs.{pair_number, partners};
 ghost use Rattle.omega_product.specs.Product.{joint_transitions, taken_together};
-ghost use Rattle.omega_written.specs.Limits.{most_states};
+ghost use Rattle.omega_edge_labels.specs.Limits.{most_states};
 ghost use Rattle.omega_product.specs.private.Meeting.{HasUnmet, HasUnmetPartner, IsUnmet};
 ghost use Rattle.omega_product.specs.Written.{raw_edge};
 
@@ -14,13 +14,14 @@ use crate::meeting::meeting;
 use crate::transition::Transition;
 use indexmap::IndexSet;
 use omega_acc::LabelShape;
+use omega_edge_labels::written_label;
 use omega_raw::{RawEdge, RawEdges};
 use omega_text::{Marks, Numbers, Refusal};
-use omega_written::written_label;
 use std::alloc::Global;
 
-/// The edges of two states taken together. 42 where it is not decided whether two of them can be, and 55 where their
-/// label is too deep or too large.
+/// Returns the joint edges of two states, one for each two edges that can be taken together. Fails with
+/// [TaskFault::TooManyPropositions] if it is undecided whether some two can be, and with [TaskFault::TooLarge] if a
+/// joint label is too deep or too large.
 pub(crate) fn joint_edges(
     alloc: Global,
     found: &IndexSet<(u32, u32)>,
@@ -38,7 +39,7 @@ pub(crate) fn joint_edges(
     Ok(edges)
 }
 
-/// Puts last an edge taken together with those of a state.
+/// Appends the joint edges of `first` and each edge of `seconds`.
 fn push_joint(
     alloc: Global,
     edges: &mut RawEdges,
@@ -59,7 +60,8 @@ fn push_joint(
     Ok(())
 }
 
-/// An edge of the first and one of the second taken together, by their label. 55 where that is too deep.
+/// Returns the joint edge of `first` and `second`, whose label is `label`. Fails with [TaskFault::TooLarge] if the
+/// label is too deep.
 fn joint_edge(
     alloc: Global,
     found: &IndexSet<(u32, u32)>,
@@ -82,7 +84,7 @@ fn joint_edge(
     })
 }
 
-/// The number of a pair, or how many there are where it is not among them.
+/// Returns the number of `pair`, or the number of pairs if it is not among them.
 pub(crate) fn number_of(found: &IndexSet<(u32, u32)>, pair: (u32, u32)) -> u32
     requires { length found.now.keys ≤ most_states }
     ensures { result ≡ pair_number found.now.keys pair }
@@ -93,7 +95,7 @@ pub(crate) fn number_of(found: &IndexSet<(u32, u32)>, pair: (u32, u32)) -> u32
     }
 }
 
-/// Numbers and others after them.
+/// Concatenates two lists of numbers.
 fn joined(alloc: Global, numbers: &[u32], others: &[u32]) -> Result<Numbers, Refusal>
     ensures ok { IfOk result (λ all. all ≡ numbers.now ++ others.now) }
     ensures err { IfErr result IsMemory }

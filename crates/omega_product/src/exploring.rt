@@ -1,10 +1,10 @@
-//! The pairs of states that are reached, breadth first.
+//! The reachable pairs of states, found by breadth-first search.
 
 ghost use Rattle.std.specs.Prelude.{◌≡◌, ◌<◌, ◌≤◌, get_or, length, map, IfErr, IfOk, OnOk};
 ghost use Rattle.omega_text.specs.Cases.{IsMemory, never, or_memory, or_task};
 ghost use Rattle.std.specs.List.{flat_map};
 ghost use Rattle.indexmap.specs.IndexSet.{insert_all};
-ghost use Rattle.omega_written.specs.Limits.{most_states};
+ghost use Rattle.omega_edge_labels.specs.Limits.{most_states};
 ghost use Rattle.omega_product.specs.Pairs.{AreReached, first_leaving, first_standing, partners, same_pair, second_leaving, second_standing, start_state as first_listed, targets_between, targets_of};
 ghost use Rattle.omega_product.specs.Refusing.{IsJoinFault};
 ghost use Rattle.omega_product.specs.private.Meeting.{HasUnmet, HasUnmetPartner};
@@ -15,12 +15,13 @@ use crate::table::Table;
 use crate::transition::Transition;
 use indexmap::IndexSet;
 use omega_automaton::Automaton;
+use omega_edge_labels::MOST_STATES;
 use omega_text::{Numbers, Refusal, TaskFault};
-use omega_written::MOST_STATES;
 use std::alloc::Global;
 
-/// The pairs that are reached, as they are found. 42 where it is not decided whether two edges can be taken together,
-/// 55 where there are too many pairs, or the label of two edges is too deep or too large.
+/// Finds the reachable pairs of states by breadth-first search, in the order in which they are found. Fails with
+/// [TaskFault::TooManyPropositions] if it is undecided whether two edges can be taken together. Fails with
+/// [TaskFault::TooLarge] if there are too many pairs, or if a joint label is too deep or too large.
 #[tactic(auto, using(crate::proofs::Reaching::begun, crate::proofs::Reaching::done_with))]
 pub(crate) fn explore(
     alloc: Global,
@@ -49,7 +50,7 @@ pub(crate) fn explore(
     Ok(found)
 }
 
-/// The pair of a number.
+/// Returns the pair with the number `number`.
 #[tactic(auto, using(crate::proofs::Formulas::same_default))]
 pub(crate) fn pair_at(found: &IndexSet<(u32, u32)>, number: usize) -> (u32, u32)
     requires { number < length found.now.keys }
@@ -58,7 +59,7 @@ pub(crate) fn pair_at(found: &IndexSet<(u32, u32)>, number: usize) -> (u32, u32)
     found.as_slice()[number]
 }
 
-/// Adds the pairs that a pair leads to. The automata are named for the contract alone.
+/// Expands `pair`: adds the pairs that it leads to. Only the contract reads the two automata.
 fn visit(
     alloc: Global,
     _one: &Automaton,
@@ -78,7 +79,7 @@ fn visit(
     add_targets(alloc, found, starting, others)
 }
 
-/// Adds the pairs of starts.
+/// Adds the pairs of a start of `starts` and one of `others`.
 fn add_starts(
     found: &mut IndexSet<(u32, u32)>,
     starts: &[Numbers],
@@ -93,7 +94,7 @@ fn add_starts(
     Ok(())
 }
 
-/// Adds the pairs of a state and starts.
+/// Adds the pairs of the state `first` and a start of `others`.
 fn add_starts_with(
     found: &mut IndexSet<(u32, u32)>,
     first: u32,
@@ -108,14 +109,14 @@ fn add_starts_with(
     Ok(())
 }
 
-/// The state that a start lists first.
+/// Returns the state that `start` lists first.
 pub(crate) fn start_state(start: &Numbers) -> u32
     ensures { result ≡ first_listed start.now }
 {
     start.as_slice().first().copied().unwrap_or(0)
 }
 
-/// Adds the pairs that edges of a state and of another lead to.
+/// Adds the pairs that two edges lead to, one of `firsts` and one of `seconds`.
 fn add_targets(
     alloc: Global,
     found: &mut IndexSet<(u32, u32)>,
@@ -131,7 +132,7 @@ fn add_targets(
     Ok(())
 }
 
-/// Adds the pairs that one edge and those of a state lead to.
+/// Adds the pairs that `first` and an edge of `seconds` lead to.
 fn add_targets_with(
     alloc: Global,
     found: &mut IndexSet<(u32, u32)>,

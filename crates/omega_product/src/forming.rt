@@ -1,15 +1,15 @@
 ghost use Rattle.std.specs.Prelude.{◌≡◌, ◌||◌, ◌+◌, ◌<◌, ◌≤◌, ◌^◌, List, length, IfErr, IfOk, OnOk, sum_by};
 ghost use Rattle.omega_text.specs.Cases.{IsMemory, never, or_memory, or_task};
 ghost use Rattle.omega_text.specs.Limits.{most_number};
-ghost use Rattle.omega_automaton.specs.Branching.{has_branch};
+ghost use Rattle.omega_automaton.specs.Branching.{has_universal_branching};
 ghost use Rattle.omega_product.specs.Joining.{joined_names as names_of_both};
 ghost use Rattle.omega_product.specs.Limits.{IsWithin};
-ghost use Rattle.omega_written.specs.Limits.{most_edges, most_states};
+ghost use Rattle.omega_edge_labels.specs.Limits.{most_edges, most_states};
 ghost use Rattle.omega_product.specs.Pairs.{first_standing, second_standing};
 ghost use Rattle.omega_product.specs.Product.{IsProduct};
 ghost use Rattle.omega_product.specs.Refusing.{HasUnfitLabel, HaveNoBranch, IsJoinFault, IsProductRefusal};
 ghost use Rattle.omega_product.specs.private.Tables.{AreRows};
-ghost use Rattle.omega_written.specs.Fitting.{IsLarge};
+ghost use Rattle.omega_edge_labels.specs.Fitting.{IsLarge};
 ghost use Rattle.omega_product.specs.Written.{IsWritten, IsWrittenProduct, raw_of};
 
 use crate::acceptance::joint_acceptance;
@@ -19,23 +19,29 @@ use crate::names::{joined_names, places_among};
 use crate::states::states_of;
 use crate::table::Table;
 use omega_acc::{written_formulas_mean, written_labels_mean};
-use omega_automaton::{Automaton, MOST_PROPOSITIONS, automaton_of, has_branch};
+use omega_automaton::{Automaton, MOST_PROPOSITIONS, automaton_of, has_universal_branching};
 use omega_raw::{RawAutomaton, RawItem, RawState};
 use omega_text::{ByteString, MOST_NUMBER, Refusal, Seq, TaskFault};
 use std::alloc::Global;
 
-/// The product of two automata without universal branching: it accepts a word over the propositions of both exactly if
-/// each accepts its part of it (HOA v1; Vardi and Wolper 1994).
+/// Returns the product of two automata without universal branching. It accepts a word over the propositions of both
+/// exactly if each accepts its part of the word (HOA v1; Vardi and Wolper 1994).
 ///
-/// Propositions are joined by name, those of the first in front. States are the pairs that are reached, numbered
-/// breadth first from the starts in order, each named by its two numbers. An edge stands for each two edges whose
-/// labels can hold together; labels and marks of states move to edges. The sets of the second stand after those of the
-/// first; the acceptance is the conjunction, named where both are Büchi or generalized Büchi.
+/// Propositions are joined by name, with those of `first` in front. The states are the reachable pairs of states. They
+/// are numbered breadth first from the starts, in order, and each is named by its two numbers. Each two edges whose
+/// labels can hold together make one edge. Labels and marks of states move to edges. The sets of `second` are numbered
+/// after those of `first`. The acceptance is the conjunction, and has a name if both are Büchi or generalized Büchi.
 ///
-/// Refused are: 41 where a start or an edge lists several states; then 42 where it is not decided whether the labels of
-/// two edges can hold together, and 55 where the product would have over `MOST_STATES` states or `MOST_EDGES` edges or
-/// break a limit of automata: over `MOST_PROPOSITIONS` propositions, `MOST_NUMBER` sets, a label or an acceptance that
-/// is too deep or too large. Takes time by the pairs of edges of each pair of states that is reached.
+/// Refusals, with `UniversalBranch` before the others:
+///
+/// - [TaskFault::UniversalBranch] if a start or an edge lists several states.
+/// - [TaskFault::TooManyPropositions] if it is undecided whether the labels of two edges can hold together.
+/// - [TaskFault::TooLarge] if the product would have over `MOST_STATES` states or `MOST_EDGES` edges, or would break a
+///   limit of automata. Those are `MOST_PROPOSITIONS` propositions, `MOST_NUMBER` sets, and the depth and size of
+///   labels and of the acceptance.
+///
+/// Takes time proportional to the number of pairs of edges, summed over the reachable pairs of states. Each two edges
+/// are judged twice, when pairs are found and when joint edges are made.
 pub fn product(alloc: Global, first: &Automaton, second: &Automaton) -> Result<Automaton, Refusal>
     ensures product { IfOk result (IsProduct first.now second.now) }
     ensures written { IfOk result (IsWritten first.now second.now) }
@@ -49,16 +55,17 @@ pub fn product(alloc: Global, first: &Automaton, second: &Automaton) -> Result<A
     joined(alloc, first, second)
 }
 
-/// Whether a start or an edge of either lists several states.
+/// Whether a start or an edge of either automaton lists several states.
 fn branches(first: &Automaton, second: &Automaton) -> bool
-    ensures { result ≡ (has_branch first.now || has_branch second.now) }
+    ensures { result ≡ (has_universal_branching first.now || has_universal_branching second.now) }
 {
-    let in_first = has_branch(first);
-    let in_second = has_branch(second);
+    let in_first = has_universal_branching(first);
+    let in_second = has_universal_branching(second);
     in_first || in_second
 }
 
-/// The product of two automata without universal branching. 42, 55 or 60.
+/// Returns the product of two automata without universal branching. Fails with [TaskFault::TooManyPropositions],
+/// [TaskFault::TooLarge] or [Refusal::Memory].
 fn joined(alloc: Global, one: &Automaton, other: &Automaton) -> Result<Automaton, Refusal>
     ensures product { IfOk result (IsProduct one.now other.now) }
     ensures written { IfOk result (IsWritten one.now other.now) }
@@ -75,7 +82,8 @@ fn joined(alloc: Global, one: &Automaton, other: &Automaton) -> Result<Automaton
     }
 }
 
-/// The product as it is written, before it is judged. 42, 55 or 60.
+/// Returns the product as a text writes it, before it is judged. Fails with [TaskFault::TooManyPropositions],
+/// [TaskFault::TooLarge] or [Refusal::Memory].
 fn written_product(
     alloc: Global,
     one: &Automaton,
@@ -107,7 +115,7 @@ fn written_product(
     Ok(raw)
 }
 
-/// The count of the sets of both. 55 where a text has no number for it.
+/// Returns the number of sets of both. Fails with [TaskFault::TooLarge] if a text has no number for it.
 fn sets_of_both(one: &Automaton, other: &Automaton) -> Result<u32, Refusal>
     ensures ok { IfOk result (λ sets. sets ≡ one.now.sets + other.now.sets) }
     ensures within { IfOk result (λ sets. sets ≤ most_number) }
@@ -121,7 +129,7 @@ fn sets_of_both(one: &Automaton, other: &Automaton) -> Result<u32, Refusal>
     Ok(first + second)
 }
 
-/// The names of the propositions of both. 55 where they are too many.
+/// Returns the names of the propositions of both. Fails with [TaskFault::TooLarge] if they are too many.
 fn names_of(alloc: Global, one: &Automaton, other: &Automaton) -> Result<Vec<ByteString>, Refusal>
     ensures ok { IfOk result (λ names. names.items ≡ names_of_both one.now.propositions other.now.propositions) }
     ensures few { IfOk result (λ names. length names.items < 2 ^ 32) }
@@ -134,7 +142,7 @@ fn names_of(alloc: Global, one: &Automaton, other: &Automaton) -> Result<Vec<Byt
     Ok(names)
 }
 
-/// The automaton of a header and a body.
+/// Makes an automaton of a header and a body.
 fn assembled(
     alloc: Global,
     items: Vec<RawItem>,
@@ -151,7 +159,8 @@ fn assembled(
     })
 }
 
-/// The edges of the first automaton within the product, by the joined names. 55 where a label is too deep or too large.
+/// Returns the edges of `one` within the product, by the joined `names`. Fails with [TaskFault::TooLarge] if a label is
+/// too deep or too large. Only the contract reads the other automaton.
 fn first_table(
     alloc: Global,
     one: &Automaton,
@@ -167,7 +176,8 @@ fn first_table(
     Table::of(alloc, one, places.as_slice(), 0)
 }
 
-/// The edges of the second, whose sets are after those of the first. 55 where a label is too deep or too large.
+/// Returns the edges of `other` within the product, with its sets numbered after those of `one`. Fails with
+/// [TaskFault::TooLarge] if a label is too deep or too large.
 fn second_table(
     alloc: Global,
     one: &Automaton,

@@ -1,9 +1,9 @@
-//! The header of a product, as it is written.
+//! The header of a product, as a text writes it.
 
 ghost use Rattle.std.specs.Prelude.{◌≡◌, ◌++◌, ◌<◌, ◌≤◌, ◌^◌, length, map, IfErr, IfOk, OnOk};
 ghost use Rattle.std.specs.List.{flat_map};
 ghost use Rattle.omega_text.specs.Cases.{IsMemory};
-ghost use Rattle.omega_written.specs.Limits.{most_states};
+ghost use Rattle.omega_edge_labels.specs.Limits.{most_states};
 ghost use Rattle.omega_product.specs.Pairs.{start_state as first_listed};
 ghost use Rattle.omega_product.specs.Written.{name_items, raw_items, raw_start};
 
@@ -16,7 +16,7 @@ use omega_raw::RawItem;
 use omega_text::{ByteString, Numbers, Refusal, Seq};
 use std::alloc::Global;
 
-/// The header, by the joined names, the acceptance of so many sets, the starts of both and the pairs.
+/// Returns the header: the joined `names`, the `acceptance` of `sets` sets, and the pairs of a start of each automaton.
 pub(crate) fn items_of(
     alloc: Global,
     names: Vec<ByteString>,
@@ -48,7 +48,7 @@ pub(crate) fn items_of(
     Ok(items)
 }
 
-/// Puts last the name of an acceptance, if there is one.
+/// Appends the name of an acceptance, if it has one.
 fn push_name(items: &mut Vec<RawItem>, name: Option<AccName>) -> Result<(), Refusal>
     ensures ok { OnOk result (items.new.items ≡ items.old.items ++ name_items name) }
     ensures err { IfErr result IsMemory }
@@ -59,7 +59,7 @@ fn push_name(items: &mut Vec<RawItem>, name: Option<AccName>) -> Result<(), Refu
     Ok(())
 }
 
-/// Puts last the pairs of starts.
+/// Appends the pairs of a start of `starts` and one of `others`.
 fn push_starts(
     items: &mut Vec<RawItem>,
     starts: &[Numbers],
@@ -76,7 +76,7 @@ fn push_starts(
     Ok(())
 }
 
-/// Puts last the pairs of a state and starts.
+/// Appends the pairs of the state `first` and a start of `others`.
 fn push_starts_with(
     items: &mut Vec<RawItem>,
     first: u32,

@@ -10,7 +10,7 @@ use omega_acc::LabelShape;
 use omega_text::Refusal;
 use std::alloc::Global;
 
-/// A label over the joined propositions, by the places of its own.
+/// Restates a label over the joined propositions. `places` gives the joined number of each of its own.
 pub(crate) fn renumbered(
     alloc: Global,
     shape: &LabelShape,
@@ -39,14 +39,14 @@ pub(crate) fn renumbered(
     }
 }
 
-/// The number of a proposition among the joined ones.
+/// Returns the joined number of the proposition `number`.
 fn number_among(places: &[u32], number: usize) -> u32
     ensures { result ≡ number_of_joined places.now number }
 {
     places.get(number).copied().unwrap_or(0)
 }
 
-/// The negation of a label.
+/// Negates a label.
 fn negated(alloc: Global, part: LabelShape) -> Result<LabelShape, Refusal>
     ensures ok { IfOk result (λ shape. label_tree_of_shape shape ≡ negation (label_tree_of_shape part)) }
     ensures err { IfErr result IsMemory }
@@ -54,7 +54,7 @@ fn negated(alloc: Global, part: LabelShape) -> Result<LabelShape, Refusal>
     Ok(LabelShape::Not(Box::new(alloc, part)?))
 }
 
-/// Both labels joined by `&`.
+/// Joins two labels by `&`.
 pub(crate) fn both(
     alloc: Global,
     left: LabelShape,
@@ -68,7 +68,7 @@ pub(crate) fn both(
     Ok(LabelShape::And(left, right))
 }
 
-/// Both labels joined by `|`.
+/// Joins two labels by `|`.
 fn either(alloc: Global, left: LabelShape, right: LabelShape) -> Result<LabelShape, Refusal>
     ensures ok { IfOk result (λ shape. label_tree_of_shape shape ≡ disjunction (label_tree_of_shape left) (label_tree_of_shape right)) }
     ensures err { IfErr result IsMemory }

@@ -1,10 +1,10 @@
-//! Automata together: the product of two, which accepts what both accept.
+//! The product of two automata, which accepts the words that both accept.
 //!
-//! How each automaton stands within the product is told by a table of its edges (`table`, `transitions`, `labels`,
-//! `names`). The pairs that are reached are found first (`exploring`), then their edges are put together (`edges`,
-//! `states`); what is written so is judged and read as any automaton that is written (`forming`).
+//! A table holds the edges of each automaton as the product sees them (`table`, `transitions`, `labels`, `names`).
+//! First the reachable pairs are found (`exploring`). Then their edges are joined (`edges`, `states`). The result is
+//! written as a text would have it, and is judged and read as every written automaton is (`forming`).
 //!
-//! Numbers of refusals are those of `Refusal`; docs/formats.md says when each comes.
+//! docs/formats.md says when each refusal comes.
 #![tactic(auto)]
 
 mod acceptance;
@@ -24,5 +24,5 @@ mod transitions;
 
 pub use forming::product;
 pub use omega_automaton::{Automaton, Refusal};
-pub use omega_written::{MOST_EDGES, MOST_STATES, written_limits_are_stated};
+pub use omega_edge_labels::{MOST_EDGES, MOST_STATES, written_limits_are_stated};
 pub use transition::Transition;

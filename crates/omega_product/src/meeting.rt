@@ -10,13 +10,14 @@ ghost use Rattle.omega_product.specs.private.Meeting.{IsMeeting, IsUnmet};
 use crate::labels::both;
 use crate::transition::Transition;
 use omega_acc::LabelShape;
-use omega_satisfying::can_be_true;
+use omega_edge_labels::fitting_label;
+use omega_satisfying::is_satisfiable;
 use omega_text::Refusal;
-use omega_written::fitting_label;
 use std::alloc::Global;
 
-/// The label of an edge of the first and one of the second taken together, none where they can't be. 42 where that is
-/// not decided, and 55 where their label is too deep or too large.
+/// Returns the joint label of `first` and `second`, or none if they can't be taken together. Fails with
+/// [TaskFault::TooManyPropositions] if that is undecided, and with [TaskFault::TooLarge] if the joint label is too deep
+/// or too large.
 pub(crate) fn meeting(
     alloc: Global,
     first: &Transition,
@@ -27,11 +28,12 @@ pub(crate) fn meeting(
 {
     let shape = joint_shape(alloc, first, second)?;
     let label = fitting_label(alloc, &shape)?;
-    let possible = can_be_true(alloc, &label)?;
+    let possible = is_satisfiable(alloc, &label)?;
     if possible { Ok(Some(shape)) } else { Ok(None) }
 }
 
-/// Whether an edge of the first and one of the second can be taken together. 42 and 55 as above.
+/// Whether `first` and `second` can be taken together. Fails with [TaskFault::TooManyPropositions] if that is
+/// undecided, and with [TaskFault::TooLarge] if the joint label is too deep or too large.
 pub(crate) fn can_meet(
     alloc: Global,
     first: &Transition,
@@ -46,7 +48,7 @@ pub(crate) fn can_meet(
     }
 }
 
-/// The label of both taken together.
+/// Returns the conjunction of the labels of `first` and `second`.
 fn joint_shape(
     alloc: Global,
     first: &Transition,

@@ -9,7 +9,7 @@ ghost use Rattle.omega_product.specs.Joining.{joined_names as names_of_both, pla
 use omega_text::{ByteString, Refusal};
 use std::alloc::Global;
 
-/// The names of the first, and then those of the second that are not among them.
+/// Returns `names`, and then those `others` that are not among them.
 pub(crate) fn joined_names(
     alloc: Global,
     names: &[ByteString],
@@ -27,7 +27,7 @@ pub(crate) fn joined_names(
     Ok(joined)
 }
 
-/// The same names.
+/// Copies `names`.
 pub(crate) fn copied(alloc: Global, names: &[ByteString]) -> Result<Vec<ByteString>, Refusal>
     ensures ok { IfOk result (λ same. same.items ≡ names.now) }
     ensures err { IfErr result IsMemory }
@@ -39,7 +39,7 @@ pub(crate) fn copied(alloc: Global, names: &[ByteString]) -> Result<Vec<ByteStri
     Ok(same)
 }
 
-/// Whether one of the names has these bytes.
+/// Whether one of `names` has these bytes.
 fn is_among(bytes: &[u8], names: &[ByteString]) -> bool
     ensures { result ≡ list_any (bytes_eq bytes.now) names.now }
 {
@@ -51,7 +51,7 @@ fn is_among(bytes: &[u8], names: &[ByteString]) -> bool
     false
 }
 
-/// The numbers of names among the joined ones.
+/// Returns the position in `joined` of each of `names`.
 pub(crate) fn places_among(
     alloc: Global,
     joined: &[ByteString],
@@ -68,7 +68,7 @@ pub(crate) fn places_among(
     Ok(places)
 }
 
-/// The number of a name among the joined ones, or their count.
+/// Returns the position of `name` in `joined`, or the length of `joined` if it is not there.
 fn place_of(joined: &[ByteString], name: &[u8]) -> u32
     requires { length joined.now < 2 ^ 32 }
     ensures { result ≡ position_or_len (bytes_eq name.now) joined.now }

@@ -1,12 +1,13 @@
-//! Numbers that stand after others.
+//! Numbers of sets that come after others.
 
 ghost use Rattle.std.specs.Prelude.{◌≡◌, ◌+◌, IfErr, IfOk};
 ghost use Rattle.omega_text.specs.Cases.{IsMemory};
 
 use omega_text::Refusal;
 
-/// A set by its number after so many others. Refusal 60 where the number would not fit, which no set of a product has.
-pub(crate) fn behind(before: u32, set: u32) -> Result<u32, Refusal>
+/// Returns the number of `set` after `before` other sets. Also fails with [Refusal::Memory] if the number does not fit,
+/// which can't happen for a product.
+pub(crate) fn following(before: u32, set: u32) -> Result<u32, Refusal>
     ensures ok { IfOk result (λ number. number ≡ before + set) }
     ensures err { IfErr result IsMemory }
 {

@@ -2,12 +2,12 @@
 
 ghost use Rattle.std.specs.Prelude.{◌≡◌, ◌+◌, ◌<◌, ◌≤◌, ◌∷◌, ◌++◌, [], Some, length, map, sum_by, IfErr, IfOk, OnOk};
 ghost use Rattle.omega_text.specs.Cases.{IsMemory, never, or_memory, or_task};
-ghost use Rattle.omega_written.specs.Limits.{most_edges, most_states};
+ghost use Rattle.omega_edge_labels.specs.Limits.{most_edges, most_states};
 ghost use Rattle.omega_product.specs.Pairs.{AreReached, first_leaving, first_standing, pair_name, second_leaving, second_standing};
 ghost use Rattle.omega_product.specs.Refusing.{IsJoinFault};
 ghost use Rattle.omega_product.specs.private.Meeting.{HasUnmet};
 ghost use Rattle.omega_product.specs.private.Tables.{AreRows};
-ghost use Rattle.omega_written.specs.Fitting.{IsLarge};
+ghost use Rattle.omega_edge_labels.specs.Fitting.{IsLarge};
 ghost use Rattle.omega_product.specs.Written.{raw_state_of};
 
 use crate::edges::{joint_edges, number_of};
@@ -15,13 +15,14 @@ use crate::exploring::pair_at;
 use crate::table::Table;
 use indexmap::IndexSet;
 use omega_automaton::Automaton;
+use omega_edge_labels::MOST_EDGES;
 use omega_raw::{RawState, StateName};
 use omega_text::{ByteString, Marks, Refusal, TaskFault, write_number};
-use omega_written::MOST_EDGES;
 use std::alloc::Global;
 
-/// The states of the pairs. 42 where it is not decided whether two edges can be taken together, 55 where there are too
-/// many edges, or the label of two of them is too deep or too large.
+/// Returns the states of the pairs. Fails with [TaskFault::TooManyPropositions] if it is undecided whether two edges
+/// can be taken together. Fails with [TaskFault::TooLarge] if there are too many edges, or if a joint label is too deep
+/// or too large.
 pub(crate) fn states_of(
     alloc: Global,
     one: &Automaton,
@@ -48,7 +49,8 @@ pub(crate) fn states_of(
     Ok(states)
 }
 
-/// Puts a state last, and gives how many edges there are with its own. 55 where they are too many.
+/// Appends `state`, and returns `edges` and the number of its edges together. Fails with [TaskFault::TooLarge] if they
+/// are too many.
 fn push_state(states: &mut Vec<RawState>, state: RawState, edges: usize) -> Result<usize, Refusal>
     requires { edges ≤ most_edges }
     ensures pushed { OnOk result (states.new.items ≡ states.old.items ++ state ∷ []) }
@@ -64,7 +66,7 @@ fn push_state(states: &mut Vec<RawState>, state: RawState, edges: usize) -> Resu
     Ok(edges + count)
 }
 
-/// The state of a pair. The automata are named for the contract alone.
+/// Returns the state of `pair`. Only the contract reads the two automata.
 fn state_of(
     alloc: Global,
     _one: &Automaton,
@@ -96,7 +98,7 @@ fn state_of(
     })
 }
 
-/// The name of a pair: its two numbers with a comma between them.
+/// Returns the name of `pair`: its two numbers with a comma between them.
 fn name_of(alloc: Global, pair: (u32, u32)) -> Result<StateName, Refusal>
     ensures ok { IfOk result (λ name. name ≡ Some (pair_name pair)) }
     ensures err { IfErr result IsMemory }

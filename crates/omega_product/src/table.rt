@@ -4,7 +4,7 @@ ghost use Rattle.omega_automaton.specs.declared.state.State.{State};
 ghost use Rattle.omega_product.specs.Transitions.{Standing, transitions_at};
 ghost use Rattle.omega_product.specs.Refusing.{HasUnfitLabel};
 ghost use Rattle.omega_product.specs.private.Tables.{AreRows, standing_at};
-ghost use Rattle.omega_written.specs.Fitting.{IsLarge};
+ghost use Rattle.omega_edge_labels.specs.Fitting.{IsLarge};
 
 use crate::transition::Transition;
 use crate::transitions::transitions_of;
@@ -21,8 +21,8 @@ pub(crate) struct Table {
 }
 
 impl Table {
-    /// The edges of an automaton, by the places of its propositions and the count of sets before its own.
-    /// 55 where a label is too deep or too large.
+    /// Makes the table of `automaton`. `places` gives the joined number of each of its propositions, and `before` sets
+    /// are numbered before its own. Fails with [TaskFault::TooLarge] if a label is too deep or too large.
     #[tactic(auto, using(crate::proofs::Rows::rows_more))]
     pub(crate) fn of(
         alloc: Global,
@@ -44,7 +44,8 @@ impl Table {
         Ok(table)
     }
 
-    /// Puts the edges of a state last. Refusal 60 also where a state of that number is there, which no automaton has.
+    /// Appends the edges of a state. Also fails with [Refusal::Memory] if the table already has a state of that number,
+    /// which can't happen for an automaton.
     fn add(&mut self, number: u32, row: Seq<Transition>) -> Result<(), Refusal>
         ensures numbers { OnOk result (self.new.numbers.keys ≡ self.old.numbers.keys ++ number ∷ []) }
         ensures rows { OnOk result (self.new.rows.items ≡ self.old.rows.items ++ row ∷ []) }
@@ -57,7 +58,7 @@ impl Table {
         Ok(())
     }
 
-    /// The edges of the state of a number, none where none has it.
+    /// Returns the edges of the state with the number `number`, empty if there is no such state.
     pub(crate) fn transitions(&self, number: u32) -> &[Transition]
         ensures { (standing : Standing) (states : List State) → AreRows standing states self.now.numbers.keys self.now.rows.items → result.now ≡ transitions_at standing states number }
     {
@@ -67,7 +68,7 @@ impl Table {
         }
     }
 
-    /// The edges at a place, none after the last.
+    /// Returns the edges at `place`, empty past the last.
     fn row(&self, place: usize) -> &[Transition]
         ensures { result.now ≡ get_or self.now.rows.items place [] }
     {

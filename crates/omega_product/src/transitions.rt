@@ -7,20 +7,20 @@ ghost use Rattle.omega_product.specs.Joining.{relabelled};
 ghost use Rattle.omega_product.specs.Refusing.{HasUnfitEdge};
 ghost use Rattle.omega_product.specs.Transitions.{transition_of as transition_of_edge};
 ghost use Rattle.omega_product.specs.private.Tables.{row_of, standing_at};
-ghost use Rattle.omega_written.specs.Fitting.{IsLarge, IsUnfit};
-ghost use Rattle.omega_written.specs.Labels.{label_at as label_of_edge};
+ghost use Rattle.omega_edge_labels.specs.Fitting.{IsLarge, IsUnfit};
+ghost use Rattle.omega_edge_labels.specs.Labels.{label_at as label_of_edge};
 
 use crate::labels::renumbered;
-use crate::numbers::behind;
+use crate::numbers::following;
 use crate::transition::Transition;
 use omega_acc::LabelShape;
 use omega_automaton::{EdgeRef, State};
+use omega_edge_labels::{fitting_label, label_at};
 use omega_text::{Numbers, Refusal, Seq};
-use omega_written::{fitting_label, label_at};
 use std::alloc::Global;
 
-/// The edges of a state, by the places of the propositions and the count of sets before its own. 55 where a label is
-/// too deep or too large.
+/// Returns the edges of `state` as the product sees them. `places` gives the joined number of each proposition, and
+/// `before` sets are numbered before its own. Fails with [TaskFault::TooLarge] if a label is too deep or too large.
 pub(crate) fn transitions_of(
     alloc: Global,
     state: &State,
@@ -39,7 +39,8 @@ pub(crate) fn transitions_of(
     Ok(Seq::from_vec(row))
 }
 
-/// The edge of a state at an index. 55 where its label is too deep or too large.
+/// Returns the edge `edge` of `state`, whose index is `at`, as the product sees it. Fails with [TaskFault::TooLarge] if
+/// its label is too deep or too large.
 fn transition_of(
     alloc: Global,
     state: &State,
@@ -54,7 +55,7 @@ fn transition_of(
     let shape = shape_of(alloc, state, edge, at, places)?;
     let label = fitting_label(alloc, &shape)?;
     let target = edge.targets().first().copied().unwrap_or(0);
-    let marks = marks_behind(alloc, state.marks.as_slice(), edge.marks(), before)?;
+    let marks = marks_after(alloc, state.marks.as_slice(), edge.marks(), before)?;
     Ok(Transition {
         label,
         target,
@@ -62,7 +63,7 @@ fn transition_of(
     })
 }
 
-/// The label of an edge of a state by its index, over the joined propositions. 60 alone.
+/// Returns the label over the joined propositions of the edge `edge` of `state`, whose index is `at`.
 fn shape_of(
     alloc: Global,
     state: &State,
@@ -77,9 +78,9 @@ fn shape_of(
     renumbered(alloc, &label, places)
 }
 
-/// The marks of a state and of an edge after so many sets. Refusal 60 also where a number would not fit, which no
-/// set of an automaton within the limits has.
-fn marks_behind(
+/// Returns the marks of a state and of an edge, each after `before` other sets. Also fails with [Refusal::Memory] if a
+/// number does not fit, which can't happen for an automaton within the limits.
+fn marks_after(
     alloc: Global,
     of_state: &[u32],
     of_edge: &[u32],
@@ -89,19 +90,24 @@ fn marks_behind(
     ensures err { IfErr result IsMemory }
 {
     let mut marks = Numbers::new();
-    push_behind(alloc, &mut marks, of_state, before)?;
-    push_behind(alloc, &mut marks, of_edge, before)?;
+    append_moved(alloc, &mut marks, of_state, before)?;
+    append_moved(alloc, &mut marks, of_edge, before)?;
     Ok(marks)
 }
 
-/// Puts sets last, after so many others.
-fn push_behind(alloc: Global, marks: &mut Numbers, sets: &[u32], before: u32) -> Result<(), Refusal>
+/// Appends `sets`, each after `before` other sets.
+fn append_moved(
+    alloc: Global,
+    marks: &mut Numbers,
+    sets: &[u32],
+    before: u32,
+) -> Result<(), Refusal>
     ensures ok { OnOk result (marks.new ≡ marks.old ++ map (λ set. before + set) sets.now) }
     ensures err { IfErr result IsMemory }
 {
     for set in sets {
-        let behind = behind(before, *set)?;
-        marks.push(alloc, behind)?;
+        let following = following(before, *set)?;
+        marks.push(alloc, following)?;
     }
     Ok(())
 }

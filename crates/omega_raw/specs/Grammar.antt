@@ -88,7 +88,7 @@ item_name (item.Name bytes) = codes "name"
 item_name (item.Properties words) = codes "properties"
 item_name (item.Unknown name values) = name
 
--- what stands after an item's header
+-- what follows an item's header
 abbrev pub content_row : RawItem → List AutomatonSymbol → List AutomatonSymbol
 content_row (item.States count) others = number count ∷ others
 content_row (item.Start states) others = conj_row states others
@@ -101,7 +101,7 @@ content_row (item.Name bytes) others = text bytes ∷ others
 content_row (item.Properties words) others = each word_row words others
 content_row (item.Unknown name values) others = each value_row values others
 
--- item: a HEADERNAME and what stands after it
+-- item: a HEADERNAME and what follows it
 abbrev pub item_row : RawItem → List AutomatonSymbol → List AutomatonSymbol
 item_row it others = header (item_name it) ∷ content_row it others
 
@@ -119,7 +119,7 @@ state_row state others =
 abbrev pub automaton_symbols : RawAutomaton → List AutomatonSymbol
 automaton_symbols raw = header (codes "HOA") ∷ word raw.version ∷ each item_row raw.items (sign kind.Body ∷ each state_row raw.states (sign kind.End ∷ []))
 
--- the header that a name stands for
+-- the header with this name
 abbrev pub header_named : List ℕ → HeaderKind
 header_named bytes =
     if bytes_eq bytes (codes "HOA") then named.Format
@@ -138,7 +138,7 @@ header_named bytes =
 abbrev pub IsConj : List ℕ → Type 0
 IsConj states = 0 < length states
 
--- an item can be written: a conj has a number, and an unknown header is none of the known ones
+-- an item can be written: a conj has a number, and an unknown header is not a known one
 abbrev pub IsRawItem : RawItem → Type 0
 IsRawItem (item.Start states) = IsConj states
 IsRawItem (item.Unknown name values) = header_named name ≡ named.Unknown

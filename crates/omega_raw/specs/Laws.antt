@@ -1,4 +1,4 @@
--- What holds of all tokens and the automata that they are written as.
+-- Laws of all tokens and the automata that they are written as.
 use Rattle.omega_raw.specs.Grammar.{ReadsAutomaton, ReadsNoOther}
 use Rattle.omega_raw.specs.Symbols.{Tokens}
 use Rattle.omega_raw.specs.declared.raw_automaton.RawAutomaton.{RawAutomaton}

@@ -53,13 +53,13 @@ ReadsSymbol (label tree) tokens rest = Reads tokens tree rest
 ReadsSymbol (formula tree) tokens rest = ReadsAcc tokens tree rest
 ReadsSymbol symbol tokens rest = IsNext symbol tokens rest
 
--- some tokens stand between a front and a back
+-- some tokens are between a front and a back
 pub record Splits (Front Back : Tokens → Type 0) : Type 0 where
   pub middle : Tokens
   pub front : Front middle
   pub back : Back middle
 
--- the tokens are those of the symbols, and then the rest
+-- the tokens spell the symbols, and then comes the rest
 abbrev pub ReadsSymbols : Tokens → List AutomatonSymbol → Tokens → Type 0
 ReadsSymbols tokens [] rest = tokens ≡ rest
 ReadsSymbols tokens (symbol ∷ others) rest = Splits (ReadsSymbol symbol tokens) (λ middle. ReadsSymbols middle others rest)

@@ -1,5 +1,5 @@
-//! The states and edges of a body. In the words of HOA's grammar a state's or an edge's label stands in `guard`, its
-//! marks in `sig`.
+//! The states and edges of a body. In the words of HOA's grammar, `guard` has the label of a state or an edge, and
+//! `sig` its marks.
 
 mod edge;
 mod guard;

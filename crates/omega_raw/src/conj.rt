@@ -38,7 +38,7 @@ impl<'a, S: TokenSource<'a, HoaKind>> Part<'a, S> for Joined {
     ghost follows = { λ kind is. tt };
 }
 
-/// Reads a conj: states that are joined by `&`, at least one.
+/// Reads a conj: at least one state, joined by `&`.
 #[inline(always)]
 pub(crate) fn conj<'a, S: TokenSource<'a, HoaKind>>(
     alloc: Global,
@@ -55,7 +55,7 @@ pub(crate) fn conj<'a, S: TokenSource<'a, HoaKind>>(
     Ok(states)
 }
 
-/// A number and others after it.
+/// Puts `first` before `others`.
 #[inline(always)]
 fn with_first(alloc: Global, first: u32, others: Numbers) -> Result<Numbers, Refusal>
     ensures ok { IfOk result (λ numbers. numbers ≡ first ∷ others) }

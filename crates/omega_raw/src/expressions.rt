@@ -1,4 +1,4 @@
-//! The expressions that a text of an automaton holds.
+//! The expressions in a text of an automaton.
 
 ghost use Rattle.std.specs.Prelude.{◌≡◌, IfErr};
 ghost use Rattle.omega_raw.specs.private.steps.Rows.{formula_row, expression_row};
@@ -8,7 +8,7 @@ use omega_acc::{RawAcc, RawLabel, formulas_are_one, labels_are_one, read_raw_acc
 use omega_text::{HoaKind, Refusal, TokenSource};
 use std::alloc::Global;
 
-/// A label-expr.
+/// Reads a label-expr.
 pub(crate) fn label_expression<'a, S: TokenSource<'a, HoaKind>>(
     alloc: Global,
     source: &mut S,
@@ -22,7 +22,7 @@ pub(crate) fn label_expression<'a, S: TokenSource<'a, HoaKind>>(
     read_raw_label(alloc, source)
 }
 
-/// An acc-expr.
+/// Reads an acc-expr.
 pub(crate) fn acceptance_expression<'a, S: TokenSource<'a, HoaKind>>(
     alloc: Global,
     source: &mut S,

@@ -1,5 +1,5 @@
-//! Omega-automata of the Hanoi format as they are written: each item, state and edge in its place. What they mean, and
-//! whether they mean anything, is not judged here.
+//! Omega-automata of the Hanoi format as they are written, with each item, state and edge in its place. Their meaning
+//! is not judged here.
 #![tactic(auto)]
 
 mod body;

@@ -9,7 +9,7 @@ use crate::raw_edges::RawEdges;
 use omega_text::{HoaKind, Numbers, Refusal, Seq, TokenSource};
 use std::alloc::Global;
 
-/// A part of a text, which is known by the kind of its first token.
+/// A part of a text that is recognized by the kind of its first token.
 pub(crate) trait Part<'a, S: TokenSource<'a, HoaKind>> {
     ghost use Rattle.std.specs.Prelude.{Bool, List};
     ghost use Rattle.omega_raw.specs.Symbols.{AutomatonSymbol};
@@ -30,11 +30,11 @@ pub(crate) trait Part<'a, S: TokenSource<'a, HoaKind>> {
     /// The kinds that may follow it.
     ghost next: { Kind → Type 0 };
 
-    /// Whether it begins by this kind.
+    /// Whether a part begins with `kind`.
     fn begins(kind: HoaKind) -> bool
         ensures { result ≡ first kind };
 
-    /// Reads it, where 3 is answered if it does not stand there.
+    /// Reads a part. Refused with [TextFault::Syntax] if none is next.
     fn read(alloc: Global, source: &mut S) -> Result<Self::Value, Refusal>
         ensures gives { GivesRow valid written (S.left source.old) (S.left source.new) result }
         ensures finds { Finds valid written (FirstIs next) (S.left source.old) (S.left source.new) result }
@@ -59,7 +59,7 @@ fn is_next<'a, P: Part<'a, S>, S: TokenSource<'a, HoaKind>>(source: &S) -> bool
     }
 }
 
-/// Reads a part if it stands there.
+/// Reads a part, if one is next.
 #[inline(always)]
 pub(crate) fn read_if<'a, P: Part<'a, S>, S: TokenSource<'a, HoaKind>>(
     alloc: Global,
@@ -77,7 +77,7 @@ pub(crate) fn read_if<'a, P: Part<'a, S>, S: TokenSource<'a, HoaKind>>(
     Ok(Some(value))
 }
 
-/// Reads as many parts as stand there, into as much memory as they need.
+/// Reads parts as long as the next token begins one, into as much memory as they need.
 pub(crate) fn read_each<'a, P: Part<'a, S>, S: TokenSource<'a, HoaKind>>(
     alloc: Global,
     source: &mut S,
@@ -91,7 +91,7 @@ pub(crate) fn read_each<'a, P: Part<'a, S>, S: TokenSource<'a, HoaKind>>(
     Ok(shrunk(values))
 }
 
-/// Reads as many parts as stand there, into up to twice as much memory as they need.
+/// Reads parts as long as the next token begins one, into up to twice as much memory as they need.
 pub(crate) fn read_growing<'a, P: Part<'a, S>, S: TokenSource<'a, HoaKind>>(
     alloc: Global,
     source: &mut S,
@@ -109,7 +109,7 @@ pub(crate) fn read_growing<'a, P: Part<'a, S>, S: TokenSource<'a, HoaKind>>(
     Ok(Seq::from_vec(values))
 }
 
-/// The same values in as much memory as they need.
+/// Shrinks `values` to as much memory as they need.
 fn shrunk<T>(values: Seq<T>) -> Seq<T>
     ensures { result ≡ values }
 {
@@ -118,7 +118,7 @@ fn shrunk<T>(values: Seq<T>) -> Seq<T>
     Seq::from_vec(values)
 }
 
-/// Reads as many numbers as stand there.
+/// Reads numbers as long as one is next.
 #[inline(always)]
 pub(crate) fn read_numbers<'a, P: Part<'a, S, Value = u32>, S: TokenSource<'a, HoaKind>>(
     alloc: Global,
@@ -137,7 +137,7 @@ pub(crate) fn read_numbers<'a, P: Part<'a, S, Value = u32>, S: TokenSource<'a, H
     Ok(numbers)
 }
 
-/// Reads as many edges as stand there, into up to twice as much memory as they need.
+/// Reads edges as long as the next token begins one, into up to twice as much memory as they need.
 #[inline(always)]
 pub(crate) fn read_raw_edges<'a, P: Part<'a, S, Value = RawEdge>, S: TokenSource<'a, HoaKind>>(
     alloc: Global,

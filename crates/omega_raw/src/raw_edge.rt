@@ -8,7 +8,6 @@ pub struct RawEdge {
     pub label: Option<RawLabel>,
     /// The states that are joined by `&`, at least one.
     pub targets: Numbers,
-    /// The sets between braces in the order written, repeats kept, or none where no braces stand.
-    /// `{}` differs from none.
+    /// The sets between braces in the order written, repeats kept, or none without braces. `{}` differs from none.
     pub marks: Marks,
 }

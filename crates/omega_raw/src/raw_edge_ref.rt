@@ -4,7 +4,7 @@ ghost use Rattle.std.specs.Option.{option_copied};
 use omega_acc::RawLabel;
 use std::marker::Model;
 
-/// An edge among the edges of a state, wherever its parts stand. Contracts see the edge.
+/// An edge among the edges of a state, wherever its parts are kept. Contracts see the edge.
 #[derive(Debug, Drop)]
 pub struct RawEdgeRef<'a> {
     pub(crate) label: Option<&'a RawLabel>,
@@ -27,21 +27,21 @@ impl<'a> Model for RawEdgeRef<'a> {
 }
 
 impl<'a> RawEdgeRef<'a> {
-    /// The label between brackets, or none.
+    /// Returns the label between brackets, or none.
     pub fn label(&self) -> Option<&'a RawLabel>
         ensures { option_copied result ≡ self.now.label }
     {
         self.label
     }
 
-    /// The states that are joined by `&`, at least one.
+    /// Returns the states that are joined by `&`, at least one.
     pub fn targets(&self) -> &'a [u32]
         ensures { result.now ≡ self.now.targets }
     {
         self.targets
     }
 
-    /// The sets between braces in the order written, repeats kept, or none where no braces stand.
+    /// Returns the sets between braces in the order written, repeats kept, or none without braces.
     pub fn marks(&self) -> Option<&'a [u32]>
         ensures { option_map (λ sets. sets.now) result ≡ self.now.marks }
     {

@@ -8,18 +8,18 @@ use omega_text::{Marks, Numbers, Seq};
 use std::alloc::{AllocError, Global};
 use std::marker::Model;
 
-/// Up to how many edges are moved where they do not need all memory that they have.
+/// The greatest number of edges that are moved if they do not need all the memory that they have.
 const MOST_MOVED: usize = 64;
 
 /// The edges of a state in the order written. Contracts see the list of edges.
 ///
-/// Where all of them are short they take 12 bytes each, else 64.
+/// If all of them are short they take 12 bytes each, else 64.
 #[derive(Debug, Drop)]
 pub struct RawEdges {
     held: Held,
 }
 
-/// How the edges lie in memory.
+/// How the edges are kept in memory.
 #[derive(Debug, Drop)]
 enum Held {
     /// In compact form.
@@ -53,7 +53,7 @@ impl Model for RawEdges {
 }
 
 impl RawEdges {
-    /// No edges, which take no memory.
+    /// Makes an empty list, which takes no memory.
     pub fn new(alloc: Global) -> RawEdges
         ensures { result ≡ [] }
     {
@@ -62,8 +62,8 @@ impl RawEdges {
         }
     }
 
-    /// Adds an edge at the end. The first that is not short makes all before it lie as they are. An error where a
-    /// request for memory is refused: the edges are as before then.
+    /// Appends `edge`. The first edge that is not short makes the list keep all before it in full. Returns an error if
+    /// a request for memory is refused, and the edges are then as before.
     #[inline(always)]
     pub fn push(&mut self, alloc: Global, edge: RawEdge) -> Result<(), AllocError>
         ensures ok { OnOk result (self.new ≡ self.old ++ edge ∷ []) }
@@ -82,7 +82,7 @@ impl RawEdges {
         Ok(())
     }
 
-    /// The same edges in as much memory as they need.
+    /// Moves the edges into as much memory as they need.
     pub fn exact(self, alloc: Global) -> Result<RawEdges, AllocError>
         ensures { IfOk result (λ same. same ≡ self) }
     {
@@ -93,7 +93,7 @@ impl RawEdges {
         Ok(RawEdges { held })
     }
 
-    /// How many edges there are.
+    /// Returns the number of edges.
     pub fn len(&self) -> usize
         ensures { result ≡ length self.now }
     {
@@ -103,7 +103,7 @@ impl RawEdges {
         }
     }
 
-    /// The edge at a place, from 0 on.
+    /// Returns the edge at the index `at`, from 0.
     pub fn edge(&self, at: usize) -> RawEdgeRef<'_>
         requires { at < length self.now }
         ensures { result ≡ slice_index_or self.now at result }
@@ -114,7 +114,7 @@ impl RawEdges {
         }
     }
 
-    /// The edges as they lie in memory.
+    /// Returns the edges as they are kept in memory.
     pub fn into_held(self) -> HeldEdges
         ensures { edges_in result ≡ self }
     {
@@ -125,8 +125,8 @@ impl RawEdges {
     }
 }
 
-/// The same values in as much memory as they need. A few are moved, and not shrunk in place: what a short list leaves
-/// after it is mostly too small to be used again.
+/// Moves `values` into as much memory as they need. A few are moved and not shrunk in place: the memory that is left
+/// after a short list is mostly too small to be used again.
 fn exact<T: Drop>(alloc: Global, values: Vec<T>) -> Result<Vec<T>, AllocError>
     ensures { IfOk result (λ same. same.items ≡ values.items) }
 {
@@ -143,7 +143,7 @@ fn exact<T: Drop>(alloc: Global, values: Vec<T>) -> Result<Vec<T>, AllocError>
     Ok(same)
 }
 
-/// The edges as they are.
+/// Copies `edges` in full.
 fn full_edges(alloc: Global, edges: &[ShortEdge]) -> Result<Vec<RawEdge>, AllocError>
     ensures { IfOk result (λ full. full.items ≡ map lengthened edges.now) }
 {
@@ -154,7 +154,7 @@ fn full_edges(alloc: Global, edges: &[ShortEdge]) -> Result<Vec<RawEdge>, AllocE
     Ok(full)
 }
 
-/// The edge as it is.
+/// Returns the edge in full.
 fn as_it_is(edge: &ShortEdge) -> RawEdge
     ensures { result ≡ lengthened edge.now }
 {
@@ -169,7 +169,7 @@ fn as_it_is(edge: &ShortEdge) -> RawEdge
     }
 }
 
-/// An edge in short, none where it is not short.
+/// Returns `edge` in compact form, or none if it is not short.
 #[inline(always)]
 fn short_of(edge: &RawEdge) -> Option<ShortEdge>
     ensures { IfSome result (λ short. lengthened short ≡ edge.now) }
@@ -191,7 +191,7 @@ fn short_of(edge: &RawEdge) -> Option<ShortEdge>
     }
 }
 
-/// The edge that is kept in short.
+/// Returns the edge that is kept in compact form.
 fn short_edge(edge: &ShortEdge) -> RawEdgeRef<'_>
     ensures { result ≡ lengthened edge.now }
 {
@@ -206,7 +206,7 @@ fn short_edge(edge: &ShortEdge) -> RawEdgeRef<'_>
     }
 }
 
-/// The edge that is kept as it is.
+/// Returns the edge that is kept in full.
 fn full_edge(edge: &RawEdge) -> RawEdgeRef<'_>
     ensures { result ≡ edge.now }
 {

@@ -15,7 +15,7 @@ pub enum RawItem {
         count: u32,
         names: Seq<ByteString>,
     },
-    /// `Alias:`, the name with its `@` and what it stands for.
+    /// `Alias:`, the name with its `@` and its definition.
     Alias {
         name: ByteString,
         definition: RawLabel,

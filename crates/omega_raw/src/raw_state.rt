@@ -12,8 +12,7 @@ pub struct RawState {
     pub number: u32,
     /// The bytes of the name between its quotes, as they are, or none. An empty name differs from none.
     pub name: StateName,
-    /// The sets between braces in the order written, repeats kept, or none where no braces stand.
-    /// `{}` differs from none.
+    /// The sets between braces in the order written, repeats kept, or none without braces. `{}` differs from none.
     pub marks: Marks,
     /// The edges in the order written.
     pub edges: RawEdges,

@@ -12,11 +12,11 @@ use crate::taking::{take_header, take_sign, take_word};
 use omega_text::{HoaKind, Refusal, TokenSource};
 use std::alloc::Global;
 
-/// Reads the automaton that the tokens begin with, from `HOA:` to `--END--`, as it is written (HOA v1). Tokens after
-/// it are left.
+/// Reads the automaton that the tokens begin with, from `HOA:` to `--END--`, as it is written (HOA v1). Tokens after it
+/// are left.
 ///
-/// Refusal 3 where there is none, at the first token with which no automaton goes on, else at the length of the text.
-/// One pass, linear time, without recursion.
+/// Refused with [TextFault::Syntax] if there is none, at the first token with which no automaton goes on, else at the
+/// length of the text. Tests show this place; no clause states it. One pass, linear time, without recursion.
 pub fn read_raw<'a, S: TokenSource<'a, HoaKind>>(
     alloc: Global,
     source: &mut S,

@@ -7,8 +7,8 @@ use std::marker::Model;
 /// The bytes of a state's name between its quotes, as they are, or none. An empty name differs from none. Contracts see
 /// an optional list.
 ///
-/// Few states have a name: it takes 16 bytes, where an `Option<ByteString>` takes 24,
-/// and memory only where there is one.
+/// Few states have a name. It takes 16 bytes, while an `Option<ByteString>` takes 24, and takes memory only if there is
+/// a name.
 #[derive(Debug, Drop)]
 pub struct StateName {
     bytes: Option<Box<ByteString>>,
@@ -25,14 +25,14 @@ impl Model for StateName {
 }
 
 impl StateName {
-    /// No name.
+    /// Makes the absent name.
     pub fn absent() -> Self
         ensures { result ≡ None }
     {
         StateName { bytes: None }
     }
 
-    /// This name. An error where a request for memory is refused.
+    /// Makes the name `bytes`. Returns an error if a request for memory is refused.
     pub fn of(alloc: Global, bytes: ByteString) -> Result<Self, AllocError>
         ensures { IfOk result (λ name. name ≡ Some bytes) }
     {
@@ -40,7 +40,7 @@ impl StateName {
         Ok(StateName { bytes: Some(bytes) })
     }
 
-    /// The bytes of the name, if there is one.
+    /// Returns the bytes of the name, if there is one.
     pub fn as_slice(&self) -> Option<&[u8]>
         ensures { option_map (λ bytes. bytes.now) result ≡ self.now }
     {

@@ -14,7 +14,7 @@ use crate::same::is_name;
 use omega_text::{ByteString, HoaKind, Refusal, TextFault, Token, TokenSource};
 use std::alloc::Global;
 
-/// The next token, which is taken, if it is of a kind.
+/// Takes the next token if it is of `kind`.
 pub(crate) fn take_if<'a, S: TokenSource<'a, HoaKind>>(
     source: &mut S,
     kind: HoaKind,
@@ -30,7 +30,7 @@ pub(crate) fn take_if<'a, S: TokenSource<'a, HoaKind>>(
     source.take()
 }
 
-/// The next token, which is taken and must be of a kind, else 3 at its place.
+/// Takes the next token. Refused with [TextFault::Syntax] at its place if it is not of `kind`.
 pub(crate) fn take_kind<'a, S: TokenSource<'a, HoaKind>>(
     source: &mut S,
     kind: HoaKind,
@@ -46,7 +46,7 @@ pub(crate) fn take_kind<'a, S: TokenSource<'a, HoaKind>>(
     }
 }
 
-/// A copy of bytes.
+/// Copies `bytes`.
 pub(crate) fn copied(alloc: Global, bytes: &[u8]) -> Result<ByteString, Refusal>
     ensures ok { IfOk result (λ copy. copy ≡ bytes.now) }
     ensures err { IfErr result IsMemory }
@@ -54,7 +54,7 @@ pub(crate) fn copied(alloc: Global, bytes: &[u8]) -> Result<ByteString, Refusal>
     Ok(ByteString::from_slice(alloc, bytes)?)
 }
 
-/// A copy of the bytes of a string between its quotes.
+/// Copies the bytes of a string between its quotes.
 pub(crate) fn string_of(alloc: Global, quoted: &[u8]) -> Result<ByteString, Refusal>
     ensures ok { IfOk result (λ copy. copy ≡ between_quotes quoted.now) }
     ensures err { IfErr result IsMemory }
@@ -65,14 +65,14 @@ pub(crate) fn string_of(alloc: Global, quoted: &[u8]) -> Result<ByteString, Refu
     copied(alloc, &quoted[1..quoted.len() - 1])
 }
 
-/// The bytes of a header name before its colon.
+/// Returns the bytes of a header name before its colon.
 pub(crate) fn without_colon(name: &[u8]) -> &[u8]
     ensures { result.now ≡ without_last name.now }
 {
     &name[..name.len().saturating_sub(1)]
 }
 
-/// Takes the next token, which must be of a kind, else 3 at its place.
+/// Takes the next token and drops it. Refused with [TextFault::Syntax] at its place if it is not of `kind`.
 pub(crate) fn take_sign<'a, S: TokenSource<'a, HoaKind>>(
     source: &mut S,
     kind: HoaKind,
@@ -86,7 +86,7 @@ pub(crate) fn take_sign<'a, S: TokenSource<'a, HoaKind>>(
     Ok(())
 }
 
-/// Takes a header, which must have this name, else 3 at its place.
+/// Takes a header. Refused with [TextFault::Syntax] at its place if it does not have this `name`.
 #[inline(always)]
 pub(crate) fn take_header<'a, S: TokenSource<'a, HoaKind>>(
     source: &mut S,

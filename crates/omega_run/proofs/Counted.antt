@@ -1,26 +1,25 @@
--- What a listener was told of runs in lines is a text of these, and tells of the lifts that the answer counts.
+-- What was reported to an observer about runs in lines is a text of these, and tells of the lifts that the answer
+-- counts.
 use Rattle.std.proofs.Common.{◌≡◌, ◌-◌, ◌^◌, ◌<◌, ℕ, List, [], ◌∷◌, Option, None, Some, Result, Ok, Err, IfOk, inr, subst, sym}
 use Rattle.omega_text.specs.declared.refusal.Refusal.{Refusal}
 use Rattle.omega_game.specs.declared.player.Player.{Player}
-use Rattle.omega_game_answers.specs.Watching.{CountsToldOfText}
+use Rattle.omega_game_answers.specs.Observing.{CountsReportedOfText}
 use Rattle.omega_game_answers.specs.declared.solve.asked.Asked.TheVariants as way
 use Rattle.omega_io.specs.declared.exit.Exit.{Exit}
 use Rattle.omega_io.specs.Reading.{IsRead}
 use Rattle.omega_command.specs.declared.command.Command.{Command}
-use Rattle.omega_command.specs.declared.command.Command.TheVariants.{Canon, CanonPart, Check, Complement, Draw, DrawLasso, DrawPart, DrawSolution, Empty, EmptySearch, Game, Meet, Search, Show, Solve, Verify, VerifyLasso}
-use Rattle.omega_budget.specs.Watching.{IsWatched, TellsRun, refusal_in}
-use Rattle.omega_budget.specs.declared.watching.Progress.{Progress}
-use Rattle.omega_budget.proofs.Watched.{one_made}
-use Rattle.omega_run.proofs.ProgressLines.{HasLines, TellsLines, nothing_told, run_lines, watched_lines}
+use Rattle.omega_command.specs.declared.command.Command.TheVariants.{Canon, CanonPart, Check, Complement, Draw, DrawLasso, DrawPart, Empty, EmptySearch, Game, Search, Show, Solve}
+use Rattle.omega_budget.specs.Observing.{IsObserved, ReportsRun, refusal_in}
+use Rattle.omega_budget.specs.declared.observing.Progress.{Progress}
+use Rattle.omega_budget.proofs.Observed.{one_made}
+use Rattle.omega_run.proofs.ProgressLines.{HasLines, TellsLines, nothing_reported, run_lines, observed_lines}
 use Rattle.omega_run.specs.declared.kinds.Kind.{Kind}
 use Rattle.omega_run.specs.declared.kinds.Kind.TheVariants as kind
-use Rattle.omega_run.specs.declared.kinds.OfFile.{OfFile}
-use Rattle.omega_run.specs.declared.kinds.OfFile.TheVariants as file
 use Rattle.omega_run.specs.declared.kinds.OfStream.{OfStream}
 use Rattle.omega_run.specs.declared.kinds.OfStream.TheVariants as stream
 use Rattle.omega_run.specs.declared.kinds.OfText.{OfText}
-use Rattle.omega_run.specs.private.steps.Kinds.{of_file, of_kind, of_stream, of_text}
-use Rattle.omega_run.specs.Progress.{AreProgressLines, CountsLines, CountsToldOfInput, CountsWritten, GoesOnByLine, LiftsInput}
+use Rattle.omega_run.specs.private.steps.Kinds.{of_kind, of_stream, of_text}
+use Rattle.omega_run.specs.Progress.{AreProgressLines, CountsLines, CountsReportedOfInput, CountsWritten, GoesOnByLine, LiftsInput}
 
 -- what holds of all holds of what a result gives
 pub of_all : {A : Type 0} (result : Result A Refusal) (Holds : A → Type 0) → ((value : A) → Holds value) → IfOk result Holds
@@ -29,106 +28,90 @@ of_all (Err refusal) Holds all = tt
 
 -- a command of a stream counts no lifts
 streams_count_none : {L : Type 0} (tells : Progress → L → L → Type 0) (every budget : ℕ) (one : OfStream) (unread_before unread_after : Option (List ℕ))
-    (output : List ℕ) (before after : L) → CountsToldOfInput tells every (of_stream one) unread_before unread_after budget output before after
+    (output : List ℕ) (before after : L) → CountsReportedOfInput tells every (of_stream one) unread_before unread_after budget output before after
 streams_count_none tells every budget stream.Show unread_before unread_after output before after = tt
 streams_count_none tells every budget stream.Check unread_before unread_after output before after = tt
 streams_count_none tells every budget stream.Canon unread_before unread_after output before after = tt
 
--- nor does one of a text beside that of a file
-files_count_none : {L : Type 0} (tells : Progress → L → L → Type 0) (every budget : ℕ) (one : OfFile) (unread_before unread_after : Option (List ℕ))
-    (output : List ℕ) (before after : L) → CountsToldOfInput tells every (of_file one) unread_before unread_after budget output before after
-files_count_none tells every budget (file.Verify game from explain) unread_before unread_after output before after = tt
-files_count_none tells every budget (file.VerifyLasso automaton explain) unread_before unread_after output before after = tt
-files_count_none tells every budget (file.Meet other) unread_before unread_after output before after = tt
-files_count_none tells every budget (file.DrawSolution solution from depth legend) unread_before unread_after output before after = tt
-
 module _ {L : Type 0} (tells : Progress → L → L → Type 0) (every budget : ℕ) (unread_before unread_after : Option (List ℕ)) (output : List ℕ)
     (before after : L) (sort : Kind) (command : Command) (same : of_kind sort ≡ command) where
-  pub stream_counted : (one : OfStream) → sort ≡ kind.Stream one → CountsToldOfInput tells every command unread_before unread_after budget output before after
+  pub stream_counted : (one : OfStream) → sort ≡ kind.Stream one → CountsReportedOfInput tells every command unread_before unread_after budget output before after
   stream_counted one is = rw (sym same, is) (streams_count_none tells every budget one unread_before unread_after output before after)
-
-  pub file_counted : (one : OfFile) → sort ≡ kind.File one → CountsToldOfInput tells every command unread_before unread_after budget output before after
-  file_counted one is = rw (sym same, is) (files_count_none tells every budget one unread_before unread_after output before after)
 
   -- what is counted for a command of one text is counted for the command
   pub text_counted : (one : OfText) → sort ≡ kind.Text one
-      → CountsToldOfInput tells every (of_text one) unread_before unread_after budget output before after
-      → CountsToldOfInput tells every command unread_before unread_after budget output before after
+      → CountsReportedOfInput tells every (of_text one) unread_before unread_after budget output before after
+      → CountsReportedOfInput tells every command unread_before unread_after budget output before after
   text_counted one is counted = rw (sym same, is) counted
 
 -- the lines of what was told, of which this holds, and by which the answer of a command counts its lifts
 abbrev pub CountedLines : Command → (every budget : ℕ) → (unread_before unread_after : Option (List ℕ)) → (output lines : List ℕ) → Type 0
 CountedLines command every budget unread_before unread_after output lines =
     AreProgressLines command None every budget unread_before unread_after lines
-    × CountsToldOfInput GoesOnByLine every command unread_before unread_after budget output [] lines
+    × CountsReportedOfInput GoesOnByLine every command unread_before unread_after budget output [] lines
 
 module _ {L : Type 0} (held : L → Option (List ℕ)) (failed : L → ℕ) (every budget sound : ℕ) (unread_before unread_after : Option (List ℕ)) (output : List ℕ)
     (before after : L) (fits : failed before < 2 ^ 64 - 1) (same : sound ≡ failed before) where
   -- of an answer that counts no lifts
-  uncounted_lines : (command : Command) → ((lines : List ℕ) → CountsToldOfInput GoesOnByLine every command unread_before unread_after budget output [] lines)
-      → IsWatched (LiftsInput command unread_before unread_after) None (TellsLines held failed sound) every budget before after
+  uncounted_lines : (command : Command) → ((lines : List ℕ) → CountsReportedOfInput GoesOnByLine every command unread_before unread_after budget output [] lines)
+      → IsObserved (LiftsInput command unread_before unread_after) None (TellsLines held failed sound) every budget before after
       → HasLines (CountedLines command every budget unread_before unread_after output) (held before) (held after) (failed before) (failed after)
-  uncounted_lines command counted watched =
-      let lines = watched_lines held failed (LiftsInput command unread_before unread_after) None every budget sound before after fits same watched in
-      record { text = lines.text; told = lines.told; holds = (lines.holds, counted lines.text) }
+  uncounted_lines command counted observed =
+      let lines = observed_lines held failed (LiftsInput command unread_before unread_after) None every budget sound before after fits same observed in
+      record { text = lines.text; reported = lines.reported; holds = (lines.holds, counted lines.text) }
 
   -- of an answer for one player
   player_lines : (player : Player) (from : Option ℕ) (text : List ℕ) → IsRead unread_before unread_after text
-      → CountsToldOfText (TellsLines held failed sound) every text (way.Player player) from budget output before after
+      → CountsReportedOfText (TellsLines held failed sound) every text (way.Player player) from budget output before after
       → HasLines (CountedLines (Solve (Some player) from) every budget unread_before unread_after output) (held before) (held after) (failed before) (failed after)
   player_lines player from text read (nodes, judged, (lifts, answer, run)) =
-      let told = subst (λ (n : ℕ). TellsRun (TellsLines held failed n) every nodes player budget lifts None before after) same run in
+      let reported = subst (λ (n : ℕ). ReportsRun (TellsLines held failed n) every nodes player budget lifts None before after) same run in
       let lines = run_lines held failed (failed before) (held before) every nodes player budget lifts None before after [] fits
-      (nothing_told (held before) (failed before)) told in
+      (nothing_reported (held before) (failed before)) reported in
       record {
         text = lines.text;
-        told = lines.told;
+        reported = lines.reported;
         holds = (
           record {
             nodes = nodes;
             players = player ∷ [];
             runs = inr (record { text = text; read = read; holds = (judged, one_made player None) });
-            told = (lifts, lines.holds);
+            reported = (lifts, lines.holds);
           },
           record { text = text; read = read; holds = (nodes, judged, (lifts, answer, lines.holds)) },
         );
       }
 
-  pub counted_lines : (command : Command) → IsWatched (LiftsInput command unread_before unread_after) None (TellsLines held failed sound) every budget before after
-      → CountsToldOfInput (TellsLines held failed sound) every command unread_before unread_after budget output before after
+  pub counted_lines : (command : Command) → IsObserved (LiftsInput command unread_before unread_after) None (TellsLines held failed sound) every budget before after
+      → CountsReportedOfInput (TellsLines held failed sound) every command unread_before unread_after budget output before after
       → HasLines (CountedLines command every budget unread_before unread_after output) (held before) (held after) (failed before) (failed after)
-  counted_lines (Solve (Some player) from) watched counted = player_lines player from counted.text counted.read counted.holds
-  counted_lines (Solve None from) watched counted =
+  counted_lines (Solve (Some player) from) observed counted = player_lines player from counted.text counted.read counted.holds
+  counted_lines (Solve None from) observed counted =
       let (nodes, judged, none) = counted.holds in
-      uncounted_lines (Solve None from) (λ lines. record { text = counted.text; read = counted.read; holds = (nodes, judged, none) }) watched
-  counted_lines (Search from) watched counted = uncounted_lines (Search from) (λ lines. tt) watched
-  counted_lines (Empty word) watched counted = uncounted_lines (Empty word) (λ lines. tt) watched
-  counted_lines (Show format) watched counted = uncounted_lines (Show format) (λ lines. tt) watched
-  counted_lines (Check format) watched counted = uncounted_lines (Check format) (λ lines. tt) watched
-  counted_lines (Canon format) watched counted = uncounted_lines (Canon format) (λ lines. tt) watched
-  counted_lines (CanonPart from) watched counted = uncounted_lines (CanonPart from) (λ lines. tt) watched
-  counted_lines (Verify game from explain) watched counted = uncounted_lines (Verify game from explain) (λ lines. tt) watched
-  counted_lines (VerifyLasso automaton explain) watched counted = uncounted_lines (VerifyLasso automaton explain) (λ lines. tt) watched
-  counted_lines (EmptySearch word) watched counted = uncounted_lines (EmptySearch word) (λ lines. tt) watched
-  counted_lines (Meet other) watched counted = uncounted_lines (Meet other) (λ lines. tt) watched
-  counted_lines Complement watched counted = uncounted_lines Complement (λ lines. tt) watched
-  counted_lines Game watched counted = uncounted_lines Game (λ lines. tt) watched
-  counted_lines (Draw format) watched counted = uncounted_lines (Draw format) (λ lines. tt) watched
-  counted_lines (DrawPart from depth) watched counted = uncounted_lines (DrawPart from depth) (λ lines. tt) watched
-  counted_lines (DrawSolution solution from depth legend) watched counted =
-      uncounted_lines (DrawSolution solution from depth legend) (λ lines. tt) watched
-  counted_lines DrawLasso watched counted = uncounted_lines DrawLasso (λ lines. tt) watched
+      uncounted_lines (Solve None from) (λ lines. record { text = counted.text; read = counted.read; holds = (nodes, judged, none) }) observed
+  counted_lines (Search from) observed counted = uncounted_lines (Search from) (λ lines. tt) observed
+  counted_lines (Empty word) observed counted = uncounted_lines (Empty word) (λ lines. tt) observed
+  counted_lines (Show format) observed counted = uncounted_lines (Show format) (λ lines. tt) observed
+  counted_lines (Check format) observed counted = uncounted_lines (Check format) (λ lines. tt) observed
+  counted_lines (Canon format) observed counted = uncounted_lines (Canon format) (λ lines. tt) observed
+  counted_lines (CanonPart from) observed counted = uncounted_lines (CanonPart from) (λ lines. tt) observed
+  counted_lines (EmptySearch word) observed counted = uncounted_lines (EmptySearch word) (λ lines. tt) observed
+  counted_lines Complement observed counted = uncounted_lines Complement (λ lines. tt) observed
+  counted_lines Game observed counted = uncounted_lines Game (λ lines. tt) observed
+  counted_lines (Draw format) observed counted = uncounted_lines (Draw format) (λ lines. tt) observed
+  counted_lines (DrawPart from depth) observed counted = uncounted_lines (DrawPart from depth) (λ lines. tt) observed
+  counted_lines DrawLasso observed counted = uncounted_lines DrawLasso (λ lines. tt) observed
 
 -- what was told of a run of a command is a text of lines, whose lifts its answer counts
 pub outcome_lines : {L : Type 0} (held : L → Option (List ℕ)) (failed : L → ℕ) (command : Command) (outcome : Result Exit Refusal) (every budget sound : ℕ)
     (unread_before unread_after held_before held_after : Option (List ℕ)) (before after : L) → failed before < 2 ^ 64 - 1 → sound ≡ failed before
-    → IsWatched (LiftsInput command unread_before unread_after) (refusal_in outcome) (TellsLines held failed sound) every budget before after
+    → IsObserved (LiftsInput command unread_before unread_after) (refusal_in outcome) (TellsLines held failed sound) every budget before after
     → IfOk outcome (λ _. CountsWritten (TellsLines held failed sound) every command budget unread_before unread_after held_before held_after before after)
     → HasLines (λ lines. AreProgressLines command (refusal_in outcome) every budget unread_before unread_after lines
     × CountsLines command outcome every budget unread_before unread_after held_before held_after lines) (held before) (held after) (failed before) (failed after)
-outcome_lines held failed command (Ok exit) every budget sound unread_before unread_after held_before held_after before after fits same watched (output, written, counted) =
-    let lines = counted_lines held failed every budget sound unread_before unread_after output before after fits same command watched counted in
-    record { text = lines.text; told = lines.told; holds = (lines.holds.0, (output, written, lines.holds.1)) }
-outcome_lines held failed command (Err refusal) every budget sound unread_before unread_after held_before held_after before after fits same watched none =
-    let lines = watched_lines held failed (LiftsInput command unread_before unread_after) (Some refusal) every budget sound before after fits same watched in
-    record { text = lines.text; told = lines.told; holds = (lines.holds, tt) }
+outcome_lines held failed command (Ok exit) every budget sound unread_before unread_after held_before held_after before after fits same observed (output, written, counted) =
+    let lines = counted_lines held failed every budget sound unread_before unread_after output before after fits same command observed counted in
+    record { text = lines.text; reported = lines.reported; holds = (lines.holds.0, (output, written, lines.holds.1)) }
+outcome_lines held failed command (Err refusal) every budget sound unread_before unread_after held_before held_after before after fits same observed none =
+    let lines = observed_lines held failed (LiftsInput command unread_before unread_after) (Some refusal) every budget sound before after fits same observed in
+    record { text = lines.text; reported = lines.reported; holds = (lines.holds, tt) }

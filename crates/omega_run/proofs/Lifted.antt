@@ -6,21 +6,19 @@ use Rattle.omega_text.specs.declared.refusal.task.TaskFault.TheVariants.{Budget}
 use Rattle.omega_game.specs.Game.{Node}
 use Rattle.omega_game.specs.declared.player.Player.{Player}
 use Rattle.omega_command.specs.declared.command.Command.{Command}
-use Rattle.omega_command.specs.declared.command.Command.TheVariants.{Canon, CanonPart, Check, Complement, Draw, DrawLasso, DrawPart, DrawSolution, Empty, EmptySearch, Game, Meet, Search, Show, Solve, Verify, VerifyLasso}
-use Rattle.omega_budget.specs.Watching.{IsWatched}
-use Rattle.omega_budget.specs.declared.watching.Progress.{Progress}
-use Rattle.omega_automaton_answers.proofs.Watching.{text_refused}
-use Rattle.omega_game_answers.proofs.Watching.{runs_refused}
+use Rattle.omega_command.specs.declared.command.Command.TheVariants.{Canon, CanonPart, Check, Complement, Draw, DrawLasso, DrawPart, Empty, EmptySearch, Game, Search, Show, Solve}
+use Rattle.omega_budget.specs.Observing.{IsObserved}
+use Rattle.omega_budget.specs.declared.observing.Progress.{Progress}
+use Rattle.omega_empty_answers.proofs.Observing.{text_refused}
+use Rattle.omega_game_answers.proofs.Observing.{runs_refused}
 use Rattle.omega_game_answers.specs.declared.solve.asked.Asked.TheVariants as way
 use Rattle.omega_run.specs.Progress.{LiftsInput}
 use Rattle.omega_run.specs.declared.kinds.Kind.{Kind}
 use Rattle.omega_run.specs.declared.kinds.Kind.TheVariants as kind
-use Rattle.omega_run.specs.declared.kinds.OfFile.{OfFile}
-use Rattle.omega_run.specs.declared.kinds.OfFile.TheVariants as file
 use Rattle.omega_run.specs.declared.kinds.OfStream.{OfStream}
 use Rattle.omega_run.specs.declared.kinds.OfStream.TheVariants as stream
 use Rattle.omega_run.specs.declared.kinds.OfText.{OfText}
-use Rattle.omega_run.specs.private.steps.Kinds.{of_file, of_kind, of_stream, of_text}
+use Rattle.omega_run.specs.private.steps.Kinds.{of_kind, of_stream, of_text}
 
 -- the runs of a command stay made, whatever refuses it later but the budget
 pub input_refused : (command : Command) (unread_before unread_after : Option (List ℕ)) (refusal : Refusal) → refusal ≢ Task Budget
@@ -45,25 +43,21 @@ input_refused (Show format) unread_before unread_after refusal other nodes playe
 input_refused (Check format) unread_before unread_after refusal other nodes players lifted = lifted
 input_refused (Canon format) unread_before unread_after refusal other nodes players lifted = lifted
 input_refused (CanonPart from) unread_before unread_after refusal other nodes players lifted = lifted
-input_refused (Verify game from explain) unread_before unread_after refusal other nodes players lifted = lifted
-input_refused (VerifyLasso automaton explain) unread_before unread_after refusal other nodes players lifted = lifted
 input_refused (EmptySearch word) unread_before unread_after refusal other nodes players lifted = lifted
-input_refused (Meet automaton) unread_before unread_after refusal other nodes players lifted = lifted
 input_refused Complement unread_before unread_after refusal other nodes players lifted = lifted
 input_refused Game unread_before unread_after refusal other nodes players lifted = lifted
 input_refused (Draw format) unread_before unread_after refusal other nodes players lifted = lifted
 input_refused (DrawPart from depth) unread_before unread_after refusal other nodes players lifted = lifted
-input_refused (DrawSolution solution from depth legend) unread_before unread_after refusal other nodes players lifted = lifted
 input_refused DrawLasso unread_before unread_after refusal other nodes players lifted = lifted
 
 -- of runs for nobody nothing is told
 pub nothing_lifted : {L : Type 0} (Runs : Option Refusal → List Node → List Player → Type 0) (refusal : Option Refusal)
-    (tells : Progress → L → L → Type 0) (every budget : ℕ) (before : L) → Runs refusal [] [] → IsWatched Runs refusal tells every budget before before
+    (tells : Progress → L → L → Type 0) (every budget : ℕ) (before : L) → Runs refusal [] [] → IsObserved Runs refusal tells every budget before before
 nothing_lifted Runs refusal tells every budget before runs = record {
   nodes = [];
   players = [];
   runs = inr runs;
-  told = refl;
+  reported = refl;
 }
 
 -- a command of a stream lifts no game
@@ -73,30 +67,16 @@ streams_lift_none stream.Show unread_before unread_after refusal = refl
 streams_lift_none stream.Check unread_before unread_after refusal = refl
 streams_lift_none stream.Canon unread_before unread_after refusal = refl
 
--- nor does one of a text beside that of a file
-files_lift_none : (one : OfFile) (unread_before unread_after : Option (List ℕ)) (refusal : Option Refusal)
-    → LiftsInput (of_file one) unread_before unread_after refusal [] []
-files_lift_none (file.Verify game from explain) unread_before unread_after refusal = refl
-files_lift_none (file.VerifyLasso automaton explain) unread_before unread_after refusal = refl
-files_lift_none (file.Meet other) unread_before unread_after refusal = refl
-files_lift_none (file.DrawSolution solution from depth legend) unread_before unread_after refusal = refl
-
 -- so nothing is told of them
-pub stream_watched : {L : Type 0} (one : OfStream) (sort : Kind) (command : Command) (unread_before unread_after : Option (List ℕ)) (refusal : Option Refusal)
+pub stream_observed : {L : Type 0} (one : OfStream) (sort : Kind) (command : Command) (unread_before unread_after : Option (List ℕ)) (refusal : Option Refusal)
     (tells : Progress → L → L → Type 0) (every budget : ℕ) (before : L) → of_kind sort ≡ command → sort ≡ kind.Stream one
-    → IsWatched (LiftsInput command unread_before unread_after) refusal tells every budget before before
-stream_watched one sort command unread_before unread_after refusal tells every budget before same is =
+    → IsObserved (LiftsInput command unread_before unread_after) refusal tells every budget before before
+stream_observed one sort command unread_before unread_after refusal tells every budget before same is =
     rw (sym same, is) (nothing_lifted _ _ _ _ _ _ (streams_lift_none one unread_before unread_after refusal))
 
-pub file_watched : {L : Type 0} (one : OfFile) (sort : Kind) (command : Command) (unread_before unread_after : Option (List ℕ)) (refusal : Option Refusal)
-    (tells : Progress → L → L → Type 0) (every budget : ℕ) (before : L) → of_kind sort ≡ command → sort ≡ kind.File one
-    → IsWatched (LiftsInput command unread_before unread_after) refusal tells every budget before before
-file_watched one sort command unread_before unread_after refusal tells every budget before same is =
-    rw (sym same, is) (nothing_lifted _ _ _ _ _ _ (files_lift_none one unread_before unread_after refusal))
-
 -- what is told of a command of one text is told of the command
-pub text_watched : {L : Type 0} (one : OfText) (sort : Kind) (command : Command) (unread_before unread_after : Option (List ℕ)) (refusal : Option Refusal)
+pub text_observed : {L : Type 0} (one : OfText) (sort : Kind) (command : Command) (unread_before unread_after : Option (List ℕ)) (refusal : Option Refusal)
     (tells : Progress → L → L → Type 0) (every budget : ℕ) (before after : L) → of_kind sort ≡ command → sort ≡ kind.Text one
-    → IsWatched (LiftsInput (of_text one) unread_before unread_after) refusal tells every budget before after
-    → IsWatched (LiftsInput command unread_before unread_after) refusal tells every budget before after
-text_watched one sort command unread_before unread_after refusal tells every budget before after same is watched = rw (sym same, is) watched
+    → IsObserved (LiftsInput (of_text one) unread_before unread_after) refusal tells every budget before after
+    → IsObserved (LiftsInput command unread_before unread_after) refusal tells every budget before after
+text_observed one sort command unread_before unread_after refusal tells every budget before after same is observed = rw (sym same, is) observed

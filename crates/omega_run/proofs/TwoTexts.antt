@@ -1,21 +1,20 @@
--- Runs of commands of two texts: what one of the texts is refused for refuses the run.
+-- Runs over two texts: what one of the texts is refused for refuses the run.
 use Rattle.std.proofs.Common.{◌≡◌, ◌⊎◌, List, ℕ, Option, None, Some, Result, Ok, Err, IfErr, inl, inr, refl}
 use Rattle.omega_text.specs.Cases.{or_io, or_memory}
 use Rattle.omega_text.specs.declared.refusal.Refusal.{Refusal}
 use Rattle.omega_text.specs.declared.refusal.Refusal.TheVariants.{Automaton, Game, Io, Memory, Task, Text}
+use Rattle.omega_command.specs.declared.beside.Beside.{Beside}
+use Rattle.omega_command.specs.declared.beside.Beside.TheVariants.{DrawSolution, Meet, Verify, VerifyLasso}
 use Rattle.omega_io.specs.Failures.{IsTransferRefusal, failures_in, failures_of}
 use Rattle.omega_io.specs.Reading.{IsRead, ReadsText}
 use Rattle.omega_hoa.specs.Alone.{IsAutomatonRefusal}
-use Rattle.omega_refused.specs.Refused.{IsAbout, IsRefusedOf}
-use Rattle.omega_refused.specs.declared.refused.Refused.{Refused}
-use Rattle.omega_refused.specs.declared.refused.Which.{Which}
-use Rattle.omega_refused.specs.declared.refused.Which.TheVariants.{First, Second}
-use Rattle.omega_run.specs.Beside.{IsRefusalAbout, RefusesBoth, RefusesFirst, RefusesSecond}
-use Rattle.omega_run.specs.Respond.{IsRunRefusal, RefusesText}
-use Rattle.omega_run.specs.declared.kinds.OfFile.{OfFile}
-use Rattle.omega_run.specs.declared.kinds.OfFile.TheVariants as file
+use Rattle.omega_io.specs.Refused.{IsAbout, IsRefusedOf}
+use Rattle.omega_io.specs.declared.refused.Refused.{Refused}
+use Rattle.omega_io.specs.declared.refused.Which.{Which}
+use Rattle.omega_io.specs.declared.refused.Which.TheVariants.{File, Input}
+use Rattle.omega_run.specs.Beside.{IsRefusalAbout, RefusesBoth, RefusesFile, RefusesInput}
+use Rattle.omega_run.specs.Respond.{AnswersBeside, IsRunRefusal, RefusesText}
 use Rattle.omega_run.specs.private.steps.Beside.{plain}
-use Rattle.omega_run.specs.private.steps.Kinds.{of_file}
 
 -- what holds of a refusal, or want of memory, or a failed read or write
 transfer_or : (P : Refusal → Type 0) (refusal : Refusal) → P refusal → or_memory (or_io P) refusal
@@ -35,64 +34,67 @@ transfer_refuses P (Task fault) h = absurd h
 transfer_refuses P Memory h = tt
 transfer_refuses P Io h = tt
 
--- the first text is refused
-first_refuses : (command : OfFile) (budget : ℕ) (before after : Option (List ℕ)) (refusal : Refusal)
-    → ReadsText before after (λ text. RefusesFirst (of_file command) text refusal) → RefusesText (of_file command) budget before after refusal
-first_refuses (file.Verify game from explain) budget before after refusal h = record { text = h.text; read = h.read; holds = inl h.holds }
-first_refuses (file.VerifyLasso automaton explain) budget before after refusal h = record { text = h.text; read = h.read; holds = inl h.holds }
-first_refuses (file.Meet other) budget before after refusal h = record { text = h.text; read = h.read; holds = inl (inl h.holds) }
-first_refuses (file.DrawSolution solution from depth legend) budget before after refusal h = record { text = h.text; read = h.read; holds = inl h.holds }
+module _ (file : List ℕ) (before after : Option (List ℕ)) where
+  -- the text of the file is refused
+  file_refuses : (asked : Beside) (refusal : Refusal) → ReadsText before after (λ input. RefusesFile asked file input refusal)
+      → RefusesText (AnswersBeside asked file) before after refusal
+  file_refuses (Verify from explain) refusal h = record { text = h.text; read = h.read; holds = inl h.holds }
+  file_refuses (VerifyLasso explain) refusal h = record { text = h.text; read = h.read; holds = inl h.holds }
+  file_refuses Meet refusal h = record { text = h.text; read = h.read; holds = inl (inl h.holds) }
+  file_refuses (DrawSolution from depth legend) refusal h = record { text = h.text; read = h.read; holds = inr h.holds }
 
--- the second is
-second_refuses : (command : OfFile) (budget : ℕ) (before after : Option (List ℕ)) (refusal : Refusal)
-    → ReadsText before after (λ text. RefusesSecond (of_file command) text refusal) → RefusesText (of_file command) budget before after refusal
-second_refuses (file.Verify game from explain) budget before after refusal h = record { text = h.text; read = h.read; holds = inr h.holds }
-second_refuses (file.VerifyLasso automaton explain) budget before after refusal h = record { text = h.text; read = h.read; holds = inr h.holds }
-second_refuses (file.Meet other) budget before after refusal h = record { text = h.text; read = h.read; holds = inl (inr h.holds) }
-second_refuses (file.DrawSolution solution from depth legend) budget before after refusal h = record { text = h.text; read = h.read; holds = inr h.holds }
+  -- that of the input is
+  input_refuses : (asked : Beside) (refusal : Refusal) → ReadsText before after (λ input. RefusesInput asked file input refusal)
+      → RefusesText (AnswersBeside asked file) before after refusal
+  input_refuses (Verify from explain) refusal h = record { text = h.text; read = h.read; holds = inr h.holds }
+  input_refuses (VerifyLasso explain) refusal h = record { text = h.text; read = h.read; holds = inr h.holds }
+  input_refuses Meet refusal h = record { text = h.text; read = h.read; holds = inl (inr h.holds) }
+  input_refuses (DrawSolution from depth legend) refusal h = record { text = h.text; read = h.read; holds = inl h.holds }
 
--- both are
-both_refuse : (command : OfFile) (budget : ℕ) (before after : Option (List ℕ)) (refusal : Refusal)
-    → ReadsText before after (λ text. RefusesBoth (of_file command) text refusal) → RefusesText (of_file command) budget before after refusal
-both_refuse (file.Verify game from explain) budget before after refusal h = absurd h.holds
-both_refuse (file.VerifyLasso automaton explain) budget before after refusal h = absurd h.holds
-both_refuse (file.Meet other) budget before after refusal h = record { text = h.text; read = h.read; holds = inr h.holds }
-both_refuse (file.DrawSolution solution from depth legend) budget before after refusal h = absurd h.holds
+  -- both are
+  both_refuse : (asked : Beside) (refusal : Refusal) → ReadsText before after (λ input. RefusesBoth asked file input refusal)
+      → RefusesText (AnswersBeside asked file) before after refusal
+  both_refuse (Verify from explain) refusal h = absurd h.holds
+  both_refuse (VerifyLasso explain) refusal h = absurd h.holds
+  both_refuse Meet refusal h = record { text = h.text; read = h.read; holds = inr h.holds }
+  both_refuse (DrawSolution from depth legend) refusal h = absurd h.holds
 
-pub about_refuses : (command : OfFile) (budget : ℕ) (before after : Option (List ℕ)) (which : Option Which) (refusal : Refusal)
-    → IsRefusalAbout (of_file command) before after which refusal → IsRunRefusal (of_file command) budget before after refusal
-about_refuses command budget before after None refusal (inl h) = transfer_refuses (RefusesText (of_file command) budget before after) refusal h
-about_refuses command budget before after None refusal (inr h) = transfer_or (RefusesText (of_file command) budget before after) refusal (both_refuse command budget before after refusal h)
-about_refuses command budget before after (Some First) refusal h = transfer_or (RefusesText (of_file command) budget before after) refusal (first_refuses command budget before after refusal h)
-about_refuses command budget before after (Some Second) refusal h = transfer_or (RefusesText (of_file command) budget before after) refusal (second_refuses command budget before after refusal h)
+pub about_refuses : (asked : Beside) (file : List ℕ) (before after : Option (List ℕ)) (which : Option Which) (refusal : Refusal)
+    → IsRefusalAbout asked file before after which refusal → IsRunRefusal (AnswersBeside asked file) before after refusal
+about_refuses asked file before after None refusal (inl h) = transfer_refuses (RefusesText (AnswersBeside asked file) before after) refusal h
+about_refuses asked file before after None refusal (inr h) =
+    transfer_or (RefusesText (AnswersBeside asked file) before after) refusal (both_refuse file before after asked refusal h)
+about_refuses asked file before after (Some File) refusal h =
+    transfer_or (RefusesText (AnswersBeside asked file) before after) refusal (file_refuses file before after asked refusal h)
+about_refuses asked file before after (Some Input) refusal h =
+    transfer_or (RefusesText (AnswersBeside asked file) before after) refusal (input_refuses file before after asked refusal h)
 
 -- the texts are refused so, or memory is wanting
-abbrev pub IsRefusedBeside : OfFile → List ℕ → Option Which → Refusal → Type 0
-IsRefusedBeside command text =
-    IsAbout (λ refusal. (refusal ≡ Memory) ⊎ RefusesBoth (of_file command) text refusal) (RefusesFirst (of_file command) text) (RefusesSecond (of_file command) text)
+abbrev pub IsRefusedBeside : Beside → (file input : List ℕ) → Option Which → Refusal → Type 0
+IsRefusedBeside asked file input =
+    IsAbout (λ refusal. (refusal ≡ Memory) ⊎ RefusesBoth asked file input refusal) (RefusesFile asked file input) (RefusesInput asked file input)
 
 -- what refuses the text that was read
-pub read_about : (command : OfFile) (before after : Option (List ℕ)) (text : List ℕ) (which : Option Which) (refusal : Refusal) → IsRead before after text
-    → IsRefusedBeside command text which refusal
-    → IsRefusalAbout (of_file command) before after which refusal
-read_about command before after text None refusal read (inl h) = inl (rw h tt)
-read_about command before after text None refusal read (inr h) = inr (record { text = text; read = read; holds = h })
-read_about command before after text (Some First) refusal read h = record { text = text; read = read; holds = h }
-read_about command before after text (Some Second) refusal read h = record { text = text; read = read; holds = h }
+pub read_about : (asked : Beside) (file : List ℕ) (before after : Option (List ℕ)) (input : List ℕ) (which : Option Which) (refusal : Refusal)
+    → IsRead before after input → IsRefusedBeside asked file input which refusal → IsRefusalAbout asked file before after which refusal
+read_about asked file before after input None refusal read (inl h) = inl (rw h tt)
+read_about asked file before after input None refusal read (inr h) = inr (record { text = input; read = read; holds = h })
+read_about asked file before after input (Some File) refusal read h = record { text = input; read = read; holds = h }
+read_about asked file before after input (Some Input) refusal read h = record { text = input; read = read; holds = h }
 
 -- where no two texts are refused together, one of them is
-alone : (command : OfFile) (text : List ℕ) (which : Option Which) (refusal : Refusal)
-    → IsAbout (λ refusal. refusal ≡ Memory) (RefusesFirst (of_file command) text) (RefusesSecond (of_file command) text) which refusal
-    → IsRefusedBeside command text which refusal
-alone command text None refusal h = inl h
-alone command text (Some First) refusal h = h
-alone command text (Some Second) refusal h = h
+alone : (asked : Beside) (file input : List ℕ) (which : Option Which) (refusal : Refusal)
+    → IsAbout (λ refusal. refusal ≡ Memory) (RefusesFile asked file input) (RefusesInput asked file input) which refusal
+    → IsRefusedBeside asked file input which refusal
+alone asked file input None refusal h = inl h
+alone asked file input (Some File) refusal h = h
+alone asked file input (Some Input) refusal h = h
 
-pub refused_alone : {T : Type 0} (command : OfFile) (text : List ℕ) (result : Result T Refused)
-    → IfErr result (IsRefusedOf (RefusesFirst (of_file command) text) (RefusesSecond (of_file command) text))
-    → IfErr result (λ refused. IsRefusedBeside command text refused.text refused.refusal)
-refused_alone command text (Ok value) h = tt
-refused_alone command text (Err refused) h = alone command text refused.text refused.refusal h
+pub refused_alone : {T : Type 0} (asked : Beside) (file input : List ℕ) (result : Result T Refused)
+    → IfErr result (IsRefusedOf (RefusesFile asked file input) (RefusesInput asked file input))
+    → IfErr result (λ refused. IsRefusedBeside asked file input refused.text refused.refusal)
+refused_alone asked file input (Ok value) h = tt
+refused_alone asked file input (Err refused) h = alone asked file input refused.text refused.refusal h
 
 -- no text of an automaton is refused for a failed read or write
 automaton_io : (text : List ℕ) → IsAutomatonRefusal text Io → ⊥
@@ -105,36 +107,36 @@ automaton_io text (inr (short, inr (lexemes, cut, inr segment))) = elim segment.
 ]
 
 -- neither text is refused for a failed read or write
-io_about : (command : OfFile) (text : List ℕ) (which : Option Which)
-    → IsRefusedBeside command text which Io → ⊥
-io_about command text None (inl h) = absurd (cc h)
-io_about (file.Verify game from explain) text None (inr h) = h
-io_about (file.VerifyLasso automaton explain) text None (inr h) = h
-io_about (file.Meet other) text None (inr h) = h.refused
-io_about (file.DrawSolution solution from depth legend) text None (inr h) = h
-io_about (file.Verify game None explain) text (Some First) h = h
-io_about (file.Verify game (Some identifier) explain) text (Some First) h = h
-io_about (file.VerifyLasso automaton explain) text (Some First) (inl h) = automaton_io automaton h
-io_about (file.VerifyLasso automaton explain) text (Some First) (inr h) = h.refused
-io_about (file.Meet other) text (Some First) h = automaton_io other h
-io_about (file.DrawSolution solution None depth legend) text (Some First) h = h
-io_about (file.DrawSolution solution (Some identifier) depth legend) text (Some First) h = h
-io_about (file.Verify game from explain) text (Some Second) h = h.refused
-io_about (file.VerifyLasso automaton explain) text (Some Second) h = h.refused
-io_about (file.Meet other) text (Some Second) h = automaton_io text h.refused
-io_about (file.DrawSolution solution from depth legend) text (Some Second) h = h.refused
+io_about : (asked : Beside) (file input : List ℕ) (which : Option Which)
+    → IsRefusedBeside asked file input which Io → ⊥
+io_about asked file input None (inl h) = absurd (cc h)
+io_about (Verify from explain) file input None (inr h) = h
+io_about (VerifyLasso explain) file input None (inr h) = h
+io_about Meet file input None (inr h) = h.refused
+io_about (DrawSolution from depth legend) file input None (inr h) = h
+io_about (Verify None explain) file input (Some File) h = h
+io_about (Verify (Some identifier) explain) file input (Some File) h = h
+io_about (VerifyLasso explain) file input (Some File) (inl h) = automaton_io file h
+io_about (VerifyLasso explain) file input (Some File) (inr h) = h.refused
+io_about Meet file input (Some File) h = automaton_io file h
+io_about (DrawSolution from depth legend) file input (Some File) h = h.refused
+io_about (Verify from explain) file input (Some Input) h = h.refused
+io_about (VerifyLasso explain) file input (Some Input) h = h.refused
+io_about Meet file input (Some Input) h = automaton_io input h.refused
+io_about (DrawSolution None depth legend) file input (Some Input) h = h
+io_about (DrawSolution (Some identifier) depth legend) file input (Some Input) h = h
 
-unfailed_about : (command : OfFile) (text : List ℕ) (which : Option Which) (refusal : Refusal)
-    → IsRefusedBeside command text which refusal
+unfailed_about : (asked : Beside) (file input : List ℕ) (which : Option Which) (refusal : Refusal)
+    → IsRefusedBeside asked file input which refusal
     → failures_in refusal ≡ 0
-unfailed_about command text which (Text fault) h = refl
-unfailed_about command text which (Game fault) h = refl
-unfailed_about command text which (Automaton fault) h = refl
-unfailed_about command text which (Task fault) h = refl
-unfailed_about command text which Memory h = refl
-unfailed_about command text which Io h = absurd (io_about command text which h)
+unfailed_about asked file input which (Text fault) h = refl
+unfailed_about asked file input which (Game fault) h = refl
+unfailed_about asked file input which (Automaton fault) h = refl
+unfailed_about asked file input which (Task fault) h = refl
+unfailed_about asked file input which Memory h = refl
+unfailed_about asked file input which Io h = absurd (io_about asked file input which h)
 
-pub unfailed : {T : Type 0} (command : OfFile) (text : List ℕ) (result : Result T Refused)
-    → IfErr result (λ refused. IsRefusedBeside command text refused.text refused.refusal) → failures_of (plain result) ≡ 0
-unfailed command text (Ok value) h = refl
-unfailed command text (Err refused) h = unfailed_about command text refused.text refused.refusal h
+pub unfailed : {T : Type 0} (asked : Beside) (file input : List ℕ) (result : Result T Refused)
+    → IfErr result (λ refused. IsRefusedBeside asked file input refused.text refused.refusal) → failures_of (plain result) ≡ 0
+unfailed asked file input (Ok value) h = refl
+unfailed asked file input (Err refused) h = unfailed_about asked file input refused.text refused.refusal h

@@ -1,91 +1,98 @@
--- Commands of two texts, one of which a file has: what each text is called, and which of them a refusal is about.
-use Rattle.std.specs.Prelude.{◌≡◌, ◌⊎◌, List, [], Option, None, Some, Result, Err, ℕ, IfErr, codes}
+-- What is done with the texts of a file and of the input: what each is called, and which of them a refusal is about.
+use Rattle.std.specs.Prelude.{◌≡◌, ◌⊎◌, Bool, true, false, List, Option, None, Some, Result, Err, ℕ, IfErr, codes}
 use Rattle.omega_text.specs.declared.refusal.Refusal.{Refusal}
 use Rattle.omega_game_answers.specs.Draw.{RefusesDrawnSolution}
 use Rattle.omega_game_answers.specs.Verify.{IsJudgedGameRefusal, RefusesSolution}
-use Rattle.omega_command.specs.declared.command.Command.{Command}
-use Rattle.omega_command.specs.declared.command.Command.TheVariants.{DrawSolution, Meet, Verify, VerifyLasso}
+use Rattle.omega_command.specs.declared.beside.Beside.{Beside}
+use Rattle.omega_command.specs.declared.beside.Beside.TheVariants.{DrawSolution, Meet, Verify, VerifyLasso}
 use Rattle.omega_hoa.specs.Alone.{IsAutomatonRefusal}
 use Rattle.omega_io.specs.declared.exit.Exit.{Exit}
-use Rattle.omega_lasso_answers.specs.Verify.{RefusesAutomaton, RefusesLasso}
-use Rattle.omega_product_answers.specs.Meet.{IsProductRefused, IsTextRefused}
-use Rattle.omega_refused.specs.declared.refused.Which.{Which}
-use Rattle.omega_refused.specs.declared.refused.Which.TheVariants.{First, Second}
+use Rattle.omega_language_answers.specs.Verify.{RefusesAutomaton, RefusesLasso}
+use Rattle.omega_language_answers.specs.Meet.{IsProductRefused, IsTextRefused}
+use Rattle.omega_io.specs.declared.refused.Which.{Which}
+use Rattle.omega_io.specs.declared.refused.Which.TheVariants.{File, Input}
 use Rattle.omega_io.specs.Failures.{IsTransferRefusal}
 use Rattle.omega_io.specs.Reading.{ReadsText}
 use Rattle.omega_io.specs.RefusalLine.{line_of}
-use Rattle.omega_refused.specs.Lines.{file_lines, lines_in}
-use Rattle.omega_refused.specs.Refused.{IsAbout}
-use Rattle.omega_solve.specs.Limits.{most_lifts}
-use Rattle.omega_run.specs.Perform.{Performs, Streams}
+use Rattle.omega_io.specs.Lines.{file_lines, lines_in}
+use Rattle.omega_io.specs.Refused.{IsAbout}
+use Rattle.omega_run.specs.Perform.{Performs}
 use Rattle.omega_run.specs.Report.{ReportsBy}
+use Rattle.omega_run.specs.Respond.{AnswersBeside}
+use Rattle.omega_run.specs.World.{Streams, World}
 
--- what the text is called that is judged first; no other commands have two texts
-abbrev pub first_name : Command → List ℕ
-first_name (Verify game from explain) = codes "game"
-first_name (VerifyLasso automaton explain) = codes "automaton"
-first_name (Meet other) = codes "other automaton"
-first_name (DrawSolution solution from depth legend) = codes "game"
-first_name other = []
+-- what each of the two texts is called
+abbrev pub name_of : Beside → Which → List ℕ
+name_of (Verify from explain) File = codes "game"
+name_of (Verify from explain) Input = codes "solution"
+name_of (VerifyLasso explain) File = codes "automaton"
+name_of (VerifyLasso explain) Input = codes "lasso"
+name_of Meet File = codes "other automaton"
+name_of Meet Input = codes "automaton"
+name_of (DrawSolution from depth legend) File = codes "solution"
+name_of (DrawSolution from depth legend) Input = codes "game"
 
--- what the other text is called
-abbrev pub second_name : Command → List ℕ
-second_name (Verify game from explain) = codes "solution"
-second_name (VerifyLasso automaton explain) = codes "lasso"
-second_name (Meet other) = codes "automaton"
-second_name (DrawSolution solution from depth legend) = codes "solution"
-second_name other = []
+-- why the text of the file is refused
+abbrev pub RefusesFile : Beside → (file input : List ℕ) → Refusal → Type 0
+RefusesFile (Verify from explain) file input refusal = IsJudgedGameRefusal file from refusal
+RefusesFile (VerifyLasso explain) file input refusal = RefusesAutomaton file input refusal
+RefusesFile Meet file input refusal = IsAutomatonRefusal file refusal
+RefusesFile (DrawSolution from depth legend) file input refusal = RefusesDrawnSolution input from depth file refusal
 
--- why the first text is refused, where this is the text of the input
-abbrev pub RefusesFirst : Command → List ℕ → Refusal → Type 0
-RefusesFirst (Verify game from explain) text refusal = IsJudgedGameRefusal game from refusal
-RefusesFirst (VerifyLasso automaton explain) text refusal = RefusesAutomaton automaton text refusal
-RefusesFirst (Meet other) text refusal = IsAutomatonRefusal other refusal
-RefusesFirst (DrawSolution solution from depth legend) text refusal = IsJudgedGameRefusal text from refusal
-RefusesFirst other text refusal = ⊥
-
--- why the other is refused, the first of which is good
-abbrev pub RefusesSecond : Command → List ℕ → Refusal → Type 0
-RefusesSecond (Verify game from explain) text refusal = RefusesSolution game from text refusal
-RefusesSecond (VerifyLasso automaton explain) text refusal = RefusesLasso automaton text refusal
-RefusesSecond (Meet other) text refusal = IsTextRefused other text refusal
-RefusesSecond (DrawSolution solution from depth legend) text refusal = RefusesDrawnSolution text from depth solution refusal
-RefusesSecond other text refusal = ⊥
+-- why the text of the input is
+abbrev pub RefusesInput : Beside → (file input : List ℕ) → Refusal → Type 0
+RefusesInput (Verify from explain) file input refusal = RefusesSolution file from input refusal
+RefusesInput (VerifyLasso explain) file input refusal = RefusesLasso file input refusal
+RefusesInput Meet file input refusal = IsTextRefused file input refusal
+RefusesInput (DrawSolution from depth legend) file input refusal = IsJudgedGameRefusal input from refusal
 
 -- why both are refused together, each of which is good alone
-abbrev pub RefusesBoth : Command → List ℕ → Refusal → Type 0
-RefusesBoth (Meet other) text refusal = IsProductRefused other text refusal
-RefusesBoth other text refusal = ⊥
+abbrev pub RefusesBoth : Beside → (file input : List ℕ) → Refusal → Type 0
+RefusesBoth (Verify from explain) file input refusal = ⊥
+RefusesBoth (VerifyLasso explain) file input refusal = ⊥
+RefusesBoth Meet file input refusal = IsProductRefused file input refusal
+RefusesBoth (DrawSolution from depth legend) file input refusal = ⊥
 
 -- the input was read and the refusal is one of the text that is named; where none is, it is one of both texts together,
 -- or want of memory, or a read or a write failed
-abbrev pub IsRefusalAbout : Command → (unread_before unread_after : Option (List ℕ)) → Option Which → Refusal → Type 0
-IsRefusalAbout command unread_before unread_after =
-    IsAbout (λ refusal. IsTransferRefusal refusal ⊎ ReadsText unread_before unread_after (λ text. RefusesBoth command text refusal))
-    (λ refusal. ReadsText unread_before unread_after (λ text. RefusesFirst command text refusal))
-    (λ refusal. ReadsText unread_before unread_after (λ text. RefusesSecond command text refusal))
+abbrev pub IsRefusalAbout : Beside → (file : List ℕ) → (unread_before unread_after : Option (List ℕ)) → Option Which → Refusal → Type 0
+IsRefusalAbout asked file unread_before unread_after =
+    IsAbout (λ refusal. IsTransferRefusal refusal ⊎ ReadsText unread_before unread_after (λ input. RefusesBoth asked file input refusal))
+    (λ refusal. ReadsText unread_before unread_after (λ input. RefusesFile asked file input refusal))
+    (λ refusal. ReadsText unread_before unread_after (λ input. RefusesInput asked file input refusal))
 
--- the lines that tell of a refusal that is about this text, or about none
-abbrev pub lines_by : (first second : List ℕ) → Option Which → Refusal → List ℕ
-lines_by first second None refusal = line_of refusal
-lines_by first second (Some First) refusal = lines_in first refusal
-lines_by first second (Some Second) refusal = lines_in second refusal
+-- what is told of the refusal of a text that has this name: its line, and with `--verbose` a second one, which names
+-- the text
+abbrev pub text_lines : (verbose : Bool) → List ℕ → Refusal → List ℕ
+text_lines false name refusal = line_of refusal
+text_lines true name refusal = lines_in name refusal
 
--- the command was run, and of a refusal is told which text it is about
-abbrev pub IsRunBeside : Command → ℕ → (List ℕ → Type 0) → Streams → Streams → Type 0
-IsRunBeside command status tells before after =
-    (outcome : Result Exit Refusal) × (which : Option Which) × Performs command most_lifts outcome before after
-    × IfErr outcome (IsRefusalAbout command before.unread after.unread which)
-    × ReportsBy (lines_by (first_name command) (second_name command) which) outcome status tells
+-- what is told of a refusal that is about this text, or about none: of none its line alone
+abbrev pub lines_about : (verbose : Bool) → Beside → Option Which → Refusal → List ℕ
+lines_about verbose asked None refusal = line_of refusal
+lines_about verbose asked (Some which) refusal = text_lines verbose (name_of asked which) refusal
+
+-- what is told of the refusal of the file of this name: its line, and with `--verbose`, where it could not be read, a
+-- second one, which names it
+abbrev pub lines_of_file : (verbose : Bool) → List ℕ → Refusal → List ℕ
+lines_of_file false name refusal = line_of refusal
+lines_of_file true name refusal = file_lines name refusal
+
+-- the texts were answered so, or refused so, and what is told of a refusal is of the text that it is about
+abbrev pub IsRunBeside : (verbose : Bool) → Beside → (file : List ℕ) → ℕ → World → Type 0
+IsRunBeside verbose asked file status world =
+    (outcome : Result Exit Refusal) × (which : Option Which) × Performs (AnswersBeside asked file) outcome world.before world.after
+    × IfErr outcome (IsRefusalAbout asked file world.before.unread world.after.unread which)
+    × ReportsBy (lines_about verbose asked which) outcome status world.tells
 
 -- the file of this name was refused so and that was told; nothing was read or written
-abbrev pub IsFileRefused : (List ℕ → Refusal → Type 0) → List ℕ → ℕ → (List ℕ → Type 0) → Streams → Streams → Type 0
-IsFileRefused refuses file status tells before after =
-    (refusal : Refusal) × refuses file refusal × ReportsBy (file_lines file) (Err refusal) status tells × (after ≡ before)
+abbrev pub IsFileRefused : (verbose : Bool) → List ℕ → ℕ → World → Type 0
+IsFileRefused verbose name status world =
+    (refusal : Refusal) × world.refuses name refusal × ReportsBy (lines_of_file verbose name) (Err refusal) status world.tells
+    × (world.after ≡ world.before)
 
--- the file of this name was read as some text, and the command with that text was run; or the file was refused
-abbrev pub IsRunWithFile : (List ℕ → List ℕ → Type 0) → (List ℕ → Refusal → Type 0) → List ℕ → (List ℕ → Command) → ℕ → (List ℕ → Type 0)
-    → Streams → Streams → Type 0
-IsRunWithFile reads refuses file command_with status tells before after =
-    ((text : List ℕ) × reads file text × IsRunBeside (command_with text) status tells before after)
-    ⊎ IsFileRefused refuses file status tells before after
+-- the file of this name was read as some text, which was answered to beside that of the input; or the file was refused
+abbrev pub IsRunWithFile : (verbose : Bool) → Beside → List ℕ → ℕ → World → Type 0
+IsRunWithFile verbose asked name status world =
+    ((text : List ℕ) × world.reads name text × IsRunBeside verbose asked text status world)
+    ⊎ IsFileRefused verbose name status world

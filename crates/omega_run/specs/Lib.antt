@@ -6,8 +6,8 @@ pub use Rattle.omega_io.specs.Failures
 pub use Rattle.omega_io.specs.Reading
 pub use Rattle.omega_io.specs.RefusalLine
 pub use Rattle.omega_io.specs.Writing
-pub use Rattle.omega_refused.specs.Lines
-pub use Rattle.omega_refused.specs.Refused
+pub use Rattle.omega_io.specs.Lines
+pub use Rattle.omega_io.specs.Refused
 pub mod Beside
 pub mod Obey
 pub mod Perform
@@ -15,4 +15,5 @@ pub mod Progress
 pub mod Report
 pub mod Respond
 pub mod Run
+pub mod World
 pub mod private

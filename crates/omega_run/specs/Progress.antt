@@ -5,11 +5,11 @@ use Rattle.omega_text.specs.declared.refusal.Refusal.{Refusal}
 use Rattle.omega_game.specs.declared.player.Player.{Player}
 use Rattle.omega_game.specs.Game.{Node}
 use Rattle.omega_game_answers.specs.PlayerText.{player_text}
-use Rattle.omega_automaton_answers.specs.Watching.{LiftsAutomatonText}
-use Rattle.omega_game_answers.specs.Watching.{CountsToldOfText, LiftsText}
-use Rattle.omega_budget.specs.Watching.{IsWatched}
+use Rattle.omega_empty_answers.specs.Observing.{LiftsAutomatonText}
+use Rattle.omega_game_answers.specs.Observing.{CountsReportedOfText, LiftsText}
+use Rattle.omega_budget.specs.Observing.{IsObserved}
 use Rattle.omega_game_answers.specs.declared.solve.asked.Asked.TheVariants as way
-use Rattle.omega_budget.specs.declared.watching.Progress.{Progress}
+use Rattle.omega_budget.specs.declared.observing.Progress.{Progress}
 use Rattle.omega_command.specs.declared.command.Command.{Command}
 use Rattle.omega_command.specs.declared.command.Command.TheVariants.{Empty, Search, Solve}
 use Rattle.omega_io.specs.declared.exit.Exit.{Exit}
@@ -39,21 +39,21 @@ LiftsInput other unread_before unread_after refusal nodes players = players ≡ 
 -- the lines that tell of the runs of the command, which was refused so or not at all, one after so many lifts more
 abbrev pub AreProgressLines : Command → Option Refusal → (every budget : ℕ) → (unread_before unread_after : Option (List ℕ)) → List ℕ → Type 0
 AreProgressLines command refusal every budget unread_before unread_after lines =
-    IsWatched (LiftsInput command unread_before unread_after) refusal GoesOnByLine every budget [] lines
+    IsObserved (LiftsInput command unread_before unread_after) refusal GoesOnByLine every budget [] lines
 
--- what `solve` answers for one player, to the text that was read, counts as many lifts as the run made that a listener
--- was told of; other answers count none
-abbrev pub CountsToldOfInput : {L : Type 0} → (Progress → L → L → Type 0) → (every : ℕ) → Command → (unread_before unread_after : Option (List ℕ)) → (budget : ℕ) → (output : List ℕ)
+-- what `solve` answers for one player, to the text that was read, counts as many lifts as the run made that was
+-- reported to an observer; other answers count none
+abbrev pub CountsReportedOfInput : {L : Type 0} → (Progress → L → L → Type 0) → (every : ℕ) → Command → (unread_before unread_after : Option (List ℕ)) → (budget : ℕ) → (output : List ℕ)
     → L → L → Type 0
-CountsToldOfInput tells every (Solve player from) unread_before unread_after budget output before after =
-    ReadsText unread_before unread_after (λ text. CountsToldOfText tells every text (asked_for player) from budget output before after)
-CountsToldOfInput tells every other unread_before unread_after budget output before after = Unit {0}
+CountsReportedOfInput tells every (Solve player from) unread_before unread_after budget output before after =
+    ReadsText unread_before unread_after (λ text. CountsReportedOfText tells every text (asked_for player) from budget output before after)
+CountsReportedOfInput tells every other unread_before unread_after budget output before after = Unit {0}
 
--- an answer was written that counts the lifts of the run that a listener was told of
+-- an answer was written that counts the lifts of the run that was reported to an observer
 abbrev pub CountsWritten : {L : Type 0} → (Progress → L → L → Type 0) → (every : ℕ) → Command → (budget : ℕ)
     → (unread_before unread_after held_before held_after : Option (List ℕ)) → L → L → Type 0
 CountsWritten tells every command budget unread_before unread_after held_before held_after before after =
-    (output : List ℕ) × Appends held_before held_after output × CountsToldOfInput tells every command unread_before unread_after budget output before after
+    (output : List ℕ) × Appends held_before held_after output × CountsReportedOfInput tells every command unread_before unread_after budget output before after
 
 -- where the command is done, an answer was written that counts the lifts that the lines tell of
 abbrev pub CountsLines : Command → Result Exit Refusal → (every budget : ℕ) → (unread_before unread_after held_before held_after : Option (List ℕ)) → List ℕ → Type 0
@@ -62,6 +62,6 @@ CountsLines command (Ok exit) every budget unread_before unread_after held_befor
 CountsLines command (Err refusal) every budget unread_before unread_after held_before held_after lines = Unit {0}
 
 -- the output took the text, or where one of its writes failed, a beginning of it
-pub record HasTold (before after : Option (List ℕ)) (failed_before failed_after : ℕ) (text : List ℕ) : Type 0 where
+pub record HasReported (before after : Option (List ℕ)) (failed_before failed_after : ℕ) (text : List ℕ) : Type 0 where
   pub counted : failed_before ≤ failed_after
-  pub told : Tells before after failed_before failed_after text
+  pub reported : Tells before after failed_before failed_after text

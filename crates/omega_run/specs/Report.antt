@@ -7,15 +7,15 @@ use Rattle.omega_io.specs.Exit.{status_of}
 use Rattle.omega_io.specs.RefusalLine.{line_of}
 
 -- the status of a refusal, and these lines on standard error
-abbrev pub IsRefusalTold : Refusal → List ℕ → ℕ → (List ℕ → Type 0) → Type 0
-IsRefusalTold refusal lines status tells = (status ≡ status_of (Err refusal)) × tells lines
+abbrev pub IsRefusalReported : Refusal → List ℕ → ℕ → (List ℕ → Type 0) → Type 0
+IsRefusalReported refusal lines status tells = (status ≡ status_of (Err refusal)) × tells lines
 
 -- the status after this outcome, and what is told of it on standard error, where these are the lines of a refusal;
 -- where there is no memory for them, that is told
 abbrev pub ReportsBy : (Refusal → List ℕ) → Result Exit Refusal → ℕ → (List ℕ → Type 0) → Type 0
 ReportsBy lines (Ok exit) status tells = (status ≡ status_of (Ok exit)) × tells []
 ReportsBy lines (Err refusal) status tells =
-    IsRefusalTold refusal (lines refusal) status tells ⊎ IsRefusalTold Memory (line_of Memory) status tells
+    IsRefusalReported refusal (lines refusal) status tells ⊎ IsRefusalReported Memory (line_of Memory) status tells
 
 -- the same, where one line tells of a refusal
 abbrev pub Reports : Result Exit Refusal → ℕ → (List ℕ → Type 0) → Type 0

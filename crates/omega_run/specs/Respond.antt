@@ -1,36 +1,38 @@
--- What a command answers and refuses, and what it read when it answers.
+-- What is answered to one text, and to two, what is refused, and what was read where it is answered.
 use Rattle.std.specs.Prelude.{◌≡◌, List, Option, Some, None, Result, Ok, Err, ℕ}
 use Rattle.omega_text.specs.Cases.{or_io, or_memory}
 use Rattle.omega_text.specs.declared.refusal.Refusal.{Refusal}
 use Rattle.omega_pg.specs.game.Refusing.{IsRefusal}
 use Rattle.omega_game.specs.declared.player.Player.{Player}
+use Rattle.omega_command.specs.declared.beside.Beside.{Beside}
+use Rattle.omega_command.specs.declared.beside.Beside.TheVariants.{DrawSolution, Meet, Verify, VerifyLasso}
 use Rattle.omega_command.specs.declared.command.Command.{Command}
-use Rattle.omega_command.specs.declared.command.Command.TheVariants.{Canon, CanonPart, Check, Complement, Draw, DrawLasso, DrawPart, DrawSolution, Empty, EmptySearch, Game, Meet, Search, Show, Solve, Verify, VerifyLasso}
+use Rattle.omega_command.specs.declared.command.Command.TheVariants.{Canon, CanonPart, Check, Complement, Draw, DrawLasso, DrawPart, Empty, EmptySearch, Game, Search, Show, Solve}
 use Rattle.omega_command.specs.declared.command.Format.TheVariants.{Hoa, Pg}
 use Rattle.omega_io.specs.declared.exit.Exit.{Exit}
 use Rattle.omega_io.specs.declared.exit.Exit.TheVariants.{Done}
-use Rattle.omega_automaton_answers.specs.Game.{IsEmptinessGameAnswer, IsEmptinessGameRefusal}
+use Rattle.omega_empty_answers.specs.Game.{IsEmptinessGameAnswer, IsEmptinessGameRefusal}
 use Rattle.omega_game_answers.specs.Part.{IsPartTextRefusal}
 use Rattle.omega_game_answers.specs.Verify.{IsVerifyAnswer, IsVerifyRefusal}
-use Rattle.omega_automaton_answers.specs.Canon.{IsStreamCanonAnswer}
+use Rattle.omega_stream_answers.specs.Canon.{IsStreamCanonAnswer}
 use Rattle.omega_game_answers.specs.Canon.{IsCanonAnswer, IsCanonPartAnswer}
-use Rattle.omega_automaton_answers.specs.Check.{IsStreamCheckAnswer}
+use Rattle.omega_stream_answers.specs.Check.{IsStreamCheckAnswer}
 use Rattle.omega_game_answers.specs.Check.{IsCheckAnswer}
-use Rattle.omega_automaton_answers.specs.Draw.{IsAutomatonDrawingAnswer, IsLassoDrawingAnswer}
+use Rattle.omega_empty_answers.specs.Draw.{IsAutomatonDrawingAnswer, IsLassoDrawingAnswer}
 use Rattle.omega_game_answers.specs.Draw.{IsGameDrawingAnswer, IsSolutionDrawingAnswer, IsSolutionDrawingRefusal}
-use Rattle.omega_automaton_answers.specs.empty.Answer.{IsEmptyAnswer, IsEmptyRefusal, IsEmptySearchAnswer, IsEmptySearchRefusal}
-use Rattle.omega_automaton_answers.specs.Show.{IsStreamShowAnswer}
+use Rattle.omega_empty_answers.specs.empty.Answer.{IsEmptyAnswer, IsEmptyRefusal, IsEmptySearchAnswer, IsEmptySearchRefusal}
+use Rattle.omega_stream_answers.specs.Show.{IsStreamShowAnswer}
 use Rattle.omega_game_answers.specs.Show.{IsShowAnswer}
 use Rattle.omega_game_answers.specs.declared.solve.asked.Asked.{Asked}
 use Rattle.omega_game_answers.specs.declared.solve.asked.Asked.TheVariants as way
 use Rattle.omega_game_answers.specs.solve.Refusing.{IsSolveRefusal}
 use Rattle.omega_game_answers.specs.solve.Solving.{IsSolveAnswer}
-use Rattle.omega_complement_answers.specs.Answer.{IsComplementAnswer, IsComplementRefusal}
+use Rattle.omega_language_answers.specs.Complement.{IsComplementAnswer, IsComplementRefusal}
 use Rattle.omega_hoa.specs.Alone.{IsAutomatonRefusal}
 use Rattle.omega_hoa.specs.Stream.{IsStreamRefusal}
 use Rattle.omega_io.specs.Reading.{ReadsText, ReadsWhole}
-use Rattle.omega_lasso_answers.specs.Verify.{IsLassoAnswer, IsLassoAnswerRefusal}
-use Rattle.omega_product_answers.specs.Meet.{IsMeetAnswer, IsMeetRefusal}
+use Rattle.omega_language_answers.specs.Verify.{IsLassoAnswer, IsLassoAnswerRefusal}
+use Rattle.omega_language_answers.specs.Meet.{IsMeetAnswer, IsMeetRefusal}
 
 -- what is asked of a game for one player, or for both where none is named
 abbrev pub asked_for : Option Player → Asked
@@ -59,30 +61,33 @@ Answers (CanonPart from) budget text = Replies (IsCanonPartAnswer text from) (Is
 Answers (Solve player from) budget text =
     Replies (IsSolveAnswer text (asked_for player) from budget) (IsSolveRefusal text (asked_for player) from budget)
 Answers (Search from) budget text = Replies (IsSolveAnswer text way.Search from budget) (IsSolveRefusal text way.Search from budget)
-Answers (Verify game from explain) budget text = Concludes (IsVerifyAnswer game from text explain) (IsVerifyRefusal game from text)
-Answers (VerifyLasso automaton explain) budget text = Concludes (IsLassoAnswer automaton text explain) (IsLassoAnswerRefusal automaton text)
 Answers (Empty word) budget text = Replies (IsEmptyAnswer text budget word) (IsEmptyRefusal text budget)
 Answers (EmptySearch word) budget text = Replies (IsEmptySearchAnswer text word) (IsEmptySearchRefusal text)
-Answers (Meet other) budget text = Replies (IsMeetAnswer other text) (IsMeetRefusal other text)
 Answers Complement budget text = Replies (IsComplementAnswer text) (IsComplementRefusal text)
 Answers Game budget text = Replies (IsEmptinessGameAnswer text) (IsEmptinessGameRefusal text)
 Answers (Draw Pg) budget text = Replies (IsGameDrawingAnswer text None None) (IsRefusal text)
 Answers (Draw Hoa) budget text = Replies (IsAutomatonDrawingAnswer text) (IsAutomatonRefusal text)
 Answers (DrawPart from depth) budget text = Replies (IsGameDrawingAnswer text (Some from) depth) (IsPartTextRefusal text from)
-Answers (DrawSolution solution from depth legend) budget text =
-    Replies (IsSolutionDrawingAnswer text solution from depth legend) (IsSolutionDrawingRefusal text from depth solution)
 Answers DrawLasso budget text = Replies (IsLassoDrawingAnswer text) (IsEmptySearchRefusal text)
 
--- the whole input was read, and this is the command's answer to it
-abbrev pub Responds : Command → ℕ → (unread_before unread_after : Option (List ℕ)) → Exit → List ℕ → Type 0
-Responds command budget unread_before unread_after exit output =
-    ReadsWhole unread_before unread_after (λ text. Answers command budget text (Ok (exit, output)))
+-- the same of the text of a file and that of the input: the budget bounds none of these
+abbrev pub AnswersBeside : Beside → (file input : List ℕ) → Result (Exit × List ℕ) Refusal → Type 0
+AnswersBeside (Verify from explain) file input = Concludes (IsVerifyAnswer file from input explain) (IsVerifyRefusal file from input)
+AnswersBeside (VerifyLasso explain) file input = Concludes (IsLassoAnswer file input explain) (IsLassoAnswerRefusal file input)
+AnswersBeside Meet file input = Replies (IsMeetAnswer file input) (IsMeetRefusal file input)
+AnswersBeside (DrawSolution from depth legend) file input =
+    Replies (IsSolutionDrawingAnswer input file from depth legend) (IsSolutionDrawingRefusal input from depth file)
 
--- the input was read, to its end or past the limit, and the command refuses the text
-abbrev pub RefusesText : Command → ℕ → (unread_before unread_after : Option (List ℕ)) → Refusal → Type 0
-RefusesText command budget unread_before unread_after refusal =
-    ReadsText unread_before unread_after (λ text. Answers command budget text (Err refusal))
+-- the whole input was read, and this is the answer to it, where texts are answered so
+abbrev pub Responds : (List ℕ → Result (Exit × List ℕ) Refusal → Type 0) → (unread_before unread_after : Option (List ℕ)) → Exit → List ℕ → Type 0
+Responds answers unread_before unread_after exit output =
+    ReadsWhole unread_before unread_after (λ text. answers text (Ok (exit, output)))
+
+-- the input was read, to its end or past the limit, and its text is refused
+abbrev pub RefusesText : (List ℕ → Result (Exit × List ℕ) Refusal → Type 0) → (unread_before unread_after : Option (List ℕ)) → Refusal → Type 0
+RefusesText answers unread_before unread_after refusal =
+    ReadsText unread_before unread_after (λ text. answers text (Err refusal))
 
 -- why there is no answer: want of memory or a failed read or write, else the text was read and refused
-abbrev pub IsRunRefusal : Command → ℕ → Option (List ℕ) → Option (List ℕ) → Refusal → Type 0
-IsRunRefusal command budget unread_before unread_after = or_memory (or_io (RefusesText command budget unread_before unread_after))
+abbrev pub IsRunRefusal : (List ℕ → Result (Exit × List ℕ) Refusal → Type 0) → Option (List ℕ) → Option (List ℕ) → Refusal → Type 0
+IsRunRefusal answers unread_before unread_after = or_memory (or_io (RefusesText answers unread_before unread_after))

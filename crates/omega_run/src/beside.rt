@@ -1,92 +1,66 @@
-//! Commands of two texts, one of which a file has.
-ghost use Rattle.std.specs.Prelude.{◌≡◌, ◌+◌, ◌-◌, ◌^◌, ◌<◌, ◌≤◌, ◌⊎◌, ℕ, Ok, IfOk, IfErr, OnOk, length};
+//! What is done with two texts, that of a file and that of the input.
+ghost use Rattle.std.specs.Prelude.{◌≡◌, ◌+◌, ◌-◌, ◌^◌, ◌<◌, ◌≤◌, ◌⊎◌, Ok, IfOk, IfErr, OnOk, length};
 ghost use Rattle.omega_text.specs.Limits.{most_text};
 ghost use Rattle.omega_text.specs.declared.refusal.Refusal.TheVariants.{Memory};
-ghost use Rattle.omega_solve.specs.Limits.{most_lifts};
 ghost use Rattle.omega_io.specs.Failures.{failures_of};
-ghost use Rattle.omega_refused.specs.Refused.{IsAbout};
-ghost use Rattle.omega_io.specs.Writing.{Tells};
-ghost use Rattle.omega_run.specs.Beside.{IsRefusalAbout, IsRunBeside, RefusesBoth, RefusesFirst, RefusesSecond, first_name, second_name};
-ghost use Rattle.omega_run.specs.Perform.{Performs, streams};
-ghost use Rattle.omega_run.specs.Respond.{Answers, Responds};
+ghost use Rattle.omega_io.specs.Refused.{IsAbout};
+ghost use Rattle.omega_run.specs.Beside.{IsRefusalAbout, IsRunWithFile, RefusesBoth, RefusesFile, RefusesInput};
+ghost use Rattle.omega_run.specs.Perform.{Performs};
+ghost use Rattle.omega_run.specs.Respond.{AnswersBeside, Responds};
+ghost use Rattle.omega_run.specs.World.{streams_of, world_of};
 ghost use Rattle.omega_run.specs.private.steps.Beside.{plain, text_in};
-ghost use Rattle.omega_run.specs.private.steps.Kinds.{of_file};
 
-use crate::kinds::OfFile;
-use crate::reporting::{TextNames, report_about};
+use crate::reporting::{report_about, report_file};
+use omega_command::Beside;
 use omega_game_answers::{draw_solution_text, verify_solution};
-use omega_io::{Exit, Input, Output, read_all, write_text};
-use omega_lasso_answers::verify_lasso;
-use omega_product_answers::meet_texts;
-use omega_refused::Refused;
+use omega_io::{Exit, Input, InputFiles, Output, Refused, read_all, write_text};
+use omega_language_answers::{meet_texts, verify_lasso};
 use std::alloc::Global;
 
-/// Reads the other text of a command, and makes its whole answer in memory, with how it ends. The refusals of the
-/// command, with the text that each is about.
-pub(crate) fn respond_beside<R: Input>(
+/// Reads the file of this name and then the input, writes the answer to both, tells of a refusal, and returns the
+/// status to end with.
+pub(crate) fn run_beside<F: InputFiles, R: Input, W: Output, E: Output>(
     alloc: Global,
-    command: OfFile,
+    name: &str,
+    asked: Beside,
+    verbose: bool,
+    files: &F,
     input: &mut R,
-) -> Result<(Exit, Vec<u8>), Refused>
-    requires { R.failed input.old < 2 ^ 64 - 1 }
-    ensures answered { IfOk result (λ made. (budget : ℕ) → Responds (of_file command) budget (R.remaining input.old) (R.remaining input.new) made.0 made.1.items) }
-    ensures refused { IfErr result (λ refused. IsRefusalAbout (of_file command) (R.remaining input.old) (R.remaining input.new) refused.text refused.refusal) }
-    ensures counted { R.failed input.new ≡ R.failed input.old + failures_of (plain result) }
+    output: &mut W,
+    errors: &mut E,
+) -> u8
+    requires reads { R.failed input.old < 2 ^ 64 - 1 }
+    requires writes { W.failed output.old < 2 ^ 64 - 1 }
+    requires tells { E.failed errors.old < 2 ^ 64 - 1 }
+    ensures { IsRunWithFile verbose asked name.now result
+        (world_of F.InputFiles E.Output files.now errors.old errors.new
+        (streams_of R.Input W.Output input.old output.old) (streams_of R.Input W.Output input.new output.new)) }
 {
-    match read_all(alloc, input) {
-        Ok(text) => answer_beside(alloc, command, text),
-        Err(refusal) => Err(Refused::from(refusal)),
-    }
-}
-
-/// The whole answer of a command to the text of its input, with how it ends. The refusals of the command, with the text
-/// that each is about.
-fn answer_beside(alloc: Global, command: OfFile, text: Vec<u8>) -> Result<(Exit, Vec<u8>), Refused>
-    ensures answered { IfOk result (λ made. (budget : ℕ) → Answers (of_file command) budget text.items (Ok (made.0, made.1.items))) }
-    ensures limit { OnOk result (length text.items ≤ most_text) }
-    ensures refused { IfErr result (λ refused. IsAbout (λ refusal. (refusal ≡ Memory) ⊎ RefusesBoth (of_file command) text.items refusal)
-        (RefusesFirst (of_file command) text.items) (RefusesSecond (of_file command) text.items) refused.text refused.refusal) }
-{
-    match command {
-        OfFile::Verify {
-            game,
-            from,
-            explain,
-        } => verify_solution(alloc, game.into_vec(), from, text, explain),
-        OfFile::VerifyLasso { automaton, explain } => {
-            verify_lasso(alloc, automaton.into_vec(), text, explain)
+    match files.read_file(alloc, name) {
+        Ok(file) => {
+            let outcome = write_beside(alloc, asked, file, input, output);
+            report_about(alloc, outcome, asked, verbose, errors)
         }
-        OfFile::Meet { with } => match meet_texts(alloc, text.as_slice(), with.as_slice()) {
-            Ok(made) => Ok((Exit::Done, made)),
-            Err(refused) => Err(refused),
-        },
-        OfFile::DrawSolution {
-            solution,
-            from,
-            depth,
-            legend,
-        } => match draw_solution_text(alloc, text, solution.as_slice(), from, depth, legend) {
-            Ok(made) => Ok((Exit::Done, made)),
-            Err(refused) => Err(refused),
-        },
+        Err(refusal) => report_file(alloc, name, refusal, verbose, errors),
     }
 }
 
-/// Reads the other text of a command, makes its whole answer in memory, and then writes it.
-pub(crate) fn run_beside<R: Input, W: Output>(
+/// Reads the input, makes the whole answer to its text and that of the file in memory, and then writes it.
+fn write_beside<R: Input, W: Output>(
     alloc: Global,
-    command: OfFile,
+    asked: Beside,
+    file: Vec<u8>,
     input: &mut R,
     output: &mut W,
 ) -> Result<Exit, Refused>
     requires reads { R.failed input.old < 2 ^ 64 - 1 }
     requires writes { W.failed output.old < 2 ^ 64 - 1 }
-    ensures performed { Performs (of_file command) most_lifts (plain result)
-        (streams (R.remaining input.old) (R.failed input.old) (W.contents output.old) (W.failed output.old))
-        (streams (R.remaining input.new) (R.failed input.new) (W.contents output.new) (W.failed output.new)) }
-    ensures refused { IfErr (plain result) (IsRefusalAbout (of_file command) (R.remaining input.old) (R.remaining input.new) (text_in result)) }
+    ensures performed { Performs (AnswersBeside asked file.items) (plain result)
+        (streams_of R.Input W.Output input.old output.old) (streams_of R.Input W.Output input.new output.new) }
+    ensures refused { IfErr (plain result)
+        (IsRefusalAbout asked file.items (R.remaining input.old) (R.remaining input.new) (text_in result)) }
 {
-    match respond_beside(alloc, command, input) {
+    match answer_beside(alloc, asked, file, input) {
         Ok((exit, made)) => match write_text(output, made.as_slice()) {
             Ok(()) => Ok(exit),
             Err(refusal) => Err(Refused::from(refusal)),
@@ -95,48 +69,56 @@ pub(crate) fn run_beside<R: Input, W: Output>(
     }
 }
 
-/// Runs a command, tells of a refusal and of the text that it is about, and gives the status after the outcome.
-pub(crate) fn perform_beside<R: Input, W: Output, E: Output>(
+/// Reads the input, and returns the whole answer to its text and that of the file, with how it ends; or why it is
+/// refused, and which of the two texts that is about.
+fn answer_beside<R: Input>(
     alloc: Global,
-    command: OfFile,
+    asked: Beside,
+    file: Vec<u8>,
     input: &mut R,
-    output: &mut W,
-    errors: &mut E,
-) -> u8
-    requires reads { R.failed input.old < 2 ^ 64 - 1 }
-    requires writes { W.failed output.old < 2 ^ 64 - 1 }
-    requires tells { E.failed errors.old < 2 ^ 64 - 1 }
-    ensures { IsRunBeside (of_file command) result
-        (Tells (E.contents errors.old) (E.contents errors.new) (E.failed errors.old) (E.failed errors.new))
-        (streams (R.remaining input.old) (R.failed input.old) (W.contents output.old) (W.failed output.old))
-        (streams (R.remaining input.new) (R.failed input.new) (W.contents output.new) (W.failed output.new)) }
+) -> Result<(Exit, Vec<u8>), Refused>
+    requires { R.failed input.old < 2 ^ 64 - 1 }
+    ensures answered { IfOk result (λ made. Responds (AnswersBeside asked file.items)
+        (R.remaining input.old) (R.remaining input.new) made.0 made.1.items) }
+    ensures refused { IfErr result (λ refused. IsRefusalAbout asked file.items
+        (R.remaining input.old) (R.remaining input.new) refused.text refused.refusal) }
+    ensures counted { R.failed input.new ≡ R.failed input.old + failures_of (plain result) }
 {
-    let names = names_of(&command);
-    let outcome = run_beside(alloc, command, input, output);
-    report_about(alloc, outcome, names, errors)
+    match read_all(alloc, input) {
+        Ok(text) => answer_texts(alloc, asked, file, text),
+        Err(refusal) => Err(Refused::from(refusal)),
+    }
 }
 
-/// What the two texts of a command are called.
-fn names_of(command: &OfFile) -> TextNames
-    ensures first { result.first.now ≡ first_name (of_file command.now) }
-    ensures second { result.second.now ≡ second_name (of_file command.now) }
+/// Returns the whole answer to the texts of the file and of the input, with how it ends; or why it is refused, and
+/// which of the two texts that is about.
+fn answer_texts(
+    alloc: Global,
+    asked: Beside,
+    file: Vec<u8>,
+    input: Vec<u8>,
+) -> Result<(Exit, Vec<u8>), Refused>
+    ensures answered { IfOk result (λ made. AnswersBeside asked file.items input.items (Ok (made.0, made.1.items))) }
+    ensures limit { OnOk result (length input.items ≤ most_text) }
+    ensures refused { IfErr result (λ refused. IsAbout
+        (λ refusal. (refusal ≡ Memory) ⊎ RefusesBoth asked file.items input.items refusal)
+        (RefusesFile asked file.items input.items) (RefusesInput asked file.items input.items)
+        refused.text refused.refusal) }
 {
-    match command {
-        OfFile::Verify { .. } => TextNames {
-            first: "game",
-            second: "solution",
+    match asked {
+        Beside::Verify { from, explain } => verify_solution(alloc, file, from, input, explain),
+        Beside::VerifyLasso { explain } => verify_lasso(alloc, file, input, explain),
+        Beside::Meet => match meet_texts(alloc, file.as_slice(), input.as_slice()) {
+            Ok(made) => Ok((Exit::Done, made)),
+            Err(refused) => Err(refused),
         },
-        OfFile::VerifyLasso { .. } => TextNames {
-            first: "automaton",
-            second: "lasso",
-        },
-        OfFile::Meet { .. } => TextNames {
-            first: "other automaton",
-            second: "automaton",
-        },
-        OfFile::DrawSolution { .. } => TextNames {
-            first: "game",
-            second: "solution",
+        Beside::DrawSolution {
+            from,
+            depth,
+            legend,
+        } => match draw_solution_text(alloc, input, file.as_slice(), from, depth, legend) {
+            Ok(made) => Ok((Exit::Done, made)),
+            Err(refused) => Err(refused),
         },
     }
 }

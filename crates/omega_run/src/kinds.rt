@@ -3,7 +3,6 @@ ghost use Rattle.omega_run.specs.private.steps.Kinds.{of_kind};
 
 use omega_command::{Command, Format};
 use omega_game::Player;
-use omega_text::Seq;
 
 /// A command, told apart by what it reads.
 #[derive(Drop)]
@@ -12,8 +11,6 @@ pub(crate) enum Kind {
     Stream(OfStream),
     /// Of one text.
     Text(OfText),
-    /// Of a text beside that of a file.
-    File(OfFile),
 }
 
 /// A command of a stream of automata.
@@ -57,30 +54,7 @@ pub(crate) enum OfText {
     DrawLasso,
 }
 
-/// A command of a text beside that of a file, which is kept here.
-#[derive(Drop)]
-pub(crate) enum OfFile {
-    Verify {
-        game: Seq<u8>,
-        from: Option<u32>,
-        explain: bool,
-    },
-    VerifyLasso {
-        automaton: Seq<u8>,
-        explain: bool,
-    },
-    Meet {
-        with: Seq<u8>,
-    },
-    DrawSolution {
-        solution: Seq<u8>,
-        from: Option<u32>,
-        depth: Option<u32>,
-        legend: bool,
-    },
-}
-
-/// Tells of which kind a command is.
+/// Returns of which kind a command is, and which of that kind.
 pub(crate) fn kind_of(command: Command) -> Kind
     ensures { of_kind result ≡ command }
 {
@@ -102,29 +76,5 @@ pub(crate) fn kind_of(command: Command) -> Kind
         Command::Draw(Format::Hoa) => Kind::Text(OfText::DrawAutomaton),
         Command::DrawLasso => Kind::Text(OfText::DrawLasso),
         Command::DrawPart { from, depth } => Kind::Text(OfText::DrawPart { from, depth }),
-        Command::Verify {
-            game,
-            from,
-            explain,
-        } => Kind::File(OfFile::Verify {
-            game,
-            from,
-            explain,
-        }),
-        Command::VerifyLasso { automaton, explain } => {
-            Kind::File(OfFile::VerifyLasso { automaton, explain })
-        }
-        Command::Meet { with } => Kind::File(OfFile::Meet { with }),
-        Command::DrawSolution {
-            solution,
-            from,
-            depth,
-            legend,
-        } => Kind::File(OfFile::DrawSolution {
-            solution,
-            from,
-            depth,
-            legend,
-        }),
     }
 }

@@ -8,20 +8,19 @@ mod held_text;
 mod kinds;
 mod laws;
 mod obeying;
+mod observing;
 mod progress;
 mod reporting;
 mod respond;
 mod run;
 mod task;
-mod watching;
-mod with_file;
 
 pub use laws::budgets_are_of_solvers;
 pub use obeying::obey;
-pub use omega_budget::{Progress, Unwatched, Watch};
-pub use omega_command::{Command, Format, Line, Player, Seq, Source, Task};
+pub use observing::run_observed;
+pub use omega_budget::{NoObserver, Progress, Reporter};
+pub use omega_command::{Beside, Command, Format, Line, Player, Source, Task};
 pub use omega_io::{
-    Exit, FromRead, GameFiles, HostFiles, Input, Output, Refusal, ToWrite, exit_code, refusal_line,
+    Exit, FromRead, HostFiles, Input, InputFiles, Output, Refusal, ToWrite, exit_code, refusal_line,
 };
 pub use run::run_command;
-pub use watching::run_watched;

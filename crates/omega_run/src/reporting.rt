@@ -3,28 +3,22 @@ ghost use Rattle.std.specs.Prelude.{◌≡◌, ◌-◌, ◌^◌, ◌<◌, ◌≤
 ghost use Rattle.omega_text.specs.declared.refusal.Refusal.TheVariants.{Memory};
 ghost use Rattle.omega_io.specs.Exit.{status_of};
 ghost use Rattle.omega_io.specs.RefusalLine.{line_of};
-ghost use Rattle.omega_refused.specs.Lines.{file_lines};
-ghost use Rattle.omega_io.specs.Writing.{Tells};
-ghost use Rattle.omega_run.specs.Beside.{lines_by};
-ghost use Rattle.omega_run.specs.Report.{IsRefusalTold, Reports, ReportsBy};
+ghost use Rattle.omega_run.specs.Beside.{lines_about, lines_of_file, name_of, text_lines};
+ghost use Rattle.omega_run.specs.Report.{IsRefusalReported, Reports, ReportsBy};
+ghost use Rattle.omega_run.specs.World.{tells_of};
 ghost use Rattle.omega_run.specs.private.steps.Beside.{plain, text_in};
 ghost use Rattle.omega_run.specs.private.steps.Telling.{TellsLast};
 
-use omega_io::{Exit, Output, Refusal, exit_code, refusal_line, tell};
-use omega_refused::{Refused, Which, file_lines, lines_in};
+use omega_command::Beside;
+use omega_io::{
+    Exit, Output, Refusal, Refused, Which, exit_code, file_lines, lines_in, refusal_line, tell,
+};
 use std::alloc::Global;
 
-/// What the two texts of a command are called, in the order in which they are judged.
-#[derive(Clone, Copy)]
-pub(crate) struct TextNames {
-    pub(crate) first: &'static str,
-    pub(crate) second: &'static str,
-}
-
-/// Tells of a refusal, and gives the status after the outcome.
+/// Tells of a refusal by its line, and returns the status after the outcome.
 pub(crate) fn report<E: Output>(alloc: Global, outcome: Result<Exit, Refusal>, errors: &mut E) -> u8
     requires { E.failed errors.old < 2 ^ 64 - 1 }
-    ensures { Reports outcome result (Tells (E.contents errors.old) (E.contents errors.new) (E.failed errors.old) (E.failed errors.new)) }
+    ensures { Reports outcome result (tells_of E.Output errors.old errors.new) }
 {
     let Err(refusal) = outcome else {
         return exit_code(&outcome);
@@ -42,8 +36,9 @@ pub(crate) fn report<E: Output>(alloc: Global, outcome: Result<Exit, Refusal>, e
     }
 }
 
-/// Tells of a refusal after lines of progress, unless a write of those failed, and gives the status after the outcome.
-pub(crate) fn report_behind<E: Output>(
+/// Tells of a refusal after lines of progress, unless a write of those failed, and returns the status after the
+/// outcome.
+pub(crate) fn report_after<E: Output>(
     alloc: Global,
     outcome: Result<Exit, Refusal>,
     sound: u64,
@@ -51,7 +46,8 @@ pub(crate) fn report_behind<E: Output>(
 ) -> u8
     requires sound { sound < 2 ^ 64 - 1 }
     requires since { sound ≤ E.failed errors.old }
-    ensures { Reports outcome result (TellsLast sound (E.contents errors.old) (E.contents errors.new) (E.failed errors.old) (E.failed errors.new)) }
+    ensures { Reports outcome result (TellsLast sound
+        (E.contents errors.old) (E.contents errors.new) (E.failed errors.old) (E.failed errors.new)) }
 {
     if errors.failures() == sound {
         report(alloc, outcome, errors)
@@ -60,17 +56,18 @@ pub(crate) fn report_behind<E: Output>(
     }
 }
 
-/// Tells of a refusal of a command of two texts, and of the text that it is about, and gives the status after the
-/// outcome.
+/// Tells of a refusal where two texts are read, and returns the status after the outcome. Another line names the text
+/// that the refusal is about, if there is one and `verbose` asks for that.
 pub(crate) fn report_about<E: Output>(
     alloc: Global,
     outcome: Result<Exit, Refused>,
-    names: TextNames,
+    asked: Beside,
+    verbose: bool,
     errors: &mut E,
 ) -> u8
     requires { E.failed errors.old < 2 ^ 64 - 1 }
-    ensures { ReportsBy (lines_by names.first.now names.second.now (text_in outcome)) (plain outcome) result
-        (Tells (E.contents errors.old) (E.contents errors.new) (E.failed errors.old) (E.failed errors.new)) }
+    ensures { ReportsBy (lines_about verbose asked (text_in outcome)) (plain outcome) result
+        (tells_of E.Output errors.old errors.new) }
 {
     match outcome {
         Ok(exit) => report(alloc, Ok(exit), errors),
@@ -83,38 +80,82 @@ pub(crate) fn report_about<E: Output>(
         Err(
             Refused {
                 refusal,
-                text: Some(Which::First),
+                text: Some(which),
             },
-        ) => report_lines(refusal, lines_in(alloc, names.first, refusal), errors),
-        Err(
-            Refused {
-                refusal,
-                text: Some(Which::Second),
-            },
-        ) => report_lines(refusal, lines_in(alloc, names.second, refusal), errors),
+        ) => report_text(alloc, name_of(asked, which), refusal, verbose, errors),
     }
 }
 
-/// Tells of the refusal of the file of this name, and gives its status.
+/// Tells of the refusal of a text that has this name, in another line if `verbose` asks for that, and returns the
+/// status.
+fn report_text<E: Output>(
+    alloc: Global,
+    name: &str,
+    refusal: Refusal,
+    verbose: bool,
+    errors: &mut E,
+) -> u8
+    requires { E.failed errors.old < 2 ^ 64 - 1 }
+    ensures { ReportsBy (text_lines verbose name.now) (Err refusal) result (tells_of E.Output errors.old errors.new) }
+{
+    if verbose {
+        report_lines(refusal, lines_in(alloc, name, refusal), errors)
+    } else {
+        report(alloc, Err(refusal), errors)
+    }
+}
+
+/// Tells of the refusal of the file of this name, in another line if it could not be read and `verbose` asks for that,
+/// and returns the status.
 pub(crate) fn report_file<E: Output>(
     alloc: Global,
     name: &str,
     refusal: Refusal,
+    verbose: bool,
     errors: &mut E,
 ) -> u8
     requires { E.failed errors.old < 2 ^ 64 - 1 }
-    ensures { ReportsBy (file_lines name.now) (Err refusal) result
-        (Tells (E.contents errors.old) (E.contents errors.new) (E.failed errors.old) (E.failed errors.new)) }
+    ensures { ReportsBy (lines_of_file verbose name.now) (Err refusal) result
+        (tells_of E.Output errors.old errors.new) }
 {
+    if !verbose {
+        return report(alloc, Err(refusal), errors);
+    }
     report_lines(refusal, file_lines(alloc, name, refusal), errors)
 }
 
-/// Tells these lines of a refusal, and gives its status; or tells that there was no memory for them.
+/// Returns what one of the two texts is called.
+fn name_of(asked: Beside, which: Which) -> &'static str
+    ensures { result.now ≡ name_of asked which }
+{
+    match asked {
+        Beside::Verify { .. } => match which {
+            Which::File => "game",
+            Which::Input => "solution",
+        },
+        Beside::VerifyLasso { .. } => match which {
+            Which::File => "automaton",
+            Which::Input => "lasso",
+        },
+        Beside::Meet => match which {
+            Which::File => "other automaton",
+            Which::Input => "automaton",
+        },
+        Beside::DrawSolution { .. } => match which {
+            Which::File => "solution",
+            Which::Input => "game",
+        },
+    }
+}
+
+/// Tells these lines of a refusal, and returns its status; or tells that there was no memory for them.
 fn report_lines<E: Output>(refusal: Refusal, lines: Result<Vec<u8>, Refusal>, errors: &mut E) -> u8
     requires tells { E.failed errors.old < 2 ^ 64 - 1 }
     requires memory { IsOkUnless lines Memory }
-    ensures told { IfOk lines (λ lines. IsRefusalTold refusal lines.items result (Tells (E.contents errors.old) (E.contents errors.new) (E.failed errors.old) (E.failed errors.new))) }
-    ensures wanting { IfErr lines (λ _. IsRefusalTold Memory (line_of Memory) result (Tells (E.contents errors.old) (E.contents errors.new) (E.failed errors.old) (E.failed errors.new))) }
+    ensures reported { IfOk lines (λ lines.
+        IsRefusalReported refusal lines.items result (tells_of E.Output errors.old errors.new)) }
+    ensures wanting { IfErr lines (λ _.
+        IsRefusalReported Memory (line_of Memory) result (tells_of E.Output errors.old errors.new)) }
 {
     match lines {
         Ok(lines) => {

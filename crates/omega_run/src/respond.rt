@@ -1,49 +1,53 @@
-ghost use Rattle.std.specs.Prelude.{◌≡◌, ◌+◌, ◌-◌, ◌^◌, ◌<◌, ◌≤◌, ℕ, List, Option, Ok, Err, IfOk, IfErr, OnOk, length};
+ghost use Rattle.std.specs.Prelude.{◌≡◌, ◌+◌, ◌-◌, ◌^◌, ◌<◌, ◌≤◌, ℕ, List, Option};
+ghost use Rattle.std.specs.Prelude.{Ok, Err, IfOk, IfErr, OnOk, length};
 ghost use Rattle.omega_text.specs.Cases.{or_memory};
 ghost use Rattle.omega_text.specs.Limits.{most_text};
-ghost use Rattle.omega_budget.specs.Watching.{IsWatched, refusal_in};
+ghost use Rattle.omega_budget.specs.Observing.{IsObserved, refusal_in};
 ghost use Rattle.omega_solve.specs.Limits.{most_lifts};
-ghost use Rattle.omega_run.specs.Progress.{CountsToldOfInput, LiftsInput};
+ghost use Rattle.omega_run.specs.Progress.{CountsReportedOfInput, LiftsInput};
 ghost use Rattle.omega_run.specs.Respond.{Answers, IsRunRefusal, Responds, asked_for};
 ghost use Rattle.omega_run.specs.private.steps.Kinds.{of_text};
 ghost use Rattle.omega_io.specs.Failures.{failures_of};
 ghost use Rattle.omega_io.specs.Reading.{IsRead};
 ghost use Rattle.omega_io.specs.declared.exit.Exit.TheVariants.{Done};
 
-use crate::beside::respond_beside;
 use crate::kinds::{Kind, OfStream, OfText, kind_of};
-use omega_automaton_answers::{
-    canon_stream, check_stream, decide_emptiness, draw_automaton_text, draw_lasso_text,
-    search_emptiness, show_stream, write_emptiness_game,
-};
-use omega_budget::Watch;
+use omega_budget::Reporter;
 use omega_command::Command;
-use omega_complement_answers::complement_text;
+use omega_empty_answers::{
+    decide_emptiness, draw_automaton_text, draw_lasso_text, search_emptiness, write_emptiness_game,
+};
 use omega_game::Player;
 use omega_game_answers::{
     Asked, canon_game, canon_part, check_game, draw_game_text, show_game, solve_game,
 };
 use omega_io::{Exit, Input, Refusal, read_all};
+use omega_language_answers::complement_text;
+use omega_stream_answers::{canon_stream, check_stream, show_stream};
 use std::alloc::Global;
 
-/// Reads what a command needs, and makes its whole answer in memory, with how it ends. Each command reads for itself,
-/// to the end of the input where it answers. Each run of a solver makes at most `budget` lifts, and the listener is
-/// told of it. The refusals of the command.
-pub(crate) fn respond<R: Input, L, T: Watch<L>>(
+/// Reads what a command needs, and returns its whole answer, with how it ends, or its refusal. Each command reads for
+/// itself, to the end of the input if it answers. Each run of a solver makes at most `budget` lifts, and it is reported
+/// to the observer.
+pub(crate) fn answer<R: Input, L, T: Reporter<L>>(
     alloc: Global,
     command: Command,
     input: &mut R,
     budget: u64,
-    watch: &T,
-    listener: &mut L,
+    reporter: &T,
+    observer: &mut L,
 ) -> Result<(Exit, Vec<u8>), Refusal>
     requires budget { budget ≤ most_lifts }
     requires reads { R.failed input.old < 2 ^ 64 - 1 }
-    ensures answered { IfOk result (λ made. Responds command budget (R.remaining input.old) (R.remaining input.new) made.0 made.1.items) }
-    ensures refused { IfErr result (IsRunRefusal command budget (R.remaining input.old) (R.remaining input.new)) }
+    ensures answered { IfOk result (λ made. Responds (Answers command budget)
+        (R.remaining input.old) (R.remaining input.new) made.0 made.1.items) }
+    ensures refused { IfErr result
+        (IsRunRefusal (Answers command budget) (R.remaining input.old) (R.remaining input.new)) }
     ensures counted { R.failed input.new ≡ R.failed input.old + failures_of result }
-    ensures printed { IfOk result (λ made. CountsToldOfInput (T.tells watch.now) (T.pace watch.now) command (R.remaining input.old) (R.remaining input.new) budget made.1.items listener.old listener.new) }
-    ensures told { IsWatched (LiftsInput command (R.remaining input.old) (R.remaining input.new)) (refusal_in result) (T.tells watch.now) (T.pace watch.now) budget listener.old listener.new }
+    ensures printed { IfOk result (λ made. CountsReportedOfInput (T.tells reporter.now) (T.pace reporter.now) command
+        (R.remaining input.old) (R.remaining input.new) budget made.1.items observer.old observer.new) }
+    ensures reported { IsObserved (LiftsInput command (R.remaining input.old) (R.remaining input.new)) (refusal_in result)
+        (T.tells reporter.now) (T.pace reporter.now) budget observer.old observer.new }
 {
     match kind_of(command) {
         Kind::Stream(OfStream::Show) => Ok((Exit::Done, show_stream(alloc, input)?)),
@@ -51,25 +55,21 @@ pub(crate) fn respond<R: Input, L, T: Watch<L>>(
         Kind::Stream(OfStream::Canon) => Ok((Exit::Done, canon_stream(alloc, input)?)),
         Kind::Text(command) => {
             let text = read_all(alloc, input)?;
-            let made = answer(alloc, command, text, budget, watch, listener)?;
+            let made = answer_text(alloc, command, text, budget, reporter, observer)?;
             Ok((Exit::Done, made))
         }
-        Kind::File(command) => match respond_beside(alloc, command, input) {
-            Ok(made) => Ok(made),
-            Err(refused) => Err(refused.refusal),
-        },
     }
 }
 
-/// The whole answer of a command of one text. Each run of a solver makes at most `budget` lifts, and the listener is
-/// told of it, as of runs of the command wherever the text is what an input gave. The refusals of the command.
-fn answer<L, T: Watch<L>>(
+/// Returns the whole answer of a command to one text, or its refusal. Each run of a solver makes at most `budget`
+/// lifts, and it is reported to the observer, as of runs of the command wherever the text is what an input gave.
+fn answer_text<L, T: Reporter<L>>(
     alloc: Global,
     command: OfText,
     text: Vec<u8>,
     budget: u64,
-    watch: &T,
-    listener: &mut L,
+    reporter: &T,
+    observer: &mut L,
 ) -> Result<Vec<u8>, Refusal>
     requires budget { budget ≤ most_lifts }
     ensures answered { IfOk result (λ output. Answers (of_text command) budget text.items (Ok (Done, output.items))) }
@@ -77,9 +77,11 @@ fn answer<L, T: Watch<L>>(
     ensures refused { IfErr result (or_memory (λ refusal. Answers (of_text command) budget text.items (Err refusal))) }
     ensures unfailed { failures_of result ≡ 0 }
     ensures printed { (unread_before unread_after : Option (List ℕ)) → IsRead unread_before unread_after text.items
-        → IfOk result (λ output. CountsToldOfInput (T.tells watch.now) (T.pace watch.now) (of_text command) unread_before unread_after budget output.items listener.old listener.new) }
-    ensures told { (unread_before unread_after : Option (List ℕ)) → IsRead unread_before unread_after text.items
-        → IsWatched (LiftsInput (of_text command) unread_before unread_after) (refusal_in result) (T.tells watch.now) (T.pace watch.now) budget listener.old listener.new }
+        → IfOk result (λ output. CountsReportedOfInput (T.tells reporter.now) (T.pace reporter.now) (of_text command)
+        unread_before unread_after budget output.items observer.old observer.new) }
+    ensures reported { (unread_before unread_after : Option (List ℕ)) → IsRead unread_before unread_after text.items
+        → IsObserved (LiftsInput (of_text command) unread_before unread_after) (refusal_in result)
+        (T.tells reporter.now) (T.pace reporter.now) budget observer.old observer.new }
 {
     match command {
         OfText::Show => show_game(alloc, text),
@@ -88,12 +90,12 @@ fn answer<L, T: Watch<L>>(
         OfText::CanonPart { from } => canon_part(alloc, text, from),
         OfText::Solve { player, from } => {
             let asked = asked_for(player);
-            solve_game(alloc, text, asked, from, budget, watch, listener)
+            solve_game(alloc, text, asked, from, budget, reporter, observer)
         }
         OfText::Search { from } => {
-            solve_game(alloc, text, Asked::Search, from, budget, watch, listener)
+            solve_game(alloc, text, Asked::Search, from, budget, reporter, observer)
         }
-        OfText::Empty { word } => decide_emptiness(alloc, text, word, budget, watch, listener),
+        OfText::Empty { word } => decide_emptiness(alloc, text, word, budget, reporter, observer),
         OfText::EmptySearch { word } => search_emptiness(alloc, text, word),
         OfText::Complement => complement_text(alloc, text.as_slice()),
         OfText::Game => write_emptiness_game(alloc, text),

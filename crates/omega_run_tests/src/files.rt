@@ -1,6 +1,6 @@
 //! Runs that read a file, and the files of the machine.
 use crate::running::{Asked, Left, expect};
-use omega_run::{GameFiles, HostFiles};
+use omega_run::{HostFiles, InputFiles};
 use std::test::Fail;
 
 const THREE: &str = "0 0 0 1,2; 1 1 1 0; 2 2 1 0;";
@@ -88,11 +88,11 @@ static RUNS: [(&str, &str, &str, u8, &str, &str); 21] = [
         "paritysol 2; 0 0; 1 0; 2 0;",
         1,
         "",
-        "omega: 53 BadSolution\nomega: in the solution\n",
+        "omega: 53 BadSolution\n",
     ),
     // What is wrong with the game comes first.
     (
-        "omega verify --game g",
+        "omega verify -v --game g",
         "0 0 0;",
         "$",
         1,
@@ -105,10 +105,10 @@ static RUNS: [(&str, &str, &str, u8, &str, &str); 21] = [
         "paritysol 2; 0 0 2; 1 0; 2 0;",
         5,
         "",
-        "omega: 61 Io\nomega: cannot read 'h'\n",
+        "omega: 61 Io\n",
     ),
     (
-        "omega verify --game g",
+        "omega verify --game g --verbose",
         THREE,
         "paritysol 2 0 0 2;",
         1,
@@ -121,7 +121,7 @@ static RUNS: [(&str, &str, &str, u8, &str, &str); 21] = [
         "",
         1,
         "",
-        "omega: 54 UnknownNode\nomega: in the game\n",
+        "omega: 54 UnknownNode\n",
     ),
     (
         "omega draw --format pg --solution g",
@@ -142,7 +142,7 @@ static RUNS: [(&str, &str, &str, u8, &str, &str); 21] = [
     ),
     // That no node has the identifier comes before what is wrong with the solution.
     (
-        "omega draw --format pg --solution g --from 3 --depth 1",
+        "omega draw --format pg --solution g --from 3 --depth 1 -v",
         "$",
         CHOICE,
         1,
@@ -150,7 +150,7 @@ static RUNS: [(&str, &str, &str, u8, &str, &str); 21] = [
         "omega: 54 UnknownNode\nomega: in the game\n",
     ),
     (
-        "omega draw --format pg --solution h",
+        "omega draw --format pg --solution h --verbose",
         "",
         CHOICE,
         5,
@@ -163,7 +163,7 @@ static RUNS: [(&str, &str, &str, u8, &str, &str); 21] = [
         CHOICE,
         1,
         "",
-        "omega: 1 Lex at 0\nomega: in the solution\n",
+        "omega: 1 Lex at 0\n",
     ),
     // The operand names the file of the input, which is not read then.
     (
@@ -183,7 +183,7 @@ static RUNS: [(&str, &str, &str, u8, &str, &str); 21] = [
         "",
     ),
     (
-        "omega check g --format hoa",
+        "omega check g --format hoa -v",
         "HOA: v1 )",
         "",
         1,
@@ -196,7 +196,7 @@ static RUNS: [(&str, &str, &str, u8, &str, &str); 21] = [
         "0 0 0 0;",
         5,
         "",
-        "omega: 61 Io\nomega: cannot read 'h'\n",
+        "omega: 61 Io\n",
     ),
     ("omega meet --with g", ALWAYS, TURNS, 0, TURNS_ALWAYS, ""),
     ("omega complement g", OFTEN, "", 0, NOT_OFTEN, ""),

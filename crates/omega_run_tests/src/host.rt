@@ -1,5 +1,5 @@
 //! Which file of the machine is opened.
-use omega_run::{GameFiles, HostFiles};
+use omega_run::{HostFiles, InputFiles};
 use std::alloc::Allocator;
 use std::fs::{Metadata, OpenOptions};
 use std::io;

@@ -1,7 +1,12 @@
-//! Tests of the public calls of `omega_run` and `omega_words`: what a run of the built program cannot show, and the
-//! worked examples. They stand in a crate of their own so that each library is proved once.
+//! Tests of the public calls of `omega_run`, `omega_command_line` and `omega_language_answers`: what a run of the built
+//! program cannot show, and the worked examples. They stand in a crate of their own so that each library is proved
+//! once.
 #![tactic(auto)]
 
+#[cfg(test)]
+mod complements;
+#[cfg(test)]
+mod depths;
 #[cfg(test)]
 mod files;
 #[cfg(test)]
@@ -16,6 +21,8 @@ mod running;
 mod streams;
 #[cfg(test)]
 mod transfers;
+#[cfg(test)]
+mod verdicts;
 #[cfg(test)]
 mod words;
 #[cfg(test)]

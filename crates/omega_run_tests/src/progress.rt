@@ -1,6 +1,6 @@
 use crate::portions::{Filling, Portions};
 use crate::running::{Asked, Left, expect};
-use omega_run::{Command, Exit, FromRead, Output, Refusal, ToWrite, run_watched};
+use omega_run::{Command, Exit, FromRead, Output, Refusal, ToWrite, run_observed};
 use std::alloc::Global;
 use std::test::Fail;
 
@@ -13,7 +13,7 @@ const WON: &str = "paritysol 3;\n0 1;\n1 1;\n2 1;\n3 1;\n";
 /// What a run left: how it ended, what stands on standard output and standard error, and how many writes of the latter
 /// failed.
 #[derive(Drop)]
-struct Told {
+struct Reported {
     ended: Result<Exit, Refusal>,
     output: Vec<u8>,
     error: Vec<u8>,
@@ -21,18 +21,18 @@ struct Told {
 }
 
 /// Runs a command over a text, told of after so many lifts more each time.
-fn watched(
+fn observed(
     alloc: Global,
     command: Command,
     text: &str,
     budget: u32,
     every: u64,
     errors: Filling,
-) -> Told {
+) -> Reported {
     let mut input = FromRead::new(Portions::whole(text));
     let mut output = ToWrite::new(Filling::without_end(alloc));
     let mut errors = ToWrite::new(errors);
-    let ended = run_watched(
+    let ended = run_observed(
         alloc,
         command,
         &mut input,
@@ -41,7 +41,7 @@ fn watched(
         u64::from(budget),
         every,
     );
-    Told {
+    Reported {
         ended,
         failures: errors.failures(),
         output: output.into_inner().taken,
@@ -50,38 +50,38 @@ fn watched(
 }
 
 /// Solves the ring for both players.
-fn solved(alloc: Global, budget: u32, every: u64, errors: Filling) -> Told {
+fn solved(alloc: Global, budget: u32, every: u64, errors: Filling) -> Reported {
     let command = Command::Solve {
         player: None,
         from: None,
     };
-    watched(alloc, command, RING, budget, every, errors)
+    observed(alloc, command, RING, budget, every, errors)
 }
 
 #[test]
 fn a_line_comes_each_time_that_so_many_lifts_were_made(rt: HostRuntime) -> Result<(), Fail> {
     let alloc = rt.alloc();
     let lines = "player 0: 3 lifts of at most 32\nplayer 0: 6 lifts of at most 32\n";
-    for (every, told) in [
+    for (every, reported) in [
         (3, lines),
         (4, "player 0: 4 lifts of at most 32\n"),
         (8, ""),
     ] {
         let left = solved(alloc, 1000, every, Filling::without_end(alloc));
         assert!(rt; left.ended.is_ok() && left.output.as_slice() == WON.as_bytes());
-        assert!(rt; left.error.as_slice() == told.as_bytes(), "{every}");
+        assert!(rt; left.error.as_slice() == reported.as_bytes(), "{every}");
     }
     Ok(())
 }
 
 #[test]
-fn the_budget_is_told_where_it_is_less_than_the_bound(rt: HostRuntime) -> Result<(), Fail> {
+fn the_budget_is_reported_where_it_is_less_than_the_bound(rt: HostRuntime) -> Result<(), Fail> {
     let alloc = rt.alloc();
     let left = solved(alloc, 5, 2, Filling::without_end(alloc));
     assert!(rt; left.output.is_empty());
     assert!(rt; left.ended.is_err());
-    let told = "player 0: 2 lifts of at most 5\nplayer 0: 4 lifts of at most 5\n";
-    assert!(rt; left.error.as_slice() == told.as_bytes());
+    let reported = "player 0: 2 lifts of at most 5\nplayer 0: 4 lifts of at most 5\n";
+    assert!(rt; left.error.as_slice() == reported.as_bytes());
     Ok(())
 }
 
@@ -95,11 +95,11 @@ fn a_failed_line_stops_no_run(rt: HostRuntime) -> Result<(), Fail> {
 }
 
 #[test]
-fn emptiness_is_told_of_player_0(rt: HostRuntime) -> Result<(), Fail> {
+fn emptiness_is_reported_for_player_0(rt: HostRuntime) -> Result<(), Fail> {
     let alloc = rt.alloc();
     let automaton = "HOA: v1 States: 2 Start: 0 acc-name: co-Buchi Acceptance: 1 Fin(0) --BODY-- \
         State: 0 [t] 0 {0} [t] 1 State: 1 [t] 1 --END--";
-    let left = watched(
+    let left = observed(
         alloc,
         Command::Empty { word: false },
         automaton,
@@ -113,7 +113,7 @@ fn emptiness_is_told_of_player_0(rt: HostRuntime) -> Result<(), Fail> {
 }
 
 #[test]
-fn a_short_run_is_not_told_of(rt: HostRuntime) -> Result<(), Fail> {
+fn a_short_run_is_not_reported(rt: HostRuntime) -> Result<(), Fail> {
     for line in [
         "omega solve",
         "omega solve --progress",

@@ -3,8 +3,8 @@ ghost use Rattle.std.specs.Prelude.{◌≡◌, IfOk};
 ghost use Rattle.omega_command.specs.Line.{IsRunnable};
 
 use crate::portions::{Filling, Portions};
-use omega_run::{FromRead, GameFiles, Input, Line, Output, Refusal, ToWrite, obey};
-use omega_words::read_words;
+use omega_command_line::read_words;
+use omega_run::{FromRead, Input, InputFiles, Line, Output, Refusal, ToWrite, obey};
 use std::alloc::{AllocError, Global};
 use std::test::Fail;
 
@@ -57,7 +57,7 @@ struct OneFile<'a> {
     text: &'a [u8],
 }
 
-impl<'a> GameFiles for OneFile<'a> {
+impl<'a> InputFiles for OneFile<'a> {
     ghost reads = { λ s _ text. text ≡ s.text.now };
 
     ghost refuses = { λ _ _ _. Unit {0} };

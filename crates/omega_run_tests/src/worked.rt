@@ -1,23 +1,10 @@
-//! The worked examples: their answers were found by hand, or stand in the formats' descriptions.
+//! Worked examples, one for each kind of answer. Their answers were found by hand.
 use crate::running::{Asked, Left, expect};
 use std::alloc::Global;
 use std::test::Fail;
 
 /// A command line, a game and the whole output of a run that is done.
-static GAMES: [(&str, &str, &str); 20] = [
-    ("omega solve", "0 0 0 0;", "paritysol 0;\n0 0 0;\n"),
-    (
-        "omega solve --player 0",
-        "0 0 0 0;",
-        "player 0 lifts 0\n0 0;\n",
-    ),
-    ("omega solve --player 1", "0 0 0 0;", "player 1 lifts 2\n"),
-    (
-        "omega show --format pg",
-        "0 0 0 0;",
-        "game nodes 1 edges 1 greatest 0\nplayer 0 bound 1\nplayer 1 bound 2\n",
-    ),
-    ("omega solve", "0 1 0 0;", "paritysol 0;\n0 1;\n"),
+static GAMES: [(&str, &str, &str); 8] = [
     (
         "omega solve",
         "0 1 0 1; 1 2 1 0;",
@@ -29,29 +16,9 @@ static GAMES: [(&str, &str, &str); 20] = [
         "player 0 lifts 1\n0 1;\n1;\n",
     ),
     (
-        "omega solve --player 1",
-        "0 1 0 1; 1 2 1 0;",
-        "player 1 lifts 4\n",
-    ),
-    (
-        "omega show --format pg",
-        "0 1 0 1; 1 2 1 0;",
-        "game nodes 2 edges 2 greatest 1\nplayer 0 bound 4\nplayer 1 bound 4\n",
-    ),
-    (
-        "omega solve",
-        "0 0 0 1,2; 1 1 1 0; 2 2 1 0;",
-        "paritysol 2;\n0 0 2;\n1 0;\n2 0;\n",
-    ),
-    (
         "omega show --format pg",
         "0 0 0 1,2; 1 1 1 0; 2 2 1 0;",
         "game nodes 3 edges 4 greatest 2\nplayer 0 bound 6\nplayer 1 bound 12\n",
-    ),
-    (
-        "omega solve",
-        "parity 9; 9 3 1 4; 4 2 0 9,4 \"a\";",
-        "paritysol 9;\n4 0 4;\n9 0;\n",
     ),
     (
         "omega canon --format pg",
@@ -59,21 +26,9 @@ static GAMES: [(&str, &str, &str); 20] = [
         "parity 9;\n4 2 0 9,4 \"a\";\n9 3 1 4;\n",
     ),
     (
-        "omega solve",
-        "2147483647 0 0 2147483647;",
-        "paritysol 2147483647;\n2147483647 0 2147483647;\n",
-    ),
-    (
         "omega check --format pg",
         "parity 9; 9 3 1 4; 4 2 0 9,4 \"a\";",
         "accepted\n",
-    ),
-    // Dense games: five listed successors a node.
-    ("omega solve", "0 0 0 0,0,0,0,0;", "paritysol 0;\n0 0 0;\n"),
-    (
-        "omega solve",
-        "0 0 0 1,1,2,2,2; 1 1 1 0,0,0,0,0; 2 2 1 0,0,0,0,0;",
-        "paritysol 2;\n0 0 2;\n1 0;\n2 0;\n",
     ),
     (
         "omega solve --search",
@@ -93,7 +48,7 @@ static GAMES: [(&str, &str, &str); 20] = [
 ];
 
 /// The same of automata.
-static AUTOMATA: [(&str, &str, &str); 16] = [
+static AUTOMATA: [(&str, &str, &str); 6] = [
     (
         "omega empty",
         "HOA: v1 States: 1 Start: 0 AP: 1 \"a\" acc-name: Buchi Acceptance: 1 Inf(0) --BODY-- State: 0 [0] 0 {0} --END--",
@@ -110,36 +65,6 @@ static AUTOMATA: [(&str, &str, &str); 16] = [
         "parity 2;\n0 0 0 1;\n1 2 0 0;\n2 1 0 2;\n",
     ),
     (
-        "omega empty",
-        "HOA: v1 States: 1 Start: 0 AP: 1 \"a\" acc-name: Buchi Acceptance: 1 Inf(0) --BODY-- State: 0 [0&!0] 0 {0} --END--",
-        "empty\n",
-    ),
-    (
-        "omega game",
-        "HOA: v1 States: 1 Start: 0 AP: 1 \"a\" acc-name: Buchi Acceptance: 1 Inf(0) --BODY-- State: 0 [0&!0] 0 {0} --END--",
-        "parity 2;\n0 0 0 2;\n2 1 0 2;\n",
-    ),
-    (
-        "omega empty",
-        "HOA: v1 States: 1 Start: 0 acc-name: parity max odd 1 Acceptance: 1 Fin(0) --BODY-- State: 0 [t] 0 --END--",
-        "stem\ncycle 0\n",
-    ),
-    (
-        "omega empty",
-        "HOA: v1 States: 1 Start: 0 acc-name: parity max even 1 Acceptance: 1 Inf(0) --BODY-- State: 0 [t] 0 --END--",
-        "empty\n",
-    ),
-    (
-        "omega empty",
-        "HOA: v1 States: 1 Start: 0 acc-name: parity min even 2 Acceptance: 2 Inf(0)|Fin(1) --BODY-- State: 0 [t] 0 {0 1} --END--",
-        "stem\ncycle 0\n",
-    ),
-    (
-        "omega empty",
-        "HOA: v1 States: 1 Start: 0 acc-name: parity min even 2 Acceptance: 2 Inf(0)|Fin(1) --BODY-- State: 0 [t] 0 {1} --END--",
-        "empty\n",
-    ),
-    (
         "omega show --format hoa",
         "HOA: ( & 7 nonsense --ABORT-- /*a/*b*/c*/ HOA: v1 Acceptance: 0 t --BODY-- --END--",
         "0 aborted\n1 automaton states 0 edges 0 propositions 0 sets 0 acceptance t\n",
@@ -150,37 +75,20 @@ static AUTOMATA: [(&str, &str, &str); 16] = [
         "accepted\n",
     ),
     (
-        "omega check --format hoa",
-        "HOA: v1 States: 2 Start: 0 acc-name: all Acceptance: 0 t --BODY-- State: 0 [t] 0&1 State: 1 --END--",
-        "accepted\n",
-    ),
-    (
         "omega canon --format hoa",
         "HOA: v1 States: 1 Start: 0 AP: 1 \"a\" Alias: @b 0|t Acceptance: 1 Inf(0) acc-name: Buchi --BODY-- State: 0 [!@b&0] 0 {0 0} --END--",
         "HOA: v1\nStates: 1\nStart: 0\nAP: 1 \"a\"\nacc-name: Buchi\nAcceptance: 1 Inf(0)\n--BODY--\nState: 0\n[!(0|t)&0] 0 {0}\n--END--\n",
     ),
-    (
-        "omega empty",
-        "HOA: v1 States: 1 Start: 0 AP: 1 \"a\" Alias: @b 0|t Acceptance: 1 Inf(0) acc-name: Buchi --BODY-- State: 0 [!@b&0] 0 {0 0} --END--",
-        "empty\n",
-    ),
-    (
-        "omega empty --budget 2",
-        "HOA: v1 States: 1 Start: 0 AP: 1 \"a\" acc-name: Buchi Acceptance: 1 Inf(0) --BODY-- State: 0 [0] 0 {0} --END--",
-        "stem\ncycle 0\n",
-    ),
-    ("omega check --format hoa", "", "accepted\n"),
 ];
 
 /// A command line, an input, and the status and the line of a run that is refused, after the program's name.
-static REFUSALS: [(&str, &str, u8, &str); 18] = [
+static REFUSALS: [(&str, &str, u8, &str); 7] = [
     (
         "omega solve --budget 3",
         "0 1 0 1; 1 2 1 0;",
         3,
         "omega: 51 Budget\n",
     ),
-    ("omega check --format pg", "", 1, "omega: 3 Syntax at 0\n"),
     (
         "omega check --format pg",
         "parity 3; 4 0 0 4;",
@@ -189,57 +97,9 @@ static REFUSALS: [(&str, &str, u8, &str); 18] = [
     ),
     (
         "omega check --format pg",
-        "0 0 0 1;",
-        1,
-        "omega: 11 UndefinedSuccessor\n",
-    ),
-    (
-        "omega check --format pg",
-        "0 0 0 0; 0 0 0 0;",
-        1,
-        "omega: 10 DuplicateNode\n",
-    ),
-    (
-        "omega check --format pg",
-        "0 0 2 0;",
-        1,
-        "omega: 3 Syntax at 4\n",
-    ),
-    (
-        "omega check --format pg",
-        "0 0 0;",
-        1,
-        "omega: 3 Syntax at 5\n",
-    ),
-    (
-        "omega check --format pg",
-        "0 0 0 0",
-        1,
-        "omega: 3 Syntax at 7\n",
-    ),
-    (
-        "omega check --format pg",
-        "00 0 0 0;",
-        1,
-        "omega: 2 Number at 0\n",
-    ),
-    (
-        "omega check --format pg",
         "0 0 0 1; $",
         1,
         "omega: 1 Lex at 9\n",
-    ),
-    (
-        "omega solve",
-        "2147483648 0 0 0;",
-        1,
-        "omega: 2 Number at 0\n",
-    ),
-    (
-        "omega empty",
-        "HOA: ( & 7 nonsense --ABORT-- /*a/*b*/c*/ HOA: v1 Acceptance: 0 t --BODY-- --END--",
-        1,
-        "omega: 3 Syntax at 20\n",
     ),
     (
         "omega check --format hoa",
@@ -253,13 +113,6 @@ static REFUSALS: [(&str, &str, u8, &str); 18] = [
         1,
         "omega: 41 UniversalBranch\n",
     ),
-    (
-        "omega empty --budget 1",
-        "HOA: v1 States: 1 Start: 0 AP: 1 \"a\" acc-name: Buchi Acceptance: 1 Inf(0) --BODY-- State: 0 [0] 0 {0} --END--",
-        3,
-        "omega: 51 Budget\n",
-    ),
-    ("omega empty", "", 1, "omega: 3 Syntax at 0\n"),
     (
         "omega solve --from 2",
         "0 0 0 0; 1 0 0 1;",

@@ -86,14 +86,14 @@ fits-value held (one ∷ rest) proposition value found fit =
     let first : is_as one.1 (held one.0) ≡ true = first_so (is_as one.1 (held one.0)) (fits held rest) fit in
     let others : fits held rest ≡ true = second_so (is_as one.1 (held one.0)) (fits held rest) fit in
     elim (eqb_tells proposition one.0) [
-      | inl told ↦
-          let is : Some one.1 ≡ Some value = sym (ap (λ here. cond here (Some one.1) (lookup (nat_eq proposition) rest)) told.0) ∙ found in
-          let at : proposition ≡ one.0 = told.1 in
+      | inl reported ↦
+          let is : Some one.1 ≡ Some value = sym (ap (λ here. cond here (Some one.1) (lookup (nat_eq proposition) rest)) reported.0) ∙ found in
+          let at : proposition ≡ one.0 = reported.1 in
           let same : one.1 ≡ value = cc in
           subst (λ v. is_as v (held proposition) ≡ true) same (subst (λ p. is_as one.1 (held p) ≡ true) (sym at) first)
-      | inr told ↦
+      | inr reported ↦
           fits-value held rest proposition value
-          (sym (ap (λ here. cond here (Some one.1) (lookup (nat_eq proposition) rest)) told.0) ∙ found) others
+          (sym (ap (λ here. cond here (Some one.1) (lookup (nat_eq proposition) rest)) reported.0) ∙ found) others
     ]
 
 where-fitting : (fitting one other others : Bool) → (fitting ≡ true → one ≡ other) → ((fitting && one) || others) ≡ ((fitting && other) || others)
@@ -191,11 +191,11 @@ has-all held (one ∷ rest) distinct has =
     has-all held rest distinct.1
     (λ key value found.
     elim (eqb_tells key one.0) [
-      | inl told ↦
-          let none : lookup (nat_eq key) rest ≡ None = ap (λ k. lookup (nat_eq k) rest) told.1 ∙ absent one.0 rest distinct.0 in
+      | inl reported ↦
+          let none : lookup (nat_eq key) rest ≡ None = ap (λ k. lookup (nat_eq k) rest) reported.1 ∙ absent one.0 rest distinct.0 in
           let no : Some value ≡ None = sym found ∙ none in
           cc
-      | inr told ↦ has key value (ap (λ here. cond here (Some one.1) (lookup (nat_eq key) rest)) told.0 ∙ found)
+      | inr reported ↦ has key value (ap (λ here. cond here (Some one.1) (lookup (nat_eq key) rest)) reported.0 ∙ found)
     ]) in
     λ i. first i && others i
 

@@ -79,16 +79,16 @@ there [] place step other are within is = absurd (omega arith)
 there (last ∷ earlier) place step other are within is =
     let long : length (reverse earlier) ≡ length earlier = length-reverse earlier in
     elim (eqb_tells place (length earlier)) [
-      | inl told ↦
-          let at : place ≡ length (reverse earlier) = told.1 ∙ sym long in
+      | inl reported ↦
+          let at : place ≡ length (reverse earlier) = reported.1 ∙ sym long in
           let found : get_or (reverse (last ∷ earlier)) place other ≡ last =
           ap (λ all. get_or all place other) (reverse-cons last earlier)
           ∙ (ap (λ n. get_or (reverse earlier ++ last ∷ []) n other) at ∙ get_or-append_seam (reverse earlier) last [] other) in
           let same : last ≡ step = sym found ∙ is in
-          subst (λ n. IsThere (last ∷ earlier) n step) (sym told.1)
+          subst (λ n. IsThere (last ∷ earlier) n step) (sym reported.1)
           (subst (λ one. IsThere (last ∷ earlier) (length earlier) one) same (there-last last earlier are.0))
-      | inr told ↦
-          let apart : place ≢ length earlier = told.1 in
+      | inr reported ↦
+          let apart : place ≢ length earlier = reported.1 in
           let before : place < length earlier = omega arith in
           let found : get_or (reverse earlier) place other ≡ step =
           sym (ap (λ all. get_or all place other) (reverse-cons last earlier) ∙ get_or_append_left (reverse earlier) (last ∷ []) other place (omega arith)) ∙ is in

@@ -10,13 +10,14 @@ use omega_acc::{Label, satisfiable};
 use omega_text::{Refusal, TaskFault};
 use std::alloc::Global;
 
-/// Whether some set of propositions makes a label true.
+/// Whether some set of propositions makes `label` true.
 ///
-/// A label that mentions at most `MOST_MENTIONED` propositions is judged by [`satisfiable`], without memory. For
-/// another one the search assumes the first literal that it needs and goes on; where this fails it tries what else the
-/// label offers. It visits at most [`MOST_VISITED`](crate::MOST_VISITED) steps, and a conjunction of literals or a
-/// disjunction of such takes about as many as it has atoms and operators. Refusal 42 where they do not suffice.
-pub fn can_be_true(alloc: Global, label: &Label) -> Result<bool, Refusal>
+/// A label that mentions at most `MOST_MENTIONED` propositions is judged by [`satisfiable`], without memory. For others
+/// a DPLL-like search assumes the first literal that it needs and goes on; if this fails it tries what else the label
+/// offers. It visits at most [`MOST_VISITED`](crate::MOST_VISITED) steps. A conjunction of literals or a disjunction of
+/// such takes about as many as it has atoms and operators. Refuses by `TaskFault::TooManyPropositions` if they do not
+/// suffice.
+pub fn is_satisfiable(alloc: Global, label: &Label) -> Result<bool, Refusal>
     ensures ok { IfOk result (λ possible. IsTrue possible ↔ IsSatisfiable label.now) }
     ensures err { IfErr result (IsUndecidedLabel label.now) }
 {
@@ -29,7 +30,7 @@ pub fn can_be_true(alloc: Global, label: &Label) -> Result<bool, Refusal>
     }
 }
 
-/// The answer of the search, none where it is given up.
+/// Returns the answer of the search, or none if it takes too many steps.
 fn searched(alloc: Global, label: &Label) -> Result<Option<bool>, Refusal>
     ensures ok { IfOk result (λ answer. IfSome answer (λ possible. IsTrue possible ↔ IsSatisfiable label.now)) }
     ensures err { IfErr result IsMemory }

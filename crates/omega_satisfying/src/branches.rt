@@ -8,8 +8,7 @@ use indexmap::IndexMap;
 use omega_text::Refusal;
 use std::alloc::Global;
 
-/// A branch that waits: the search goes on at its place, under the first so many of what is assumed, and under one
-/// more assumption or none.
+/// A pending branch: the search goes on at `place`, under the first `count` assumptions and one more or none.
 #[derive(Clone, Copy)]
 pub(crate) struct Later {
     pub(crate) place: usize,
@@ -17,7 +16,7 @@ pub(crate) struct Later {
     pub(crate) against: Option<(u32, bool)>,
 }
 
-/// The open branches of a search: what is assumed in the one that goes on, and those that wait.
+/// The open branches of a search: the assumptions of the current one, and the pending ones.
 #[derive(Drop)]
 pub(crate) struct Branches {
     assumed: IndexMap<u32, bool>,
@@ -29,7 +28,7 @@ impl Branches {
     ghost use Rattle.omega_satisfying.specs.private.Branching.{AreWaiting, branches_lead};
     ghost use Rattle.omega_satisfying.specs.declared.steps.Step.TheVariants.{Try};
 
-    /// One branch, in which nothing is assumed.
+    /// Returns one branch without assumptions.
     pub(crate) fn new(alloc: Global) -> Self
         ensures leading { (held onward : ℕ → Bool) (now : Bool) → branches_lead held onward result now ≡ now }
         ensures waiting { AreWaiting result }
@@ -40,7 +39,7 @@ impl Branches {
         }
     }
 
-    /// Tries a literal. The place where the search goes on.
+    /// Tries `literal` and returns the place where the search goes on.
     pub(crate) fn take(&mut self, literal: Literal) -> Result<usize, Refusal>
         requires { AreWaiting self.old }
         ensures ok { IfOk result (λ place. (held onward : ℕ → Bool) → (literal.whole ≡ true → onward literal.otherwise ≡ true → onward literal.next ≡ true)
@@ -63,7 +62,7 @@ impl Branches {
         }
     }
 
-    /// Lets a branch wait that goes on at a place, under what is assumed and one more assumption or none.
+    /// Adds a pending branch that goes on at `place`, under the current assumptions and one more or none.
     pub(crate) fn put_off(
         &mut self,
         place: usize,
@@ -86,7 +85,7 @@ impl Branches {
         Ok(())
     }
 
-    /// Goes on with the branch that was put off last. Its place, none where no branch is left.
+    /// Takes up the branch that was added last and returns its place, or none if no branch is left.
     pub(crate) fn back(&mut self) -> Result<Option<usize>, Refusal>
         requires { AreWaiting self.old }
         ensures some { IfOk result (λ next. IfSome next (λ place. (held onward : ℕ → Bool) → branches_lead held onward self.new (onward place) ≡ branches_lead held onward self.old false)) }
@@ -104,14 +103,14 @@ impl Branches {
         Ok(Some(next.place))
     }
 
-    /// Some valuation has what is assumed.
+    /// Shows that some valuation meets all assumptions.
     pub(crate) fn has_valuation(&self)
         ensures { (held : ℕ → Bool) × ((onward : ℕ → Bool) → branches_lead held onward self.now true ≡ true) }
     {
         let _unique = self.assumed.len();
     }
 
-    /// Assumes one more value.
+    /// Assumes `value` for `proposition`.
     fn assume(&mut self, proposition: u32, value: bool) -> Result<(), Refusal>
         requires waiting { AreWaiting self.old }
         requires free { get nat_eq self.old.assumed proposition ≡ None }
@@ -124,7 +123,7 @@ impl Branches {
         Ok(())
     }
 
-    /// What is assumed of a proposition.
+    /// Returns the value assumed for `proposition`, or none.
     fn value_of(&self, proposition: u32) -> Option<bool>
         ensures { result ≡ get nat_eq self.now.assumed proposition }
     {
@@ -132,7 +131,7 @@ impl Branches {
     }
 }
 
-/// What is assumed where a literal fails that need not hold elsewhere.
+/// Returns the assumption for the other branch of `literal`: that it fails, if it need not hold there.
 fn against(literal: Literal) -> Option<(u32, bool)>
     ensures { result ≡ (if literal.whole then Some (literal.proposition, not literal.sign) else None) }
 {

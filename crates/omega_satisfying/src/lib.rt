@@ -1,9 +1,9 @@
-//! Whether a label can be true, also where it mentions many propositions.
+//! Whether a label can be true, even if it mentions many propositions.
 //!
-//! A label is taken in as steps of a search (`steps`, `taking`), whose open branches stand on a stack (`branches`); the
+//! A label is turned into steps of a search (`steps`, `taking`), whose open branches lie on a stack (`branches`); the
 //! search goes from step to step (`search`).
 //!
-//! Numbers of refusals are those of `Refusal`; docs/formats.md says when each comes.
+//! docs/formats.md says when each [`Refusal`] comes.
 #![tactic(auto)]
 
 mod answer;
@@ -13,5 +13,5 @@ mod search;
 mod steps;
 mod taking;
 
-pub use answer::can_be_true;
+pub use answer::is_satisfiable;
 pub use limits::{MOST_VISITED, visits_limit_is_stated};

@@ -8,7 +8,7 @@ use crate::steps::{Step, step_at};
 use omega_text::Refusal;
 use std::alloc::Global;
 
-/// Whether some valuation leads from a place to the end, none where that takes too many steps.
+/// Returns whether some valuation leads from the place `start` to the end, or none if that takes too many steps.
 pub(crate) fn search(alloc: Global, steps: &[Step], start: usize) -> Result<Option<bool>, Refusal>
     requires { ArePlanned steps.now }
     ensures ok { IfOk result (λ answer. IfSome answer (λ possible. IsTrue possible ↔ ((held : ℕ → Bool) × (leads held steps.now start ≡ true)))) }

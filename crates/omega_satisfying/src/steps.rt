@@ -23,7 +23,7 @@ pub(crate) struct Literal {
     pub(crate) whole: bool,
 }
 
-/// What is to be done at a place. The places that it names stand before it.
+/// What to do at a place. The places that it names come before it.
 #[derive(Clone, Copy)]
 pub(crate) enum Step {
     /// Nothing is left to do.
@@ -41,7 +41,7 @@ pub(crate) const STUCK: usize = 0;
 /// The place where nothing is left to do.
 pub(crate) const DONE: usize = 1;
 
-/// The two steps that each search has.
+/// Returns the two steps that each search has.
 pub(crate) fn first_steps(alloc: Global) -> Result<Vec<Step>, Refusal>
     ensures planned { IfOk result (λ steps. ArePlanned steps.items) }
     ensures done { IfOk result (λ steps. (held : ℕ → Bool) → leads held steps.items 1 ≡ true) }
@@ -54,7 +54,7 @@ pub(crate) fn first_steps(alloc: Global) -> Result<Vec<Step>, Refusal>
     Ok(steps)
 }
 
-/// Puts a step last. Its place.
+/// Appends `step` and returns its place.
 pub(crate) fn add(step: Step, steps: &mut Vec<Step>) -> Result<usize, Refusal>
     requires planned { ArePlanned steps.old.items }
     requires step { IsStep (length steps.old.items) (λ held. leads held steps.old.items) step }
@@ -69,7 +69,7 @@ pub(crate) fn add(step: Step, steps: &mut Vec<Step>) -> Result<usize, Refusal>
     Ok(place)
 }
 
-/// The step at a place, where there is no way on if there is none.
+/// Returns the step at `place`, or the one without a way on if there is none.
 pub(crate) fn step_at(steps: &[Step], place: usize) -> Step
     requires { ArePlanned steps.now }
     ensures leading { (held : ℕ → Bool) → leads held steps.now place ≡ leads_by held (leads held steps.now) result }

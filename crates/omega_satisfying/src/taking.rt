@@ -56,7 +56,8 @@ impl Ways {
     }
 }
 
-/// Puts the steps of a part that is wanted true, or wanted false, last, before the ways on. The place of the first.
+/// Appends the steps of a part that must be true, or false, with `ways` as its exits. Returns the place of the first
+/// step.
 pub(crate) fn put(
     shape: &LabelShape,
     wanted: bool,
@@ -85,7 +86,8 @@ pub(crate) fn put(
     }
 }
 
-/// Puts the steps of a constant that is as wanted, or not.
+/// Appends the step of a constant that is as required, and returns its place. Otherwise returns the place where the
+/// search goes on otherwise.
 fn put_constant(holds: bool, ways: Ways, steps: &mut Vec<Step>) -> Result<usize, Refusal>
     requires planned { ArePlanned steps.old.items }
     requires ways { AreWays steps.old.items ways }
@@ -101,7 +103,7 @@ fn put_constant(holds: bool, ways: Ways, steps: &mut Vec<Step>) -> Result<usize,
     }
 }
 
-/// Puts the step of a literal.
+/// Appends the step of a literal.
 fn put_literal(
     proposition: u32,
     sign: bool,
@@ -125,7 +127,7 @@ fn put_literal(
     add(Step::Try(literal), steps)
 }
 
-/// Whether a truth value is as it is wanted.
+/// Whether `value` is as `wanted`.
 fn is_as(wanted: bool, value: bool) -> bool
     ensures { result ≡ is_as wanted value }
 {

@@ -2,16 +2,16 @@
 use Rattle.std.specs.Prelude.{◌≡◌, ◌⊎◌, ℕ, ◌<◌, Bool, true, false, Some, List, length, slice_get}
 use Rattle.omega_game.specs.declared.player.Player.TheVariants.{Zero, One}
 use Rattle.omega_game.specs.Game.{Node, IsGame}
-use Rattle.omega_lift.specs.Answer.{won_in}
+use Rattle.omega_lift_laws.specs.Answer.{won_in}
 use Rattle.omega_solve.specs.Solver.{SolverState, IsFinished, IsReached}
 
--- the place is in exactly one of two answers
+-- the place is won in exactly one of two answers
 abbrev pub IsInOne : List Bool → List Bool → ℕ → Type 0
 IsInOne zero one v =
     ((slice_get zero v ≡ Some true) × (slice_get one v ≡ Some false))
     ⊎ ((slice_get zero v ≡ Some false) × (slice_get one v ≡ Some true))
 
--- of the answers of two solvers of one game that are done, one for each player, each node is in exactly one
+-- if a solver for each player has finished, each node is won in exactly one of the two answers
 abbrev pub AnswersPartTheGame : Type 0
 AnswersPartTheGame =
     (nodes : List Node) (zero one : SolverState) (v : ℕ)

@@ -1,12 +1,12 @@
--- What contracts of the solver cite: its promises; in `private` what only private contracts cite.
+-- What contracts of the solver cite, which are its promises, and in `private` what private contracts alone cite.
 pub use Rattle.omega_game.specs.Game
 pub use Rattle.omega_game.specs.Winning
 pub use Rattle.omega_game.specs.Bound
-pub use Rattle.omega_lift.specs.Measure
-pub use Rattle.omega_lift.specs.Allowance
-pub use Rattle.omega_lift.specs.Run
-pub use Rattle.omega_lift.specs.Answer
-pub use Rattle.omega_lift.specs.Laws
+pub use Rattle.omega_lift_laws.specs.Measure
+pub use Rattle.omega_lift_laws.specs.Allowance
+pub use Rattle.omega_lift_laws.specs.Run
+pub use Rattle.omega_lift_laws.specs.Answer
+pub use Rattle.omega_lift_laws.specs.Laws
 pub use Rattle.omega_measure.specs.Table
 pub mod Limits
 pub mod Schedule

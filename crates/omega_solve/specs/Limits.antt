@@ -1,4 +1,4 @@
--- The limit of lifts, in numbers.
+-- The limit of lifts, as a number.
 use Rattle.std.specs.Prelude.{ℕ, ◌^◌}
 
 -- the most lifts of one solver, and the greatest budget

@@ -3,12 +3,12 @@ use Rattle.std.specs.Prelude.{◌≡◌, ℕ, ◌+◌, ◌*◌, ◌≤◌, Bool,
 use Rattle.omega_game.specs.declared.player.Player.{Player}
 use Rattle.omega_game.specs.Game.{Node, successor_count, priorities}
 use Rattle.omega_game.specs.Bound.{bound_of, product_of}
-use Rattle.omega_lift.specs.Run.{IsDue, IsLiftingRun, IsStable, zero_table}
+use Rattle.omega_lift_laws.specs.Run.{IsDue, IsLiftingRun, IsStable, zero_table}
 use Rattle.omega_measure.specs.Table.{Content, zero_content}
 use Rattle.omega_solve.specs.Schedule.{Pending, all_pending}
 
--- a solver: its game and player, its table and schedule, how many lifts it made,
--- and whether its last run ended with none due
+-- a solver: its game and player, its table and schedule, the number of lifts it made, and whether its last run ended
+-- with no lift due
 pub record SolverState : Type 0 where
   pub nodes : List Node
   pub player : Player

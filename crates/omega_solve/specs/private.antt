@@ -1,3 +1,3 @@
--- What only private contracts cite.
+-- What private contracts alone cite.
 pub mod schedules
 pub mod solving

@@ -1,7 +1,7 @@
 ghost use Rattle.std.specs.Prelude.{◌≡◌, length};
 ghost use Rattle.omega_game.specs.Game.{IsGame, IsWithinLimits};
-ghost use Rattle.omega_lift.specs.Answer.{AreChoices, won_in};
-ghost use Rattle.omega_lift.specs.Run.{IsStable};
+ghost use Rattle.omega_lift_laws.specs.Answer.{AreChoices, won_in};
+ghost use Rattle.omega_lift_laws.specs.Run.{IsStable};
 ghost use Rattle.omega_solve.specs.private.solving.Successor.{IsTableOf};
 
 use crate::successor::chosen_successor;
@@ -12,11 +12,11 @@ use omega_measure::{Game, MeasureTable, Player};
 pub struct AnswerRef<'a> {
     /// Whether the player wins from the place.
     pub won: &'a [bool],
-    /// The place that the player moves to, at each won place that the player owns; none elsewhere.
+    /// The place that the player moves to, for each won place that the player owns; none for all others.
     pub choice: &'a [Option<u32>],
 }
 
-/// Fills the buffers of an answer from the table: the places below top, and the choices there.
+/// Fills the buffers of an answer from `table`: the places below top are won, and `choice` has the choices there.
 pub(crate) fn fill_answer<T: MeasureTable>(
     game: &Game,
     player: Player,

@@ -1,16 +1,16 @@
-//! Laws of the definitions that the calls of `Solver` speak of: what holds of any solver that keeps their contracts.
+//! Laws of the definitions that the calls of `Solver` cite. They hold of any solver that keeps these contracts.
 ghost use Rattle.omega_solve.specs.Determinacy.{AnswersPartTheGame};
 ghost use Rattle.omega_solve.specs.Headline.{Headline};
 
-use omega_lift::{
+use omega_lift_laws::{
     choices_are_a_strategy, choices_win, regions_stay_below_top, runs_are_bounded,
     runs_keep_tables, won_places_are_in_regions, zero_tables_are_tables,
 };
-use omega_region::{regions_are_apart, regions_cover};
+use omega_region_laws::{regions_are_apart, regions_cover};
 
-/// However a budget is dealt out to the runs of a solver, it makes at most as many lifts as the bound, and budgets that
-/// together reach the bound suffice. Once it is done, its answer is exactly the player's region, with one strategy that
-/// wins from all of it (Jurdziński 2000).
+/// States the headline. However a budget is dealt out to the runs of a solver, it makes at most as many lifts as the
+/// bound, and budgets that together reach the bound suffice. Once it is done, its answer is exactly the player's
+/// region, with one strategy that wins from all of it (Jurdziński 2000).
 pub fn headline()
     ensures { Headline }
 {
@@ -22,7 +22,7 @@ pub fn headline()
     regions_stay_below_top();
 }
 
-/// Of the answers of two solvers of one game that are done, one for each player, each node is in exactly one.
+/// States that, if a solver for each player has finished, each node is won in exactly one of the two answers.
 pub fn answers_part_the_game()
     ensures { AnswersPartTheGame }
 {

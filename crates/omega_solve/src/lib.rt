@@ -1,7 +1,7 @@
-//! The lifting solver (Jurdziński 2000): schedules of pending places, runs within a budget,
-//! answers, and the laws of these.
+//! The lifting solver (Jurdziński 2000): schedules of pending places, runs within a budget, answers, and the laws of
+//! these.
 //!
-//! Numbers of refusals are those of `Refusal`; docs/formats.md says when each comes.
+//! docs/formats.md says when each refusal comes.
 #![tactic(auto)]
 
 mod answer;

@@ -5,11 +5,11 @@ ghost use Rattle.omega_solve.specs.private.solving.Successor.{IsTableOf};
 
 use crate::schedule::Schedule;
 use crate::successor::due_towards;
-use omega_lift::{allowances_are_unique, runs_keep_tables};
+use omega_lift_laws::{allowances_are_unique, runs_keep_tables};
 use omega_measure::{Game, MeasureTable, Player};
 
-/// Lifts a place that leads to itself again, while a lift is due there and the schedule takes it again, at most so many
-/// times. How often. Nothing is woken: that is done once, after the last of these lifts.
+/// Lifts `place` again while it leads to itself, a lift is due there and the schedule takes it again, at most `most`
+/// times. Returns how often. Wakes nothing: predecessors are woken once, after the last of these lifts.
 pub(crate) fn lift_again<T: MeasureTable, S: Schedule>(
     game: &Game,
     player: Player,
@@ -34,8 +34,8 @@ pub(crate) fn lift_again<T: MeasureTable, S: Schedule>(
     made
 }
 
-/// Lifts a place that leads to itself once more, if a lift is due there and the schedule takes it again.
-/// Whether it did.
+/// Lifts `place`, which leads to itself, once more if a lift is due there and the schedule takes it again. Returns
+/// whether it did.
 fn lift_once_more<T: MeasureTable, S: Schedule>(
     game: &Game,
     player: Player,
@@ -66,7 +66,7 @@ fn lift_once_more<T: MeasureTable, S: Schedule>(
     }
 }
 
-/// Whether a place is one of its successors.
+/// Whether `place` is one of its own successors.
 fn leads_to_itself(game: &Game, place: u32) -> bool
     requires { place < length game.now }
     ensures { IsTrue result → HasEdge game.now place place }

@@ -4,21 +4,20 @@ ghost use Rattle.omega_solve.specs.Schedule.{IsIdle, IsPending, Pending, all_pen
 use omega_measure::{Game, Refusal};
 use std::alloc::Global;
 
-/// The places that a solver has yet to look at, in an order of its own. Only `prepare` and `prepare_for` answer that
-/// memory was refused, so that a schedule takes there all that it needs.
+/// The places that a solver has yet to look at, in an order of its own. Only `prepare` and `prepare_for` request
+/// memory, so a schedule takes there all that it needs.
 pub trait Schedule: Drop {
-    /// Which places are pending and how many takes were made, however they are kept.
+    /// Which places are pending and how many takes were made, in whatever form they are kept.
     ghost waiting: { Self → Pending };
 
-    /// A schedule of the places below `n`, all pending. Refused `Refusal::Memory` alone.
+    /// Makes a schedule of the places below `n`, all pending.
     fn prepare(alloc: Global, n: u32) -> Result<Self, Refusal>
     where
         Self: Sized,
         ensures all { IfOk result (λ schedule. waiting schedule ≡ all_pending n) }
         ensures memory { IsOkUnless result Refusal.Memory };
 
-    /// A schedule of the places of a game, all pending, in an order that suits the game where the schedule has one.
-    /// Refused `Refusal::Memory` alone.
+    /// Makes a schedule of the places of `game`, all pending, in an order that suits the game if the schedule has one.
     fn prepare_for(alloc: Global, game: &Game) -> Result<Self, Refusal>
     where
         Self: Sized,
@@ -28,18 +27,18 @@ pub trait Schedule: Drop {
         Self::prepare(alloc, game.len() as u32)
     }
 
-    /// Some pending place, or none if there is none.
+    /// Returns some pending place, or none if there is none.
     fn look(&self) -> Option<u32>
         ensures { MatchOption result (IsIdle (waiting self.now)) (IsPending (waiting self.now)) };
 
-    /// Takes out a pending place.
+    /// Takes out `place`, which is pending.
     fn take(&mut self, place: u32)
         requires pending { IsPending (waiting self.old) place }
         requires counted { (waiting self.old).taken < 2 ^ 64 - 1 }
         ensures { waiting self.new ≡ with_taken (waiting self.old) place };
 
-    /// Whether the place taken last is taken once more, before any other: asked where a lift is due there again. A yes
-    /// counts as a take.
+    /// Decides whether the place taken last is taken once more, before any other. It is called if a lift is due there
+    /// again. A yes counts as a take.
     fn take_again(&mut self) -> bool
         requires { (waiting self.old).taken < 2 ^ 64 - 1 }
         ensures { MatchBool result (waiting self.new ≡ with_taken_again (waiting self.old)) (waiting self.new ≡ waiting self.old) }
@@ -47,11 +46,11 @@ pub trait Schedule: Drop {
         false
     }
 
-    /// The number of takes so far.
+    /// Returns the number of takes so far.
     fn takes(&self) -> u64
         ensures { result ≡ (waiting self.now).taken };
 
-    /// Makes a place pending, if it is not.
+    /// Makes `place` pending, if it is not.
     fn add(&mut self, place: u32)
         requires { place < length (waiting self.old).flags }
         ensures { waiting self.new ≡ with_added (waiting self.old) place };

@@ -11,7 +11,7 @@ use crate::repeating::lift_again;
 use crate::schedule::Schedule;
 use crate::successor::due_towards;
 use crate::wake::wake_predecessors;
-use omega_lift::{
+use omega_lift_laws::{
     allowances_are_unique, choices_are_a_strategy, choices_win, places_are_lifted_boundedly,
     regions_stay_below_top, runs_are_bounded, runs_keep_tables, zero_tables_are_tables,
 };
@@ -20,8 +20,9 @@ use std::alloc::Global;
 use std::marker::Model;
 
 /// A solver of a game for one player by lifting small progress measures (Jurdziński 2000), over any table of measures
-/// and any schedule of places. Only `prepare` answers that memory was refused: table, schedule and buffers are made
-/// there. That no later call asks for memory is in no contract; requests are counted in runs of the built program.
+/// and any schedule of places. Only `prepare` and `prepare_in_order` can fail for memory: they make the table, the
+/// schedule and the buffers. That no later call requests memory is in no contract. Requests are counted in runs of the
+/// built program.
 #[derive(Drop)]
 pub struct Solver<'g, T: MeasureTable, S: Schedule> {
     game: &'g Game,
@@ -46,8 +47,8 @@ impl<'g, T: MeasureTable, S: Schedule> Model for Solver<'g, T, S> {
 }
 
 impl<'g, T: MeasureTable, S: Schedule> Solver<'g, T, S> {
-    ghost use Rattle.omega_lift.specs.Answer.{AreChoices, won_in};
-    ghost use Rattle.omega_lift.specs.Run.{IsDue};
+    ghost use Rattle.omega_lift_laws.specs.Answer.{AreChoices, won_in};
+    ghost use Rattle.omega_lift_laws.specs.Run.{IsDue};
     ghost use Rattle.omega_solve.specs.declared.outcome.Outcome.TheVariants.{Done};
     ghost use Rattle.omega_solve.specs.Headline.{IsExact, Runs};
     ghost use Rattle.omega_solve.specs.Schedule.{IsIdle, IsPending, all_pending, with_taken};
@@ -55,8 +56,8 @@ impl<'g, T: MeasureTable, S: Schedule> Solver<'g, T, S> {
     ghost use Rattle.omega_solve.specs.private.solving.Progress.{IsLifted};
     ghost use Rattle.omega_solve.specs.Solver.{IsFinished, IsReached, attempt_bound, lift_bound};
 
-    /// A solver with every measure 0 and all places pending, in an order that suits the game where the schedule has
-    /// one. 50 where the table would be too wide, or 60.
+    /// Makes a solver for `player` with every measure 0. All places are pending, in an order that suits `game` if the
+    /// schedule has one. Fails with [TaskFault::TooWide] if the table would be too wide.
     pub fn prepare(
         alloc: Global,
         game: &'g Game,
@@ -72,8 +73,8 @@ impl<'g, T: MeasureTable, S: Schedule> Solver<'g, T, S> {
         Ok(solver)
     }
 
-    /// A solver as `prepare` makes it, but with the places of the game in rising order: for a game whose places lie in
-    /// the order in which they are to be lifted. Refused with `TooWide` as `prepare` is, or with `Memory`.
+    /// Makes a solver as `prepare` does, but with the places of `game` in rising order. It is for a game whose places
+    /// are already in the order in which they are to be lifted. Fails as `prepare` does.
     pub fn prepare_in_order(
         alloc: Global,
         game: &'g Game,
@@ -89,7 +90,7 @@ impl<'g, T: MeasureTable, S: Schedule> Solver<'g, T, S> {
         Ok(solver)
     }
 
-    /// A solver of a game that has made no lift. 60 alone.
+    /// Makes a solver of `game` that has made no lift.
     fn assembled(
         alloc: Global,
         game: &'g Game,
@@ -116,13 +117,15 @@ impl<'g, T: MeasureTable, S: Schedule> Solver<'g, T, S> {
         })
     }
 
-    /// Makes lifts until none is due, at most the budget. A later run goes on from there; one that is done stays so. A
-    /// run that ends while a place is lifted again and again wakes its predecessors early, so that with `Nested` the
-    /// lifts that are needed may depend on how the budget is dealt out.
+    /// Makes lifts until none is due, at most `budget`. A later run goes on from there, and a solver that is done stays
+    /// done.
+    ///
+    /// If the budget is used up while a place is lifted again and again, the predecessors of that place are woken
+    /// early. So with `Nested` the number of lifts needed may depend on how the budget is dealt out.
     pub fn run(&mut self, budget: u64) -> Outcome
         requires { self.old.lifts + budget ≤ most_lifts }
         ensures ran { Runs self.old budget self.new }
-        ensures told { (self.new.done ≡ true) ↔ (result ≡ Done) }
+        ensures reported { (self.new.done ≡ true) ↔ (result ≡ Done) }
         ensures reached { IsReached self.new }
         ensures bounded { self.new.lifts ≤ lift_bound self.new }
     {
@@ -147,14 +150,14 @@ impl<'g, T: MeasureTable, S: Schedule> Solver<'g, T, S> {
         Outcome::Done
     }
 
-    /// How many further lifts the solver may make.
+    /// Returns how many further lifts the solver may make.
     pub fn room(&self) -> u64
         ensures { result + self.now.lifts ≡ most_lifts }
     {
         MOST_LIFTS - self.lifts
     }
 
-    /// The number of lifts of all runs.
+    /// Returns the number of lifts of all runs.
     pub fn lifts(&self) -> u64
         ensures count { result ≡ self.now.lifts }
         ensures reached { IsReached self.now }
@@ -164,8 +167,8 @@ impl<'g, T: MeasureTable, S: Schedule> Solver<'g, T, S> {
         self.lifts
     }
 
-    /// How often a place was taken, in all runs: out of the pending set, or once more at once, when it leads to itself.
-    /// A place whose lift the budget held back stays pending and is not counted.
+    /// Returns how often a place was taken, in all runs: out of the pending set, or once more at once if it leads to
+    /// itself. A place whose lift the budget held back stays pending and is not counted.
     pub fn attempts(&self) -> u64
         ensures count { result ≡ self.now.pending.taken }
         ensures lifts { self.now.lifts ≤ result }
@@ -176,7 +179,7 @@ impl<'g, T: MeasureTable, S: Schedule> Solver<'g, T, S> {
         self.schedule.takes()
     }
 
-    /// The nodes won and the choices there, or none unless the last run answered `Done`.
+    /// Returns the nodes won and the choices there, or none unless the last run returned `Done`.
     pub fn answer(&self) -> Option<AnswerRef<'_>>
         ensures done { is_some result ≡ self.now.done }
         ensures finished { IsSome result → IsFinished self.now }
@@ -196,7 +199,7 @@ impl<'g, T: MeasureTable, S: Schedule> Solver<'g, T, S> {
         })
     }
 
-    /// A pending place. Where there is none, no lift is due.
+    /// Returns a pending place. If there is none, no lift is due.
     fn next(&self) -> Option<u32>
         ensures pending { MatchOption result (IsIdle self.now.pending) (IsPending self.now.pending) }
         ensures finished { MatchOption result (IsFinished self.now) (λ place. place < length self.now.nodes) }
@@ -204,7 +207,7 @@ impl<'g, T: MeasureTable, S: Schedule> Solver<'g, T, S> {
         self.schedule.look()
     }
 
-    /// The successor towards which the place is to be lifted, or none where no lift is due.
+    /// Returns the successor towards which `place` is to be lifted, or none if no lift is due there.
     fn due_towards(&self, place: u32) -> Option<u32>
         requires { place < length self.now.nodes }
         ensures { let solver = self.now in
@@ -213,7 +216,7 @@ impl<'g, T: MeasureTable, S: Schedule> Solver<'g, T, S> {
         due_towards(self.game, self.player, &self.table, place)
     }
 
-    /// Takes out a place where no lift is due.
+    /// Takes out `place`, where no lift is due.
     fn settle(&mut self, place: u32)
         requires pending { IsPending self.old.pending place }
         requires done { self.old.done ≡ false }
@@ -223,9 +226,9 @@ impl<'g, T: MeasureTable, S: Schedule> Solver<'g, T, S> {
         self.schedule.take(place);
     }
 
-    /// Lifts a place to its allowance towards a successor and takes it out; lifts it again if it leads to itself, at
-    /// most so many times in all; and makes its predecessors pending: in this order, so that a place with an edge to
-    /// itself stays pending, and each predecessor is woken once. How many lifts were made.
+    /// Lifts `place` to its allowance towards `towards` and takes it out. Lifts it again if it leads to itself, at most
+    /// `most` times in all, and then makes its predecessors pending. In this order a place with an edge to itself stays
+    /// pending, and each predecessor is woken once. Returns how many lifts were made.
     fn lift(&mut self, place: u32, towards: u32, most: u64) -> u64
         requires pending { IsPending self.old.pending place }
         requires done { self.old.done ≡ false }
@@ -251,7 +254,7 @@ impl<'g, T: MeasureTable, S: Schedule> Solver<'g, T, S> {
         1 + more
     }
 
-    /// Tells the answer of a solver that has no pending place.
+    /// Marks a solver that has no pending place as done.
     fn finish(&mut self)
         requires idle { IsIdle self.old.pending }
         requires finished { IsFinished self.old }

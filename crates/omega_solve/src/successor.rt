@@ -1,17 +1,17 @@
 ghost use Rattle.std.specs.Prelude.{◌≡◌, ◌≢◌, ◌↔◌, ◌<◌, ℕ, length, IsTrue, MatchOption};
 ghost use Rattle.std.specs.declared.cmp.Ordering.TheVariants.{Equal};
 ghost use Rattle.omega_game.specs.Game.{IsGame, owner_at, priorities, priority_at, successors_at};
-ghost use Rattle.omega_lift.specs.Run.{IsDue};
+ghost use Rattle.omega_lift_laws.specs.Run.{IsDue};
 ghost use Rattle.omega_solve.specs.private.solving.Successor.{IsChoiceAt, IsDueTowards, IsFirstBest, IsLeastExceeded, IsTableOf, KeepsToSome, order_from};
 
-use omega_lift::{
+use omega_lift_laws::{
     allowances_are_monotone, allowances_are_strict, allowances_exist, measures_are_ordered,
 };
 use omega_measure::{Game, MeasureTable, Player};
 use std::cmp::Ordering;
 
-/// The successor towards which a place is to be lifted: that of least allowance where the player owns the place, else
-/// that of greatest. None where no lift is due.
+/// Returns the successor towards which `place` is to be lifted, or none if no lift is due. It is the one of least
+/// allowance if `player` owns the place, else the one of greatest allowance.
 #[inline(always)]
 pub(crate) fn due_towards<T: MeasureTable>(
     game: &Game,
@@ -39,8 +39,8 @@ pub(crate) fn due_towards<T: MeasureTable>(
     }
 }
 
-/// The choice of an answer at a place: the first successor of least allowance where the player owns the place and its
-/// measure is below top. No lift is due at the place.
+/// Returns the choice of an answer at `place`, where no lift is due: the first successor of least allowance, if
+/// `player` owns the place and its measure is below top.
 pub(crate) fn chosen_successor<T: MeasureTable>(
     game: &Game,
     player: Player,
@@ -63,7 +63,7 @@ pub(crate) fn chosen_successor<T: MeasureTable>(
     Some(best_successor(game, table, place, Ordering::Less))
 }
 
-/// Whether the player owns the place.
+/// Whether `player` owns `place`.
 fn owns(game: &Game, player: Player, place: u32) -> bool
     requires { place < length game.now }
     ensures { IsTrue result ↔ (owner_at game.now place ≡ player) }
@@ -71,9 +71,9 @@ fn owns(game: &Game, player: Player, place: u32) -> bool
     game.owner(place) == player
 }
 
-/// The first successor of a place of least measure, on the entries for priorities at least that of the place, if the
-/// allowance towards each successor exceeds the measure of the place. None where one does not: it is the last that is
-/// looked at.
+/// Returns the first successor of `place` of least measure, on the entries for priorities at least that of the place.
+/// Returns none if the allowance towards some successor does not exceed the measure of the place, and looks at no
+/// successor after it.
 // Inlined, so that the place is looked up once for all its successors.
 #[inline(always)]
 fn least_exceeded<T: MeasureTable>(game: &Game, table: &T, place: u32) -> Option<u32>
@@ -101,9 +101,9 @@ fn least_exceeded<T: MeasureTable>(game: &Game, table: &T, place: u32) -> Option
     Some(least)
 }
 
-/// The first successor of a place to whose measure no other's compares as wanted, on the entries for priorities at
-/// least that of the place.
-// Inlined, so that the order asked for is known where words are compared.
+/// Returns the first successor of `place` such that no other's measure compares to its own as `wanted`, on the entries
+/// for priorities at least that of the place.
+// Inlined, so that the wanted order is known where words are compared.
 #[inline(always)]
 fn best_successor<T: MeasureTable>(game: &Game, table: &T, place: u32, wanted: Ordering) -> u32
     requires inside { place < length game.now }

@@ -5,16 +5,17 @@ use omega_measure::Refusal;
 use std::alloc::Global;
 use std::marker::Model;
 
-/// Looks at the pending places in rising order, round and round. A take goes on to the next pending place, in at most
-/// one round; looking is reading it. A place that is added ahead comes in this round, one that was passed in the next.
+/// A schedule that takes the pending places in rising order, round and round. A take goes on to the next pending place,
+/// in at most one round, and looking reads that place. A place that is added ahead comes in this round, and one that
+/// was passed in the next.
 #[derive(Drop)]
 pub struct Sweep {
     pending: Vec<bool>,
-    /// How many places are pending.
+    /// The number of pending places.
     count: u32,
     /// Where the rest of the round begins: right after the last place looked at and taken.
     from: u32,
-    /// The place to look at: the first pending one from there on, round the end, if there is one.
+    /// The place to look at: the first pending one from `from` on, round the end, if there is one.
     place: u32,
     taken: u64,
 }
@@ -80,7 +81,7 @@ impl Schedule for Sweep {
     }
 }
 
-/// The first pending place after a place, round the end.
+/// Returns the first pending place after `place`, round the end.
 fn next_pending(pending: &Vec<bool>, place: u32) -> u32
     requires small { length pending.now.items < 2 ^ 32 }
     requires some { ¬ ((k : ℕ) → k < length pending.now.items → slice_get pending.now.items k ≡ Some false) }
@@ -92,7 +93,7 @@ fn next_pending(pending: &Vec<bool>, place: u32) -> u32
     }
 }
 
-/// The first pending place from a place on.
+/// Returns the first pending place from `place` on.
 fn pending_from(pending: &Vec<bool>, place: u32) -> Option<u32>
     requires { length pending.now.items < 2 ^ 32 }
     ensures { MatchOption result

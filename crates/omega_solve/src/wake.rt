@@ -5,7 +5,7 @@ ghost use Rattle.omega_solve.specs.private.solving.Wake.{Wakes};
 use crate::schedule::Schedule;
 use omega_measure::{Game, MeasureTable};
 
-/// Makes the predecessors of a place pending. A place at top is left out: no lift is ever due there.
+/// Makes the predecessors of `place` pending. A predecessor at top is left out: no lift is ever due there.
 pub(crate) fn wake_predecessors<T: MeasureTable, S: Schedule>(
     game: &Game,
     table: &T,

@@ -7,9 +7,9 @@ use omega_order::numbers_below;
 use std::alloc::Global;
 use std::marker::Model;
 
-/// Looks at the pending places first in, first out. At first all are pending, in rising order; an added place goes
-/// last, and a place that is pending already stays where it is. A take of another place than the one to look at goes
-/// through the queue.
+/// A schedule that takes the pending places first in, first out. At first all are pending, in rising order. An added
+/// place goes last, and a place that is pending already keeps its position. Taking another place than the one to look
+/// at goes through the queue.
 #[derive(Drop)]
 pub struct Worklist {
     /// A slot for each place; the queue begins at `first` and goes round the end.
@@ -77,16 +77,20 @@ impl Schedule for Worklist {
     }
 }
 
-/// The slot of the `k`-th place of the queue, in a ring of `n` slots.
+/// Returns the slot of the `k`-th place of the queue, in a ring of `n` slots.
 fn slot(n: usize, first: usize, k: usize) -> usize
     requires { first ≤ n }
     ensures { result ≡ slot_of n first k }
 {
-    let behind = n - first;
-    if k < behind { first + k } else { k - behind }
+    let following = n - first;
+    if k < following {
+        first + k
+    } else {
+        k - following
+    }
 }
 
-/// Where a place stands in the queue: at its front, as a rule.
+/// Returns the position of `place` in the queue, which usually is its front.
 fn position_of(ring: &Vec<u32>, first: usize, count: usize, place: u32) -> usize
     requires begins { first ≤ length ring.now.items }
     requires count { count ≤ length ring.now.items }
@@ -101,7 +105,7 @@ fn position_of(ring: &Vec<u32>, first: usize, count: usize, place: u32) -> usize
     at
 }
 
-/// Takes the `k`-th place out of the queue: those before it go one back, and the first slot is free.
+/// Takes the `k`-th place out of the queue. The places before it move one back, and the first slot is free.
 fn close_gap(ring: &mut Vec<u32>, first: usize, k: usize)
     requires begins { first ≤ length ring.old.items }
     requires inside { k < length ring.old.items }

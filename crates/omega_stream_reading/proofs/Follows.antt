@@ -1,4 +1,4 @@
--- What was told of a stream's bytes, with a piece more, and at its end.
+-- The texts written for a stream's bytes, with a piece more, and at its end.
 use Rattle.std.proofs.Common.{◌≡◌, ℕ, ◌+◌, ◌≤◌, ◌⊎◌, List, [], ◌∷◌, ◌++◌, Option, None, Some, length, refl, sym, ap, subst, ◌∙◌, inl, inr, arith, append_assoc, append-nil, length-append}
 use Rattle.std.specs.Prelude.{IfSome, MatchOption, Result, Err, Ok}
 use Rattle.omega_text.specs.Cut.{Cuts}
@@ -33,7 +33,7 @@ pub cut_count : {Kind : Type 0} (format : TextFormat Kind) → GoesOneWay format
     → from + length lexemes ≤ to
 cut_count format exact source from to [] cuts = omega (arith, cuts)
 cut_count format exact source from to (lexeme ∷ lexemes) cuts =
-    let here = exact.behind source from lexeme cuts.0 in
+    let here = exact.following source from lexeme cuts.0 in
     let rest = cut_count format exact source lexeme.span.end to lexemes cuts.1 in
     omega (arith, here.forward, here.nonempty, rest)
 
@@ -77,7 +77,7 @@ pub same_as_before : {A : Type 0} (refused : Option Refusal) (refusal : Refusal)
 same_as_before None refusal Says errs says = tt
 same_as_before (Some before) refusal Says errs says = errors_are_one refusal before (errs before says)
 
--- a refusal other than for want of memory is kept
+-- a refusal other than for memory is kept
 pub kept_refusal : (refused : Option Refusal) (refusal : Refusal) → (refusal ≡ Memory → ⊥) → (refusal ≡ Memory) ⊎ (refused ≡ Some refusal) → refused ≡ Some refusal
 kept_refusal refused refusal other kept = elim kept [ inl memory ↦ absurd (other memory) | inr is ↦ is ]
 
@@ -87,13 +87,13 @@ refused_more seen piece refusal refused more =
     let found = refused (piece ++ more) in
     (found.0, subst (λ source. IsStreamFault source found.0 refusal) (sym (append_assoc seen piece more)) found.1)
 
-module _ (text : ℕ → Item → List ℕ) (seen : List ℕ) (kept : Kept) (count : ℕ) (told : List ℕ) (follows : MatchOption kept.refused (TellsItems text seen kept count told) (AreRefusedBy seen)) where
-  -- what was told of the bytes where none were refused
-  tells_of : kept.refused ≡ None → TellsItems text seen kept count told
-  tells_of none = subst (λ refused. MatchOption refused (TellsItems text seen kept count told) (AreRefusedBy seen)) none follows
+module _ (text : ℕ → Item → List ℕ) (seen : List ℕ) (kept : Kept) (count : ℕ) (reported : List ℕ) (follows : MatchOption kept.refused (TellsItems text seen kept count reported) (AreRefusedBy seen)) where
+  -- the texts written for the bytes if none were refused
+  tells_of : kept.refused ≡ None → TellsItems text seen kept count reported
+  tells_of none = subst (λ refused. MatchOption refused (TellsItems text seen kept count reported) (AreRefusedBy seen)) none follows
 
   -- the bytes were taken then
-  taken_of : kept.refused ≡ None → (tells : TellsItems text seen kept count told) → IsTaken seen tells.items kept
+  taken_of : kept.refused ≡ None → (tells : TellsItems text seen kept count reported) → IsTaken seen tells.items kept
   taken_of none tells = subst (λ refused. MatchOption refused (IsTaken seen tells.items kept) (IsRefusedSoFar seen tells.items kept)) none tells.fed
 
   -- a piece stays within the limit
@@ -103,9 +103,9 @@ module _ (text : ℕ → Item → List ℕ) (seen : List ℕ) (kept : Kept) (cou
 
   -- ---- the end
 
-  -- the whole text was told of
-  pub ends_told : kept.refused ≡ None → ((items : List Item) → IsFed seen items kept → IsStreamText seen items) → IsTelling text seen told
-  ends_told none ends =
+  -- the texts of the whole text were written
+  pub ends_reported : kept.refused ≡ None → ((items : List Item) → IsFed seen items kept → IsStreamText seen items) → IsTelling text seen reported
+  ends_reported none ends =
       let tells = tells_of none in record { items = tells.items; read = ends tells.items tells.fed; all = tells.all }
 
   ends_refused_by : (refused : Option Refusal) (refusal : Refusal) → kept.refused ≡ refused → length seen ≤ most_text
@@ -115,7 +115,7 @@ module _ (text : ℕ → Item → List ℕ) (seen : List ℕ) (kept : Kept) (cou
   ends_refused_by None refusal is short ends before =
       let tells = tells_of is in inr (short, (tells.items, ends is tells.items tells.fed))
   ends_refused_by (Some earlier) refusal is short ends before =
-      let refused : AreRefusedBy seen earlier = subst (λ state. MatchOption state (TellsItems text seen kept count told) (AreRefusedBy seen)) is follows in
+      let refused : AreRefusedBy seen earlier = subst (λ state. MatchOption state (TellsItems text seen kept count reported) (AreRefusedBy seen)) is follows in
       let found = refused [] in
       let fault : IsStreamFault seen found.0 refusal = subst (IsStreamFault seen found.0) (sym before) (subst (λ source. IsStreamFault source found.0 earlier) (append-nil seen) found.1) in
       inr (short, (found.0, fault))
@@ -130,10 +130,10 @@ module _ (text : ℕ → Item → List ℕ) (seen : List ℕ) (kept : Kept) (cou
   -- ---- a piece more
 
   module _ (piece : List ℕ) (before given : List Item) (after : Kept) (empty : before ≡ []) where
-    -- the piece was taken, and its items told of
+    -- the piece was taken, and the texts of its items written
     pub follows_taken : (next : List ℕ) → kept.refused ≡ None → after.refused ≡ None
         → (added : List Item) × (given ≡ before ++ added) × TakesPiece kept piece added after
-        → next ≡ told ++ texts_from text count given
+        → next ≡ reported ++ texts_from text count given
         → MatchOption after.refused (TellsItems text (seen ++ piece) after (count + length given) next) (AreRefusedBy (seen ++ piece))
     follows_taken next none still takes more =
         let tells = tells_of none in
@@ -149,7 +149,7 @@ module _ (text : ℕ → Item → List ℕ) (seen : List ℕ) (kept : Kept) (cou
         } in
         subst (λ refused. MatchOption refused (TellsItems text (seen ++ piece) after (count + length given) next) (AreRefusedBy (seen ++ piece))) (sym still) now
 
-    -- so many items are told of then that their number is far from the greatest
+    -- the number of items with a text is then far from the greatest number
     pub count_within : GoesOneWay hoa_format → kept.refused ≡ None → after.refused ≡ None
         → (added : List Item) × (given ≡ before ++ added) × TakesPiece kept piece added after
         → count + length given ≤ most_text
@@ -173,7 +173,7 @@ module _ (text : ℕ → Item → List ℕ) (seen : List ℕ) (kept : Kept) (cou
           | inr refused ↦ λ more. (tells.items ++ refused.added, refused.holds more)
         ]
     refused_now (Some earlier) refusal is other refuses same =
-        let refused : AreRefusedBy seen earlier = subst (λ state. MatchOption state (TellsItems text seen kept count told) (AreRefusedBy seen)) is follows in
+        let refused : AreRefusedBy seen earlier = subst (λ state. MatchOption state (TellsItems text seen kept count reported) (AreRefusedBy seen)) is follows in
         refused_more seen piece refusal (subst (AreRefusedBy seen) (sym same) refused)
 
     -- what follows then

@@ -1,4 +1,4 @@
--- What was read of a stream so far, and at its end.
+-- The part of a stream that was read so far, and its end.
 use Rattle.std.proofs.Common.{◌≡◌, ℕ, ◌+◌, ◌≤◌, List, [], ◌++◌, Option, length, subst, inl, inr, refl, arith, append-nil, length-append}
 use Rattle.std.proofs.KnownBytes.{Consumes-trans}
 use Rattle.std.specs.Io.KnownBytes.{Consumes}
@@ -14,7 +14,7 @@ use Rattle.omega_hoa.specs.declared.item.Item.{Item}
 use Rattle.omega_stream_reading.specs.declared.telling.Telling.{Telling}
 use Rattle.omega_stream_reading.specs.private.steps.Following.{FollowsTelling}
 
--- so many bytes were read, and within the limit, followed
+-- `total` bytes were read, and within the limit their texts written
 pub record IsReading (text : ℕ → Item → List ℕ) (before now : Option (List ℕ)) (total : ℕ) (telling : Telling) : Type 0 where
   pub seen : List ℕ
   pub consumed : Consumes before now seen

@@ -1,3 +1,3 @@
--- What contracts cite: what is told of a stream; in `private` what private contracts alone cite.
+-- What contracts of reading streams cite, and in `private` what private contracts alone cite.
 pub mod Telling
 pub mod private

@@ -1,6 +1,6 @@
-//! Streams of automata read from an input in pieces, and what is told of their items.
+//! Reads streams of automata from an input in pieces, and writes a text for each item.
 //!
-//! Numbers of refusals are those of `Refusal`; docs/formats.md says when each comes.
+//! docs/formats.md says when each refusal comes.
 #![tactic(auto)]
 
 mod item_text;

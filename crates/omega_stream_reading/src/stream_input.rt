@@ -11,15 +11,15 @@ use omega_io::{Input, PIECE, read_piece};
 use omega_text::{MOST_TEXT, Refusal, TextFault};
 use std::alloc::Global;
 
-/// What is told of the items of a stream that an input gives. 1 to 4, 20 to 33, 60 or 61: the refusal of the text,
-/// memory, or a read that failed.
+/// Returns the texts of the items of the stream that `input` gives. Fails with the refusal of the stream's text, with
+/// [Refusal::Memory], or with [Refusal::Io] if a read failed.
 ///
-/// The text is never whole in memory: it is read in pieces, and what is kept of it is the segment that has not ended,
-/// and what is told. Where it is refused, the rest is read on,
-/// to its end or to the first byte past the greatest length of a text.
+/// The input is never whole in memory. It is read in pieces, and only the segment that has not ended is kept, and the
+/// texts written so far. If the stream is refused, the rest of the input is read on, to its end or to the first byte
+/// past the greatest length of a text.
 pub fn tell_stream<T: ItemText, R: Input>(alloc: Global, input: &mut R) -> Result<Vec<u8>, Refusal>
     requires { R.failed input.old < 2 ^ 64 - 1 }
-    ensures told { IfOk result (λ told. ReadsWhole (R.remaining input.old) (R.remaining input.new) (λ text. IsTelling T.text text told.items)) }
+    ensures reported { IfOk result (λ reported. ReadsWhole (R.remaining input.old) (R.remaining input.new) (λ text. IsTelling T.text text reported.items)) }
     ensures refused { IfErr result (or_memory (or_io (λ refusal. ReadsText (R.remaining input.old) (R.remaining input.new) (λ text. IsStreamRefusal text refusal)))) }
     ensures counted { R.failed input.new ≡ R.failed input.old + failures_of result }
 {

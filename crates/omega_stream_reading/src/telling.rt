@@ -10,31 +10,31 @@ use omega_hoa::{Item, Stream};
 use omega_text::{HoaKind, Refusal, TokenKind};
 use std::alloc::Global;
 
-/// What is told of a stream so far, as its bytes come.
+/// The texts of the items of a stream so far, as its bytes come.
 #[derive(Drop)]
 pub(crate) struct Telling {
     pub(crate) stream: Stream,
-    /// How many items were told of.
+    /// The number of items whose text is written.
     pub(crate) count: usize,
-    pub(crate) told: Vec<u8>,
-    /// Room for the items of a piece: those of the last one stand in it.
+    pub(crate) reported: Vec<u8>,
+    /// A buffer for the items of a piece. Between pieces it holds those of the last one.
     items: Vec<Item>,
 }
 
-/// Before the first byte.
+/// Begins before the first byte.
 pub(crate) fn begin<T: ItemText>(alloc: Global) -> Telling
     ensures { FollowsTelling T.text [] result }
 {
     Telling {
         stream: Stream::new(alloc),
         count: 0,
-        told: Vec::new(alloc),
+        reported: Vec::new(alloc),
         items: Vec::new(alloc),
     }
 }
 
-/// Takes the next piece, and tells of the items of the segments that end in it. Of a piece that is refused, and of
-/// those after it, nothing is told: the stream keeps its refusal. 60 alone.
+/// Takes the next `piece`, and writes the texts of the items of the segments that end in it. If a piece is refused, it
+/// and those after it add no text, and the stream keeps its refusal.
 pub(crate) fn take_piece<T: ItemText>(telling: &mut Telling, piece: &[u8]) -> Result<(), Refusal>
     requires { FollowsSome T.text telling.old }
     ensures follows { OnOk result ((seen : List ℕ) → length seen + length piece.now ≤ most_text → FollowsTelling T.text seen telling.old → FollowsTelling T.text (seen ++ piece.now) telling.new) }
@@ -44,7 +44,11 @@ pub(crate) fn take_piece<T: ItemText>(telling: &mut Telling, piece: &[u8]) -> Re
     telling.items.clear();
     match telling.stream.feed(piece, &mut telling.items) {
         Ok(()) => {
-            append_items::<T>(telling.count, telling.items.as_slice(), &mut telling.told)?;
+            append_items::<T>(
+                telling.count,
+                telling.items.as_slice(),
+                &mut telling.reported,
+            )?;
             telling.count += telling.items.len();
             Ok(())
         }
@@ -55,10 +59,10 @@ pub(crate) fn take_piece<T: ItemText>(telling: &mut Telling, piece: &[u8]) -> Re
     }
 }
 
-/// Tells of items, of which the first has this number. 60 alone.
+/// Appends the texts of `items` to `out`. The first of them has the number `first`.
 fn append_items<T: ItemText>(first: usize, items: &[Item], out: &mut Vec<u8>) -> Result<(), Refusal>
     requires { first + length items.now < 2 ^ 64 }
-    ensures told { OnOk result (out.new.items ≡ out.old.items ++ texts_from T.text first items.now) }
+    ensures reported { OnOk result (out.new.items ≡ out.old.items ++ texts_from T.text first items.now) }
     ensures memory { IsOkUnless result Memory }
 {
     for (place, item) in items.iter().enumerate() {
@@ -67,17 +71,18 @@ fn append_items<T: ItemText>(first: usize, items: &[Item], out: &mut Vec<u8>) ->
     Ok(())
 }
 
-/// Ends the stream, and gives what was told of it. 1 to 3 or 20 to 33: the refusal of the text.
+/// Ends the stream, and returns the texts of its items. Fails with a [Refusal::Text] or [Refusal::Automaton], the
+/// refusal of the stream's text.
 pub(crate) fn end<T: ItemText>(telling: Telling) -> Result<Vec<u8>, Refusal>
-    ensures told { IfOk result (λ told. (seen : List ℕ) → FollowsTelling T.text seen telling → IsTelling T.text seen told.items) }
+    ensures reported { IfOk result (λ reported. (seen : List ℕ) → FollowsTelling T.text seen telling → IsTelling T.text seen reported.items) }
     ensures refused { IfErr result (λ refusal. (seen : List ℕ) → length seen ≤ most_text → FollowsTelling T.text seen telling → IsStreamRefusal seen refusal) }
 {
     let Telling {
         stream,
         count: _,
-        told,
+        reported,
         items: _,
     } = telling;
     stream.finish()?;
-    Ok(told)
+    Ok(reported)
 }

@@ -44,7 +44,7 @@ CutOrFault {Kind} format = (source : List ℕ) → ((lexemes : List (Lexeme Kind
 abbrev pub CutsHaveNoFault : {Kind : Type 0} → TextFormat Kind → Type 0
 CutsHaveNoFault {Kind} format = (source : List ℕ) (lexemes : List (Lexeme Kind)) (fault : TextFault) → IsCut format source lexemes → IsFault format source fault → ⊥
 
--- a cut, and a cut from where it ends, are a cut
+-- a cut, and a cut from its end on, are a cut
 abbrev pub CutsJoin : {Kind : Type 0} → TextFormat Kind → Type 0
 CutsJoin {Kind} format = (source : List ℕ) (from middle to : ℕ) (front back : List (Lexeme Kind))
     → Cuts format source from front middle → Cuts format source middle back to → Cuts format source from (front ++ back) to

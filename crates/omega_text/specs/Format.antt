@@ -12,7 +12,7 @@ pub record TextFormat (Kind : Type 0) : Type 1 where
   pub faults : List ℕ → ℕ → TextFault → Type 0
 
 -- a part of a text that is not empty, at a place or after it
-pub record IsPartBehind (source : List ℕ) (from : ℕ) (span : Span) : Type 0 where
+pub record IsPartAfter (source : List ℕ) (from : ℕ) (span : Span) : Type 0 where
   pub forward : from ≤ span.start
   pub nonempty : span.start < span.end
   pub within : span.end ≤ length source
@@ -26,7 +26,7 @@ IsLexical TooLong = ⊥
 
 -- a text goes on from each place in one way: with one token, with one fault, or with nothing more
 pub record GoesOneWay {Kind : Type 0} (format : TextFormat Kind) : Type 0 where
-  pub behind : (source : List ℕ) (from : ℕ) (lexeme : Lexeme Kind) → format.follows source from lexeme → IsPartBehind source from lexeme.span
+  pub following : (source : List ℕ) (from : ℕ) (lexeme : Lexeme Kind) → format.follows source from lexeme → IsPartAfter source from lexeme.span
   pub lexical : (source : List ℕ) (from : ℕ) (fault : TextFault) → format.faults source from fault → IsLexical fault
   pub one_token : (source : List ℕ) (from : ℕ) (one other : Lexeme Kind) → format.follows source from one → format.follows source from other → one ≡ other
   pub one_fault : (source : List ℕ) (from : ℕ) (one other : TextFault) → format.faults source from one → format.faults source from other → one ≡ other

@@ -25,7 +25,7 @@ text_name (Number at) = codes "Number"
 text_name (Syntax at) = codes "Syntax"
 text_name TooLong = codes "TooLong"
 
--- where a fault of a text is
+-- the place of a fault of a text
 abbrev pub text_place : TextFault → Option ℕ
 text_place (Lex at) = Some at
 text_place (Number at) = Some at
@@ -136,7 +136,7 @@ name_of (Task fault) = task_name fault
 name_of Memory = codes "Memory"
 name_of Io = codes "Io"
 
--- the place of a refusal, which only those of tokens and of the grammar have, or the number of its state
+-- the place of a refusal, which only refusals of tokens and of the grammar have, or the number of its state
 abbrev pub place_of : Refusal → Option ℕ
 place_of (Text fault) = text_place fault
 place_of (Game fault) = None

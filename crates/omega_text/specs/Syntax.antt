@@ -1,4 +1,4 @@
--- What it means that bytes are a text of a syntax, and which fault they have where they are none.
+-- What it means that bytes are a text of a syntax, and which fault they have if they are none.
 use Rattle.std.specs.Prelude.{◌≡◌, ◌↔◌, ℕ, ◌<◌, ◌≤◌, ◌⊎◌, List, [], ◌∷◌, ◌++◌, length, map}
 use Rattle.omega_text.specs.Cut.{IsCut, IsFault}
 use Rattle.omega_text.specs.Format.{TextFormat}
@@ -36,7 +36,7 @@ pub record IsTextOf {Kind Symbol Raw : Type 0} (syntax : Syntax Kind Symbol Raw)
   pub cut : IsCut syntax.format source lexemes
   pub text : TokensSpell syntax lexemes raw
 
--- the first token through which no text begins stands at this place
+-- the first token through which no text begins is at this place
 pub record IsWrongAt {Kind : Type 0} (begins : List (Lexeme Kind) → Type 0) (lexemes : List (Lexeme Kind)) (place : ℕ) : Type 0 where
   pub front : List (Lexeme Kind)
   pub wrong : Lexeme Kind
@@ -57,8 +57,8 @@ pub record IsMisplaced {Kind : Type 0} (format : TextFormat Kind) (begins comple
   pub cut : IsCut format source lexemes
   pub fault_there : IsWrongAt begins lexemes place ⊎ (IsUnfinished begins completes lexemes × (place ≡ length source))
 
--- the fault of bytes, where it is known which tokens begin a text and which are one: the length first, then tokens,
--- then syntax
+-- the fault of bytes, if it is known which tokens begin a text and which are one: the length first, then tokens, then
+-- syntax
 abbrev pub IsFaultBy : {Kind : Type 0} → TextFormat Kind → (begins completes : List (Lexeme Kind) → Type 0) → List ℕ → TextFault → Type 0
 IsFaultBy format begins completes source (Lex at) = (length source ≤ most_text) × IsFault format source (Lex at)
 IsFaultBy format begins completes source (Number at) = (length source ≤ most_text) × IsFault format source (Number at)

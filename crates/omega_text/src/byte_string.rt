@@ -4,23 +4,22 @@ ghost use Rattle.omega_text.specs.private.ByteString.{bytes_in, fits_in_place};
 use std::alloc::{AllocError, Global};
 use std::marker::Model;
 
-/// How many bytes stand in place.
+/// The number of bytes that are kept in place.
 const MOST_IN_PLACE: usize = 14;
 
-/// A string of bytes that contracts see as a list and nothing else.
-/// Up to fourteen bytes stand in place and take no memory.
+/// A string of bytes that contracts see as a list only. Up to fourteen bytes are kept in place and take no memory.
 ///
-/// Names and words of headers are nearly always so short: they take 16 bytes,
-/// where a vector takes 24 and an allocation.
+/// Names and words of headers are nearly always so short: they take 16 bytes, while a vector takes 24 and an
+/// allocation.
 #[derive(Debug, Drop)]
 pub struct ByteString {
     held: Held,
 }
 
-/// Where the bytes stand.
+/// Where the bytes are kept.
 #[derive(Debug, Drop)]
 enum Held {
-    /// In place: the first so many.
+    /// In place: the first `count` of `bytes`.
     Short { count: u8, bytes: [u8; 14] },
     /// In an allocation.
     Long(Box<Vec<u8>>),
@@ -40,7 +39,7 @@ impl Model for ByteString {
 }
 
 impl ByteString {
-    /// The empty string.
+    /// Returns the empty string.
     pub fn new() -> Self
         ensures { result ≡ [] }
     {
@@ -52,7 +51,7 @@ impl ByteString {
         }
     }
 
-    /// The same bytes. Memory is taken for more than fourteen.
+    /// Copies `bytes` into a string. Takes memory for more than fourteen bytes.
     pub fn from_slice(alloc: Global, bytes: &[u8]) -> Result<Self, AllocError>
         ensures { IfOk result (λ string. string ≡ bytes.now) }
     {
@@ -80,7 +79,7 @@ impl ByteString {
     }
 }
 
-/// A copy of a few bytes.
+/// Copies at most fourteen bytes in place.
 fn in_place(bytes: &[u8]) -> Held
     requires { length bytes.now ≤ 14 }
     ensures held { bytes_in result ≡ bytes.now }
@@ -94,7 +93,7 @@ fn in_place(bytes: &[u8]) -> Held
     }
 }
 
-/// A copy of bytes in memory.
+/// Copies `bytes` into an allocation.
 fn in_memory(alloc: Global, bytes: &[u8]) -> Result<Held, AllocError>
     ensures held { IfOk result (λ held. bytes_in held ≡ bytes.now) }
     ensures fits { IfOk result fits_in_place }

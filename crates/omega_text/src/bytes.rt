@@ -4,7 +4,7 @@ ghost use Rattle.omega_text.specs.Bytes.{is_letter, is_white, is_word_byte};
 
 const UNDERSCORE: u8 = b'_';
 
-// Each byte that may go on in a word stands at its own place, and a comma at every other.
+// Each byte that a word can continue with is at its own index. A comma is at every other.
 static WORD_BYTES: [u8; 256] = *b"\
     ,,,,,,,,,,,,,,,,,,,,,,,,,,,,,,,,\
     ,,,,,,,,,,,,,-,,0123456789,,,,,,\
@@ -34,14 +34,14 @@ pub(crate) fn is_word_byte(byte: u8) -> bool
     WORD_BYTES[byte as usize] != b','
 }
 
-/// How many bytes at the front may go on in a word.
+/// Returns the number of bytes at the front that a word can continue with.
 pub(crate) fn word_count(bytes: &[u8]) -> usize
     ensures { result ≡ prefix_len is_word_byte bytes.now }
 {
     bytes.iter().take_while(|byte| is_word_byte(**byte)).count()
 }
 
-/// The bytes from a place on.
+/// Returns the bytes of `source` from `from` on.
 pub(crate) fn tail(source: &[u8], from: usize) -> &[u8]
     requires { from ≤ length source.now }
     ensures { result.now ≡ drop from source.now }

@@ -7,9 +7,10 @@ ghost use Rattle.omega_text.specs.private.Left.{IsFaultFrom, IsRestOfText};
 use crate::refusal::TextFault;
 use crate::token_kind::TokenKind;
 
-/// Whether a text can be cut into tokens: if not, 1 or 2 at the least place of a fault.
+/// Checks that `source` can be cut into tokens. If not, returns [TextFault::Lex] or [TextFault::Number] at the least
+/// place of a fault.
 ///
-/// No memory is taken, and each token is cut once. A text that passes can be gone over by a `TextCursor`.
+/// No memory is taken, and each token is cut once. A text that passes can be read by a `TextCursor`.
 pub fn check_tokens<K: TokenKind>(source: &[u8]) -> Result<(), TextFault>
     ensures cut { OnOk result ((lexemes : List (Lexeme K)) × IsCut K.format source.now lexemes) }
     ensures fault { IfErr result (IsFault K.format source.now) }
@@ -18,7 +19,7 @@ pub fn check_tokens<K: TokenKind>(source: &[u8]) -> Result<(), TextFault>
     check_from::<K>(source, 0)
 }
 
-/// The same of a text from a place on.
+/// Checks that `source` can be cut into tokens from `from` on, as `check_tokens` does for a whole text.
 pub(crate) fn check_from<K: TokenKind>(source: &[u8], from: usize) -> Result<(), TextFault>
     requires { from ≤ length source.now }
     ensures cut { OnOk result ((lexemes : List (Lexeme K)) × IsRestOfText K.format source.now from lexemes) }

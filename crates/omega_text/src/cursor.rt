@@ -3,7 +3,7 @@ ghost use Rattle.std.specs.Prelude.{◌≡◌, [], ◌∷◌, map, option_map, s
 use crate::token::Token;
 use std::marker::Model;
 
-/// Goes over tokens, and knows the length of their text. No call takes memory.
+/// A cursor over tokens, which knows the length of their text. No call takes memory.
 ///
 /// Contracts see the tokens that are left, without the addresses of their bytes, and the length.
 #[derive(Drop)]
@@ -25,7 +25,7 @@ impl<'t, 'a, K: Copy> Cursor<'t, 'a, K> {
     ghost use Rattle.omega_text.specs.Cursor.{next_place};
     ghost use Rattle.omega_text.specs.Lexeme.{lexeme_of};
 
-    /// A cursor before the first of the tokens; `length` is the length of the text in bytes.
+    /// Makes a cursor before the first of `tokens`; `length` is the length of the text in bytes.
     pub fn new(tokens: &'t [Token<'a, K>], length: usize) -> Self
         ensures tokens { result.0 ≡ map lexeme_of tokens.entry.now }
         ensures length { result.1 ≡ length }
@@ -36,14 +36,14 @@ impl<'t, 'a, K: Copy> Cursor<'t, 'a, K> {
         }
     }
 
-    /// The next token, which stays, or none at the end.
+    /// Returns the next token without passing it, or none at the end.
     pub fn look(&self) -> Option<Token<'a, K>>
         ensures { option_map lexeme_of result ≡ slice_get self.now.0 0 }
     {
         self.left.first().copied()
     }
 
-    /// The next token, which the cursor passes, or none at the end.
+    /// Returns the next token and passes it, or returns none at the end.
     pub fn take(&mut self) -> Option<Token<'a, K>>
         ensures some { IfSome result (λ token. self.old.0 ≡ lexeme_of token ∷ self.new.0) }
         ensures none { IfNone result ((self.old.0 ≡ []) × (self.new.0 ≡ [])) }
@@ -55,7 +55,7 @@ impl<'t, 'a, K: Copy> Cursor<'t, 'a, K> {
         Some(first)
     }
 
-    /// The place where the next token begins; at the end, the length of the text.
+    /// Returns the place where the next token begins, or the length of the text at the end.
     pub fn place(&self) -> usize
         ensures { result ≡ next_place self.now.0 self.now.1 }
     {

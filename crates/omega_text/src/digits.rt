@@ -6,10 +6,11 @@ ghost use Rattle.omega_text.specs.Limits.{most_number};
 
 use crate::limits::MOST_NUMBER;
 
-/// Fewer digits than these have a value that is none above the greatest number's.
+/// A run of digits shorter than this has a value of at most the greatest number.
 const MANY_DIGITS: usize = 9;
 
-/// How many bytes at the front are digits, and their value, or some value above the greatest number's where theirs is.
+/// Returns the number of digits at the front, and their value. If the value is above the greatest number, some value
+/// above it is returned.
 #[inline(always)]
 pub(crate) fn front_digits(bytes: &[u8]) -> (usize, u64)
     ensures count { result.0 ≡ prefix_len is_digit bytes.now }
@@ -32,7 +33,8 @@ pub(crate) fn front_digits(bytes: &[u8]) -> (usize, u64)
     (bytes.len(), value)
 }
 
-/// The same, if a byte that is no digit ends the digits, and they are so few that no value needs to be compared.
+/// Returns what `front_digits` returns, if a byte that is no digit ends the digits, and they are so few that no value
+/// needs to be compared.
 #[inline(always)]
 pub(crate) fn few_digits(bytes: &[u8]) -> Option<(usize, u64)>
     requires some { 0 < length bytes.now }
@@ -52,7 +54,7 @@ pub(crate) fn few_digits(bytes: &[u8]) -> Option<(usize, u64)>
     None
 }
 
-/// Whether the digits at the front begin with a zero and go on.
+/// Whether the first `count` bytes, which are digits, begin with a zero and are more than one.
 pub(crate) fn has_needless_zero(bytes: &[u8], count: usize) -> bool
     requires { 0 < length bytes.now }
     ensures { MatchBool result

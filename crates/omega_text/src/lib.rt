@@ -1,20 +1,20 @@
-//! What texts stand on: refusals, tokens with their places, a cursor over tokens, and decimal text.
+//! The base of all texts: refusals, tokens with their places, a cursor over tokens, and decimal text.
 //!
-//! What belongs to one format stands in a module of its own, its laws in that module's `laws`.
+//! Each format has a module of its own, with its laws in that module's `laws`.
 //!
-//! Numbers of refusals are those of `Refusal`; docs/formats.md says when each comes.
+//! docs/formats.md says when each `Refusal` comes.
 #![tactic(auto)]
 
 mod byte_string;
 mod bytes;
 mod checking;
 mod cursor;
+mod decimal;
 mod digits;
 pub mod hoa;
 pub mod laws;
 mod limits;
 mod marks;
-mod number;
 mod numbers;
 pub mod pg;
 mod reading;
@@ -31,12 +31,12 @@ mod tokens;
 pub use byte_string::ByteString;
 pub use checking::check_tokens;
 pub use cursor::Cursor;
+pub use decimal::write_number;
 pub use hoa::{
     ByteTokenizer, HoaKind, HoaTokenizer, PlacedToken, Settled, hoa_tokens, next_hoa_token,
 };
 pub use limits::{MOST_NUMBER, MOST_TEXT};
 pub use marks::Marks;
-pub use number::write_number;
 pub use numbers::Numbers;
 pub use pg::{PgKind, next_pg_number, next_pg_token, pg_tokens};
 pub use reading::read_text;

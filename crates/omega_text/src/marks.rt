@@ -3,20 +3,20 @@ ghost use Rattle.std.specs.Prelude.{◌≡◌, None, Some, option_map};
 use crate::numbers::{Held, Numbers};
 use std::marker::Model;
 
-/// The sets of a state or an edge as they are written, or none where no braces stand. Contracts see an optional list.
+/// The sets of a state or an edge as they are written, or none without braces. Contracts see an optional list.
 ///
-/// It takes 16 bytes, as `Numbers` does, where an `Option<Numbers>` takes 24.
+/// It takes 16 bytes, as `Numbers` does, while an `Option<Numbers>` takes 24.
 #[derive(Debug, Drop)]
 pub struct Marks {
     written: Written,
 }
 
-/// Where the sets stand, if braces do.
+/// Where the sets are kept, if there are braces.
 #[derive(Debug, Drop)]
 enum Written {
-    /// No braces stand.
+    /// There are no braces.
     Absent,
-    /// In place: the first so many of the values.
+    /// In place: the first `count` of `values`.
     Short { count: u8, values: [u32; 3] },
     /// In an allocation.
     Long(Box<Vec<u32>>),
@@ -36,7 +36,7 @@ impl Model for Marks {
 }
 
 impl Marks {
-    /// The marks where no braces stand.
+    /// Makes the marks without braces.
     pub fn absent() -> Self
         ensures { result ≡ None }
     {
@@ -45,7 +45,7 @@ impl Marks {
         }
     }
 
-    /// These sets between braces.
+    /// Makes the marks with `sets` between braces.
     pub fn of(sets: Numbers) -> Self
         ensures { result ≡ Some sets }
     {
@@ -56,7 +56,7 @@ impl Marks {
         Marks { written }
     }
 
-    /// The sets between the braces, if braces stand.
+    /// Returns the sets between the braces, or none without braces.
     pub fn into_numbers(self) -> Option<Numbers>
         ensures { result ≡ self }
     {
@@ -71,7 +71,7 @@ impl Marks {
         }
     }
 
-    /// The sets between the braces, none where no braces stand.
+    /// Returns the sets between the braces, or none without braces.
     pub fn as_slice(&self) -> Option<&[u32]>
         ensures { option_map (λ sets. sets.now) result ≡ self.now }
     {

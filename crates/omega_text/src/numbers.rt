@@ -4,23 +4,22 @@ ghost use Rattle.omega_text.specs.private.Numbers.{fits_in_place, numbers_in};
 use std::alloc::{AllocError, Global};
 use std::marker::Model;
 
-/// How many numbers stand in place.
+/// The number of values that are kept in place.
 const MOST_IN_PLACE: u8 = 3;
 
-/// A list of numbers that contracts see as a list and nothing else.
-/// Up to three numbers stand in place and take no memory.
+/// A list of numbers that contracts see as a list only. Up to three numbers are kept in place and take no memory.
 ///
-/// Lists of marks and of targets are nearly always so short: they take 16 bytes,
-/// where a vector takes 24 and an allocation.
+/// Lists of marks and of targets are nearly always so short: they take 16 bytes, while a vector takes 24 and an
+/// allocation.
 #[derive(Debug, Drop)]
 pub struct Numbers {
     pub(crate) held: Held,
 }
 
-/// Where the numbers stand.
+/// Where the numbers are kept.
 #[derive(Debug, Drop)]
 pub(crate) enum Held {
-    /// In place: the first so many of the values.
+    /// In place: the first `count` of `values`.
     Short { count: u8, values: [u32; 3] },
     /// In an allocation.
     Long(Box<Vec<u32>>),
@@ -38,7 +37,7 @@ impl Model for Numbers {
 }
 
 impl Numbers {
-    /// The empty list.
+    /// Returns the empty list.
     pub fn new() -> Self
         ensures { result ≡ [] }
     {
@@ -50,7 +49,7 @@ impl Numbers {
         }
     }
 
-    /// A list of one number.
+    /// Makes a list of `number` alone.
     pub fn one(number: u32) -> Self
         ensures { result ≡ number ∷ [] }
     {
@@ -62,7 +61,7 @@ impl Numbers {
         }
     }
 
-    /// The same numbers. Memory is taken for more than three.
+    /// Copies `numbers` into a list. Takes memory for more than three.
     pub fn from_slice(alloc: Global, numbers: &[u32]) -> Result<Self, AllocError>
         ensures { IfOk result (λ list. list ≡ numbers.now) }
     {
@@ -73,7 +72,7 @@ impl Numbers {
         Ok(list)
     }
 
-    /// Adds a number at the end. Memory is taken from the fourth on.
+    /// Appends `number`. Takes memory from the fourth on.
     pub fn push(&mut self, alloc: Global, number: u32) -> Result<(), AllocError>
         ensures ok { OnOk result (self.new ≡ self.old ++ number ∷ []) }
         ensures err { OnErr result (self.new ≡ self.old) }
@@ -103,7 +102,7 @@ impl Numbers {
     }
 }
 
-/// The first so many of the values, and a number after them: in memory where there is no room in place.
+/// Returns the first `count` of `values`, followed by `number`; in an allocation if there is no room in place.
 fn with_one_more(
     alloc: Global,
     count: u8,

@@ -6,10 +6,11 @@ use crate::refusal::{Refusal, TextFault};
 use crate::token_kind::TokenKind;
 use crate::token_reader::{TokenReader, read_tokens};
 
-/// What a new reader becomes by a whole text. 1 to 4 or 60: the refusal of the text, or memory.
+/// Reads the whole text `bytes` with `reader`, and returns what it becomes. Refused with a `TextFault` or
+/// [Refusal::Memory].
 ///
-/// The length is judged first, then tokens wherever they stand, then syntax: 4, then 1 or 2, then 3. The bytes are read
-/// once, from the left.
+/// The length is judged first ([TextFault::TooLong]), then tokens at any place ([TextFault::Lex], [TextFault::Number]),
+/// then syntax ([TextFault::Syntax]). The bytes are read once, from the left.
 pub fn read_text<K: TokenKind, R: TokenReader<K>>(reader: R, bytes: &[u8]) -> Result<R, Refusal>
     requires { R.becomes reader [] reader }
     ensures read { IfOk result (λ after. IsReadText K.format (λ lexemes. R.becomes reader lexemes after) R.completes bytes.now) }

@@ -40,7 +40,7 @@ pub enum Refusal {
 impl Refusal {
     ghost use Rattle.omega_text.specs.Refusal.{name_of, number_of, place_of};
 
-    /// The refusal's number, which no other refusal has.
+    /// Returns the refusal's number, which no other refusal has.
     pub fn number(self) -> u32
         ensures { result ≡ number_of self }
     {
@@ -54,7 +54,7 @@ impl Refusal {
         }
     }
 
-    /// The refusal's name, as a program prints it.
+    /// Returns the refusal's name, as a program prints it.
     pub fn name(self) -> &'static str
         ensures { result.now ≡ name_of self }
     {
@@ -68,7 +68,8 @@ impl Refusal {
         }
     }
 
-    /// The place of the byte where the fault is, from 0, for refusals 1, 2 and 3, and the number of the state for 56.
+    /// Returns the place of the byte of the fault, from 0, for [TextFault::Lex], [TextFault::Number] and
+    /// [TextFault::Syntax], and the number of the state for [TaskFault::NotDeterministic].
     pub fn at(self) -> Option<usize>
         ensures { result ≡ place_of self }
     {

@@ -3,7 +3,7 @@ ghost use Rattle.std.specs.Prelude.{◌≡◌, [], length};
 use std::alloc::Global;
 use std::marker::Model;
 
-/// A list of values that contracts see as a list and nothing else: neither its capacity nor its address.
+/// A list of values that contracts see as a list only, without its capacity and address.
 #[derive(Debug, Drop)]
 pub struct Seq<T> {
     items: Vec<T>,
@@ -18,7 +18,7 @@ impl<T> Model for Seq<T> {
 }
 
 impl<T> Seq<T> {
-    /// The empty list, which takes no memory.
+    /// Returns the empty list, which takes no memory.
     pub fn new(alloc: Global) -> Self
         ensures { result ≡ [] }
     {

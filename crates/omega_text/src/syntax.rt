@@ -1,4 +1,4 @@
-/// A syntax of texts, which stands for its definition where laws are stated of it.
+/// A syntax of texts: a name for its definition in the laws about it.
 pub trait TextSyntax {
     ghost use Rattle.omega_text.specs.Format.{GoesOneWay};
     ghost use Rattle.omega_text.specs.Syntax.{Syntax};
@@ -15,7 +15,7 @@ pub trait TextSyntax {
     /// How texts are cut, which symbols tokens are, and what symbols spell.
     ghost syntax: { Syntax Kind Symbol Raw };
 
-    /// From each place a text goes on in one way: a law, which that of the kinds of tokens states.
+    /// States that from each place a text goes on in one way, as the law of the kinds of tokens states.
     fn goes_on_one_way()
         ensures { GoesOneWay syntax.format };
 }

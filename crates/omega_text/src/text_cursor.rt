@@ -9,14 +9,14 @@ use crate::token_kind::TokenKind;
 use crate::token_source::TokenSource;
 use std::marker::Model;
 
-/// Goes over the tokens of a text that can be cut, with no list of them. No call takes memory,
-/// and each token is cut once.
+/// A cursor over the tokens of a text that can be cut, without a list of them. No call takes memory, and each token is
+/// cut once.
 ///
 /// Contracts see the tokens that are left, without the addresses of their bytes, and the length of the text.
 #[derive(Drop)]
 pub struct TextCursor<'a, K: TokenKind> {
     source: &'a [u8],
-    // The next token stands here part by part, so that a call reads and writes those that it needs and no padding.
+    // The next token is kept part by part, so that a call reads and writes the parts that it needs and no padding.
     text: &'a [u8],
     span: Span,
     value: u32,
@@ -35,7 +35,7 @@ impl<'a, K: TokenKind> Model for TextCursor<'a, K> {
 }
 
 impl<'a, K: TokenKind> TextCursor<'a, K> {
-    /// A cursor before the first token of a text that can be cut.
+    /// Makes a cursor before the first token of `source`, which can be cut.
     pub fn new(source: &'a [u8]) -> Self
         requires cut { (lexemes : List (Lexeme K)) × IsCut K.format source.now lexemes }
         ensures cut { IsCut K.format source.entry.now result.0 }
@@ -79,7 +79,7 @@ impl<'a, K: TokenKind> TextCursor<'a, K> {
         }
     }
 
-    /// The same, whatever the token is that is next then.
+    /// Passes the next token, whatever the token after it is.
     #[inline(never)]
     fn skip_to_any(&mut self)
         ensures left { self.new.0 ≡ drop 1 self.old.0 }
@@ -132,7 +132,7 @@ impl<'a, K: TokenKind> TokenSource<'a, K> for TextCursor<'a, K> {
     }
 }
 
-/// The end of a text, which is empty.
+/// Returns the empty span at the end of `source`.
 fn end_of(source: &[u8]) -> Span
     ensures start { result.start ≡ length source.now }
 {
@@ -142,7 +142,7 @@ fn end_of(source: &[u8]) -> Span
     }
 }
 
-/// The next token of a text that can be cut from a place on, or none at its end.
+/// Returns the next token from `at` on of a text that can be cut, or none at its end.
 #[inline(always)]
 fn next_left<K: TokenKind>(source: &[u8], at: usize) -> Option<Token<'_, K>>
     requires within { at ≤ length source.now }
@@ -156,7 +156,7 @@ fn next_left<K: TokenKind>(source: &[u8], at: usize) -> Option<Token<'_, K>>
     }
 }
 
-/// The same, if it can be told at once.
+/// Returns the next token from `at` on, if it is recognized at once.
 #[inline(always)]
 fn plain_left<K: TokenKind>(source: &[u8], at: usize) -> Option<Token<'_, K>>
     requires { at ≤ length source.now }

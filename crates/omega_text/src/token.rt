@@ -8,9 +8,9 @@ pub struct Span {
 /// A token of a text, which it borrows. Each format has kinds of its own.
 #[derive(Clone, Copy, Debug, PartialEq, Eq)]
 pub struct Token<'a, K> {
-    /// The bytes of the token, a name's quotes among them.
+    /// The bytes of the token, including the quotes of a name.
     pub text: &'a [u8],
-    /// Where they stand in the text.
+    /// The place of these bytes in the text.
     pub span: Span,
     /// The value of a number, and 0 for every other kind.
     pub value: u32,

@@ -6,7 +6,7 @@ use crate::refusal::{Refusal, TextFault};
 use crate::token::Token;
 use crate::token_kind::TokenKind;
 
-/// What takes the tokens of a text one by one or in runs, as long as some text of its grammar goes on so.
+/// A reader that takes the tokens of a text one by one or in runs, as long as some text of its grammar goes on so.
 pub trait TokenReader<K: TokenKind>: Drop {
     ghost use Rattle.std.specs.Prelude.{List, IsOkUnless, ◌≤◌, length};
     ghost use Rattle.omega_text.specs.Lexeme.{Lexeme, lexeme_of};
@@ -21,7 +21,7 @@ pub trait TokenReader<K: TokenKind>: Drop {
     /// Tokens are a text of the grammar.
     ghost completes: { List (Lexeme K) → Type 0 };
 
-    /// Takes a token, unless no text goes on so.
+    /// Takes `token`, and returns false if no text goes on so.
     fn take(&mut self, token: &Token<'_, K>) -> Result<bool, Refusal>
         requires begun { ((start : Self) × ((before : List (Lexeme K)) × becomes start before self.old)) }
         requires token { IsTokenOf K.format (lexeme_of token.now) }
@@ -29,7 +29,7 @@ pub trait TokenReader<K: TokenKind>: Drop {
             → TakesOrRefuses taken begins (λ all. becomes start all self.new) before (lexeme_of token.now)) }
         ensures memory { IsOkUnless result Refusal.Memory };
 
-    /// Takes as many tokens from a place on as can be taken at once, and answers the place after them. A reader that
+    /// Takes as many tokens from `from` on as can be taken at once, and returns the place after them. A reader that
     /// takes its tokens one by one takes none here.
     fn take_run(&mut self, source: &[u8], from: usize) -> Result<usize, Refusal>
         requires begun { ((start : Self) × ((before : List (Lexeme K)) × becomes start before self.old)) }
@@ -49,9 +49,9 @@ pub trait TokenReader<K: TokenKind>: Drop {
         ensures { (start : Self) (before : List (Lexeme K)) → becomes start before self.now → IsWholeOrUnfinished result begins completes before };
 }
 
-/// What a new reader becomes by the tokens of a text, if it can be cut and no token is wrong.
+/// Returns what `reader` becomes by the tokens of `bytes`, if they can be cut and no token is wrong.
 ///
-/// The bytes are read once, from the left. A fault of tokens comes before a wrong token wherever it stands.
+/// The bytes are read once, from the left. A fault of tokens comes before a wrong token, wherever it is.
 pub(crate) fn read_tokens<K: TokenKind, R: TokenReader<K>>(
     mut reader: R,
     bytes: &[u8],

@@ -4,7 +4,7 @@ ghost use Rattle.omega_text.specs.Cursor.{next_place};
 use crate::cursor::Cursor;
 use crate::token::Token;
 
-/// Where the tokens of a text come from, one by one. No call takes memory.
+/// A source of the tokens of a text, one by one. No call takes memory.
 pub trait TokenSource<'a, K> {
     ghost use Rattle.std.specs.Prelude.{List, ℕ};
     ghost use Rattle.omega_text.specs.Lexeme.{Lexeme, lexeme_of};
@@ -15,17 +15,17 @@ pub trait TokenSource<'a, K> {
     /// The length of the text in bytes.
     ghost length: { Self → ℕ };
 
-    /// The next token, which stays, or none at the end.
+    /// Returns the next token without taking it, or none at the end.
     fn look(&self) -> Option<Token<'a, K>>
         ensures { option_map lexeme_of result ≡ slice_get (left self.now) 0 };
 
-    /// The next token, which is taken, or none at the end.
+    /// Takes and returns the next token, or returns none at the end.
     fn take(&mut self) -> Option<Token<'a, K>>
         ensures some { IfSome result (λ token. left self.old ≡ lexeme_of token ∷ left self.new) }
         ensures none { IfNone result ((left self.old ≡ []) × (left self.new ≡ [])) }
         ensures length { length self.new ≡ length self.old };
 
-    /// The place where the next token begins; at the end, the length of the text.
+    /// Returns the place where the next token begins, or the length of the text at the end.
     fn place(&self) -> usize
         ensures { result ≡ next_place (left self.now) (length self.now) };
 }

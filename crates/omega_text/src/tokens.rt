@@ -7,7 +7,8 @@ use crate::token::Token;
 use crate::token_kind::TokenKind;
 use std::alloc::Global;
 
-/// All tokens of a text, in order: refused 1 or 2 at the least place of a fault, or 60.
+/// Returns all tokens of a text, in order. Refused with [TextFault::Lex] or [TextFault::Number] at the least place of a
+/// fault, or with [Refusal::Memory].
 pub(crate) fn all_tokens<K: TokenKind>(
     alloc: Global,
     source: &[u8],

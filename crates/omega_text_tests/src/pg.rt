@@ -144,7 +144,7 @@ static NUMBERS: [(&str, usize, Option<(u32, usize, usize)>); 13] = [
 ];
 
 #[test]
-fn numbers_are_told_at_once(rt: HostRuntime) {
+fn numbers_are_reported_at_once(rt: HostRuntime) {
     for (row, (text, at, want)) in NUMBERS.iter().enumerate() {
         assert_row(&rt, row, number_at(text, *at) == *want);
     }

@@ -218,7 +218,7 @@ static ROWS: [(Refusal, u32, &str, Option<usize>, &str); 32] = [
     (Refusal::Io, 61, "Io", None, "a read or a write failed"),
 ];
 
-fn is_told(refusal: Refusal, number: u32, name: &str, at: Option<usize>) -> bool {
+fn is_reported(refusal: Refusal, number: u32, name: &str, at: Option<usize>) -> bool {
     refusal.number() == number && refusal.name() == name && refusal.at() == at
 }
 
@@ -236,7 +236,7 @@ fn is_shown(alloc: Global, refusal: Refusal, want: &str) -> bool {
 #[test]
 fn refusals_have_number_name_place_and_text(rt: HostRuntime) {
     for (row, (refusal, number, name, at, text)) in ROWS.iter().enumerate() {
-        assert_row(&rt, row, is_told(*refusal, *number, name, *at));
+        assert_row(&rt, row, is_reported(*refusal, *number, name, *at));
         assert_row(&rt, row, is_shown(rt.alloc(), *refusal, text));
     }
 }

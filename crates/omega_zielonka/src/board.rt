@@ -1,4 +1,4 @@
-//! Which places are in play, and the attractors: the places from which a player forces a visit.
+//! Which places are in play, and attractors: the places from which a player forces a visit to a set.
 use crate::numbers::{NONE, Numbers, number_of};
 use omega_game::{Game, Player};
 use std::alloc::{AllocError, Global};
@@ -6,24 +6,24 @@ use std::alloc::{AllocError, Global};
 /// The depth of a place that is won.
 pub(crate) const WON: u32 = 0;
 
-/// The depth of a place that waits for the search of its component, or is lost there.
+/// The depth of a place whose component is not searched yet, or that is lost there.
 pub(crate) const WAITING: u32 = 1;
 
 /// The places of a game by the depth of the subgame that took them out of play.
 #[derive(Drop)]
 pub(crate) struct Board {
-    // By place: that depth, or none while it is in play; the index of the successor that was seen in play last; and the
+    // By place: that depth, or none while it is in play; the index of the successor that was last seen in play; and the
     // place that its owner moves to.
     depth: Numbers,
     watched: Numbers,
     moves: Numbers,
-    // The places taken out for the tops of the open subgames, in the order taken.
+    // The places taken out for the top nodes of the open subgames, in the order taken.
     trail: Vec<u32>,
     fuel: u64,
 }
 
 impl Board {
-    /// All places waiting.
+    /// Makes a board on which all places are waiting.
     pub(crate) fn new(alloc: Global, game: &Game, fuel: u64) -> Result<Board, AllocError> {
         let count = game.len();
         let depth = Numbers::filled(alloc, count, WAITING)?;
@@ -39,7 +39,7 @@ impl Board {
         })
     }
 
-    /// Uses up fuel for so many edges.
+    /// Uses up fuel for `edges` edges.
     #[inline(always)]
     pub(crate) fn spend(&mut self, edges: usize) {
         self.fuel = self.fuel.saturating_sub(edges as u64);
@@ -50,18 +50,18 @@ impl Board {
         self.fuel == 0
     }
 
-    /// The place that each place's owner moves to.
+    /// Returns for each place the place that its owner moves to.
     pub(crate) fn into_moves(self) -> Vec<u32> {
         let Board { moves, .. } = self;
         moves.into_items()
     }
 
-    /// The length of the trail.
+    /// Returns the length of the trail.
     pub(crate) fn reached(&self) -> u32 {
         number_of(self.trail.len())
     }
 
-    /// The place at a position of the trail, none past its end.
+    /// Returns the place at `position` of the trail, or `NONE` past its end.
     #[inline(always)]
     pub(crate) fn on_trail(&self, position: u32) -> u32 {
         match self.trail.get(position as usize) {
@@ -70,35 +70,35 @@ impl Board {
         }
     }
 
-    /// Cuts off the trail.
+    /// Cuts the trail to `length`.
     pub(crate) fn cut(&mut self, length: u32) {
         self.trail.truncate(length as usize);
     }
 
-    /// Whether a place is in play in the subgame at a depth.
+    /// Whether `place` is in play in the subgame at `depth`.
     #[inline(always)]
     pub(crate) fn is_in(&self, place: u32, depth: u32) -> bool {
         self.depth.at(place) >= depth
     }
 
-    /// Whether a place is in play.
+    /// Whether `place` is in play.
     #[inline(always)]
     pub(crate) fn is_in_play(&self, place: u32) -> bool {
         self.depth.at(place) == NONE
     }
 
-    /// Whether a place waits.
+    /// Whether `place` is waiting.
     pub(crate) fn is_waiting(&self, place: u32) -> bool {
         self.depth.at(place) == WAITING
     }
 
-    /// Notes the depth of a place.
+    /// Sets the depth of `place`.
     #[inline(always)]
     pub(crate) fn put(&mut self, place: u32, depth: u32) {
         self.depth.put(place, depth);
     }
 
-    /// Takes a place out at a depth, as one of the trail.
+    /// Takes `place` out of play at `depth` and appends it to the trail.
     #[inline(always)]
     pub(crate) fn take(&mut self, place: u32, depth: u32) -> Result<(), AllocError> {
         self.depth.put(place, depth);
@@ -106,8 +106,8 @@ impl Board {
         Ok(())
     }
 
-    /// Takes out at a depth all places deeper in play from which the player forces a visit to those of the trail from a
-    /// position on.
+    /// Takes out at `depth` the attractor of `player`, among the places deeper in play, to the places of the trail from
+    /// the position `from` on.
     pub(crate) fn attract(
         &mut self,
         game: &Game,
@@ -125,7 +125,8 @@ impl Board {
         Ok(())
     }
 
-    /// Takes out those from which the player forces a visit to a place by one step, which is out already.
+    /// Takes out at `depth` the predecessors of `place` from which `player` forces the step to places out of play.
+    /// `place` itself is out already.
     pub(crate) fn attract_to(
         &mut self,
         game: &Game,
@@ -147,7 +148,8 @@ impl Board {
         Ok(())
     }
 
-    /// Whether the player forces a step from a place out of play, where the player may move to `target`.
+    /// Whether `player` forces a step from `place` to a place out of play. `target` is such a successor of `place`, and
+    /// `player` moves to it if `place` is theirs.
     fn is_forced(
         &mut self,
         game: &Game,
@@ -174,7 +176,7 @@ impl Board {
         ) && !self.finds(successors, 0, watched, depth, place)
     }
 
-    /// Whether one of a range of successors is deeper in play, which is then watched.
+    /// Whether a successor from index `start` to `end` is deeper in play. The first such index is watched from then on.
     fn finds(&mut self, successors: &[u32], start: u32, end: u32, depth: u32, place: u32) -> bool {
         for index in start..end {
             let successor = match successors.get(index as usize) {
@@ -190,7 +192,7 @@ impl Board {
         false
     }
 
-    /// Lets the player move from a place to the first successor that is in play at a depth.
+    /// Lets `player` move from `place` to the first successor that is in play at `depth`, if `place` is theirs.
     pub(crate) fn choose(&mut self, game: &Game, player: Player, depth: u32, place: u32) {
         if place as usize >= game.len() || game.owner(place) != player {
             return;

@@ -1,8 +1,8 @@
-//! Lists of places that are joined without being copied. Each place is in one list at most.
+//! Lists of places that are joined without being copied. Each place is in at most one list.
 use crate::numbers::{NONE, Numbers};
 use std::alloc::{AllocError, Global};
 
-/// A list of places by its first and its last, none where it is empty.
+/// A list of places by its first and its last place, both `NONE` if it is empty.
 #[derive(Clone, Copy)]
 pub(crate) struct Chain {
     pub first: u32,
@@ -10,7 +10,7 @@ pub(crate) struct Chain {
 }
 
 impl Chain {
-    /// No place.
+    /// The empty list.
     pub(crate) const EMPTY: Chain = Chain {
         first: NONE,
         last: NONE,
@@ -24,25 +24,25 @@ impl Chain {
 /// The place after each place in its list.
 #[derive(Drop)]
 pub(crate) struct Chains {
-    behind: Numbers,
+    following: Numbers,
 }
 
 impl Chains {
-    /// Each place in no list.
+    /// Makes empty lists only: no place has another after it.
     pub(crate) fn new(alloc: Global, places: usize) -> Result<Chains, AllocError> {
-        let behind = Numbers::filled(alloc, places, NONE)?;
-        Ok(Chains { behind })
+        let following = Numbers::filled(alloc, places, NONE)?;
+        Ok(Chains { following })
     }
 
-    /// The place after a place, none at the end.
+    /// Returns the place after `place` in its list, or `NONE` at the end.
     #[inline(always)]
-    pub(crate) fn behind(&self, place: u32) -> u32 {
-        self.behind.at(place)
+    pub(crate) fn following(&self, place: u32) -> u32 {
+        self.following.at(place)
     }
 
-    /// A list with one more place in front.
+    /// Puts `place` in front of `chain`.
     pub(crate) fn prepended(&mut self, place: u32, chain: Chain) -> Chain {
-        self.behind.put(place, chain.first);
+        self.following.put(place, chain.first);
         if chain.is_empty() {
             Chain {
                 first: place,
@@ -56,7 +56,7 @@ impl Chains {
         }
     }
 
-    /// One list after another.
+    /// Appends `other` to `chain`.
     pub(crate) fn joined(&mut self, chain: Chain, other: Chain) -> Chain {
         if chain.is_empty() {
             return other;
@@ -64,7 +64,7 @@ impl Chains {
         if other.is_empty() {
             return chain;
         }
-        self.behind.put(chain.last, other.first);
+        self.following.put(chain.last, other.first);
         Chain {
             first: chain.first,
             last: other.last,

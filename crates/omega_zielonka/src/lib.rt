@@ -1,19 +1,20 @@
-//! The search for the regions of a parity game: Zielonka's recursive algorithm (Zielonka 1998), without recursion and
-//! on flat arrays (van Dijk 2018). Proved is that it is safe and ends; nothing is claimed of what it suggests.
+//! The search for the winning regions of a parity game: Zielonka's recursive algorithm (Zielonka 1998), without
+//! recursion and on flat arrays (van Dijk 2018). It is proved to be safe and to end. Nothing is proved of what it
+//! suggests.
 //!
-//! In a subgame the tops, the places of its greatest priorities as long as these are of one parity, are won by their
-//! player unless the other player keeps away from them. So they are taken out with all from which their player forces a
-//! visit, and the rest is solved as a subgame. Where the other player wins none of it, the player wins all. Else the
-//! other player wins that part and all from which it is forced, and what is left is solved anew.
+//! The top nodes of a subgame are the places of its greatest priorities, as long as these are of one parity. Their
+//! player wins them unless the opponent can avoid them. So the player's attractor to them is taken out, and the rest is
+//! solved as a subgame. If the opponent wins none of the rest, the player wins the whole subgame. Else the opponent
+//! wins its attractor to the part that it won, and the remaining places are solved anew.
 //!
-//! On some games this takes exponential time, as on a chain of nodes that lead to themselves. Where it takes too long,
-//! the game is searched once more, each of its strongly connected components by itself: those that lead to no other
-//! first, and where a component is solved, all from which a visit to what is won of it is forced is won too.
+//! On some games this takes exponential time, as on a chain of nodes that lead to themselves. If the fuel runs out, the
+//! game is searched once more, one strongly connected component at a time. A component comes after all components that
+//! it leads to. When a component is solved, then the attractor of what a player won in it is won by that player too.
 //!
-//! The places that a player wins are listed in an order which shows that. In what a subgame's player wins the tops
-//! stand first, by falling priority, then the rest, then those from which a visit to the tops is forced, the farthest
-//! first: so each edge leads forward or back to a top. Those from which a visit to a won part is forced stand before
-//! it, and what is won later stands before what was won earlier.
+//! The places that a player wins form an order which proves the win. In what a subgame's player wins, the top nodes
+//! come first, by falling priority. Then come the rest, and then the other places of the attractor to the top nodes,
+//! the farthest first. So each edge leads forward in the order or back to a top node. The attractor to a won part comes
+//! before that part, and what is won later comes before what was won earlier.
 #![tactic(auto)]
 
 mod board;

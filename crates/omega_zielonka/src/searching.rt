@@ -7,8 +7,9 @@ use crate::zielonka::Zielonka;
 use omega_game::{Game, Player};
 use std::alloc::{AllocError, Global};
 
-/// Searches for the regions of a game, first as a whole and then by components. Returns none if both searches used up
-/// their fuel, each by visiting about that many edges. Returns an error if a request for memory is refused.
+/// Searches for the winning regions of `game`, first as a whole and then by components. Returns none if both searches
+/// used up their `fuel`. A unit of fuel pays for about one visit to an edge. Returns an error if a request for memory
+/// is refused.
 pub fn search(alloc: Global, game: &Game, fuel: u64) -> Result<Option<Suggestion>, AllocError> {
     let whole = Components::whole(alloc, by_priority(alloc, game)?)?;
     if let Some(suggestion) = suggested(alloc, game, whole, fuel)? {
@@ -18,7 +19,7 @@ pub fn search(alloc: Global, game: &Game, fuel: u64) -> Result<Option<Suggestion
     suggested(alloc, game, components, fuel)
 }
 
-/// What the search by components suggests. None where the fuel does not last.
+/// Returns what the search by `components` suggests, or none if the fuel runs out.
 fn suggested(
     alloc: Global,
     game: &Game,
@@ -42,7 +43,7 @@ fn suggested(
     }))
 }
 
-/// Adds the places of a chain, at most so many.
+/// Appends the places of `chain` to `order`, at most `most` of them.
 fn list(
     chains: &Chains,
     chain: Chain,
@@ -55,12 +56,12 @@ fn list(
             break;
         }
         order.push(place)?;
-        place = chains.behind(place);
+        place = chains.following(place);
     }
     Ok(())
 }
 
-/// Gives places to player 1.
+/// Notes player 1 as the winner of `places`.
 fn give(places: &[u32], winners: &mut Vec<Player>) {
     for place in places {
         let index = *place as usize;

@@ -15,7 +15,7 @@ impl Won {
         one: Chain::EMPTY,
     };
 
-    /// The places that a player wins.
+    /// Returns the places that `player` wins.
     pub(crate) fn of(self, player: Player) -> Chain {
         match player {
             Player::Zero => self.zero,
@@ -23,7 +23,7 @@ impl Won {
         }
     }
 
-    /// The same with other places for a player.
+    /// Returns a copy in which `player` wins `chain` instead.
     pub(crate) fn with(self, player: Player, chain: Chain) -> Won {
         match player {
             Player::Zero => Won {
@@ -38,25 +38,25 @@ impl Won {
     }
 }
 
-/// A part of the game that is being solved: its places are those of a range of the list of places that are in play.
+/// A part of the game that is being solved: the places in play of a range of the list of places.
 #[derive(Clone, Copy)]
 pub(crate) struct Subgame {
     /// The range, in which priorities rise, and the length of the list when the subgame began.
     pub start: u32,
     pub end: u32,
     pub kept: u32,
-    /// How many of its places are not won yet.
+    /// The number of its places that are not won yet.
     pub size: u32,
-    /// The player of its tops; where on the trail these begin, and how many they are.
+    /// The player of its top nodes, the position on the trail at which these begin, and their number.
     pub player: Player,
     pub first: u32,
-    pub tops: u32,
+    pub top_nodes: u32,
     /// The places that were won so far.
     pub won: Won,
 }
 
 impl Subgame {
-    /// The places in play of a range.
+    /// Makes the subgame of the places in play of the range from `start` to `end`.
     pub(crate) fn new(start: u32, end: u32, kept: u32, size: u32) -> Subgame {
         Subgame {
             start,
@@ -65,7 +65,7 @@ impl Subgame {
             size,
             player: Player::Zero,
             first: 0,
-            tops: 0,
+            top_nodes: 0,
             won: Won::NOTHING,
         }
     }

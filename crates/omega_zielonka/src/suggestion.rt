@@ -1,12 +1,12 @@
 use omega_game::Player;
 
-/// What a search suggests. Nothing is claimed of it, not even that its lists have an entry for each place: whoever uses
-/// it judges it.
+/// The suggestion of a search. Nothing is proved of it, not even that its lists have an entry for each place. Its user
+/// judges it.
 #[derive(Drop)]
 pub struct Suggestion {
     /// The winners by place.
     pub winners: Vec<Player>,
-    /// By place where its owner moves to, where the owner is the winner; anything elsewhere.
+    /// For each place, the successor that its owner moves to if the owner is its winner; any number otherwise.
     pub moves: Vec<u32>,
     /// An order of the places which shows that these moves win.
     pub order: Vec<u32>,

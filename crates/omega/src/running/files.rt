@@ -1,7 +1,7 @@
 ghost use Rattle.std.specs.Prelude.{◌≡◌};
 ghost use Rattle.omega_text.specs.declared.refusal.Refusal.TheVariants.{Memory};
 
-use omega_run::{GameFiles, Refusal};
+use omega_run::{InputFiles, Refusal};
 use std::alloc::Global;
 
 /// A text in memory, in the place of each file.
@@ -18,7 +18,7 @@ impl<'a> OneFile<'a> {
     }
 }
 
-impl<'a> GameFiles for OneFile<'a> {
+impl<'a> InputFiles for OneFile<'a> {
     ghost reads = { λ s _ text. text ≡ s.text.now };
 
     ghost refuses = { λ _ _ refusal. refusal ≡ Memory };

@@ -49,10 +49,10 @@ pub joined_lists : {A : Type 0} (before left right : List A) (between : A)
 joined_lists before left right between =
     sym (append_assoc before (left ++ between ∷ []) right ∙ ap (λ more. before ++ more) (append_assoc left (between ∷ []) right))
 
-pub followed_lists : {A : Type 0} (before left right : List A) (behind : A)
-    → ((before ++ left) ++ right) ++ behind ∷ [] ≡ before ++ (left ++ (right ++ behind ∷ []))
-followed_lists before left right behind =
-    append_assoc (before ++ left) right (behind ∷ []) ∙ append_assoc before left (right ++ behind ∷ [])
+pub followed_lists : {A : Type 0} (before left right : List A) (following : A)
+    → ((before ++ left) ++ right) ++ following ∷ [] ≡ before ++ (left ++ (right ++ following ∷ []))
+followed_lists before left right following =
+    append_assoc (before ++ left) right (following ∷ []) ∙ append_assoc before left (right ++ following ∷ [])
 
 -- a list between two
 pub enclosed_list : {A : Type 0} (before part : List A) (first last : A)

@@ -41,15 +41,15 @@ drop-first source first rest from stands =
     sym (drop-drop (length first) from source) ∙ (ap (drop (length first)) stands ∙ drop-append_seam first rest)
 
 -- the tokens of two texts, one after the other
-pub there-then : Tokens → (source first second behind : List ℕ) (from : ℕ) (one other : List ExpressionSymbol)
-    → drop from source ≡ (first ++ second) ++ behind
-    → (drop from source ≡ first ++ (second ++ behind) → AreThere source from (from + length first) one)
-    → ((place : ℕ) → drop place source ≡ second ++ behind → AreThere source place (place + length second) other)
+pub there-then : Tokens → (source first second following : List ℕ) (from : ℕ) (one other : List ExpressionSymbol)
+    → drop from source ≡ (first ++ second) ++ following
+    → (drop from source ≡ first ++ (second ++ following) → AreThere source from (from + length first) one)
+    → ((place : ℕ) → drop place source ≡ second ++ following → AreThere source place (place + length second) other)
     → AreThere source from (from + length (first ++ second)) (one ++ other)
-there-then laws source first second behind from one other stands begins follows =
-    let apart = stands ∙ append_assoc first second behind in
+there-then laws source first second following from one other stands begins follows =
+    let apart = stands ∙ append_assoc first second following in
     let front = begins apart in
-    let back = follows (from + length first) (drop-first source first (second ++ behind) from apart) in
+    let back = follows (from + length first) (drop-first source first (second ++ following) from apart) in
     let ends : from + length first + length second ≡ from + length (first ++ second) = omega (arith, length-append first second) in
     record {
       lexemes = front.lexemes ++ back.lexemes;

@@ -17,12 +17,12 @@ joined-ends true set others = refl
 joined-ends false set others = refl
 
 -- the atom of the first set stands first, and what joins it to the others last
-pub parity-ends : (order : Order) (parity : Parity) (count behind : ℕ)
-    → acc_postfix (formula_of order parity (sets_left order count (suc (suc behind))))
-    ≡ atom_node parity (first_left order count (suc behind))
-    ∷ (acc_postfix (formula_of order parity (sets_left order count (suc behind))) ++ joining_node parity (first_left order count (suc behind)) ∷ [])
-parity-ends order parity count behind =
-    joined-ends (has_parity parity (first_left order count (suc behind))) (first_left order count (suc behind)) (formula_of order parity (sets_left order count (suc behind)))
+pub parity-ends : (order : Order) (parity : Parity) (count following : ℕ)
+    → acc_postfix (formula_of order parity (sets_left order count (suc (suc following))))
+    ≡ atom_node parity (first_left order count (suc following))
+    ∷ (acc_postfix (formula_of order parity (sets_left order count (suc following))) ++ joining_node parity (first_left order count (suc following)) ∷ [])
+parity-ends order parity count following =
+    joined-ends (has_parity parity (first_left order count (suc following))) (first_left order count (suc following)) (formula_of order parity (sets_left order count (suc following)))
 
 alone-node : (has : Bool) (set : ℕ) → acc_postfix (cond has (inf false set) (fin false set)) ≡ cond has (Inf false set) (Fin false set) ∷ []
 alone-node true set = refl
@@ -38,35 +38,35 @@ abbrev pub chain : Order → Parity → ℕ → ℕ → List AccNode
 chain order parity count left = acc_postfix (formula_of order parity (sets_left order count left))
 
 -- the ends of a formula with sets after its first one
-ends-at : (order : Order) (parity : Parity) (count behind fewer : ℕ) → suc fewer ≡ behind
-    → chain order parity count (suc behind)
-    ≡ atom_node parity (first_left order count behind) ∷ (chain order parity count behind ++ joining_node parity (first_left order count behind) ∷ [])
-ends-at order parity count behind fewer e =
+ends-at : (order : Order) (parity : Parity) (count following fewer : ℕ) → suc fewer ≡ following
+    → chain order parity count (suc following)
+    ≡ atom_node parity (first_left order count following) ∷ (chain order parity count following ++ joining_node parity (first_left order count following) ∷ [])
+ends-at order parity count following fewer e =
     subst (λ n. chain order parity count (suc n) ≡ atom_node parity (first_left order count n) ∷ (chain order parity count n ++ joining_node parity (first_left order count n) ∷ []))
     e (parity-ends order parity count fewer)
 
 -- without both ends, nodes are the formula of the sets after exactly if they were the formula
-pub chain-middle : (order : Order) (parity : Parity) (count behind fewer : ℕ) (rest others middle : List AccNode) (atom joining : AccNode)
-    → suc fewer ≡ behind → rest ≡ atom ∷ others → others ≡ middle ++ joining ∷ []
-    → atom ≡ atom_node parity (first_left order count behind) → joining ≡ joining_node parity (first_left order count behind)
-    → (rest ≡ chain order parity count (suc behind)) ↔ (middle ≡ chain order parity count (suc fewer))
-chain-middle order parity count behind fewer rest others middle atom joining e first last atom_is joining_is =
-    let ends = ends-at order parity count behind fewer e in
+pub chain-middle : (order : Order) (parity : Parity) (count following fewer : ℕ) (rest others middle : List AccNode) (atom joining : AccNode)
+    → suc fewer ≡ following → rest ≡ atom ∷ others → others ≡ middle ++ joining ∷ []
+    → atom ≡ atom_node parity (first_left order count following) → joining ≡ joining_node parity (first_left order count following)
+    → (rest ≡ chain order parity count (suc following)) ↔ (middle ≡ chain order parity count (suc fewer))
+chain-middle order parity count following fewer rest others middle atom joining e first last atom_is joining_is =
+    let ends = ends-at order parity count following fewer e in
     let shorter = ap (chain order parity count) e in (
       λ same.
-          let tails : middle ++ joining ∷ [] ≡ chain order parity count behind ++ joining ∷ [] = cc in
-          append_cancel_right middle (chain order parity count behind) (joining ∷ []) tails ∙ sym shorter,
+          let tails : middle ++ joining ∷ [] ≡ chain order parity count following ++ joining ∷ [] = cc in
+          append_cancel_right middle (chain order parity count following) (joining ∷ []) tails ∙ sym shorter,
       λ same. cc,
     )
 
 -- nodes without the last end are no formula
-pub chain-unended : (order : Order) (parity : Parity) (count behind fewer : ℕ) (rest others : List AccNode) (atom joining : AccNode)
-    → suc fewer ≡ behind → rest ≡ atom ∷ others → ((middle : List AccNode) → others ≡ middle ++ joining ∷ [] → ⊥)
-    → joining ≡ joining_node parity (first_left order count behind)
-    → rest ≡ chain order parity count (suc behind) → ⊥
-chain-unended order parity count behind fewer rest others atom joining e first unended joining_is same =
-    let ends = ends-at order parity count behind fewer e in
-    unended (chain order parity count behind) cc
+pub chain-unended : (order : Order) (parity : Parity) (count following fewer : ℕ) (rest others : List AccNode) (atom joining : AccNode)
+    → suc fewer ≡ following → rest ≡ atom ∷ others → ((middle : List AccNode) → others ≡ middle ++ joining ∷ [] → ⊥)
+    → joining ≡ joining_node parity (first_left order count following)
+    → rest ≡ chain order parity count (suc following) → ⊥
+chain-unended order parity count following fewer rest others atom joining e first unended joining_is same =
+    let ends = ends-at order parity count following fewer e in
+    unended (chain order parity count following) cc
 
 -- the ends of a generalized Büchi formula with more than one set
 buchi-ends : (set fewer : ℕ) → suc fewer ≡ set

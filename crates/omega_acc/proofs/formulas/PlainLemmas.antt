@@ -13,7 +13,7 @@ use Rattle.omega_acc.specs.Depth.{counted}
 use Rattle.omega_acc.specs.formula.Raw.{RawAccTree, atom, conjunction, constant, disjunction, group, raw_acc_depth}
 use Rattle.omega_acc.specs.private.layout.formula.Acceptance.{IsAcc, acc_postfix, acc_tree_of}
 use Rattle.omega_acc.specs.private.layout.Joins.{regrouped}
-use Rattle.omega_acc.specs.private.layout.formula.Plain.{alone, atom_plain, behind_nodes, depths_behind, plain_nodes, top_depth}
+use Rattle.omega_acc.specs.private.layout.formula.Plain.{alone, atom_plain, after_nodes, depths_after, plain_nodes, top_depth}
 use Rattle.omega_acc.specs.private.layout.formula.Raw.{atom_names, raw_acc_postfix}
 use Rattle.omega_acc.specs.declared.formula.AccNode.{AccNode}
 use Rattle.omega_acc.specs.declared.formula.AccNode.TheVariants as plain
@@ -45,27 +45,27 @@ atom-meant false true negated set = refl
 atom-meant false false negated set = refl
 
 -- nothing after nodes
-behind-none : (nodes : Option (List AccNode)) → behind_nodes nodes (Some []) ≡ nodes
-behind-none None = refl
-behind-none (Some nodes) = ap Some (append-nil nodes)
+following-none : (nodes : Option (List AccNode)) → after_nodes nodes (Some []) ≡ nodes
+following-none None = refl
+following-none (Some nodes) = ap Some (append-nil nodes)
 
-behind-joined : (operator : AccTree → AccTree → AccTree) (last : AccNode) (joins : (one other : AccTree) → acc_postfix (operator one other) ≡ acc_postfix one ++ (acc_postfix other ++ last ∷ []))
+following-joined : (operator : AccTree → AccTree → AccTree) (last : AccNode) (joins : (one other : AccTree) → acc_postfix (operator one other) ≡ acc_postfix one ++ (acc_postfix other ++ last ∷ []))
     (left right : Option AccTree) (more : Option (List AccNode))
-    → behind_nodes (meant_nodes left) (behind_nodes (meant_nodes right) (behind_nodes (Some (last ∷ [])) more)) ≡ behind_nodes (meant_nodes (both_meant operator left right)) more
-behind-joined operator last joins None right more = refl
-behind-joined operator last joins (Some left) None more = refl
-behind-joined operator last joins (Some left) (Some right) None = refl
-behind-joined operator last joins (Some left) (Some right) (Some rest) =
+    → after_nodes (meant_nodes left) (after_nodes (meant_nodes right) (after_nodes (Some (last ∷ [])) more)) ≡ after_nodes (meant_nodes (both_meant operator left right)) more
+following-joined operator last joins None right more = refl
+following-joined operator last joins (Some left) None more = refl
+following-joined operator last joins (Some left) (Some right) None = refl
+following-joined operator last joins (Some left) (Some right) (Some rest) =
     ap Some (sym (regrouped (acc_postfix left) (acc_postfix right) last rest) ∙ ap (λ nodes. nodes ++ rest) (sym (joins left right)))
 
 -- a formula's nodes without parentheses are those of what it means
 plain-postfix : (tree : RawAccTree) (names : List ℕ) (rest : List RawAccNode)
-    → plain_nodes (atom_names tree ++ names) (raw_acc_postfix tree ++ rest) ≡ behind_nodes (meant_nodes (acc_meant tree)) (plain_nodes names rest)
+    → plain_nodes (atom_names tree ++ names) (raw_acc_postfix tree ++ rest) ≡ after_nodes (meant_nodes (acc_meant tree)) (plain_nodes names rest)
 plain-postfix (constant value) names rest = refl
 plain-postfix (atom name negated set) names rest =
-    ap (λ front. behind_nodes (alone (atom_plain front negated set)) (plain_nodes (drop (length name) (name ++ names)) rest)) (take-append_seam name names)
-    ∙ (ap (λ back. behind_nodes (alone (atom_plain name negated set)) (plain_nodes back rest)) (drop-append_seam name names)
-    ∙ ap (λ nodes. behind_nodes nodes (plain_nodes names rest)) (atom-meant (bytes_eq name (codes "Inf")) (bytes_eq name (codes "Fin")) negated set))
+    ap (λ front. after_nodes (alone (atom_plain front negated set)) (plain_nodes (drop (length name) (name ++ names)) rest)) (take-append_seam name names)
+    ∙ (ap (λ back. after_nodes (alone (atom_plain name negated set)) (plain_nodes back rest)) (drop-append_seam name names)
+    ∙ ap (λ nodes. after_nodes nodes (plain_nodes names rest)) (atom-meant (bytes_eq name (codes "Inf")) (bytes_eq name (codes "Fin")) negated set))
 plain-postfix (group part) names rest =
     ap (plain_nodes (atom_names part ++ names)) (append_assoc (raw_acc_postfix part) (Group ∷ []) rest)
     ∙ plain-postfix part names (Group ∷ rest)
@@ -73,42 +73,42 @@ plain-postfix (conjunction left right) names rest =
     ap (λ more. plain_nodes more (raw_acc_postfix (conjunction left right) ++ rest)) (append_assoc (atom_names left) (atom_names right) names)
     ∙ (ap (plain_nodes (atom_names left ++ (atom_names right ++ names))) (regrouped (raw_acc_postfix left) (raw_acc_postfix right) And rest)
     ∙ (plain-postfix left (atom_names right ++ names) (raw_acc_postfix right ++ And ∷ rest)
-    ∙ (ap (behind_nodes (meant_nodes (acc_meant left))) (plain-postfix right names (And ∷ rest))
-    ∙ behind-joined acc.conjunction plain.And (λ one other. refl) (acc_meant left) (acc_meant right) (plain_nodes names rest))))
+    ∙ (ap (after_nodes (meant_nodes (acc_meant left))) (plain-postfix right names (And ∷ rest))
+    ∙ following-joined acc.conjunction plain.And (λ one other. refl) (acc_meant left) (acc_meant right) (plain_nodes names rest))))
 plain-postfix (disjunction left right) names rest =
     ap (λ more. plain_nodes more (raw_acc_postfix (disjunction left right) ++ rest)) (append_assoc (atom_names left) (atom_names right) names)
     ∙ (ap (plain_nodes (atom_names left ++ (atom_names right ++ names))) (regrouped (raw_acc_postfix left) (raw_acc_postfix right) Or rest)
     ∙ (plain-postfix left (atom_names right ++ names) (raw_acc_postfix right ++ Or ∷ rest)
-    ∙ (ap (behind_nodes (meant_nodes (acc_meant left))) (plain-postfix right names (Or ∷ rest))
-    ∙ behind-joined acc.disjunction plain.Or (λ one other. refl) (acc_meant left) (acc_meant right) (plain_nodes names rest))))
+    ∙ (ap (after_nodes (meant_nodes (acc_meant left))) (plain-postfix right names (Or ∷ rest))
+    ∙ following-joined acc.disjunction plain.Or (λ one other. refl) (acc_meant left) (acc_meant right) (plain_nodes names rest))))
 
 -- all of a formula's nodes
 pub plain-formula : (tree : RawAccTree) → plain_nodes (atom_names tree) (raw_acc_postfix tree) ≡ meant_nodes (acc_meant tree)
 plain-formula tree =
     ap (λ names. plain_nodes names (raw_acc_postfix tree)) (sym (append-nil (atom_names tree)))
     ∙ (ap (plain_nodes (atom_names tree ++ [])) (sym (append-nil (raw_acc_postfix tree)))
-    ∙ (plain-postfix tree [] [] ∙ behind-none (meant_nodes (acc_meant tree))))
+    ∙ (plain-postfix tree [] [] ∙ following-none (meant_nodes (acc_meant tree))))
 
 -- a formula's nodes leave its depth as it is counted
 depths-postfix : (tree : AccTree) (depths : List ℕ) (rest : List AccNode)
-    → depths_behind depths (acc_postfix tree ++ rest) ≡ depths_behind (counted (acc_depth tree) ∷ depths) rest
+    → depths_after depths (acc_postfix tree ++ rest) ≡ depths_after (counted (acc_depth tree) ∷ depths) rest
 depths-postfix (acc.constant value) depths rest = refl
 depths-postfix (acc.inf negated set) depths rest = refl
 depths-postfix (acc.fin negated set) depths rest = refl
 depths-postfix (acc.conjunction left right) depths rest =
     let joined : min (max (counted (acc_depth left)) (counted (acc_depth right)) + 1) 257 ≡ counted (max (acc_depth left) (acc_depth right) + 1) = omega arith in
-    ap (depths_behind depths) (regrouped (acc_postfix left) (acc_postfix right) plain.And rest)
+    ap (depths_after depths) (regrouped (acc_postfix left) (acc_postfix right) plain.And rest)
     ∙ (depths-postfix left depths (acc_postfix right ++ plain.And ∷ rest)
-    ∙ (depths-postfix right (counted (acc_depth left) ∷ depths) (plain.And ∷ rest) ∙ ap (λ deep. depths_behind (deep ∷ depths) rest) joined))
+    ∙ (depths-postfix right (counted (acc_depth left) ∷ depths) (plain.And ∷ rest) ∙ ap (λ deep. depths_after (deep ∷ depths) rest) joined))
 depths-postfix (acc.disjunction left right) depths rest =
     let joined : min (max (counted (acc_depth left)) (counted (acc_depth right)) + 1) 257 ≡ counted (max (acc_depth left) (acc_depth right) + 1) = omega arith in
-    ap (depths_behind depths) (regrouped (acc_postfix left) (acc_postfix right) plain.Or rest)
+    ap (depths_after depths) (regrouped (acc_postfix left) (acc_postfix right) plain.Or rest)
     ∙ (depths-postfix left depths (acc_postfix right ++ plain.Or ∷ rest)
-    ∙ (depths-postfix right (counted (acc_depth left) ∷ depths) (plain.Or ∷ rest) ∙ ap (λ deep. depths_behind (deep ∷ depths) rest) joined))
+    ∙ (depths-postfix right (counted (acc_depth left) ∷ depths) (plain.Or ∷ rest) ∙ ap (λ deep. depths_after (deep ∷ depths) rest) joined))
 
 -- a formula's nodes alone leave its depth alone
-pub depths-formula : (tree : AccTree) → depths_behind [] (acc_postfix tree) ≡ counted (acc_depth tree) ∷ []
-depths-formula tree = ap (depths_behind []) (sym (append-nil (acc_postfix tree))) ∙ depths-postfix tree [] []
+pub depths-formula : (tree : AccTree) → depths_after [] (acc_postfix tree) ≡ counted (acc_depth tree) ∷ []
+depths-formula tree = ap (depths_after []) (sym (append-nil (acc_postfix tree))) ∙ depths-postfix tree [] []
 
 -- what a formula means is no deeper than the formula
 abbrev IsNoDeeper : Option AccTree → ℕ → Type 0
@@ -183,11 +183,11 @@ atom-unmeant raw refusals.Io is = is
 
 -- the nodes of a meaning that is not too deep are a formula
 pub IsAcc-plain : (raw : RawAccTree) (nodes : List AccNode) (deep : ℕ) → plain_nodes (atom_names raw) (raw_acc_postfix raw) ≡ Some nodes
-    → deep ≡ top_depth (depths_behind [] nodes) → raw_acc_depth raw ≤ most_depth → IsAcc nodes deep
+    → deep ≡ top_depth (depths_after [] nodes) → raw_acc_depth raw ≤ most_depth → IsAcc nodes deep
 IsAcc-plain raw nodes deep is counts shallow =
     let plain = IsPlain-of raw nodes is in
     let within : acc_depth plain.tree ≤ raw_acc_depth raw = subst (λ meant. IsNoDeeper meant (raw_acc_depth raw)) plain.is (no-deeper raw) in
-    let counted_is : deep ≡ counted (acc_depth plain.tree) = counts ∙ ap (λ all. top_depth (depths_behind [] all)) plain.flat ∙ ap top_depth (depths-formula plain.tree) in
+    let counted_is : deep ≡ counted (acc_depth plain.tree) = counts ∙ ap (λ all. top_depth (depths_after [] all)) plain.flat ∙ ap top_depth (depths-formula plain.tree) in
     IsAcc-of plain.tree nodes deep plain.flat (omega (arith, within, counted_is, shallow)) (omega (arith, within, counted_is, shallow))
 
 -- and are what is meant

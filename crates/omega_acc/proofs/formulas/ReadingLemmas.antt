@@ -7,7 +7,7 @@ use Rattle.omega_acc.specs.declared.pending.Pending.{Pending}
 use Rattle.omega_acc.specs.declared.pending.Pending.TheVariants.{And, Not, Open, Or}
 use Rattle.omega_acc.specs.declared.formula.raw.RawAccNode.{RawAccNode}
 use Rattle.omega_acc.specs.declared.formula.raw.RawAccNode.TheVariants as node
-use Rattle.omega_acc.specs.private.layout.formula.Building.{Before, FitsBehind, Has, IsOpenBefore, Wants, anded, before_names, before_nodes, before_pending, before_symbols, capped, opened, ored, start}
+use Rattle.omega_acc.specs.private.layout.formula.Building.{Before, FitsAfter, Has, IsOpenBefore, Wants, anded, before_names, before_nodes, before_pending, before_symbols, capped, opened, ored, start}
 use Rattle.omega_acc.specs.private.layout.Passing.{NextIsNot, Passed, PassesOne}
 use Rattle.omega_acc.specs.private.layout.formula.Raw.{atom_names, raw_acc_postfix}
 use Rattle.omega_acc.proofs.expressions.PassingLemmas.{enclosed_list, end_others, followed_lists, joined_lists, passed_next, passed_same, passed_then}
@@ -61,7 +61,7 @@ leaf_capped (disjunction left right) leaf = absurd leaf
 leaf_capped (group part) leaf = absurd leaf
 
 -- a unary part may stand anywhere
-fits_unary : (before : Before) → FitsBehind unary before
+fits_unary : (before : Before) → FitsAfter unary before
 fits_unary start = tt
 fits_unary (opened before) = tt
 fits_unary (anded before left) = tt
@@ -73,7 +73,7 @@ pub has_leaf : (whole middle left : List (Lexeme HoaKind)) (lexeme : Lexeme HoaK
     → IsLeaf tree → old ≡ lexeme ∷ middle → formula_symbols tree ≡ expression_symbol_of lexeme ∷ more → Passed middle more left
     → all_nodes ≡ nodes ++ raw_acc_postfix tree → all_names ≡ names ++ atom_names tree → all_pending ≡ pending
     → Wants whole old nodes names pending → Has unary whole left 1 all_nodes all_names all_pending
-has_leaf whole middle left lexeme nodes names pending tree more all_nodes all_names all_pending old leaf next spells behind flat named pends wants = record {
+has_leaf whole middle left lexeme nodes names pending tree more all_nodes all_names all_pending old leaf next spells following flat named pends wants = record {
   before = wants.before;
   part = tree;
   is = leaf_is tree unary leaf;
@@ -84,7 +84,7 @@ has_leaf whole middle left lexeme nodes names pending tree more all_nodes all_na
   named = named ∙ ap (λ front. front ++ atom_names tree) wants.named;
   pends = pends ∙ wants.pends;
   passed = passed_same whole left _ _
-      (passed_then whole middle left _ _ (passed_next whole old middle lexeme _ _ _ wants.passed next refl refl) behind)
+      (passed_then whole middle left _ _ (passed_next whole old middle lexeme _ _ _ wants.passed next refl refl) following)
       (ap (λ symbols. before_symbols wants.before ++ symbols) spells ∙ sym (append_assoc (before_symbols wants.before) (expression_symbol_of lexeme ∷ []) more));
 }
 
@@ -163,13 +163,13 @@ conjunctive_is (group part) is = is
 conjunctive_is (conjunction left right) is = is
 conjunctive_is (disjunction left right) is = absurd is.0
 
-fits_loose : (before : Before) → IsLoose (before_pending before) → FitsBehind conjunctive before
+fits_loose : (before : Before) → IsLoose (before_pending before) → FitsAfter conjunctive before
 fits_loose start loose = tt
 fits_loose (opened before) loose = tt
 fits_loose (anded before left) loose = loose
 fits_loose (ored before left) loose = tt
 
-fits_free : (before : Before) → IsFree (before_pending before) → FitsBehind disjunctive before
+fits_free : (before : Before) → IsFree (before_pending before) → FitsAfter disjunctive before
 fits_free start free = tt
 fits_free (opened before) free = tt
 fits_free (anded before left) free = free
@@ -208,7 +208,7 @@ has_free whole left depth nodes names pending has free = record {
 }
 
 -- no `!` or `&` waits for an and-expression
-loose_of : (before : Before) → FitsBehind conjunctive before → IsLoose (before_pending before)
+loose_of : (before : Before) → FitsAfter conjunctive before → IsLoose (before_pending before)
 loose_of start fits = tt
 loose_of (opened before) fits = tt
 loose_of (anded before left) fits = fits
@@ -219,7 +219,7 @@ pub has_is_loose : (whole left : List (Lexeme HoaKind)) (depth : ℕ) (nodes : L
 has_is_loose whole left depth nodes names pending has = subst IsLoose (sym has.pends) (loose_of has.before has.fits)
 
 -- only a parenthesis waits for an or-expression
-free_of : (before : Before) → FitsBehind disjunctive before → IsFree (before_pending before)
+free_of : (before : Before) → FitsAfter disjunctive before → IsFree (before_pending before)
 free_of start fits = tt
 free_of (opened before) fits = tt
 free_of (anded before left) fits = fits

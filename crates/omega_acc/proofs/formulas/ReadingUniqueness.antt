@@ -5,7 +5,7 @@ use Rattle.std.proofs.Math.Seq.{drop-append_seam}
 use Rattle.omega_acc.specs.formula.Raw.{RawAccTree, atom, conjunction, constant, disjunction, group}
 use Rattle.omega_acc.specs.formula.Reading.{IsAccOf, ReadsAcc, formula_symbols}
 use Rattle.omega_acc.specs.Symbols.{EndsThere, IsNoOperator, ExpressionSymbol, conjunctive, disjunctive, number, seen_as, sign, expression_symbol_of, unary, word}
-use Rattle.omega_acc.specs.private.layout.formula.Building.{Before, FitsBehind, anded, opened, ored, start}
+use Rattle.omega_acc.specs.private.layout.formula.Building.{Before, FitsAfter, anded, opened, ored, start}
 use Rattle.omega_text.specs.Lexeme.{Lexeme}
 use Rattle.omega_text.specs.declared.hoa.kind.HoaKind.{HoaKind}
 use Rattle.omega_text.specs.declared.hoa.kind.HoaKind.TheVariants as kind
@@ -85,40 +85,40 @@ steps-whole part [] = refl
 steps-whole part (symbol ∷ symbols) = steps-whole part symbols
 
 -- a unary part is read as far as it is bound
-bound-fits : (before : Before) (part : RawAccTree) → FitsBehind conjunctive before → bound before part ≡ had before part
+bound-fits : (before : Before) (part : RawAccTree) → FitsAfter conjunctive before → bound before part ≡ had before part
 bound-fits start part fits = refl
 bound-fits (opened before) part fits = refl
 bound-fits (anded before left) part fits = absurd fits
 bound-fits (ored before left) part fits = refl
 
-fits-outside : (before : Before) → FitsBehind disjunctive before → outside before ≡ before
+fits-outside : (before : Before) → FitsAfter disjunctive before → outside before ≡ before
 fits-outside start fits = refl
 fits-outside (opened before) fits = refl
 fits-outside (anded before left) fits = absurd fits
 fits-outside (ored before left) fits = absurd fits
 
-fits-joined : (before : Before) (part : RawAccTree) → FitsBehind disjunctive before → joined before part ≡ part
+fits-joined : (before : Before) (part : RawAccTree) → FitsAfter disjunctive before → joined before part ≡ part
 fits-joined start part fits = refl
 fits-joined (opened before) part fits = refl
 fits-joined (anded before left) part fits = absurd fits
 fits-joined (ored before left) part fits = absurd fits
 
-fits-more : (before : Before) → FitsBehind disjunctive before → FitsBehind conjunctive before
+fits-more : (before : Before) → FitsAfter disjunctive before → FitsAfter conjunctive before
 fits-more start fits = tt
 fits-more (opened before) fits = tt
 fits-more (anded before left) fits = fits
 fits-more (ored before left) fits = absurd fits
 
 -- an or-expression is read: what stands last of it, after what stands before that
-pub record IsReadBehind (before : Before) (part : RawAccTree) (stage : Stage) : Type 0 where
+pub record IsReadAfter (before : Before) (part : RawAccTree) (stage : Stage) : Type 0 where
   pub inner : Before
   pub last : RawAccTree
   pub is : stage ≡ had inner last
   pub around : outside inner ≡ before
   pub all : joined inner last ≡ part
 
-behind-alone : (before : Before) (part : RawAccTree) (stage : Stage) → FitsBehind disjunctive before → stage ≡ had before part → IsReadBehind before part stage
-behind-alone before part stage fits is = record {
+following-alone : (before : Before) (part : RawAccTree) (stage : Stage) → FitsAfter disjunctive before → stage ≡ had before part → IsReadAfter before part stage
+following-alone before part stage fits is = record {
   inner = before;
   last = part;
   is = is;
@@ -141,7 +141,7 @@ mutual
       ∙ (ap (λ stage. step stage (sign kind.CloseParenthesis)) read.is
       ∙ (ap (λ outer. closed outer (joined read.inner read.last)) read.around ∙ ap (λ more. bound before (group more)) read.all))
 
-  steps-conjunctive : (part : RawAccTree) (before : Before) → IsAccOf conjunctive part → FitsBehind conjunctive before → steps (wanted before) (formula_symbols part) ≡ had before part
+  steps-conjunctive : (part : RawAccTree) (before : Before) → IsAccOf conjunctive part → FitsAfter conjunctive before → steps (wanted before) (formula_symbols part) ≡ had before part
   steps-conjunctive (constant true) before is fits = bound-fits before _ fits
   steps-conjunctive (constant false) before is fits = bound-fits before _ fits
   steps-conjunctive (atom text true set) before is fits = bound-fits before _ fits
@@ -156,18 +156,18 @@ mutual
       ∙ (ap (λ stage. step stage (sign kind.CloseParenthesis)) read.is
       ∙ (ap (λ outer. closed outer (joined read.inner read.last)) read.around ∙ (ap (λ more. bound before (group more)) read.all ∙ bound-fits before (group part) fits)))
 
-  steps-disjunctive : (part : RawAccTree) (before : Before) → IsAccOf disjunctive part → FitsBehind disjunctive before → IsReadBehind before part (steps (wanted before) (formula_symbols part))
-  steps-disjunctive (constant true) before is fits = behind-alone before _ _ fits (bound-fits before _ (fits-more before fits))
-  steps-disjunctive (constant false) before is fits = behind-alone before _ _ fits (bound-fits before _ (fits-more before fits))
-  steps-disjunctive (atom text true set) before is fits = behind-alone before _ _ fits (bound-fits before _ (fits-more before fits))
-  steps-disjunctive (atom text false set) before is fits = behind-alone before _ _ fits (bound-fits before _ (fits-more before fits))
+  steps-disjunctive : (part : RawAccTree) (before : Before) → IsAccOf disjunctive part → FitsAfter disjunctive before → IsReadAfter before part (steps (wanted before) (formula_symbols part))
+  steps-disjunctive (constant true) before is fits = following-alone before _ _ fits (bound-fits before _ (fits-more before fits))
+  steps-disjunctive (constant false) before is fits = following-alone before _ _ fits (bound-fits before _ (fits-more before fits))
+  steps-disjunctive (atom text true set) before is fits = following-alone before _ _ fits (bound-fits before _ (fits-more before fits))
+  steps-disjunctive (atom text false set) before is fits = following-alone before _ _ fits (bound-fits before _ (fits-more before fits))
   steps-disjunctive (conjunction left right) before is fits =
-      behind-alone before _ _ fits
+      following-alone before _ _ fits
       (steps-append (wanted before) (formula_symbols left) (sign kind.And ∷ formula_symbols right)
       ∙ (ap (λ stage. steps stage (sign kind.And ∷ formula_symbols right)) (steps-conjunctive left before is.1.0 (fits-more before fits)) ∙ steps-unary right (anded before left) is.1.1))
   steps-disjunctive (group part) before is fits =
       let read = steps-disjunctive part (opened before) is tt in
-      behind-alone before _ _ fits
+      following-alone before _ _ fits
       (steps-append (wanted (opened before)) (formula_symbols part) (sign kind.CloseParenthesis ∷ [])
       ∙ (ap (λ stage. step stage (sign kind.CloseParenthesis)) read.is
       ∙ (ap (λ outer. closed outer (joined read.inner read.last)) read.around ∙ (ap (λ more. bound before (group more)) read.all ∙ bound-fits before (group part) (fits-more before fits)))))

@@ -139,17 +139,17 @@ none_wanted whole left nodes names pending wants none tree rest reads =
 
 unclosed_before : (before : Before) (whole left : List (Lexeme HoaKind)) (rest : List Pending) (part : RawAccTree)
     → Open ∷ rest ≡ before_pending before → Passed whole (before_symbols before ++ formula_symbols part) left → GoOnNone left → ReadsNoAcc whole
-unclosed_before start whole left rest part pends passed none tree behind reads = absurd (subst (λ p. IsParenthesis (top p)) pends tt)
-unclosed_before (anded before other) whole left rest part pends passed none tree behind reads = absurd (subst (λ p. IsParenthesis (top p)) pends tt)
-unclosed_before (ored before other) whole left rest part pends passed none tree behind reads = absurd (subst (λ p. IsParenthesis (top p)) pends tt)
-unclosed_before (opened before) whole left rest part pends passed none tree behind reads =
+unclosed_before start whole left rest part pends passed none tree following reads = absurd (subst (λ p. IsParenthesis (top p)) pends tt)
+unclosed_before (anded before other) whole left rest part pends passed none tree following reads = absurd (subst (λ p. IsParenthesis (top p)) pends tt)
+unclosed_before (ored before other) whole left rest part pends passed none tree following reads = absurd (subst (λ p. IsParenthesis (top p)) pends tt)
+unclosed_before (opened before) whole left rest part pends passed none tree following reads =
     not-through-had left (opens before) none
     (subst IsThrough
     (run-passed whole left (before_symbols (opened before) ++ formula_symbols part) passed
     ∙ ap (λ state. run state (map expression_symbol_of left))
     (run-append (wanted 0) (before_symbols (opened before)) (formula_symbols part)
     ∙ (ap (λ state. run state (formula_symbols part)) (run-before (opened before)) ∙ run-formula (suc (opens before)) part)))
-    (through-reads whole tree behind reads))
+    (through-reads whole tree following reads))
 
 -- where a parenthesis is open and neither an operator nor `)` follows, nothing is read
 pub none_closed : (whole left : List (Lexeme HoaKind)) (depth : ℕ) (nodes : List RawAccNode) (names : List ℕ) (rest : List Pending)
@@ -236,9 +236,9 @@ IsStuck-numbered (lexeme ∷ rest) not count through =
     failed-stuck (numbered count) rest lexeme (stuck-numbered lexeme.kind count lexeme.value lexeme.text not) through
 
 -- what is stuck after a token is stuck before it
-pub IsStuck-behind : (old new : List (Lexeme HoaKind)) (lexeme : Lexeme HoaKind) (symbol : ExpressionSymbol) (before behind : ℕ → NameState)
-    → old ≡ lexeme ∷ new → expression_symbol_of lexeme ≡ symbol → ((count : ℕ) → go (before count) symbol ≡ behind count) → IsStuck behind new → IsStuck before old
-IsStuck-behind old new lexeme symbol before behind next is goes stuck count through =
+pub IsStuck-following : (old new : List (Lexeme HoaKind)) (lexeme : Lexeme HoaKind) (symbol : ExpressionSymbol) (before following : ℕ → NameState)
+    → old ≡ lexeme ∷ new → expression_symbol_of lexeme ≡ symbol → ((count : ℕ) → go (before count) symbol ≡ following count) → IsStuck following new → IsStuck before old
+IsStuck-following old new lexeme symbol before following next is goes stuck count through =
     stuck count
     (subst IsThrough
     (ap (λ tokens. run (before count) (map expression_symbol_of tokens)) next

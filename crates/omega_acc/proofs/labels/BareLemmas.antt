@@ -34,8 +34,8 @@ none-before : (nodes rest : List LabelNode) → list_any is_alias (nodes ++ rest
 none-before nodes rest none = or-left (list_any is_alias nodes) (list_any is_alias rest) (sym (list_any-append is_alias nodes rest) ∙ none)
 
 -- a back without aliases
-none-behind : (nodes rest : List LabelNode) → list_any is_alias (nodes ++ rest) ≡ false → list_any is_alias rest ≡ false
-none-behind nodes rest none = or-right (list_any is_alias nodes) (list_any is_alias rest) (sym (list_any-append is_alias nodes rest) ∙ none)
+none-following : (nodes rest : List LabelNode) → list_any is_alias (nodes ++ rest) ≡ false → list_any is_alias rest ≡ false
+none-following nodes rest none = or-right (list_any is_alias nodes) (list_any is_alias rest) (sym (list_any-append is_alias nodes rest) ∙ none)
 
 -- it means itself without parentheses, as deep as it is
 replaced-bare : (entries : List Entry) (tree : RawLabelTree) → list_any is_alias (raw_postfix tree) ≡ false
@@ -50,11 +50,11 @@ replaced-bare entries (group part) none =
 replaced-bare entries (conjunction left right) none =
     ap (λ part. both label.conjunction part (replaced entries right)) (replaced-bare entries left (none-before (raw_postfix left) (raw_postfix right ++ And ∷ []) none))
     ∙ ap (both label.conjunction (Some (record { tree = bare left; depth = raw_depth left })))
-    (replaced-bare entries right (none-before (raw_postfix right) (And ∷ []) (none-behind (raw_postfix left) (raw_postfix right ++ And ∷ []) none)))
+    (replaced-bare entries right (none-before (raw_postfix right) (And ∷ []) (none-following (raw_postfix left) (raw_postfix right ++ And ∷ []) none)))
 replaced-bare entries (disjunction left right) none =
     ap (λ part. both label.disjunction part (replaced entries right)) (replaced-bare entries left (none-before (raw_postfix left) (raw_postfix right ++ Or ∷ []) none))
     ∙ ap (both label.disjunction (Some (record { tree = bare left; depth = raw_depth left })))
-    (replaced-bare entries right (none-before (raw_postfix right) (Or ∷ []) (none-behind (raw_postfix left) (raw_postfix right ++ Or ∷ []) none)))
+    (replaced-bare entries right (none-before (raw_postfix right) (Or ∷ []) (none-following (raw_postfix left) (raw_postfix right ++ Or ∷ []) none)))
 
 -- nodes and others are counted together
 count-append : (nodes rest : List LabelNode) → count_by is_bare (nodes ++ rest) ≡ count_by is_bare nodes + count_by is_bare rest
@@ -106,12 +106,12 @@ filter-bare (conjunction left right) none =
     filter-join (raw_postfix left) (raw_postfix right) And refl
     ∙ (ap (λ front. front ++ (filter is_bare (raw_postfix right) ++ And ∷ [])) (filter-bare left (none-before (raw_postfix left) (raw_postfix right ++ And ∷ []) none))
     ∙ ap (λ back. postfix (bare left) ++ (back ++ And ∷ []))
-    (filter-bare right (none-before (raw_postfix right) (And ∷ []) (none-behind (raw_postfix left) (raw_postfix right ++ And ∷ []) none))))
+    (filter-bare right (none-before (raw_postfix right) (And ∷ []) (none-following (raw_postfix left) (raw_postfix right ++ And ∷ []) none))))
 filter-bare (disjunction left right) none =
     filter-join (raw_postfix left) (raw_postfix right) Or refl
     ∙ (ap (λ front. front ++ (filter is_bare (raw_postfix right) ++ Or ∷ [])) (filter-bare left (none-before (raw_postfix left) (raw_postfix right ++ Or ∷ []) none))
     ∙ ap (λ back. postfix (bare left) ++ (back ++ Or ∷ []))
-    (filter-bare right (none-before (raw_postfix right) (Or ∷ []) (none-behind (raw_postfix left) (raw_postfix right ++ Or ∷ []) none))))
+    (filter-bare right (none-before (raw_postfix right) (Or ∷ []) (none-following (raw_postfix left) (raw_postfix right ++ Or ∷ []) none))))
 
 -- without its parentheses it is no deeper
 depth-bare : (tree : RawLabelTree) → label_depth (bare tree) ≤ raw_depth tree

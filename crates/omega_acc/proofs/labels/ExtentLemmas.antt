@@ -5,7 +5,7 @@ use Rattle.omega_acc.specs.label.Expanding.{Entry, Meaning, both, in_parentheses
 use Rattle.omega_acc.specs.label.Label.{LabelTree, label_size}
 use Rattle.omega_acc.specs.label.Label as label
 use Rattle.omega_acc.specs.label.Raw.{RawLabelTree, alias, conjunction, constant, disjunction, group, negation, proposition}
-use Rattle.omega_acc.specs.private.layout.label.Extents.{atom_extent, both_extents, deeper_extent, extent_named, extent_of, extents_behind, negated_extent}
+use Rattle.omega_acc.specs.private.layout.label.Extents.{atom_extent, both_extents, deeper_extent, extent_named, extent_of, extents_after, negated_extent}
 use Rattle.omega_acc.specs.private.layout.Joins.{regrouped}
 use Rattle.omega_acc.specs.private.layout.label.Raw.{alias_names, raw_postfix}
 use Rattle.omega_acc.specs.declared.label.extents.Extent.{Extent}
@@ -23,29 +23,29 @@ measured named (disjunction left right) = both_extents (measured named left) (me
 measured named (group part) = option_map deeper_extent (measured named part)
 
 -- a label's nodes leave its extent
-extents_behind-postfix : (named : List ℕ → Option Extent) (tree : RawLabelTree) (stack : List (Option Extent)) (names : List ℕ) (rest : List LabelNode)
-    → extents_behind named stack (alias_names tree ++ names) (raw_postfix tree ++ rest) ≡ extents_behind named (measured named tree ∷ stack) names rest
-extents_behind-postfix named (constant value) stack names rest = refl
-extents_behind-postfix named (proposition number) stack names rest = refl
-extents_behind-postfix named (alias name) stack names rest =
-    ap (λ front. extents_behind named (option_map deeper_extent (named front) ∷ stack) (drop (length name) (name ++ names)) rest) (take-append_seam name names)
-    ∙ ap (λ back. extents_behind named (option_map deeper_extent (named name) ∷ stack) back rest) (drop-append_seam name names)
-extents_behind-postfix named (negation part) stack names rest =
-    ap (extents_behind named stack (alias_names part ++ names)) (append_assoc (raw_postfix part) (Not ∷ []) rest)
-    ∙ extents_behind-postfix named part stack names (Not ∷ rest)
-extents_behind-postfix named (group part) stack names rest =
-    ap (extents_behind named stack (alias_names part ++ names)) (append_assoc (raw_postfix part) (Group ∷ []) rest)
-    ∙ extents_behind-postfix named part stack names (Group ∷ rest)
-extents_behind-postfix named (conjunction left right) stack names rest =
-    ap (λ more. extents_behind named stack more (raw_postfix (conjunction left right) ++ rest)) (append_assoc (alias_names left) (alias_names right) names)
-    ∙ (ap (extents_behind named stack (alias_names left ++ (alias_names right ++ names))) (regrouped (raw_postfix left) (raw_postfix right) And rest)
-    ∙ (extents_behind-postfix named left stack (alias_names right ++ names) (raw_postfix right ++ And ∷ rest)
-    ∙ extents_behind-postfix named right (measured named left ∷ stack) names (And ∷ rest)))
-extents_behind-postfix named (disjunction left right) stack names rest =
-    ap (λ more. extents_behind named stack more (raw_postfix (disjunction left right) ++ rest)) (append_assoc (alias_names left) (alias_names right) names)
-    ∙ (ap (extents_behind named stack (alias_names left ++ (alias_names right ++ names))) (regrouped (raw_postfix left) (raw_postfix right) Or rest)
-    ∙ (extents_behind-postfix named left stack (alias_names right ++ names) (raw_postfix right ++ Or ∷ rest)
-    ∙ extents_behind-postfix named right (measured named left ∷ stack) names (Or ∷ rest)))
+extents_after-postfix : (named : List ℕ → Option Extent) (tree : RawLabelTree) (stack : List (Option Extent)) (names : List ℕ) (rest : List LabelNode)
+    → extents_after named stack (alias_names tree ++ names) (raw_postfix tree ++ rest) ≡ extents_after named (measured named tree ∷ stack) names rest
+extents_after-postfix named (constant value) stack names rest = refl
+extents_after-postfix named (proposition number) stack names rest = refl
+extents_after-postfix named (alias name) stack names rest =
+    ap (λ front. extents_after named (option_map deeper_extent (named front) ∷ stack) (drop (length name) (name ++ names)) rest) (take-append_seam name names)
+    ∙ ap (λ back. extents_after named (option_map deeper_extent (named name) ∷ stack) back rest) (drop-append_seam name names)
+extents_after-postfix named (negation part) stack names rest =
+    ap (extents_after named stack (alias_names part ++ names)) (append_assoc (raw_postfix part) (Not ∷ []) rest)
+    ∙ extents_after-postfix named part stack names (Not ∷ rest)
+extents_after-postfix named (group part) stack names rest =
+    ap (extents_after named stack (alias_names part ++ names)) (append_assoc (raw_postfix part) (Group ∷ []) rest)
+    ∙ extents_after-postfix named part stack names (Group ∷ rest)
+extents_after-postfix named (conjunction left right) stack names rest =
+    ap (λ more. extents_after named stack more (raw_postfix (conjunction left right) ++ rest)) (append_assoc (alias_names left) (alias_names right) names)
+    ∙ (ap (extents_after named stack (alias_names left ++ (alias_names right ++ names))) (regrouped (raw_postfix left) (raw_postfix right) And rest)
+    ∙ (extents_after-postfix named left stack (alias_names right ++ names) (raw_postfix right ++ And ∷ rest)
+    ∙ extents_after-postfix named right (measured named left ∷ stack) names (And ∷ rest)))
+extents_after-postfix named (disjunction left right) stack names rest =
+    ap (λ more. extents_after named stack more (raw_postfix (disjunction left right) ++ rest)) (append_assoc (alias_names left) (alias_names right) names)
+    ∙ (ap (extents_after named stack (alias_names left ++ (alias_names right ++ names))) (regrouped (raw_postfix left) (raw_postfix right) Or rest)
+    ∙ (extents_after-postfix named left stack (alias_names right ++ names) (raw_postfix right ++ Or ∷ rest)
+    ∙ extents_after-postfix named right (measured named left ∷ stack) names (Or ∷ rest)))
 
 abbrev extent : ℕ → ℕ → Option Extent
 extent depth size = Some (record { depth = depth; size = size })
@@ -90,9 +90,9 @@ measured-replaced entries (disjunction left right) =
     ∙ disjunction-extent (replaced entries left) (replaced entries right))
 
 -- a label's nodes and names alone leave the extent of its meaning alone
-pub extents_behind-label : (entries : List Entry) (tree : RawLabelTree)
-    → extents_behind (extent_named entries) [] (alias_names tree) (raw_postfix tree) ≡ option_map extent_of (replaced entries tree) ∷ []
-extents_behind-label entries tree =
-    ap (λ names. extents_behind (extent_named entries) [] names (raw_postfix tree)) (sym (append-nil (alias_names tree)))
-    ∙ (ap (extents_behind (extent_named entries) [] (alias_names tree ++ [])) (sym (append-nil (raw_postfix tree)))
-    ∙ (extents_behind-postfix (extent_named entries) tree [] [] [] ∙ ap (λ part. part ∷ []) (measured-replaced entries tree)))
+pub extents_after-label : (entries : List Entry) (tree : RawLabelTree)
+    → extents_after (extent_named entries) [] (alias_names tree) (raw_postfix tree) ≡ option_map extent_of (replaced entries tree) ∷ []
+extents_after-label entries tree =
+    ap (λ names. extents_after (extent_named entries) [] names (raw_postfix tree)) (sym (append-nil (alias_names tree)))
+    ∙ (ap (extents_after (extent_named entries) [] (alias_names tree ++ [])) (sym (append-nil (raw_postfix tree)))
+    ∙ (extents_after-postfix (extent_named entries) tree [] [] [] ∙ ap (λ part. part ∷ []) (measured-replaced entries tree)))

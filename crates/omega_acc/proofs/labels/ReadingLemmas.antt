@@ -8,7 +8,7 @@ use Rattle.omega_acc.specs.declared.pending.Pending.{Pending}
 use Rattle.omega_acc.specs.declared.pending.Pending.TheVariants.{And, Not, Open, Or}
 use Rattle.omega_acc.specs.declared.label.LabelNode.{LabelNode}
 use Rattle.omega_acc.specs.declared.label.LabelNode.TheVariants as node
-use Rattle.omega_acc.specs.private.layout.label.Building.{Before, FitsBehind, Has, IsOpenBefore, Wants, anded, before_names, before_nodes, before_pending, before_symbols, capped, denied, literal, literal_depth, opened, ored, start}
+use Rattle.omega_acc.specs.private.layout.label.Building.{Before, FitsAfter, Has, IsOpenBefore, Wants, anded, before_names, before_nodes, before_pending, before_symbols, capped, denied, literal, literal_depth, opened, ored, start}
 use Rattle.omega_acc.specs.private.layout.Passing.{NextIsNot, Passed, PassesNumber, PassesOne}
 use Rattle.omega_acc.specs.private.layout.label.Raw.{alias_names, raw_postfix}
 use Rattle.omega_acc.proofs.expressions.PassingLemmas.{GoOnNone, GoesOnNone, enclosed_list, end_others, followed_lists, go_on_others, joined_lists, passed_next, passed_same}
@@ -81,7 +81,7 @@ atom_capped tree symbol (numbered value) = refl
 atom_capped tree symbol (called text) = refl
 
 -- a unary part may stand anywhere
-fits_unary : (before : Before) → FitsBehind unary before
+fits_unary : (before : Before) → FitsAfter unary before
 fits_unary start = tt
 fits_unary (opened before) = tt
 fits_unary (denied before) = tt
@@ -217,14 +217,14 @@ conjunctive_is (group part) is = is
 conjunctive_is (conjunction left right) is = is
 conjunctive_is (disjunction left right) is = absurd is.0
 
-fits_loose : (before : Before) → IsLoose (before_pending before) → FitsBehind conjunctive before
+fits_loose : (before : Before) → IsLoose (before_pending before) → FitsAfter conjunctive before
 fits_loose start loose = tt
 fits_loose (opened before) loose = tt
 fits_loose (denied before) loose = loose
 fits_loose (anded before left) loose = loose
 fits_loose (ored before left) loose = tt
 
-fits_free : (before : Before) → IsFree (before_pending before) → FitsBehind disjunctive before
+fits_free : (before : Before) → IsFree (before_pending before) → FitsAfter disjunctive before
 fits_free start free = tt
 fits_free (opened before) free = tt
 fits_free (denied before) free = free
@@ -264,7 +264,7 @@ has_free whole left depth nodes names pending has free = record {
 }
 
 -- no `!` or `&` waits for an and-expression
-loose_of : (before : Before) → FitsBehind conjunctive before → IsLoose (before_pending before)
+loose_of : (before : Before) → FitsAfter conjunctive before → IsLoose (before_pending before)
 loose_of start fits = tt
 loose_of (opened before) fits = tt
 loose_of (denied before) fits = fits
@@ -276,7 +276,7 @@ pub has_is_loose : (whole left : List (Lexeme HoaKind)) (depth : ℕ) (nodes : L
 has_is_loose whole left depth nodes names pending has = subst IsLoose (sym has.pends) (loose_of has.before has.fits)
 
 -- only a parenthesis waits for an or-expression
-free_of : (before : Before) → FitsBehind disjunctive before → IsFree (before_pending before)
+free_of : (before : Before) → FitsAfter disjunctive before → IsFree (before_pending before)
 free_of start fits = tt
 free_of (opened before) fits = tt
 free_of (denied before) fits = fits
@@ -536,18 +536,18 @@ none_wanted whole left nodes names pending wants none tree rest reads =
 
 unclosed_before : (before : Before) (whole left : List (Lexeme HoaKind)) (rest : List Pending) (part : RawLabelTree)
     → Open ∷ rest ≡ before_pending before → Passed whole (before_symbols before ++ label_symbols part) left → GoOnNone left → ReadsNoLabel whole
-unclosed_before start whole left rest part pends passed none tree behind reads = absurd (subst (λ p. IsParenthesis (top p)) pends tt)
-unclosed_before (denied before) whole left rest part pends passed none tree behind reads = absurd (subst (λ p. IsParenthesis (top p)) pends tt)
-unclosed_before (anded before other) whole left rest part pends passed none tree behind reads = absurd (subst (λ p. IsParenthesis (top p)) pends tt)
-unclosed_before (ored before other) whole left rest part pends passed none tree behind reads = absurd (subst (λ p. IsParenthesis (top p)) pends tt)
-unclosed_before (opened before) whole left rest part pends passed none tree behind reads =
+unclosed_before start whole left rest part pends passed none tree following reads = absurd (subst (λ p. IsParenthesis (top p)) pends tt)
+unclosed_before (denied before) whole left rest part pends passed none tree following reads = absurd (subst (λ p. IsParenthesis (top p)) pends tt)
+unclosed_before (anded before other) whole left rest part pends passed none tree following reads = absurd (subst (λ p. IsParenthesis (top p)) pends tt)
+unclosed_before (ored before other) whole left rest part pends passed none tree following reads = absurd (subst (λ p. IsParenthesis (top p)) pends tt)
+unclosed_before (opened before) whole left rest part pends passed none tree following reads =
     not-through-had left (opens before) none
     (subst IsThrough
     (run-passed whole left (before_symbols (opened before) ++ label_symbols part) passed
     ∙ ap (λ state. run state (map expression_symbol_of left))
     (run-append (wanted 0) (before_symbols (opened before)) (label_symbols part)
     ∙ (ap (λ state. run state (label_symbols part)) (run-before (opened before)) ∙ run-label (suc (opens before)) part)))
-    (through-reads whole tree behind reads))
+    (through-reads whole tree following reads))
 
 -- where a parenthesis is open and neither an operator nor `)` follows, nothing is read
 pub none_closed : (whole left : List (Lexeme HoaKind)) (depth : ℕ) (nodes : List LabelNode) (names : List ℕ) (rest : List Pending)

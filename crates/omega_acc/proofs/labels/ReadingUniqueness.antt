@@ -5,7 +5,7 @@ use Rattle.std.proofs.Math.Seq.{drop-append_seam}
 use Rattle.omega_acc.specs.label.Raw.{RawLabelTree, alias, conjunction, constant, disjunction, group, negation, proposition}
 use Rattle.omega_acc.specs.label.Reading.{IsOf, Reads, label_symbols}
 use Rattle.omega_acc.specs.Symbols.{EndsThere, IsNoOperator, ExpressionSymbol, conjunctive, disjunctive, name, number, seen_as, sign, expression_symbol_of, unary}
-use Rattle.omega_acc.specs.private.layout.label.Building.{Before, FitsBehind, anded, denied, opened, ored, start}
+use Rattle.omega_acc.specs.private.layout.label.Building.{Before, FitsAfter, anded, denied, opened, ored, start}
 use Rattle.omega_text.specs.Lexeme.{Lexeme}
 use Rattle.omega_text.specs.declared.hoa.kind.HoaKind.{HoaKind}
 use Rattle.omega_text.specs.declared.hoa.kind.HoaKind.TheVariants as kind
@@ -74,28 +74,28 @@ steps-whole part [] = refl
 steps-whole part (symbol ∷ symbols) = steps-whole part symbols
 
 -- a unary part is read as far as it is bound
-bound-fits : (before : Before) (part : RawLabelTree) → FitsBehind conjunctive before → bound before part ≡ had before part
+bound-fits : (before : Before) (part : RawLabelTree) → FitsAfter conjunctive before → bound before part ≡ had before part
 bound-fits start part fits = refl
 bound-fits (opened before) part fits = refl
 bound-fits (denied before) part fits = absurd fits
 bound-fits (anded before left) part fits = absurd fits
 bound-fits (ored before left) part fits = refl
 
-fits-outside : (before : Before) → FitsBehind disjunctive before → outside before ≡ before
+fits-outside : (before : Before) → FitsAfter disjunctive before → outside before ≡ before
 fits-outside start fits = refl
 fits-outside (opened before) fits = refl
 fits-outside (denied before) fits = absurd fits
 fits-outside (anded before left) fits = absurd fits
 fits-outside (ored before left) fits = absurd fits
 
-fits-joined : (before : Before) (part : RawLabelTree) → FitsBehind disjunctive before → joined before part ≡ part
+fits-joined : (before : Before) (part : RawLabelTree) → FitsAfter disjunctive before → joined before part ≡ part
 fits-joined start part fits = refl
 fits-joined (opened before) part fits = refl
 fits-joined (denied before) part fits = absurd fits
 fits-joined (anded before left) part fits = absurd fits
 fits-joined (ored before left) part fits = absurd fits
 
-fits-more : (before : Before) → FitsBehind disjunctive before → FitsBehind conjunctive before
+fits-more : (before : Before) → FitsAfter disjunctive before → FitsAfter conjunctive before
 fits-more start fits = tt
 fits-more (opened before) fits = tt
 fits-more (denied before) fits = fits
@@ -103,15 +103,15 @@ fits-more (anded before left) fits = fits
 fits-more (ored before left) fits = absurd fits
 
 -- an or-expression is read: what stands last of it, after what stands before that
-pub record IsReadBehind (before : Before) (part : RawLabelTree) (stage : Stage) : Type 0 where
+pub record IsReadAfter (before : Before) (part : RawLabelTree) (stage : Stage) : Type 0 where
   pub inner : Before
   pub last : RawLabelTree
   pub is : stage ≡ had inner last
   pub around : outside inner ≡ before
   pub all : joined inner last ≡ part
 
-behind-alone : (before : Before) (part : RawLabelTree) (stage : Stage) → FitsBehind disjunctive before → stage ≡ had before part → IsReadBehind before part stage
-behind-alone before part stage fits is = record {
+following-alone : (before : Before) (part : RawLabelTree) (stage : Stage) → FitsAfter disjunctive before → stage ≡ had before part → IsReadAfter before part stage
+following-alone before part stage fits is = record {
   inner = before;
   last = part;
   is = is;
@@ -135,7 +135,7 @@ mutual
       ∙ (ap (λ stage. step stage (sign kind.CloseParenthesis)) read.is
       ∙ (ap (λ outer. closed outer (joined read.inner read.last)) read.around ∙ ap (λ more. bound before (group more)) read.all))
 
-  steps-conjunctive : (part : RawLabelTree) (before : Before) → IsOf conjunctive part → FitsBehind conjunctive before → steps (wanted before) (label_symbols part) ≡ had before part
+  steps-conjunctive : (part : RawLabelTree) (before : Before) → IsOf conjunctive part → FitsAfter conjunctive before → steps (wanted before) (label_symbols part) ≡ had before part
   steps-conjunctive (constant true) before is fits = bound-fits before _ fits
   steps-conjunctive (constant false) before is fits = bound-fits before _ fits
   steps-conjunctive (proposition value) before is fits = bound-fits before _ fits
@@ -151,19 +151,19 @@ mutual
       ∙ (ap (λ stage. step stage (sign kind.CloseParenthesis)) read.is
       ∙ (ap (λ outer. closed outer (joined read.inner read.last)) read.around ∙ (ap (λ more. bound before (group more)) read.all ∙ bound-fits before (group part) fits)))
 
-  steps-disjunctive : (part : RawLabelTree) (before : Before) → IsOf disjunctive part → FitsBehind disjunctive before → IsReadBehind before part (steps (wanted before) (label_symbols part))
-  steps-disjunctive (constant true) before is fits = behind-alone before _ _ fits (bound-fits before _ (fits-more before fits))
-  steps-disjunctive (constant false) before is fits = behind-alone before _ _ fits (bound-fits before _ (fits-more before fits))
-  steps-disjunctive (proposition value) before is fits = behind-alone before _ _ fits (bound-fits before _ (fits-more before fits))
-  steps-disjunctive (alias text) before is fits = behind-alone before _ _ fits (bound-fits before _ (fits-more before fits))
-  steps-disjunctive (negation part) before is fits = behind-alone before _ _ fits (steps-unary part (denied before) is ∙ bound-fits before (negation part) (fits-more before fits))
+  steps-disjunctive : (part : RawLabelTree) (before : Before) → IsOf disjunctive part → FitsAfter disjunctive before → IsReadAfter before part (steps (wanted before) (label_symbols part))
+  steps-disjunctive (constant true) before is fits = following-alone before _ _ fits (bound-fits before _ (fits-more before fits))
+  steps-disjunctive (constant false) before is fits = following-alone before _ _ fits (bound-fits before _ (fits-more before fits))
+  steps-disjunctive (proposition value) before is fits = following-alone before _ _ fits (bound-fits before _ (fits-more before fits))
+  steps-disjunctive (alias text) before is fits = following-alone before _ _ fits (bound-fits before _ (fits-more before fits))
+  steps-disjunctive (negation part) before is fits = following-alone before _ _ fits (steps-unary part (denied before) is ∙ bound-fits before (negation part) (fits-more before fits))
   steps-disjunctive (conjunction left right) before is fits =
-      behind-alone before _ _ fits
+      following-alone before _ _ fits
       (steps-append (wanted before) (label_symbols left) (sign kind.And ∷ label_symbols right)
       ∙ (ap (λ stage. steps stage (sign kind.And ∷ label_symbols right)) (steps-conjunctive left before is.1.0 (fits-more before fits)) ∙ steps-unary right (anded before left) is.1.1))
   steps-disjunctive (group part) before is fits =
       let read = steps-disjunctive part (opened before) is tt in
-      behind-alone before _ _ fits
+      following-alone before _ _ fits
       (steps-append (wanted (opened before)) (label_symbols part) (sign kind.CloseParenthesis ∷ [])
       ∙ (ap (λ stage. step stage (sign kind.CloseParenthesis)) read.is
       ∙ (ap (λ outer. closed outer (joined read.inner read.last)) read.around ∙ (ap (λ more. bound before (group more)) read.all ∙ bound-fits before (group part) (fits-more before fits)))))

@@ -5,29 +5,29 @@ use Rattle.std.proofs.lemmas.Nat.Bits.{bit_at-trailing_zeros, bit_at-lt, bit_at-
 use Rattle.omega_acc.specs.label.Label.{LabelTree, conjunction, constant, disjunction, negation, proposition, propositions, truth, label_depth}
 use Rattle.omega_acc.specs.private.layout.label.Label.{postfix}
 use Rattle.omega_acc.specs.private.layout.Joins.{regrouped}
-use Rattle.omega_acc.specs.private.layout.label.Words.{height_with, ones, peak, propositions_of, word_of, word_of_truth, top_word, words_behind, words_below}
+use Rattle.omega_acc.specs.private.layout.label.Words.{height_with, ones, peak, propositions_of, word_of, word_of_truth, top_word, words_after, words_below}
 use Rattle.omega_acc.specs.declared.label.LabelNode.{LabelNode}
 use Rattle.omega_acc.specs.declared.label.LabelNode.TheVariants.{Alias, And, Constant, Group, Not, Or, Proposition}
 
 -- ---- nodes
 
 -- a label's nodes leave its word
-words_behind-postfix : (words : ℕ → ℕ) (tree : LabelTree) (stack : List ℕ) (rest : List LabelNode)
-    → words_behind words stack (postfix tree ++ rest) ≡ words_behind words (word_of words tree ∷ stack) rest
-words_behind-postfix words (constant value) stack rest = refl
-words_behind-postfix words (proposition number) stack rest = refl
-words_behind-postfix words (negation part) stack rest =
-    ap (words_behind words stack) (append_assoc (postfix part) (Not ∷ []) rest) ∙ words_behind-postfix words part stack (Not ∷ rest)
-words_behind-postfix words (conjunction left right) stack rest =
-    ap (words_behind words stack) (regrouped (postfix left) (postfix right) And rest)
-    ∙ (words_behind-postfix words left stack (postfix right ++ And ∷ rest) ∙ words_behind-postfix words right (word_of words left ∷ stack) (And ∷ rest))
-words_behind-postfix words (disjunction left right) stack rest =
-    ap (words_behind words stack) (regrouped (postfix left) (postfix right) Or rest)
-    ∙ (words_behind-postfix words left stack (postfix right ++ Or ∷ rest) ∙ words_behind-postfix words right (word_of words left ∷ stack) (Or ∷ rest))
+words_after-postfix : (words : ℕ → ℕ) (tree : LabelTree) (stack : List ℕ) (rest : List LabelNode)
+    → words_after words stack (postfix tree ++ rest) ≡ words_after words (word_of words tree ∷ stack) rest
+words_after-postfix words (constant value) stack rest = refl
+words_after-postfix words (proposition number) stack rest = refl
+words_after-postfix words (negation part) stack rest =
+    ap (words_after words stack) (append_assoc (postfix part) (Not ∷ []) rest) ∙ words_after-postfix words part stack (Not ∷ rest)
+words_after-postfix words (conjunction left right) stack rest =
+    ap (words_after words stack) (regrouped (postfix left) (postfix right) And rest)
+    ∙ (words_after-postfix words left stack (postfix right ++ And ∷ rest) ∙ words_after-postfix words right (word_of words left ∷ stack) (And ∷ rest))
+words_after-postfix words (disjunction left right) stack rest =
+    ap (words_after words stack) (regrouped (postfix left) (postfix right) Or rest)
+    ∙ (words_after-postfix words left stack (postfix right ++ Or ∷ rest) ∙ words_after-postfix words right (word_of words left ∷ stack) (Or ∷ rest))
 
 -- a label's nodes alone leave its word alone
-pub words_behind-label : (words : ℕ → ℕ) (tree : LabelTree) → words_behind words [] (postfix tree) ≡ word_of words tree ∷ []
-words_behind-label words tree = ap (words_behind words []) (sym (append-nil (postfix tree))) ∙ words_behind-postfix words tree [] []
+pub words_after-label : (words : ℕ → ℕ) (tree : LabelTree) → words_after words [] (postfix tree) ≡ word_of words tree ∷ []
+words_after-label words tree = ap (words_after words []) (sym (append-nil (postfix tree))) ∙ words_after-postfix words tree [] []
 
 pub depth-positive : (tree : LabelTree) → 1 ≤ label_depth tree
 depth-positive (constant value) = omega arith
@@ -176,9 +176,9 @@ on-word_of words (disjunction left right) lane within =
 
 -- what is made of a label's nodes is its word
 pub word-is : (words : ℕ → ℕ) (tree : LabelTree) (nodes : List LabelNode) (result : ℕ)
-    → nodes ≡ postfix tree → result ≡ top_word (words_behind words [] nodes) → result ≡ word_of words tree
+    → nodes ≡ postfix tree → result ≡ top_word (words_after words [] nodes) → result ≡ word_of words tree
 word-is words tree nodes result is made =
-    made ∙ (ap (λ more. top_word (words_behind words [] more)) is ∙ ap top_word (words_behind-label words tree))
+    made ∙ (ap (λ more. top_word (words_after words [] more)) is ∙ ap top_word (words_after-label words tree))
 
 -- a word that is not 0 has a lane that is on
 pub lane-on : (word : ℕ) → (word ≡ 0 → ⊥) → word < 2 ^ 64 → (lane : ℕ) × ((lane < 64) × (on word lane ≡ true))

@@ -80,63 +80,63 @@ apart-set true set rest = record { ends = refl; closes = λ is. omega (arith, is
 apart-set false set rest = record { ends = refl; closes = λ is. omega (arith, is) }
 
 -- the tokens of a set after its `(` or `!`
-there-closed : Tokens → (set : ℕ) (source behind : List ℕ) (from : ℕ) → set ≤ most_number
-    → drop from source ≡ (decimal set ++ 41 ∷ []) ++ behind → AreThere source from (from + length (decimal set ++ 41 ∷ [])) (number set ∷ sign kind.CloseParenthesis ∷ [])
-there-closed laws set source behind from fit stands =
-    there-then laws source (decimal set) (41 ∷ []) behind from (number set ∷ []) (sign kind.CloseParenthesis ∷ []) stands
-    (λ here. there-number laws set source _ from fit (apart-sign 41 behind apart-close) here)
+there-closed : Tokens → (set : ℕ) (source following : List ℕ) (from : ℕ) → set ≤ most_number
+    → drop from source ≡ (decimal set ++ 41 ∷ []) ++ following → AreThere source from (from + length (decimal set ++ 41 ∷ [])) (number set ∷ sign kind.CloseParenthesis ∷ [])
+there-closed laws set source following from fit stands =
+    there-then laws source (decimal set) (41 ∷ []) following from (number set ∷ []) (sign kind.CloseParenthesis ∷ []) stands
+    (λ here. there-number laws set source _ from fit (apart-sign 41 following apart-close) here)
     (λ place here. there-token source _ (41 ∷ []) place 0 kind.CloseParenthesis here (refl, refl) (laws.closed kind.CloseParenthesis (41 ∷ []) _ refl refl))
 
 -- the tokens of a set in parentheses
-there-set : Tokens → (negated : Bool) (set : ℕ) (source behind : List ℕ) (from : ℕ) → set ≤ most_number
-    → drop from source ≡ set_text negated set ++ behind
+there-set : Tokens → (negated : Bool) (set : ℕ) (source following : List ℕ) (from : ℕ) → set ≤ most_number
+    → drop from source ≡ set_text negated set ++ following
     → AreThere source from (from + length (set_text negated set)) (sign kind.OpenParenthesis ∷ (mark_symbols negated set ++ sign kind.CloseParenthesis ∷ []))
-there-set laws true set source behind from fit stands =
-    there-then laws source (40 ∷ []) (33 ∷ (decimal set ++ 41 ∷ [])) behind from (sign kind.OpenParenthesis ∷ []) (sign kind.Not ∷ number set ∷ sign kind.CloseParenthesis ∷ []) stands
+there-set laws true set source following from fit stands =
+    there-then laws source (40 ∷ []) (33 ∷ (decimal set ++ 41 ∷ [])) following from (sign kind.OpenParenthesis ∷ []) (sign kind.Not ∷ number set ∷ sign kind.CloseParenthesis ∷ []) stands
     (λ here. there-token source _ (40 ∷ []) from 0 kind.OpenParenthesis here (refl, refl) (laws.closed kind.OpenParenthesis (40 ∷ []) _ refl refl))
-    (λ place here. there-then laws source (33 ∷ []) (decimal set ++ 41 ∷ []) behind place (sign kind.Not ∷ []) (number set ∷ sign kind.CloseParenthesis ∷ []) here
+    (λ place here. there-then laws source (33 ∷ []) (decimal set ++ 41 ∷ []) following place (sign kind.Not ∷ []) (number set ∷ sign kind.CloseParenthesis ∷ []) here
     (λ there. there-token source _ (33 ∷ []) place 0 kind.Not there (refl, refl) (laws.closed kind.Not (33 ∷ []) _ refl refl))
-    (λ next there. there-closed laws set source behind next fit there))
-there-set laws false set source behind from fit stands =
-    there-then laws source (40 ∷ []) (decimal set ++ 41 ∷ []) behind from (sign kind.OpenParenthesis ∷ []) (number set ∷ sign kind.CloseParenthesis ∷ []) stands
+    (λ next there. there-closed laws set source following next fit there))
+there-set laws false set source following from fit stands =
+    there-then laws source (40 ∷ []) (decimal set ++ 41 ∷ []) following from (sign kind.OpenParenthesis ∷ []) (number set ∷ sign kind.CloseParenthesis ∷ []) stands
     (λ here. there-token source _ (40 ∷ []) from 0 kind.OpenParenthesis here (refl, refl) (laws.closed kind.OpenParenthesis (40 ∷ []) _ refl refl))
-    (λ place here. there-closed laws set source behind place fit here)
+    (λ place here. there-closed laws set source following place fit here)
 
 -- the tokens of a formula as it is written
-there-raw : Tokens → (part : RawAccTree) (source behind : List ℕ) (from : ℕ) → IsWritable part → StandsApart behind
-    → drop from source ≡ raw_text part ++ behind → AreThere source from (from + length (raw_text part)) (formula_symbols part)
-there-raw laws (raw.constant value) source behind from fit apart stands = there-truth laws value source behind from apart stands
-there-raw laws (raw.atom name negated set) source behind from fit apart stands =
-    there-then laws source name (set_text negated set) behind from (word name ∷ []) (sign kind.OpenParenthesis ∷ (mark_symbols negated set ++ sign kind.CloseParenthesis ∷ [])) stands
+there-raw : Tokens → (part : RawAccTree) (source following : List ℕ) (from : ℕ) → IsWritable part → StandsApart following
+    → drop from source ≡ raw_text part ++ following → AreThere source from (from + length (raw_text part)) (formula_symbols part)
+there-raw laws (raw.constant value) source following from fit apart stands = there-truth laws value source following from apart stands
+there-raw laws (raw.atom name negated set) source following from fit apart stands =
+    there-then laws source name (set_text negated set) following from (word name ∷ []) (sign kind.OpenParenthesis ∷ (mark_symbols negated set ++ sign kind.CloseParenthesis ∷ [])) stands
     (λ here. there-token source _ name from 0 kind.Identifier here (refl, fit.0)
-    (laws.words name _ fit.0.0 (apart-set negated set behind).ends (apart-set negated set behind).closes))
-    (λ place here. there-set laws negated set source behind place fit.1 here)
-there-raw laws (raw.conjunction left right) source behind from fit apart stands =
-    there-then laws source (raw_text left) (38 ∷ raw_text right) behind from (formula_symbols left) (sign kind.And ∷ formula_symbols right) stands
-    (λ here. there-raw laws left source _ from fit.0 (apart-sign 38 (raw_text right ++ behind) apart-and) here)
-    (λ place here. there-then laws source (38 ∷ []) (raw_text right) behind place (sign kind.And ∷ []) (formula_symbols right) here
+    (laws.words name _ fit.0.0 (apart-set negated set following).ends (apart-set negated set following).closes))
+    (λ place here. there-set laws negated set source following place fit.1 here)
+there-raw laws (raw.conjunction left right) source following from fit apart stands =
+    there-then laws source (raw_text left) (38 ∷ raw_text right) following from (formula_symbols left) (sign kind.And ∷ formula_symbols right) stands
+    (λ here. there-raw laws left source _ from fit.0 (apart-sign 38 (raw_text right ++ following) apart-and) here)
+    (λ place here. there-then laws source (38 ∷ []) (raw_text right) following place (sign kind.And ∷ []) (formula_symbols right) here
     (λ there. there-token source _ (38 ∷ []) place 0 kind.And there (refl, refl) (laws.closed kind.And (38 ∷ []) _ refl refl))
-    (λ next there. there-raw laws right source behind next fit.1 apart there))
-there-raw laws (raw.disjunction left right) source behind from fit apart stands =
-    there-then laws source (raw_text left) (124 ∷ raw_text right) behind from (formula_symbols left) (sign kind.Or ∷ formula_symbols right) stands
-    (λ here. there-raw laws left source _ from fit.0 (apart-sign 124 (raw_text right ++ behind) apart-or) here)
-    (λ place here. there-then laws source (124 ∷ []) (raw_text right) behind place (sign kind.Or ∷ []) (formula_symbols right) here
+    (λ next there. there-raw laws right source following next fit.1 apart there))
+there-raw laws (raw.disjunction left right) source following from fit apart stands =
+    there-then laws source (raw_text left) (124 ∷ raw_text right) following from (formula_symbols left) (sign kind.Or ∷ formula_symbols right) stands
+    (λ here. there-raw laws left source _ from fit.0 (apart-sign 124 (raw_text right ++ following) apart-or) here)
+    (λ place here. there-then laws source (124 ∷ []) (raw_text right) following place (sign kind.Or ∷ []) (formula_symbols right) here
     (λ there. there-token source _ (124 ∷ []) place 0 kind.Or there (refl, refl) (laws.closed kind.Or (124 ∷ []) _ refl refl))
-    (λ next there. there-raw laws right source behind next fit.1 apart there))
-there-raw laws (raw.group part) source behind from fit apart stands =
-    there-then laws source (40 ∷ []) (raw_text part ++ 41 ∷ []) behind from (sign kind.OpenParenthesis ∷ []) (formula_symbols part ++ sign kind.CloseParenthesis ∷ []) stands
+    (λ next there. there-raw laws right source following next fit.1 apart there))
+there-raw laws (raw.group part) source following from fit apart stands =
+    there-then laws source (40 ∷ []) (raw_text part ++ 41 ∷ []) following from (sign kind.OpenParenthesis ∷ []) (formula_symbols part ++ sign kind.CloseParenthesis ∷ []) stands
     (λ here. there-token source _ (40 ∷ []) from 0 kind.OpenParenthesis here (refl, refl) (laws.closed kind.OpenParenthesis (40 ∷ []) _ refl refl))
-    (λ place here. there-then laws source (raw_text part) (41 ∷ []) behind place (formula_symbols part) (sign kind.CloseParenthesis ∷ []) here
-    (λ there. there-raw laws part source _ place fit (apart-sign 41 behind apart-close) there)
+    (λ place here. there-then laws source (raw_text part) (41 ∷ []) following place (formula_symbols part) (sign kind.CloseParenthesis ∷ []) here
+    (λ there. there-raw laws part source _ place fit (apart-sign 41 following apart-close) there)
     (λ next there. there-token source _ (41 ∷ []) next 0 kind.CloseParenthesis there (refl, refl) (laws.closed kind.CloseParenthesis (41 ∷ []) _ refl refl)))
 
 -- the tokens of the canonical text
-pub there-formula : Tokens → (tree : AccTree) (source behind : List ℕ) (from : ℕ) → SetsFit tree → StandsApart behind
-    → drop from source ≡ (acc_text tree).bytes ++ behind → AreThere source from (from + length (acc_text tree).bytes) (formula_symbols (acc_written tree))
-there-formula laws tree source behind from fit apart stands =
+pub there-formula : Tokens → (tree : AccTree) (source following : List ℕ) (from : ℕ) → SetsFit tree → StandsApart following
+    → drop from source ≡ (acc_text tree).bytes ++ following → AreThere source from (from + length (acc_text tree).bytes) (formula_symbols (acc_written tree))
+there-formula laws tree source following from fit apart stands =
     let same = text-written tree in
     subst (λ bytes. AreThere source from (from + length bytes) (formula_symbols (acc_written tree))) (sym same)
-    (there-raw laws (acc_written tree) source behind from (writable-written tree fit) apart (stands ∙ ap (λ bytes. bytes ++ behind) same))
+    (there-raw laws (acc_written tree) source following from (writable-written tree fit) apart (stands ∙ ap (λ bytes. bytes ++ following) same))
 
 -- ---- the cases of the grammar
 

@@ -78,56 +78,56 @@ pub apart-close : StandsApart (41 ∷ [])
 apart-close = record { ends = refl; closes = λ is. omega (arith, is) }
 
 -- `t` or `f`
-pub there-truth : Tokens → (value : Bool) (source behind : List ℕ) (from : ℕ) → StandsApart behind
-    → drop from source ≡ truth_text value ++ behind → AreThere source from (from + length (truth_text value)) (sign (truth_kind value) ∷ [])
-there-truth laws true source behind from apart stands =
-    there-token source behind (codes "t") from 0 kind.True stands (refl, refl) (laws.words (codes "t") behind (lit< tt, refl, AllPass-from_list_all is_word_byte (codes "t") refl) apart.ends apart.closes)
-there-truth laws false source behind from apart stands =
-    there-token source behind (codes "f") from 0 kind.False stands (refl, refl) (laws.words (codes "f") behind (lit< tt, refl, AllPass-from_list_all is_word_byte (codes "f") refl) apart.ends apart.closes)
+pub there-truth : Tokens → (value : Bool) (source following : List ℕ) (from : ℕ) → StandsApart following
+    → drop from source ≡ truth_text value ++ following → AreThere source from (from + length (truth_text value)) (sign (truth_kind value) ∷ [])
+there-truth laws true source following from apart stands =
+    there-token source following (codes "t") from 0 kind.True stands (refl, refl) (laws.words (codes "t") following (lit< tt, refl, AllPass-from_list_all is_word_byte (codes "t") refl) apart.ends apart.closes)
+there-truth laws false source following from apart stands =
+    there-token source following (codes "f") from 0 kind.False stands (refl, refl) (laws.words (codes "f") following (lit< tt, refl, AllPass-from_list_all is_word_byte (codes "f") refl) apart.ends apart.closes)
 
 -- a number
-pub there-number : Tokens → (value : ℕ) (source behind : List ℕ) (from : ℕ) → value ≤ most_number → StandsApart behind
-    → drop from source ≡ decimal value ++ behind → AreThere source from (from + length (decimal value)) (number value ∷ [])
-there-number laws value source behind from fits apart stands =
-    there-token source behind (decimal value) from value kind.Int stands (fits, refl)
-    (laws.numbers (decimal value) behind ((laws.plain (decimal value) value).0 (fits, refl)).0 (no-digit (slice_index behind 0) apart.ends))
+pub there-number : Tokens → (value : ℕ) (source following : List ℕ) (from : ℕ) → value ≤ most_number → StandsApart following
+    → drop from source ≡ decimal value ++ following → AreThere source from (from + length (decimal value)) (number value ∷ [])
+there-number laws value source following from fits apart stands =
+    there-token source following (decimal value) from value kind.Int stands (fits, refl)
+    (laws.numbers (decimal value) following ((laws.plain (decimal value) value).0 (fits, refl)).0 (no-digit (slice_index following 0) apart.ends))
 
 -- the tokens of a label as it is written
-there-raw : Tokens → (part : RawLabelTree) (source behind : List ℕ) (from : ℕ) → IsWritable part → StandsApart behind
-    → drop from source ≡ raw_text part ++ behind → AreThere source from (from + length (raw_text part)) (label_symbols part)
-there-raw laws (raw.constant value) source behind from fit apart stands = there-truth laws value source behind from apart stands
-there-raw laws (raw.proposition value) source behind from fit apart stands = there-number laws value source behind from fit apart stands
-there-raw laws (raw.alias name) source behind from fit apart stands = absurd fit
-there-raw laws (raw.negation part) source behind from fit apart stands =
-    there-then laws source (33 ∷ []) (raw_text part) behind from (sign kind.Not ∷ []) (label_symbols part) stands
+there-raw : Tokens → (part : RawLabelTree) (source following : List ℕ) (from : ℕ) → IsWritable part → StandsApart following
+    → drop from source ≡ raw_text part ++ following → AreThere source from (from + length (raw_text part)) (label_symbols part)
+there-raw laws (raw.constant value) source following from fit apart stands = there-truth laws value source following from apart stands
+there-raw laws (raw.proposition value) source following from fit apart stands = there-number laws value source following from fit apart stands
+there-raw laws (raw.alias name) source following from fit apart stands = absurd fit
+there-raw laws (raw.negation part) source following from fit apart stands =
+    there-then laws source (33 ∷ []) (raw_text part) following from (sign kind.Not ∷ []) (label_symbols part) stands
     (λ here. there-token source _ (33 ∷ []) from 0 kind.Not here (refl, refl) (laws.closed kind.Not (33 ∷ []) _ refl refl))
-    (λ place here. there-raw laws part source behind place fit apart here)
-there-raw laws (raw.conjunction left right) source behind from fit apart stands =
-    there-then laws source (raw_text left) (38 ∷ raw_text right) behind from (label_symbols left) (sign kind.And ∷ label_symbols right) stands
-    (λ here. there-raw laws left source _ from fit.0 (apart-sign 38 (raw_text right ++ behind) apart-and) here)
-    (λ place here. there-then laws source (38 ∷ []) (raw_text right) behind place (sign kind.And ∷ []) (label_symbols right) here
+    (λ place here. there-raw laws part source following place fit apart here)
+there-raw laws (raw.conjunction left right) source following from fit apart stands =
+    there-then laws source (raw_text left) (38 ∷ raw_text right) following from (label_symbols left) (sign kind.And ∷ label_symbols right) stands
+    (λ here. there-raw laws left source _ from fit.0 (apart-sign 38 (raw_text right ++ following) apart-and) here)
+    (λ place here. there-then laws source (38 ∷ []) (raw_text right) following place (sign kind.And ∷ []) (label_symbols right) here
     (λ there. there-token source _ (38 ∷ []) place 0 kind.And there (refl, refl) (laws.closed kind.And (38 ∷ []) _ refl refl))
-    (λ next there. there-raw laws right source behind next fit.1 apart there))
-there-raw laws (raw.disjunction left right) source behind from fit apart stands =
-    there-then laws source (raw_text left) (124 ∷ raw_text right) behind from (label_symbols left) (sign kind.Or ∷ label_symbols right) stands
-    (λ here. there-raw laws left source _ from fit.0 (apart-sign 124 (raw_text right ++ behind) apart-or) here)
-    (λ place here. there-then laws source (124 ∷ []) (raw_text right) behind place (sign kind.Or ∷ []) (label_symbols right) here
+    (λ next there. there-raw laws right source following next fit.1 apart there))
+there-raw laws (raw.disjunction left right) source following from fit apart stands =
+    there-then laws source (raw_text left) (124 ∷ raw_text right) following from (label_symbols left) (sign kind.Or ∷ label_symbols right) stands
+    (λ here. there-raw laws left source _ from fit.0 (apart-sign 124 (raw_text right ++ following) apart-or) here)
+    (λ place here. there-then laws source (124 ∷ []) (raw_text right) following place (sign kind.Or ∷ []) (label_symbols right) here
     (λ there. there-token source _ (124 ∷ []) place 0 kind.Or there (refl, refl) (laws.closed kind.Or (124 ∷ []) _ refl refl))
-    (λ next there. there-raw laws right source behind next fit.1 apart there))
-there-raw laws (raw.group part) source behind from fit apart stands =
-    there-then laws source (40 ∷ []) (raw_text part ++ 41 ∷ []) behind from (sign kind.OpenParenthesis ∷ []) (label_symbols part ++ sign kind.CloseParenthesis ∷ []) stands
+    (λ next there. there-raw laws right source following next fit.1 apart there))
+there-raw laws (raw.group part) source following from fit apart stands =
+    there-then laws source (40 ∷ []) (raw_text part ++ 41 ∷ []) following from (sign kind.OpenParenthesis ∷ []) (label_symbols part ++ sign kind.CloseParenthesis ∷ []) stands
     (λ here. there-token source _ (40 ∷ []) from 0 kind.OpenParenthesis here (refl, refl) (laws.closed kind.OpenParenthesis (40 ∷ []) _ refl refl))
-    (λ place here. there-then laws source (raw_text part) (41 ∷ []) behind place (label_symbols part) (sign kind.CloseParenthesis ∷ []) here
-    (λ there. there-raw laws part source _ place fit (apart-sign 41 behind apart-close) there)
+    (λ place here. there-then laws source (raw_text part) (41 ∷ []) following place (label_symbols part) (sign kind.CloseParenthesis ∷ []) here
+    (λ there. there-raw laws part source _ place fit (apart-sign 41 following apart-close) there)
     (λ next there. there-token source _ (41 ∷ []) next 0 kind.CloseParenthesis there (refl, refl) (laws.closed kind.CloseParenthesis (41 ∷ []) _ refl refl)))
 
 -- the tokens of the canonical text
-pub there-label : Tokens → (tree : LabelTree) (source behind : List ℕ) (from : ℕ) → NumbersFit tree → StandsApart behind
-    → drop from source ≡ (label_text tree).bytes ++ behind → AreThere source from (from + length (label_text tree).bytes) (label_symbols (label_written tree))
-there-label laws tree source behind from fit apart stands =
+pub there-label : Tokens → (tree : LabelTree) (source following : List ℕ) (from : ℕ) → NumbersFit tree → StandsApart following
+    → drop from source ≡ (label_text tree).bytes ++ following → AreThere source from (from + length (label_text tree).bytes) (label_symbols (label_written tree))
+there-label laws tree source following from fit apart stands =
     let same = text-written tree in
     subst (λ bytes. AreThere source from (from + length bytes) (label_symbols (label_written tree))) (sym same)
-    (there-raw laws (label_written tree) source behind from (writable-written tree fit) apart (stands ∙ ap (λ bytes. bytes ++ behind) same))
+    (there-raw laws (label_written tree) source following from (writable-written tree fit) apart (stands ∙ ap (λ bytes. bytes ++ following) same))
 
 -- ---- the cases of the grammar
 

@@ -2,7 +2,7 @@
 use Rattle.std.specs.Prelude.{ℕ, ◌+◌, Bool, not, ◌&&◌, ◌||◌, ◌==◌, if◌then◌else◌, List, max}
 use Rattle.std.specs.List.{list_any}
 
--- an acceptance formula; the truth value of an atom says whether a `!` stands before its set
+-- an acceptance formula; the truth value of an atom says whether a `!` precedes its set
 pub data AccTree : Type 0 where
   constant : Bool → AccTree
   inf : Bool → ℕ → AccTree

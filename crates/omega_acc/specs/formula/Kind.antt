@@ -14,13 +14,13 @@ has_parity Odd number = number % 2 == 1
 
 -- the first of the last sets, as many as are left: for max they end with 0, for min with the greatest
 abbrev pub first_left : Order → ℕ → ℕ → ℕ
-first_left Max count behind = behind
-first_left Min count behind = count - suc behind
+first_left Max count following = following
+first_left Min count following = count - suc following
 
 -- the last sets of a kind, as many as are left: for max they fall to 0, for min they rise to the greatest
 abbrev pub sets_left : Order → ℕ → ℕ → List ℕ
 sets_left order count zero = []
-sets_left order count (suc behind) = first_left order count behind ∷ sets_left order count behind
+sets_left order count (suc following) = first_left order count following ∷ sets_left order count following
 
 -- the truth of a parity formula without sets (this project's choice)
 abbrev pub without_sets : Order → Parity → Bool
@@ -29,7 +29,7 @@ without_sets Max Odd = true
 without_sets Min Even = true
 without_sets Min Odd = false
 
--- the atom of a set: `Inf` where it has the named parity, else `Fin`
+-- the atom of a set: `Inf` if it has the named parity, else `Fin`
 abbrev pub atom_of : Parity → ℕ → AccTree
 atom_of parity set = if has_parity parity set then inf false set else fin false set
 
@@ -61,8 +61,8 @@ least_mark count (mark ∷ marks) = min mark (least_mark count marks)
 abbrev pub least_from : Parity → ℕ → ℕ
 least_from parity count = if has_parity parity count then count else count + 1
 
--- the priority of marks: for max one or two more than the greatest, so that no marks count as -1; for min the least
--- number of the parity from the count on, less the least mark, where no marks count as the count
+-- The priority of marks. For max it is the greatest mark plus one or two, and no marks count as -1. For min it is the
+-- least number of the parity from the count on, less the least mark, and no marks count as the count.
 abbrev pub priority_by : Order → Parity → ℕ → List ℕ → ℕ
 priority_by Max Even count marks = beyond marks + 1
 priority_by Max Odd count marks = beyond marks

@@ -1,5 +1,5 @@
--- Parity formulas hold exactly where the greatest priority is even,
--- and generalized Büchi formulas exactly where every set occurs.
+-- Parity formulas hold exactly if the greatest priority is even, and generalized Büchi formulas exactly if every set
+-- occurs.
 use Rattle.std.specs.Prelude.{◌≡◌, ℕ, ◌<◌, ◌%◌, ◌↔◌, false, IsTrue, All, List, length, map}
 use Rattle.omega_acc.specs.formula.Acceptance.{accepts, occurs}
 use Rattle.omega_acc.specs.formula.Kind.{buchi_formula, greatest_number, parity_formula, priority_of}

@@ -15,7 +15,7 @@ use Rattle.omega_text.specs.declared.refusal.Refusal.{Refusal}
 use Rattle.omega_text.specs.declared.refusal.automaton.AutomatonFault.{AutomatonFault}
 use Rattle.omega_text.specs.declared.refusal.automaton.AutomatonFault.TheVariants.{AcceptanceAtom, TooDeep}
 
--- the sets of a formula from left to right, each as often as it stands there
+-- the sets of a formula from left to right, each as often as it occurs
 abbrev pub acc_sets : RawAccTree → List ℕ
 acc_sets (constant value) = []
 acc_sets (atom name negated set) = set ∷ []
@@ -23,19 +23,19 @@ acc_sets (conjunction left right) = acc_sets left ++ acc_sets right
 acc_sets (disjunction left right) = acc_sets left ++ acc_sets right
 acc_sets (group part) = acc_sets part
 
--- what an atom with this identifier means; none where it is neither `Inf` nor `Fin`
+-- what an atom with this identifier means; none if it is neither `Inf` nor `Fin`
 abbrev pub atom_meant : List ℕ → Bool → ℕ → Option AccTree
 atom_meant name negated set =
     if bytes_eq name (codes "Inf") then Some (acc.inf negated set)
     else (if bytes_eq name (codes "Fin") then Some (acc.fin negated set) else None)
 
--- two formulas and their operator, where there are both
+-- two formulas and their operator, if there are both
 abbrev pub both_meant : (AccTree → AccTree → AccTree) → Option AccTree → Option AccTree → Option AccTree
 both_meant operator None right = None
 both_meant operator (Some left) None = None
 both_meant operator (Some left) (Some right) = Some (operator left right)
 
--- what a formula as it is written means; none where an atom means nothing
+-- what a formula as it is written means; none if an atom means nothing
 abbrev pub acc_meant : RawAccTree → Option AccTree
 acc_meant (constant value) = Some (acc.constant value)
 acc_meant (atom name negated set) = atom_meant name negated set
@@ -74,6 +74,6 @@ pub record ReadsFaulty (tokens : List (Lexeme HoaKind)) (fault : AutomatonFault)
   pub reads : ReadsAcc tokens raw rest
   pub faulty : fault_of_acc raw ≡ Some fault
 
--- the refusals of reading a formula, where none is read, and where one with a fault is
+-- the refusals of reading a formula, if there is none, and if there is one with a fault
 abbrev pub IsUnreadAcc : Type 0 → (AutomatonFault → Type 0) → Refusal → Type 0
 IsUnreadAcc none faulty = or_text (IsSyntax none) (or_automaton faulty (or_memory never))

@@ -1,4 +1,4 @@
--- Which acceptance a name, a count of sets and a formula stand for (docs/formats.md, acceptance kinds and priorities).
+-- The acceptance kind of a name, a count of sets and a formula (docs/formats.md, acceptance kinds and priorities).
 use Rattle.std.specs.Prelude.{◌≡◌, ℕ, ◌≤◌, if◌then◌else◌, List, [], ◌∷◌, Option, Some, None, codes}
 use Rattle.std.specs.Str.{bytes_eq}
 use Rattle.omega_text.specs.Cases.{never, or_task}
@@ -34,13 +34,13 @@ order_named word = if bytes_eq word (codes "max") then Some Max else (if bytes_e
 abbrev pub oddness_named : List ℕ → Option Parity
 oddness_named word = if bytes_eq word (codes "even") then Some Even else (if bytes_eq word (codes "odd") then Some Odd else None)
 
--- the kind of an order, a parity and a count, where there are both
+-- the kind of an order, a parity and a count, if there are both
 abbrev pub kind_from : Option Order → Option Parity → ℕ → Option ParityKind
 kind_from None parity count = None
 kind_from (Some order) None count = None
 kind_from (Some order) (Some parity) count = Some (record { order = order; parity = parity; count = count })
 
--- the parity kind that a name and its parameters stand for
+-- the parity kind of a name and its parameters
 abbrev pub parity_named : List ℕ → List Parameter → Option ParityKind
 parity_named word [] = short_named word
 parity_named word (Word order ∷ Word parity ∷ Number count ∷ []) =
@@ -71,6 +71,6 @@ abbrev pub IsAcceptanceRow : AccName → ℕ → AccTree → AccKind → Type 0
 IsAcceptanceRow name count formula (kind.Parity parity) = IsParityRow name count formula parity
 IsAcceptanceRow name count formula (kind.GenBuchi sets) = IsBuchiRow name count formula sets
 
--- no parity kind, of which this holds
+-- no parity kind, and this holds
 abbrev pub IsNotParity : Type 0 → Refusal → Type 0
 IsNotParity holds = or_task (λ fault. (fault ≡ NotParity) × holds) never

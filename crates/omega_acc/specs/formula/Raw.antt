@@ -1,8 +1,8 @@
 -- Acceptance formulas as they are written, with parentheses (HOA v1, acceptance).
 use Rattle.std.specs.Prelude.{ℕ, ◌+◌, Bool, List, max}
 
--- an acceptance formula as it is written; an atom has its identifier's bytes, whether a `!` stands before its set,
--- and the set
+-- an acceptance formula as it is written; an atom has its identifier's bytes, whether a `!` precedes its set, and the
+-- set
 pub data RawAccTree : Type 0 where
   constant : Bool → RawAccTree
   atom : List ℕ → Bool → ℕ → RawAccTree

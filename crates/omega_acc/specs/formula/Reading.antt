@@ -1,5 +1,5 @@
--- How acceptance formulas as they are written stand in tokens: `&` binds tighter than `|`,
--- and equal operators group to the left (HOA v1).
+-- The grammar of acceptance formulas as they are written: `&` binds tighter than `|`, and equal operators group to the
+-- left (HOA v1).
 use Rattle.std.specs.Prelude.{◌≡◌, ℕ, Bool, true, false, List, [], ◌∷◌, ◌++◌, map}
 use Rattle.omega_acc.specs.formula.Raw.{RawAccTree, atom, conjunction, constant, disjunction, group}
 use Rattle.omega_acc.specs.Symbols.{EndsThere, Rank, ExpressionSymbol, TakesAnd, TakesOr, conjunctive, disjunctive, number, sign, expression_symbol_of, truth_kind, unary, word}
@@ -24,9 +24,9 @@ formula_symbols (conjunction left right) = formula_symbols left ++ sign kind.And
 formula_symbols (disjunction left right) = formula_symbols left ++ sign kind.Or ∷ formula_symbols right
 formula_symbols (group part) = sign kind.OpenParenthesis ∷ (formula_symbols part ++ sign kind.CloseParenthesis ∷ [])
 
--- the formula is of this case: an or-expression is an and-expression or an or-expression, `|` and an and-expression; an
--- and-expression is a unary one or an and-expression, `&` and a unary one; a unary one is a constant, an atom, or an
--- or-expression in parentheses
+-- The formula is of this case. An or-expression is an and-expression, or an or-expression, `|` and an and-expression.
+-- An and-expression is a unary one, or an and-expression, `&` and a unary one. A unary one is a constant, an atom, or
+-- an or-expression in parentheses.
 abbrev pub IsAccOf : Rank → RawAccTree → Type 0
 IsAccOf rank (constant value) = Unit {0}
 IsAccOf rank (atom name negated set) = Unit {0}

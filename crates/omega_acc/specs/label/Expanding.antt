@@ -1,5 +1,5 @@
--- What a label means once each alias is replaced by its definition (HOA v1, aliases; docs/formats.md, labels
--- and acceptance formulas).
+-- The meaning of a label once each alias is replaced by its definition (HOA v1, aliases; docs/formats.md, labels and
+-- acceptance formulas).
 use Rattle.std.specs.Prelude.{◌≡◌, ℕ, suc, ◌+◌, ◌<◌, ◌≤◌, length, nat_lt, if◌then◌else◌, List, [], ◌∷◌, ◌++◌, Option, Some, None, option_map, max}
 use Rattle.std.specs.Str.{bytes_eq}
 use Rattle.omega_text.specs.Cases.{never, or_automaton, or_memory}
@@ -21,12 +21,12 @@ pub record Meaning : Type 0 where
   pub tree : LabelTree
   pub depth : ℕ
 
--- a name, and what it means; none where its definition reaches an undefined alias
+-- a name, and what it means; none if its definition reaches an undefined alias
 pub record Entry : Type 0 where
   pub name : List ℕ
   pub meaning : Option Meaning
 
--- what a name means among entries; none where it is not there
+-- what a name means among entries; none if it is not there
 abbrev pub stands_for : List Entry → List ℕ → Option Meaning
 stands_for [] name = None
 stands_for (entry ∷ entries) name = if bytes_eq name entry.name then entry.meaning else stands_for entries name
@@ -43,14 +43,14 @@ in_parentheses part = record { tree = part.tree; depth = part.depth + 1 }
 abbrev pub negated : Meaning → Meaning
 negated part = record { tree = label.negation part.tree; depth = part.depth + 1 }
 
--- two meanings and their operator, where there are both
+-- two meanings and their operator, if there are both
 abbrev pub both : (LabelTree → LabelTree → LabelTree) → Option Meaning → Option Meaning → Option Meaning
 both operator None right = None
 both operator (Some left) None = None
 both operator (Some left) (Some right) =
     Some (record { tree = operator left.tree right.tree; depth = max left.depth right.depth + 1 })
 
--- what a label as it is written means, where an alias counts as what it stands for between parentheses
+-- what a label as it is written means, an alias counting as its definition between parentheses
 abbrev pub replaced : List Entry → RawLabelTree → Option Meaning
 replaced entries (constant value) = atom (label.constant value)
 replaced entries (proposition number) = atom (label.proposition number)

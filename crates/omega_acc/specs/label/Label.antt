@@ -25,7 +25,7 @@ label_size (negation part) = label_size part + 1
 label_size (conjunction left right) = label_size left + label_size right + 1
 label_size (disjunction left right) = label_size left + label_size right + 1
 
--- the propositions of a label from left to right, each as often as it stands there
+-- the propositions of a label from left to right, each as often as it occurs
 abbrev pub propositions : LabelTree → List ℕ
 propositions (constant value) = []
 propositions (proposition number) = number ∷ []
@@ -33,7 +33,7 @@ propositions (negation part) = propositions part
 propositions (conjunction left right) = propositions left ++ propositions right
 propositions (disjunction left right) = propositions left ++ propositions right
 
--- whether a label is true where exactly these propositions hold
+-- whether a label is true if exactly these propositions hold
 abbrev pub truth : (ℕ → Bool) → LabelTree → Bool
 truth held (constant value) = value
 truth held (proposition number) = held number

@@ -21,8 +21,8 @@ raw_depth (conjunction left right) = max (raw_depth left) (raw_depth right) + 1
 raw_depth (disjunction left right) = max (raw_depth left) (raw_depth right) + 1
 raw_depth (group part) = raw_depth part + 1
 
--- the propositions of a label from left to right, each as often as it stands there;
--- those of aliases' definitions are left out
+-- the propositions of a label from left to right, each as often as it occurs; the propositions of aliases' definitions
+-- are left out
 abbrev pub raw_propositions : RawLabelTree → List ℕ
 raw_propositions (constant value) = []
 raw_propositions (proposition number) = number ∷ []

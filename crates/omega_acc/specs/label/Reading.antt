@@ -1,5 +1,5 @@
--- How labels as they are written stand in tokens: `!` binds tightest, then `&`, then `|`,
--- and equal operators group to the left (HOA v1).
+-- The grammar of labels as they are written: `!` binds tightest, then `&`, then `|`, and equal operators group to the
+-- left (HOA v1).
 use Rattle.std.specs.Prelude.{◌≡◌, ◌<◌, List, [], ◌∷◌, ◌++◌, map}
 use Rattle.omega_acc.specs.label.Raw.{RawLabelTree, alias, conjunction, constant, disjunction, group, negation, proposition, raw_depth}
 use Rattle.omega_acc.specs.Limits.{most_depth}
@@ -21,9 +21,9 @@ label_symbols (conjunction left right) = label_symbols left ++ sign kind.And ∷
 label_symbols (disjunction left right) = label_symbols left ++ sign kind.Or ∷ label_symbols right
 label_symbols (group part) = sign kind.OpenParenthesis ∷ (label_symbols part ++ sign kind.CloseParenthesis ∷ [])
 
--- the label is of this case: an or-expression is an and-expression or an or-expression, `|` and an and-expression; an
--- and-expression is a unary one or an and-expression, `&` and a unary one; a unary one is an atom, `!` and a unary one,
--- or an or-expression in parentheses
+-- The label is of this case. An or-expression is an and-expression, or an or-expression, `|` and an and-expression. An
+-- and-expression is a unary one, or an and-expression, `&` and a unary one. A unary one is an atom, `!` and a unary
+-- one, or an or-expression in parentheses.
 abbrev pub IsOf : Rank → RawLabelTree → Type 0
 IsOf rank (constant value) = Unit {0}
 IsOf rank (proposition value) = Unit {0}
@@ -51,7 +51,7 @@ pub record ReadsDeep (tokens rest : List (Lexeme HoaKind)) : Type 0 where
   pub reads : Reads tokens tree rest
   pub deep : most_depth < raw_depth tree
 
--- the refusals of reading a label, where none is read, and where one is that is too deep
+-- the refusals of reading a label, if there is none, and if there is one that is too deep
 abbrev pub IsUnreadLabel : Type 0 → Type 0 → Refusal → Type 0
 IsUnreadLabel none deep = or_text (IsSyntax none) (or_automaton (λ fault. (fault ≡ TooDeep) × deep) (or_memory never))
 

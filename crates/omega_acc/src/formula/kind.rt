@@ -19,7 +19,7 @@ pub enum Parity {
 }
 
 impl Parity {
-    /// Whether a number has this parity.
+    /// Whether `number` has this parity.
     pub fn has(self, number: u32) -> bool
         ensures { result ≡ has_parity self number }
     {
@@ -29,7 +29,7 @@ impl Parity {
         }
     }
 
-    /// The least number of this parity from a number on.
+    /// Returns the least number of this parity from `number` on.
     pub(crate) fn least_from(self, number: u32) -> u32
         requires { number ≤ most_number }
         ensures { result ≡ least_from self number }
@@ -50,6 +50,6 @@ pub struct ParityKind {
 #[derive(Clone, Copy, Debug, PartialEq, Eq)]
 pub enum AccKind {
     Parity(ParityKind),
-    /// Each of the sets from 0 to this count - 1 occurs infinitely often.
+    /// Each of the sets below this count occurs infinitely often.
     GenBuchi(u32),
 }

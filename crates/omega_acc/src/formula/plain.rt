@@ -2,7 +2,7 @@
 
 ghost use Rattle.std.specs.Prelude.{◌≡◌, ◌∷◌, [], Some, None, IfErr, IfOk, OnOk};
 ghost use Rattle.omega_text.specs.Cases.{IsMemory};
-ghost use Rattle.omega_acc.specs.private.layout.formula.Plain.{alone, atom_plain, depths_behind, plain_nodes, top_depth};
+ghost use Rattle.omega_acc.specs.private.layout.formula.Plain.{alone, atom_plain, depths_after, plain_nodes, top_depth};
 ghost use Rattle.omega_acc.specs.private.layout.formula.Raw.{atom_names, raw_acc_postfix};
 ghost use Rattle.omega_text.specs.Cases.{never, or_automaton, or_memory};
 ghost use Rattle.omega_text.specs.declared.refusal.automaton.AutomatonFault.TheVariants.{AcceptanceAtom};
@@ -10,12 +10,13 @@ ghost use Rattle.omega_text.specs.declared.refusal.automaton.AutomatonFault.TheV
 use crate::depths::Depths;
 use crate::formula::AccNode;
 use crate::formula::raw::{RawAcc, RawAccNode};
-use crate::label::aliases::{behind, front};
+use crate::label::aliases::{following, front};
 use crate::label::unfinished::deeper;
 use omega_text::{AutomatonFault, Refusal};
 use std::alloc::Global;
 
-/// The nodes of a formula without its parentheses. Refusal 31 where an atom is neither `Fin` nor `Inf`.
+/// Returns the nodes of the formula `raw` without its parentheses. Refused with [AutomatonFault::AcceptanceAtom] if an
+/// atom is neither `Fin` nor `Inf`.
 pub(crate) fn nodes_of(alloc: Global, raw: &RawAcc) -> Result<Vec<AccNode>, Refusal>
     ensures ok { IfOk result (λ nodes. plain_nodes (atom_names raw.now) (raw_acc_postfix raw.now) ≡ Some nodes.items) }
     ensures err { IfErr result (or_automaton (λ fault. (fault ≡ AcceptanceAtom) × (plain_nodes (atom_names raw.now) (raw_acc_postfix raw.now) ≡ None)) (or_memory never)) }
@@ -32,7 +33,7 @@ pub(crate) fn nodes_of(alloc: Global, raw: &RawAcc) -> Result<Vec<AccNode>, Refu
                 let Some(plain) = atom(front(names, *count), *negated, *set) else {
                     return Err(Refusal::Automaton(AutomatonFault::AcceptanceAtom));
                 };
-                names = behind(names, *count);
+                names = following(names, *count);
                 nodes.push(plain)?;
             }
         }
@@ -40,7 +41,7 @@ pub(crate) fn nodes_of(alloc: Global, raw: &RawAcc) -> Result<Vec<AccNode>, Refu
     Ok(nodes)
 }
 
-/// The node of an atom, none where its identifier is neither `Inf` nor `Fin`.
+/// Returns the node of an atom, or none if `name` is neither `Inf` nor `Fin`.
 fn atom(name: &[u8], negated: bool, set: u32) -> Option<AccNode>
     ensures { result ≡ atom_plain name.now negated set }
 {
@@ -53,9 +54,9 @@ fn atom(name: &[u8], negated: bool, set: u32) -> Option<AccNode>
     }
 }
 
-/// How deep nodes in postfix order are, counted up to 257.
+/// Returns the depth of `nodes`, which are in postfix order, counted up to 257.
 pub(crate) fn depth_of(alloc: Global, nodes: &[AccNode]) -> Result<u32, Refusal>
-    ensures ok { IfOk result (λ depth. depth ≡ top_depth (depths_behind [] nodes.now)) }
+    ensures ok { IfOk result (λ depth. depth ≡ top_depth (depths_after [] nodes.now)) }
     ensures err { IfErr result IsMemory }
 {
     let mut depths = Depths::new(alloc);

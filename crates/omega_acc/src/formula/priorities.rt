@@ -4,8 +4,8 @@ ghost use Rattle.omega_text.specs.Limits.{most_number};
 
 use crate::formula::kind::{Order, Parity, ParityKind};
 
-/// The priority of an edge with these marks, for which the kind's formula holds exactly if the greatest priority of the
-/// edges that are taken for ever is even. Takes no memory; one pass over the marks.
+/// Returns the priority of an edge with `marks`. The kind's formula holds exactly if the greatest priority of the edges
+/// taken infinitely often is even. Takes no memory, and passes over the marks once.
 pub fn priority(kind: ParityKind, marks: &[u32]) -> u32
     requires count { kind.count ≤ most_number }
     requires marks { All (λ mark. mark < kind.count) marks.now }
@@ -20,7 +20,7 @@ pub fn priority(kind: ParityKind, marks: &[u32]) -> u32
     }
 }
 
-/// One more than the greatest mark, 0 if there is none.
+/// Returns the greatest mark plus one, or 0 without marks.
 fn beyond(marks: &[u32], count: u32) -> u32
     requires marks { All (λ mark. mark < count) marks.now }
     ensures value { result ≡ beyond marks.now }
@@ -33,7 +33,7 @@ fn beyond(marks: &[u32], count: u32) -> u32
     highest
 }
 
-/// The least mark, `count` if there is none.
+/// Returns the least mark, or `count` without marks.
 fn least_mark(marks: &[u32], count: u32) -> u32
     ensures value { result ≡ least_mark count marks.now }
     ensures limit { result ≤ count }

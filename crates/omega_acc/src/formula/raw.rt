@@ -16,8 +16,8 @@ use omega_text::{AutomatonFault, Refusal, Seq};
 use std::alloc::Global;
 use std::marker::Model;
 
-/// A node of an acceptance formula as it is written. Its parts stand before it. An atom has the length of its name,
-/// whether `!` stands before its set, and the set.
+/// A node of an acceptance formula as it is written. Its parts precede it. An atom has the length of its name, whether
+/// `!` precedes its set, and the set.
 #[derive(Clone, Copy, Debug, PartialEq, Eq)]
 pub(crate) enum RawAccNode {
     Constant(bool),
@@ -27,8 +27,8 @@ pub(crate) enum RawAccNode {
     Group,
 }
 
-/// An acceptance formula as it is written, with parentheses and the identifiers of its atoms, which may be other than
-/// `Fin` and `Inf`, of any depth.
+/// An acceptance formula of any depth as it is written, with parentheses and the identifiers of its atoms, which may be
+/// other than `Fin` and `Inf`.
 ///
 /// Contracts see its tree. Reading, measuring, comparing and dropping it need no recursion.
 #[derive(Debug, PartialEq, Eq, Drop)]
@@ -62,7 +62,7 @@ impl RawAcc {
     ghost use Rattle.omega_acc.specs.formula.Meaning.{IsMeant, IsUnmeant, acc_sets};
     ghost use Rattle.omega_acc.specs.private.layout.formula.Raw.{IsRawAcc, atom_names, raw_acc_postfix, raw_acc_tree_of};
 
-    /// `t` or `f`. Refusal 60.
+    /// Makes the formula `t` or `f`.
     pub fn constant(alloc: Global, value: bool) -> Result<RawAcc, Refusal>
         ensures ok { IfOk result (λ formula. formula ≡ constant_tree value) }
         ensures err { IfErr result IsMemory }
@@ -74,7 +74,7 @@ impl RawAcc {
         })
     }
 
-    /// An atom: an identifier and a set by its number, with `!` before it or without. Refusal 60.
+    /// Makes an atom: the identifier `name` and the number `set`, with `!` before it if `negated`.
     pub fn atom(alloc: Global, name: &[u8], negated: bool, set: u32) -> Result<RawAcc, Refusal>
         ensures ok { IfOk result (λ formula. formula ≡ atom_tree name.now negated set) }
         ensures err { IfErr result IsMemory }
@@ -88,7 +88,7 @@ impl RawAcc {
         })
     }
 
-    /// The formula in parentheses. Refusal 32 where it would be too deep.
+    /// Puts the formula in parentheses. Refused with [AutomatonFault::TooDeep] if it would be over 256 deep.
     pub fn group(self) -> Result<RawAcc, Refusal>
         ensures ok { IfOk result (λ formula. formula ≡ group_tree self) }
         ensures shallow { IfOk result (λ formula. raw_acc_depth formula ≤ most_depth) }
@@ -102,7 +102,7 @@ impl RawAcc {
         })
     }
 
-    /// Both formulas joined by `&`. Refusal 32 where they would be too deep.
+    /// Joins both formulas by `&`. Refused with [AutomatonFault::TooDeep] if the result would be over 256 deep.
     pub fn and(self, other: RawAcc) -> Result<RawAcc, Refusal>
         ensures ok { IfOk result (λ formula. formula ≡ conjunction self other) }
         ensures shallow { IfOk result (λ formula. raw_acc_depth formula ≤ most_depth) }
@@ -111,7 +111,7 @@ impl RawAcc {
         self.joined(other, RawAccNode::And)
     }
 
-    /// Both formulas joined by `|`. Refusal 32 where they would be too deep.
+    /// Joins both formulas by `|`. Refused with [AutomatonFault::TooDeep] if the result would be over 256 deep.
     pub fn or(self, other: RawAcc) -> Result<RawAcc, Refusal>
         ensures ok { IfOk result (λ formula. formula ≡ disjunction self other) }
         ensures shallow { IfOk result (λ formula. raw_acc_depth formula ≤ most_depth) }
@@ -120,7 +120,7 @@ impl RawAcc {
         self.joined(other, RawAccNode::Or)
     }
 
-    /// Both formulas joined by an operator. Refusal 32 where they would be too deep.
+    /// Joins both formulas by `operator`. Refused with [AutomatonFault::TooDeep] if the result would be over 256 deep.
     fn joined(self, other: RawAcc, operator: RawAccNode) -> Result<RawAcc, Refusal>
         requires { IsJoining operator }
         ensures ok { IfOk result (λ formula. formula ≡ joined_by operator self other) }
@@ -144,7 +144,7 @@ impl RawAcc {
         })
     }
 
-    /// Its depth up to 256, and 257 where it is deeper.
+    /// Returns its depth up to 256, and 257 if it is deeper.
     pub fn depth(&self) -> u32
         ensures { result ≡ counted (raw_acc_depth self.now) }
     {
@@ -158,16 +158,17 @@ impl RawAcc {
         self.depth > MOST_DEPTH
     }
 
-    /// Whether its sets are all below a count. Takes no memory.
+    /// Whether its sets are all below `count`. Takes no memory.
     pub fn sets_below(&self, count: u32) -> bool
         ensures { result ≡ list_all (λ set. nat_lt set count) (acc_sets self.now) }
     {
         all_sets_below(self.nodes(), count)
     }
 
-    /// What it means: the formula without parentheses.
+    /// Returns its meaning: the formula without parentheses.
     ///
-    /// Refusal 31 where an atom is neither `Fin` nor `Inf` (HOA v1, acceptance), else 32 where it is over 256 deep.
+    /// Refused with [AutomatonFault::AcceptanceAtom] if an atom is neither `Fin` nor `Inf` (HOA v1, acceptance), else
+    /// with [AutomatonFault::TooDeep] if it is over 256 deep.
     pub fn formula(&self, alloc: Global) -> Result<Acc, Refusal>
         ensures ok { IfOk result (λ formula. IsMeant self.now formula) }
         ensures err { IfErr result (IsUnmeant self.now) }
@@ -180,7 +181,7 @@ impl RawAcc {
         Ok(Acc::of_nodes(nodes, depth))
     }
 
-    /// The formula of nodes in postfix order, atoms' names and a depth.
+    /// Makes the formula of `nodes` in postfix order, with its atoms' names and its depth.
     pub(crate) fn of_nodes(nodes: Vec<RawAccNode>, names: Vec<u8>, depth: u32) -> RawAcc
         requires { IsRawAcc nodes.items names.items depth }
         ensures { result ≡ raw_acc_tree_of nodes.items names.items }
@@ -192,14 +193,14 @@ impl RawAcc {
         }
     }
 
-    /// Its nodes, parts before their operators.
+    /// Returns its nodes, parts before their operators.
     pub(crate) fn nodes(&self) -> &[RawAccNode]
         ensures { result.now ≡ raw_acc_postfix self.now }
     {
         self.nodes.as_slice()
     }
 
-    /// Its atoms' names from left to right, joined.
+    /// Returns its atoms' names from left to right, joined.
     pub(crate) fn names(&self) -> &[u8]
         ensures { result.now ≡ atom_names self.now }
     {
@@ -207,14 +208,14 @@ impl RawAcc {
     }
 }
 
-/// Whether the sets of nodes are all below a count.
+/// Whether the sets of `nodes` are all below `count`.
 fn all_sets_below(nodes: &[RawAccNode], count: u32) -> bool
     ensures { result ≡ list_all (λ node. set_below count node) nodes.now }
 {
     nodes.iter().all(|node| is_set_below(*node, count))
 }
 
-/// Whether the set of a node is below a count, if it has one.
+/// Whether the set of `node` is below `count`, if it has one.
 fn is_set_below(node: RawAccNode, count: u32) -> bool
     ensures { result ≡ set_below count node }
 {

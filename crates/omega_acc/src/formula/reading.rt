@@ -18,8 +18,9 @@ use crate::pending::Pending;
 use omega_text::{HoaKind, Refusal, TextFault, TokenSource};
 use std::alloc::Global;
 
-/// Reads an acceptance formula as it is written, which is the one front of the tokens that is a formula and has neither
-/// `&` nor `|` after it (HOA v1, acceptance). Refusal 3 where there is none. Linear time, without recursion.
+/// Reads an acceptance formula as it is written (HOA v1, acceptance): the one prefix of the tokens that is a formula
+/// and has neither `&` nor `|` after it. Refused with [TextFault::Syntax] if there is none. Linear time, without
+/// recursion.
 pub fn read_raw_acc<'a, S: TokenSource<'a, HoaKind>>(
     alloc: Global,
     source: &mut S,
@@ -30,12 +31,15 @@ pub fn read_raw_acc<'a, S: TokenSource<'a, HoaKind>>(
 {
     let mut unfinished = UnfinishedAcc::new(alloc);
     operand(&mut unfinished, source)?;
-    while goes_on(&mut unfinished, source)? {}
+    while read_infix(&mut unfinished, source)? {}
     Ok(RawAcc::of_nodes(unfinished.nodes, unfinished.names, unfinished.depth))
 }
 
-/// Reads an acceptance formula as `read_raw_acc` does, and gives what it means. Refusal 3 where there is none, else 31
-/// where an atom is neither `Fin` nor `Inf`, else 32 where it is over 256 deep; the tokens after it are then left.
+/// Reads an acceptance formula as `read_raw_acc` does, and returns its meaning.
+///
+/// Refused with [TextFault::Syntax] if there is none, else with [AutomatonFault::AcceptanceAtom] if an atom is neither
+/// `Fin` nor `Inf`, else with [AutomatonFault::TooDeep] if it is over 256 deep. After the last two only the tokens
+/// after it are left.
 pub fn read_acc<'a, S: TokenSource<'a, HoaKind>>(
     alloc: Global,
     source: &mut S,
@@ -48,7 +52,7 @@ pub fn read_acc<'a, S: TokenSource<'a, HoaKind>>(
     raw.formula(alloc)
 }
 
-/// Reads a unary part, with what stands before it, and joins it to what waits for it before `&`.
+/// Reads a unary part and its prefixes, and joins it by `&` to the left part that is pending.
 fn operand<'a, S: TokenSource<'a, HoaKind>>(
     unfinished: &mut UnfinishedAcc,
     source: &mut S,
@@ -58,12 +62,12 @@ fn operand<'a, S: TokenSource<'a, HoaKind>>(
     ensures less { OnOk result (length (S.left source.new) < length (S.left source.old)) }
     ensures length { S.length source.new ≡ S.length source.old }
 {
-    while is_prefix(unfinished, source)? {}
+    while read_prefix(unfinished, source)? {}
     unfinished.bind_tightly()
 }
 
-/// Passes a token where a part is wanted, and says whether one is wanted still.
-fn is_prefix<'a, S: TokenSource<'a, HoaKind>>(
+/// Passes the next token when a part is wanted. Returns whether one is still wanted.
+fn read_prefix<'a, S: TokenSource<'a, HoaKind>>(
     unfinished: &mut UnfinishedAcc,
     source: &mut S,
 ) -> Result<bool, Refusal>
@@ -97,9 +101,9 @@ fn is_prefix<'a, S: TokenSource<'a, HoaKind>>(
     Ok(false)
 }
 
-/// Passes a token after a part, with the part that it joins, and says whether more may follow; if not,
-/// the whole formula is read.
-fn goes_on<'a, S: TokenSource<'a, HoaKind>>(
+/// Passes a token after a part, joining the part that it ends. Returns whether more may follow; if not, the whole
+/// formula is read.
+fn read_infix<'a, S: TokenSource<'a, HoaKind>>(
     unfinished: &mut UnfinishedAcc,
     source: &mut S,
 ) -> Result<bool, Refusal>
@@ -133,7 +137,7 @@ fn goes_on<'a, S: TokenSource<'a, HoaKind>>(
     Ok(true)
 }
 
-/// Passes the set of an atom in parentheses, with `!` before it or without.
+/// Passes the set of an atom in parentheses. Returns whether `!` precedes it, and the set.
 fn set<'a, S: TokenSource<'a, HoaKind>>(source: &mut S) -> Result<(bool, u32), Refusal>
     ensures ok { IfOk result (λ set. PassesSet set.0 set.1 (S.left source.old) (S.left source.new)) }
     ensures err { IfErr result (IsUnread (IsStuck named (S.left source.old))) }

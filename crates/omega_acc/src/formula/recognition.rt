@@ -1,4 +1,4 @@
-//! Which acceptance kind a name, a count of sets and a formula stand for.
+//! The acceptance kind of a name, a count of sets and a formula.
 
 ghost use Rattle.std.specs.Prelude.{◌≡◌, ◌<◌, ◌≤◌, ◌↔◌, List, [], ◌∷◌, ◌++◌, IfErr, IfNone, IfOk, IfSome, IsTrue};
 ghost use Rattle.omega_acc.specs.formula.Kind.{buchi_formula, first_left, parity_formula, without_sets};
@@ -15,9 +15,10 @@ use crate::formula::{Acc, AccNode};
 use crate::limits::MOST_BUCHI_SETS;
 use omega_text::{Refusal, TaskFault};
 
-/// The parity kind that a name, a count of sets and a formula stand for: `all`, `none`, `Buchi`, `co-Buchi` or `parity`
-/// with its formula (HOA v1, acceptance names). Any other is refused 40. Takes no memory; walks over the formula alone,
-/// however large the count is.
+/// Returns the parity kind of `name`, `count` sets and `formula`: `all`, `none`, `Buchi`, `co-Buchi` or `parity` with
+/// its formula (HOA v1, acceptance names). Any other is refused with [TaskFault::NotParity].
+///
+/// Takes no memory. Walks over the formula only, however large the count is.
 pub fn parity_of(name: &AccName, count: u32, formula: &Acc) -> Result<ParityKind, Refusal>
     ensures ok { IfOk result (λ kind. IsParityRow name.now count formula.now kind) }
     ensures err { IfErr result (IsNotParity ((kind : ParityKind) → IsParityRow name.now count formula.now kind → ⊥)) }
@@ -30,8 +31,8 @@ pub fn parity_of(name: &AccName, count: u32, formula: &Acc) -> Result<ParityKind
     Err(Refusal::Task(TaskFault::NotParity))
 }
 
-/// The acceptance kind that a name, a count of sets and a formula stand for: a parity kind, or `generalized-Buchi` with
-/// 1 to 16 sets. Any other is refused 40. Takes no memory.
+/// Returns the acceptance kind of `name`, `count` sets and `formula`: a parity kind, or `generalized-Buchi` with 1 to
+/// 16 sets. Any other is refused with [TaskFault::NotParity]. Takes no memory.
 pub fn acceptance_kind(name: &AccName, count: u32, formula: &Acc) -> Result<AccKind, Refusal>
     ensures ok { IfOk result (λ kind. IsAcceptanceRow name.now count formula.now kind) }
     ensures err { IfErr result (IsNotParity ((kind : AccKind) → IsAcceptanceRow name.now count formula.now kind → ⊥)) }
@@ -51,7 +52,7 @@ pub fn acceptance_kind(name: &AccName, count: u32, formula: &Acc) -> Result<AccK
     }
 }
 
-/// The parity kind that a name stands for.
+/// Returns the parity kind that `name` names.
 fn named_kind(name: &AccName) -> Option<ParityKind>
     ensures { result ≡ parity_named name.now.name name.now.parameters }
 {
@@ -77,7 +78,7 @@ fn named_kind(name: &AccName) -> Option<ParityKind>
     }
 }
 
-/// The count of sets that a generalized Büchi name has.
+/// Returns the count of sets of a generalized Büchi name.
 fn named_sets(name: &AccName) -> Option<u32>
     ensures { result ≡ buchi_named name.now.name name.now.parameters }
 {
@@ -93,7 +94,7 @@ fn named_sets(name: &AccName) -> Option<u32>
     }
 }
 
-/// The parity kind of a name without parameters.
+/// Returns the parity kind of a name without parameters.
 fn short_kind(name: &[u8]) -> Option<ParityKind>
     ensures { result ≡ short_named name.now }
 {
@@ -112,7 +113,7 @@ fn short_kind(name: &[u8]) -> Option<ParityKind>
     None
 }
 
-/// A kind in which the greatest mark decides.
+/// Makes a kind in which the greatest mark decides.
 fn max_kind(parity: Parity, count: u32) -> ParityKind
     ensures { result ≡ record { order = Order.Max; parity = parity; count = count } }
 {
@@ -123,7 +124,7 @@ fn max_kind(parity: Parity, count: u32) -> ParityKind
     }
 }
 
-/// The order that a word names.
+/// Returns the order that `word` names.
 fn order_of(word: &[u8]) -> Option<Order>
     ensures { result ≡ order_named word.now }
 {
@@ -136,7 +137,7 @@ fn order_of(word: &[u8]) -> Option<Order>
     None
 }
 
-/// The parity that a word names.
+/// Returns the parity that `word` names.
 fn oddness_of(word: &[u8]) -> Option<Parity>
     ensures { result ≡ oddness_named word.now }
 {
@@ -149,7 +150,7 @@ fn oddness_of(word: &[u8]) -> Option<Parity>
     None
 }
 
-/// Whether nodes are the parity formula of a kind. It stops at the first node that differs.
+/// Whether `nodes` are the parity formula of `kind`. Stops at the first node that differs.
 fn is_parity_formula(kind: ParityKind, nodes: &[AccNode]) -> bool
     ensures { IsTrue result ↔ (nodes.now ≡ acc_postfix (parity_formula kind)) }
 {
@@ -157,21 +158,21 @@ fn is_parity_formula(kind: ParityKind, nodes: &[AccNode]) -> bool
         return is_alone(nodes, without_sets(kind));
     }
     let mut rest = nodes;
-    let mut behind = kind.count - 1;
-    while behind > 0 {
-        let Some(others) = without_first(rest, atom_of(kind, behind)) else {
+    let mut following = kind.count - 1;
+    while following > 0 {
+        let Some(others) = without_first(rest, atom_of(kind, following)) else {
             return false;
         };
-        let Some(middle) = without_last(others, joining_of(kind, behind)) else {
+        let Some(middle) = without_last(others, joining_of(kind, following)) else {
             return false;
         };
         rest = middle;
-        behind -= 1;
+        following -= 1;
     }
     is_alone(rest, atom_of(kind, 0))
 }
 
-/// Whether nodes are the generalized Büchi formula of a count of sets, at least one.
+/// Whether `nodes` are the generalized Büchi formula of `sets` sets, at least one.
 fn is_buchi_formula(sets: u32, nodes: &[AccNode]) -> bool
     requires { 1 ≤ sets }
     ensures { IsTrue result ↔ (nodes.now ≡ acc_postfix (buchi_formula sets)) }
@@ -191,7 +192,7 @@ fn is_buchi_formula(sets: u32, nodes: &[AccNode]) -> bool
     is_alone(rest, AccNode::Inf(false, 0))
 }
 
-/// The nodes after this first one, if it is the first.
+/// Returns the nodes after the first one, if that is `node`.
 fn without_first(nodes: &[AccNode], node: AccNode) -> Option<&[AccNode]>
     ensures some { IfSome result (λ rest. nodes.now ≡ node ∷ rest.now) }
     ensures none { IfNone result ((rest : List AccNode) → nodes.now ≡ node ∷ rest → ⊥) }
@@ -204,7 +205,7 @@ fn without_first(nodes: &[AccNode], node: AccNode) -> Option<&[AccNode]>
     }
 }
 
-/// The nodes before this last one, if it is the last.
+/// Returns the nodes before the last one, if that is `node`.
 fn without_last(nodes: &[AccNode], node: AccNode) -> Option<&[AccNode]>
     ensures some { IfSome result (λ rest. nodes.now ≡ rest.now ++ node ∷ []) }
     ensures none { IfNone result ((rest : List AccNode) → nodes.now ≡ rest ++ node ∷ [] → ⊥) }
@@ -217,7 +218,7 @@ fn without_last(nodes: &[AccNode], node: AccNode) -> Option<&[AccNode]>
     }
 }
 
-/// Whether nodes are one node.
+/// Whether `nodes` are `node` alone.
 fn is_alone(nodes: &[AccNode], node: AccNode) -> bool
     ensures { IsTrue result ↔ (nodes.now ≡ node ∷ []) }
 {
@@ -234,7 +235,7 @@ fn is_node(one: AccNode, other: AccNode) -> bool
     one == other
 }
 
-/// The node of a parity formula without sets.
+/// Returns the node of a parity formula without sets.
 fn without_sets(kind: ParityKind) -> AccNode
     ensures { result ≡ AccNode.Constant (without_sets kind.order kind.parity) }
 {
@@ -244,23 +245,23 @@ fn without_sets(kind: ParityKind) -> AccNode
     }
 }
 
-/// The set after which so many are left.
-fn set_of(kind: ParityKind, behind: u32) -> u32
-    requires { behind < kind.count }
-    ensures { result ≡ first_left kind.order kind.count behind }
+/// Returns the set after which `following` sets are left.
+fn set_of(kind: ParityKind, following: u32) -> u32
+    requires { following < kind.count }
+    ensures { result ≡ first_left kind.order kind.count following }
 {
     match kind.order {
-        Order::Max => behind,
-        Order::Min => kind.count - 1 - behind,
+        Order::Max => following,
+        Order::Min => kind.count - 1 - following,
     }
 }
 
-/// The node of the atom of the set after which so many are left.
-fn atom_of(kind: ParityKind, behind: u32) -> AccNode
-    requires { behind < kind.count }
-    ensures { result ≡ atom_node kind.parity (first_left kind.order kind.count behind) }
+/// Returns the node of the atom of the set after which `following` sets are left.
+fn atom_of(kind: ParityKind, following: u32) -> AccNode
+    requires { following < kind.count }
+    ensures { result ≡ atom_node kind.parity (first_left kind.order kind.count following) }
 {
-    let set = set_of(kind, behind);
+    let set = set_of(kind, following);
     if kind.parity.has(set) {
         AccNode::Inf(false, set)
     } else {
@@ -268,12 +269,12 @@ fn atom_of(kind: ParityKind, behind: u32) -> AccNode
     }
 }
 
-/// The node that joins that atom to the sets after it.
-fn joining_of(kind: ParityKind, behind: u32) -> AccNode
-    requires { behind < kind.count }
-    ensures { result ≡ joining_node kind.parity (first_left kind.order kind.count behind) }
+/// Returns the node that joins this atom to the sets after it.
+fn joining_of(kind: ParityKind, following: u32) -> AccNode
+    requires { following < kind.count }
+    ensures { result ≡ joining_node kind.parity (first_left kind.order kind.count following) }
 {
-    if kind.parity.has(set_of(kind, behind)) {
+    if kind.parity.has(set_of(kind, following)) {
         AccNode::Or
     } else {
         AccNode::And

@@ -14,10 +14,10 @@ use crate::limits::MOST_DEPTH;
 use omega_text::{AutomatonFault, Refusal};
 use std::alloc::Global;
 
-/// An acceptance formula as a tree, whose parts stand in boxes. The truth value of an atom says whether `!` stands
-/// before its set.
+/// An acceptance formula as a tree, whose parts are boxed. The truth value of an atom says whether `!` precedes its
+/// set.
 ///
-/// It may be of any depth, where [`Acc`] has at most 256. Comparing, printing and dropping it recurse as deep as it is.
+/// It may be of any depth, while [`Acc`] has at most 256. Comparing, printing and dropping it recurse as deep as it is.
 #[derive(Debug, PartialEq, Eq, Drop)]
 pub enum AccShape {
     Constant(bool),
@@ -28,7 +28,7 @@ pub enum AccShape {
 }
 
 impl Acc {
-    /// The formula as a tree of boxes, at most 256 deep. Linear in the formula, without recursion.
+    /// Returns the formula as a tree of boxes, at most 256 deep. Linear in the formula, without recursion.
     pub fn shape(&self, alloc: Global) -> Result<AccShape, Refusal>
         ensures ok { IfOk result (λ shape. acc_tree_of_shape shape ≡ self.now) }
         ensures shallow { acc_depth self.now ≤ most_depth }
@@ -37,7 +37,7 @@ impl Acc {
         shape_of(alloc, self.nodes.as_slice())
     }
 
-    /// The formula of a tree of boxes. Refusal 32 where it is over 256 deep.
+    /// Makes the formula of a tree of boxes. Refused with [AutomatonFault::TooDeep] if it is over 256 deep.
     ///
     /// Linear in the tree, and recurses no deeper than 257.
     pub fn of_shape(alloc: Global, shape: &AccShape) -> Result<Acc, Refusal>
@@ -51,7 +51,7 @@ impl Acc {
     }
 }
 
-/// The tree of nodes in postfix order.
+/// Makes the tree of `nodes` in postfix order.
 fn shape_of(alloc: Global, nodes: &[AccNode]) -> Result<AccShape, Refusal>
     ensures ok { IfOk result (λ shape. acc_tree_of_shape shape ≡ acc_tree_of nodes.now) }
     ensures err { IfErr result IsMemory }
@@ -69,8 +69,8 @@ fn shape_of(alloc: Global, nodes: &[AccNode]) -> Result<AccShape, Refusal>
     Ok(shapes.pop())
 }
 
-/// Appends the nodes of a tree that stands so deep below another one. Its own depth, which is refused where it goes
-/// past the limit.
+/// Appends the nodes of `shape`, which is `above` deep below the root, and returns its own depth. Refused past the
+/// limit.
 fn put_nodes(shape: &AccShape, above: u32, nodes: &mut Vec<AccNode>) -> Result<u32, Refusal>
     requires { above ≤ most_depth }
     ensures depth { IfOk result (λ depth. depth ≡ acc_depth (acc_tree_of_shape shape.now)) }
@@ -100,7 +100,7 @@ fn put_nodes(shape: &AccShape, above: u32, nodes: &mut Vec<AccNode>) -> Result<u
     }
 }
 
-/// Appends the node of an atom, whose depth is 1.
+/// Appends the node of an atom, and returns its depth, which is 1.
 fn put_atom(node: AccNode, nodes: &mut Vec<AccNode>) -> Result<u32, Refusal>
     ensures depth { IfOk result (λ depth. depth ≡ 1) }
     ensures nodes { OnOk result (nodes.new.items ≡ nodes.old.items ++ node ∷ []) }

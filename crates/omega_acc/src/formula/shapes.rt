@@ -31,7 +31,7 @@ impl Model for AccShapes {
 }
 
 impl AccShapes {
-    /// No formulas.
+    /// Makes an empty stack.
     pub(crate) fn new(alloc: Global) -> Self
         ensures { result ≡ [] }
     {
@@ -41,7 +41,7 @@ impl AccShapes {
         }
     }
 
-    /// Puts a formula on top.
+    /// Pushes a formula.
     pub(crate) fn push(&mut self, shape: AccShape) -> Result<(), Refusal>
         ensures ok { OnOk result (self.new ≡ acc_tree_of_shape shape ∷ self.old) }
         ensures err { IfErr result IsMemory }
@@ -50,7 +50,7 @@ impl AccShapes {
         Ok(())
     }
 
-    /// Takes the formula on top, a constant where there is none.
+    /// Pops the formula on top, or returns a constant if the stack is empty.
     pub(crate) fn pop(&mut self) -> AccShape
         ensures shape { acc_tree_of_shape result ≡ acc_top self.old }
         ensures rest { self.new ≡ acc_below self.old }

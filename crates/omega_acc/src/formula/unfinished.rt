@@ -8,8 +8,8 @@ use crate::pending::{Pending, PendingStack};
 use omega_text::Refusal;
 use std::alloc::Global;
 
-/// An acceptance formula that is being read: the nodes and atoms' names so far, what waits,
-/// and the depth of the part that stands last.
+/// An acceptance formula that is being read: the nodes and atoms' names so far, the pending operators and parentheses,
+/// and the depth of the last part.
 #[derive(Drop)]
 pub(crate) struct UnfinishedAcc {
     pub(crate) nodes: Vec<RawAccNode>,
@@ -24,7 +24,7 @@ impl UnfinishedAcc {
     ghost use Rattle.omega_text.specs.Lexeme.{Lexeme};
     ghost use Rattle.omega_text.specs.declared.hoa.kind.HoaKind.{HoaKind};
 
-    /// Nothing has been read.
+    /// Makes an empty formula, before anything is read.
     pub(crate) fn new(alloc: Global) -> Self
         ensures { (whole : List (Lexeme HoaKind)) → WantsIn whole whole result }
     {
@@ -36,7 +36,7 @@ impl UnfinishedAcc {
         }
     }
 
-    /// Joins the part that stands last by `&` to what waits for it so.
+    /// Joins the last part to the left part of `&` that is pending, if there is one.
     pub(crate) fn bind_tightly(&mut self) -> Result<(), Refusal>
         ensures ok { OnOk result ((whole : List (Lexeme HoaKind)) (left : List (Lexeme HoaKind)) → HasIn unary whole left self.old → HasIn conjunctive whole left self.new) }
         ensures err { IfErr result IsMemory }
@@ -54,7 +54,7 @@ impl UnfinishedAcc {
         Ok(())
     }
 
-    /// Joins the part that stands last by `|` to what waits for it so.
+    /// Joins the last part to the left part of `|` that is pending, if there is one.
     pub(crate) fn bind_loosely(&mut self) -> Result<(), Refusal>
         ensures ok { OnOk result ((whole : List (Lexeme HoaKind)) (left : List (Lexeme HoaKind)) → HasIn conjunctive whole left self.old → HasIn disjunctive whole left self.new) }
         ensures err { IfErr result IsMemory }

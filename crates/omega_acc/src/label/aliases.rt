@@ -22,9 +22,9 @@ const MOST_KEPT_OF_ONE: u32 = 512;
 /// The most nodes that are kept of all definitions once expanded, in half a megabyte.
 const MOST_KEPT: usize = 65_536;
 
-/// An alias: its name, its definition as it is written, and how deep and large that is once expanded, none where it
-/// reaches an undefined alias. Where its nodes once expanded are few they are kept, so that a chain of definitions is
-/// not gone down again for each label that names its end.
+/// An alias: its name, its definition as it is written, and the depth and size of that once expanded, or none if it
+/// reaches an undefined alias. If its expanded nodes are few, they are kept. So a chain of definitions is not descended
+/// again for each label that names its end.
 #[derive(Drop)]
 pub(crate) struct Definition {
     name: ByteString,
@@ -35,7 +35,7 @@ pub(crate) struct Definition {
 
 /// Aliases with their definitions, in the order of their items, kept unexpanded.
 ///
-/// An alias inside a definition stands for an earlier definition alone.
+/// An alias inside a definition means an earlier definition only.
 #[derive(Drop)]
 pub struct Aliases {
     names: IndexSet<Vec<u8>>,
@@ -59,7 +59,7 @@ impl Model for Aliases {
 }
 
 impl Aliases {
-    /// No aliases, which takes no memory.
+    /// Makes an empty list of aliases, which takes no memory.
     pub fn new(alloc: Global) -> Aliases
         ensures { result ≡ [] }
     {
@@ -70,14 +70,14 @@ impl Aliases {
         }
     }
 
-    /// How many there are.
+    /// Returns the number of aliases.
     pub(crate) fn len(&self) -> usize
         ensures { result ≡ length self.now }
     {
         self.definitions.len()
     }
 
-    /// The place of a name, or how many there are where it is not among them.
+    /// Returns the index of `name`, or the number of aliases if it is not among them.
     pub(crate) fn place(&self, name: &[u8]) -> usize
         ensures { result ≡ place_among self.now name.now }
     {
@@ -87,7 +87,7 @@ impl Aliases {
         }
     }
 
-    /// The definition at a place.
+    /// Returns the definition at `place`.
     pub(crate) fn body(&self, place: usize) -> &RawLabel
         requires { place < length self.now }
         ensures { IsBodyAt self.now place result.now }
@@ -95,7 +95,7 @@ impl Aliases {
         &self.definitions[place].body
     }
 
-    /// The nodes of the definition at a place once expanded, where they are kept.
+    /// Returns the expanded nodes of the definition at `place`, if they are kept.
     pub(crate) fn kept(&self, place: usize) -> Option<&[LabelNode]>
         requires { place < length self.now }
         ensures { IfSome result (λ nodes. IsKeptAt self.now place nodes.now) }
@@ -106,7 +106,7 @@ impl Aliases {
         }
     }
 
-    /// The extent of what a name stands for.
+    /// Returns the extent of the definition of `name`.
     fn extent(&self, name: &[u8]) -> Option<Extent>
         ensures { result ≡ extent_named (entries_of [] self.now) name.now }
     {
@@ -118,7 +118,7 @@ impl Aliases {
         }
     }
 
-    /// The extent of a label once expanded. Refusal 60 alone; a label without aliases takes no memory.
+    /// Returns the extent of `raw` once expanded. A label without aliases takes no memory.
     pub(crate) fn measure(&self, alloc: Global, raw: &RawLabel) -> Result<Option<Extent>, Refusal>
         ensures ok { IfOk result (λ extent. extent ≡ option_map extent_of (expansion self.now raw.now)) }
         ensures err { IfErr result IsMemory }
@@ -129,7 +129,7 @@ impl Aliases {
         }
     }
 
-    /// The same, node by node.
+    /// Returns the extent of `raw` once expanded, counted node by node.
     fn measure_nodes(&self, alloc: Global, raw: &RawLabel) -> Result<Option<Extent>, Refusal>
         ensures ok { IfOk result (λ extent. extent ≡ option_map extent_of (expansion self.now raw.now)) }
         ensures err { IfErr result IsMemory }
@@ -143,7 +143,7 @@ impl Aliases {
                 LabelNode::Constant(_) | LabelNode::Proposition(_) => atom(),
                 LabelNode::Alias(count) => {
                     let extent = self.extent(front(names, *count as usize));
-                    names = behind(names, *count as usize);
+                    names = following(names, *count as usize);
                     in_parentheses(extent)
                 }
                 LabelNode::Not => negated(stack.pop()),
@@ -158,8 +158,9 @@ impl Aliases {
         Ok(stack.pop())
     }
 
-    /// Puts a definition last, under the name that labels have for it: that of a text begins with `@`. Refusal 27
-    /// exactly where the name is there; after a refusal all is as before, and the definition is given up.
+    /// Appends a definition under the name that labels have for it: that of a text begins with `@`. Refused with
+    /// [AutomatonFault::Alias] exactly if the name is there. After a refusal all is as before, and the definition is
+    /// dropped.
     pub fn add(&mut self, name: &[u8], body: RawLabel) -> Result<(), Refusal>
         ensures ok { OnOk result (IsAdded self.old name.now body self.new) }
         ensures same { OnErr result (self.new ≡ self.old) }
@@ -184,8 +185,8 @@ impl Aliases {
         Ok(())
     }
 
-    /// The nodes of a definition once expanded, where they are few enough to be kept. What it names is kept then too,
-    /// so that no definition is gone down into.
+    /// Returns the expanded nodes of a definition, if they are few enough to be kept. The aliases in it are kept then
+    /// too, so that no definition is descended into.
     fn expanded(
         &self,
         alloc: Global,
@@ -207,7 +208,7 @@ impl Aliases {
         Ok(Some(Seq::from_vec(nodes)))
     }
 
-    /// How many more nodes may be kept beside these.
+    /// Returns the number of nodes that may be kept besides `expanded`.
     fn room_beside(&self, expanded: &Option<Seq<LabelNode>>) -> usize {
         match expanded {
             Some(nodes) => self.room.saturating_sub(nodes.len()),
@@ -216,7 +217,7 @@ impl Aliases {
     }
 }
 
-/// Puts a name that is not there and its definition last. After refusal 60 all is as before.
+/// Appends a name that is not there and its definition. After [Refusal::Memory] all is as before.
 fn put_last(
     names: &mut IndexSet<Vec<u8>>,
     definitions: &mut Vec<Definition>,
@@ -250,7 +251,7 @@ fn put_last(
     }
 }
 
-/// The same bytes.
+/// Copies `bytes`.
 fn copied(alloc: Global, bytes: &[u8]) -> Result<Vec<u8>, Refusal>
     ensures ok { IfOk result (λ copy. copy.items ≡ bytes.now) }
     ensures err { IfErr result IsMemory }
@@ -260,7 +261,7 @@ fn copied(alloc: Global, bytes: &[u8]) -> Result<Vec<u8>, Refusal>
     Ok(copy)
 }
 
-/// The first bytes of some, as many as there are up to a count.
+/// Returns the first `count` bytes, or all if there are fewer.
 pub(crate) fn front(bytes: &[u8], count: usize) -> &[u8]
     ensures { result.now ≡ take count bytes.now }
 {
@@ -271,8 +272,8 @@ pub(crate) fn front(bytes: &[u8], count: usize) -> &[u8]
     }
 }
 
-/// The bytes after the first ones.
-pub(crate) fn behind(bytes: &[u8], count: usize) -> &[u8]
+/// Returns the bytes after the first `count`.
+pub(crate) fn following(bytes: &[u8], count: usize) -> &[u8]
     ensures { result.now ≡ drop count bytes.now }
 {
     if count < bytes.len() {

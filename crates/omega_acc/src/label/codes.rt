@@ -5,7 +5,7 @@ ghost use Rattle.omega_acc.specs.private.layout.label.Codes.{code_of, node_of};
 
 use crate::label::LabelNode;
 
-/// The bytes that stand for what is no proposition; those below stand for the propositions of these numbers.
+/// The codes of nodes other than propositions. A lower byte is the proposition of that number.
 const FALSE: u8 = 250;
 
 const TRUE: u8 = 251;
@@ -18,13 +18,13 @@ const OR: u8 = 254;
 
 const GROUP: u8 = 255;
 
-/// How many nodes a label has at most that stands in place.
+/// The greatest number of nodes of a label that is kept in place.
 pub(crate) const MOST_IN_PLACE: usize = 21;
 
-/// Room for the nodes of a label that stands in place.
+/// Room for the nodes of a label that is kept in place.
 pub(crate) const ROOM: [LabelNode; 21] = [LabelNode::And; 21];
 
-/// The byte of a node. An alias has none, nor has a proposition from 250 on.
+/// Returns the byte of `node`. An alias has none, nor has a proposition from 250 on.
 pub(crate) fn code(node: LabelNode) -> Option<u8>
     ensures { result ≡ code_of node }
 {
@@ -40,7 +40,7 @@ pub(crate) fn code(node: LabelNode) -> Option<u8>
     }
 }
 
-/// The node of a byte.
+/// Returns the node of the byte `code`.
 pub(crate) fn decoded(code: u8) -> LabelNode
     ensures { result ≡ node_of code }
 {
@@ -55,7 +55,7 @@ pub(crate) fn decoded(code: u8) -> LabelNode
     }
 }
 
-/// Puts the nodes of bytes into the front of the room, and says how many they are.
+/// Decodes `codes` into the front of `room`, and returns their number.
 pub(crate) fn unpack(codes: &[u8], room: &mut [LabelNode; 21]) -> usize
     requires { length codes.now ≤ 21 }
     ensures nodes { take (length codes.now) room.new ≡ map node_of codes.now }

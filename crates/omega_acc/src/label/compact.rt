@@ -18,18 +18,18 @@ use smallvec::SmallVec;
 use std::alloc::Global;
 use std::marker::Model;
 
-/// A label's notation in 24 bytes, which contracts see as that notation and nothing else. Up to 21 nodes stand in place
-/// and take no memory, a byte each, where none is an alias and the propositions are below 250.
+/// A label's notation in 24 bytes, which contracts see as that notation only. Up to 21 nodes are kept in place and take
+/// no memory, a byte each, if none is an alias and the propositions are below 250.
 #[derive(Debug, Drop)]
 pub(crate) struct Compact {
     held: Held,
     alloc: Global,
 }
 
-/// Where the notation stands.
+/// Where the notation is kept.
 #[derive(Debug, Drop)]
 enum Held {
-    /// In place: the depth, and the first so many bytes, one for each node.
+    /// In place: the depth, and the first `count` bytes, one for each node.
     Short {
         count: u8,
         depth: u8,
@@ -56,7 +56,7 @@ impl Model for Compact {
 }
 
 impl Compact {
-    /// Nodes, alias names and a depth, in place or in as much memory as they need.
+    /// Copies nodes, alias names and a depth, in place or into as much memory as they need.
     pub(crate) fn copied(
         alloc: Global,
         nodes: &[LabelNode],
@@ -80,7 +80,7 @@ impl Compact {
         })
     }
 
-    /// Nodes, alias names and a depth in the memory that they have, without what they do not need of it.
+    /// Keeps nodes, alias names and a depth in the memory that they have, without its unused part.
     pub(crate) fn kept(
         alloc: Global,
         nodes: SmallVec<LabelNode, 24>,
@@ -105,7 +105,7 @@ impl Compact {
         })
     }
 
-    /// The same notation, in place or in the memory that it has.
+    /// Keeps `notation` in place or in the memory that it has.
     pub(crate) fn of(alloc: Global, notation: Notation) -> Result<Self, Refusal>
         ensures ok { IfOk result (λ compact. compact ≡ notation) }
         ensures err { IfErr result IsMemory }
@@ -122,7 +122,7 @@ impl Compact {
         Ok(Compact { held, alloc })
     }
 
-    /// The nodes, in the room where they stand in place.
+    /// Returns the nodes; those kept in place are decoded into `room`.
     pub(crate) fn nodes<'a>(&'a self, room: &'a mut [LabelNode; 21]) -> &'a [LabelNode]
         ensures { result.now ≡ self.now.nodes }
     {
@@ -135,7 +135,7 @@ impl Compact {
         }
     }
 
-    /// The alias names from left to right, joined.
+    /// Returns the alias names from left to right, joined.
     pub(crate) fn names(&self) -> &[u8]
         ensures { result.now ≡ self.now.names }
     {
@@ -154,7 +154,7 @@ impl Compact {
         }
     }
 
-    /// How many nodes there are.
+    /// Returns the number of nodes.
     pub(crate) fn len(&self) -> usize
         ensures { result ≡ length self.now.nodes }
     {
@@ -164,7 +164,7 @@ impl Compact {
         }
     }
 
-    /// Whether an alias stands among the nodes; in place there is none.
+    /// Whether one of the nodes is an alias. In place there is none.
     pub(crate) fn has_alias(&self) -> bool
         ensures { result ≡ list_any is_alias self.now.nodes }
     {
@@ -174,7 +174,7 @@ impl Compact {
         }
     }
 
-    /// How many nodes are no parentheses, where none is an alias.
+    /// Returns the number of nodes that are no parentheses, if no node is an alias.
     pub(crate) fn bare_size(&self) -> Option<usize>
         ensures { SomeIff result (list_any is_alias self.now.nodes ≡ false) (count_by is_bare self.now.nodes) }
     {
@@ -184,7 +184,7 @@ impl Compact {
         }
     }
 
-    /// Whether the propositions among the nodes are all below a limit.
+    /// Whether the propositions among the nodes are all below `limit`.
     pub(crate) fn propositions_below(&self, limit: u32) -> bool
         ensures { result ≡ list_all (λ node. proposition_below limit node) self.now.nodes }
     {
@@ -194,7 +194,7 @@ impl Compact {
         }
     }
 
-    /// The same without the nodes of parentheses, in the memory that it has.
+    /// Drops the nodes of parentheses, in the memory that it has.
     pub(crate) fn without_parentheses(self) -> Self
         ensures { result ≡ record self { nodes = filter is_bare self.nodes } }
     {
@@ -214,7 +214,7 @@ impl Compact {
         Compact { held, alloc }
     }
 
-    /// The notation in memory of its own.
+    /// Moves the notation into memory of its own.
     fn into_notation(self) -> Result<Notation, Refusal>
         ensures ok { IfOk result (λ notation. notation ≡ self) }
         ensures err { IfErr result IsMemory }
@@ -238,7 +238,7 @@ impl Compact {
         }
     }
 
-    /// The same nodes and one more, with another depth.
+    /// Appends `node`, and sets the depth to `depth`.
     pub(crate) fn with_one(self, node: LabelNode, depth: u32) -> Result<Self, Refusal>
         ensures ok { IfOk result (λ more. more ≡ record { nodes = self.nodes ++ node ∷ []; names = self.names; depth = depth }) }
         ensures err { IfErr result IsMemory }
@@ -253,7 +253,7 @@ impl Compact {
         Compact::of(alloc, more)
     }
 
-    /// The nodes and names of both and after them an operator, with another depth.
+    /// Appends the nodes and names of `other` and then `operator`, and sets the depth to `depth`.
     pub(crate) fn joined(
         self,
         other: Compact,
@@ -279,7 +279,7 @@ impl Compact {
     }
 }
 
-/// How many bytes stand for no parentheses.
+/// Returns the number of bytes that do not mean parentheses.
 fn count_bare_codes(codes: &[u8]) -> usize
     ensures { result ≡ count_by is_bare (map node_of codes.now) }
 {
@@ -292,21 +292,21 @@ fn count_bare_codes(codes: &[u8]) -> usize
     count
 }
 
-/// Whether the propositions that bytes stand for are all below a limit.
+/// Whether the propositions of `codes` are all below `limit`.
 fn all_codes_below(codes: &[u8], limit: u32) -> bool
     ensures { result ≡ list_all (λ code. proposition_below limit (node_of code)) codes.now }
 {
     codes.iter().all(|code| is_code_below(*code, limit))
 }
 
-/// Whether the proposition that a byte stands for is below a limit, if it stands for one.
+/// Whether the proposition of `code` is below `limit`, if it has one.
 fn is_code_below(code: u8, limit: u32) -> bool
     ensures { result ≡ proposition_below limit (node_of code) }
 {
     is_proposition_below(decoded(code), limit)
 }
 
-/// What stands in place, without parentheses. Most labels have none, and stay as they are.
+/// Drops the nodes of parentheses in place. Most labels have none, and stay as they are.
 fn bare_in_place(count: u8, depth: u8, codes: [u8; 21]) -> Held
     requires { count ≤ 21 }
     ensures held { notation_in result ≡ record { nodes = filter is_bare (map node_of (take count codes)); names = []; depth = depth } }
@@ -328,7 +328,7 @@ fn bare_in_place(count: u8, depth: u8, codes: [u8; 21]) -> Held
     }
 }
 
-/// The bytes that stand for no parentheses, and how many they are.
+/// Returns the bytes that do not mean parentheses, and their number.
 fn bare_codes(codes: &[u8]) -> (u8, [u8; 21])
     requires { length codes.now ≤ 21 }
     ensures codes { map node_of (take result.0 result.1) ≡ filter is_bare (map node_of codes.now) }
@@ -345,7 +345,7 @@ fn bare_codes(codes: &[u8]) -> (u8, [u8; 21])
     (count, bare)
 }
 
-/// Nodes, alias names and a depth in place, where they fit.
+/// Keeps nodes, alias names and a depth in place, if they fit.
 fn in_place(nodes: &[LabelNode], names: &[u8], depth: u32) -> Option<Held>
     ensures held { IfSome result (λ held. notation_in held ≡ record { nodes = nodes.now; names = names.now; depth = depth }) }
     ensures fits { IfSome result fits_in_place }
@@ -361,7 +361,7 @@ fn in_place(nodes: &[LabelNode], names: &[u8], depth: u32) -> Option<Held>
     })
 }
 
-/// The bytes of nodes, where each has one.
+/// Returns the bytes of `nodes`, if each has one.
 fn codes_of(nodes: &[LabelNode]) -> Option<[u8; 21]>
     requires { length nodes.now ≤ 21 }
     ensures { IfSome result (λ codes. map node_of (take (length nodes.now) codes) ≡ nodes.now) }

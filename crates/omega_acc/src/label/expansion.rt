@@ -8,7 +8,7 @@ ghost use Rattle.omega_acc.specs.private.layout.label.Bare.{is_alias};
 ghost use Rattle.omega_acc.specs.private.layout.label.Emitting.{nodes_of};
 ghost use Rattle.omega_acc.specs.private.layout.label.Raw.{raw_postfix};
 
-use crate::label::aliases::{Aliases, behind, front};
+use crate::label::aliases::{Aliases, following, front};
 use crate::label::codes::ROOM;
 use crate::label::raw::RawLabel;
 use crate::label::{Label, LabelNode};
@@ -16,13 +16,14 @@ use crate::limits::{MOST_DEPTH, MOST_SIZE};
 use omega_text::{AutomatonFault, Refusal};
 use std::alloc::Global;
 
-/// How many nodes are copied at once, in two kilobytes.
+/// The greatest number of nodes that are copied at once, in two kilobytes.
 const MOST_AT_ONCE: usize = 256;
 
-/// A label with its aliases replaced by their definitions and its parentheses gone.
+/// Expands `raw`: replaces its aliases by their definitions and drops its parentheses.
 ///
-/// Refusal 27 where it reaches an undefined alias, else 32 where it is over 256 deep, an alias counting as its
-/// definition between parentheses, else 33 where it has over 65,536 tree nodes; all before anything is copied.
+/// Refused with [AutomatonFault::Alias] if it reaches an undefined alias. Else refused with [AutomatonFault::TooDeep]
+/// if it is over 256 deep, an alias counting as its definition between parentheses. Else refused with
+/// [AutomatonFault::Expansion] if it has over 65,536 tree nodes. All this comes before anything is copied.
 pub fn expand(alloc: Global, raw: &RawLabel, aliases: &Aliases) -> Result<Label, Refusal>
     ensures ok { IfOk result (λ label. IsExpansion aliases.now raw.now label) }
     ensures err { IfErr result (IsUnexpanded aliases.now raw.now) }
@@ -31,19 +32,20 @@ pub fn expand(alloc: Global, raw: &RawLabel, aliases: &Aliases) -> Result<Label,
     replace_aliases(alloc, raw, aliases, size)
 }
 
-/// The same of a label that is dropped: one without aliases keeps its memory, and nothing is copied.
+/// Expands `raw` as `expand` does, and drops it. A label without aliases keeps its memory, and nothing is copied.
 pub fn expand_in_place(alloc: Global, raw: RawLabel, aliases: &Aliases) -> Result<Label, Refusal>
     ensures ok { IfOk result (λ label. IsExpansion aliases.now raw label) }
     ensures err { IfErr result (IsUnexpanded aliases.now raw) }
 {
     if raw.is_within_limits() {
-        // Most labels, of which nothing is counted.
+        // Most labels need no counting.
         return Ok(bare_label(raw, aliases));
     }
     expand_counted(alloc, raw, aliases)
 }
 
-/// The label without its parentheses, which is its expansion whatever the aliases are.
+/// Drops the parentheses of a label without aliases, which makes its expansion whatever the aliases are. The aliases
+/// are an argument for the contract only.
 fn bare_label(raw: RawLabel, _aliases: &Aliases) -> Label
     requires no_alias { list_any is_alias (raw_postfix raw) ≡ false }
     requires shallow { raw_depth raw ≤ most_depth }
@@ -53,7 +55,7 @@ fn bare_label(raw: RawLabel, _aliases: &Aliases) -> Label
     raw.without_parentheses()
 }
 
-/// The expansion of a label that is counted first.
+/// Expands a label that is counted first.
 fn expand_counted(alloc: Global, raw: RawLabel, aliases: &Aliases) -> Result<Label, Refusal>
     ensures ok { IfOk result (λ label. IsExpansion aliases.now raw label) }
     ensures err { IfErr result (IsUnexpanded aliases.now raw) }
@@ -66,7 +68,7 @@ fn expand_counted(alloc: Global, raw: RawLabel, aliases: &Aliases) -> Result<Lab
     }
 }
 
-/// The label with its aliases replaced by their definitions and its parentheses gone, which has so many tree nodes.
+/// Replaces the aliases of `raw` by their definitions and drops its parentheses. The result has `size` tree nodes.
 fn replace_aliases(
     alloc: Global,
     raw: &RawLabel,
@@ -82,7 +84,7 @@ fn replace_aliases(
     Label::of_nodes(alloc, nodes)
 }
 
-/// How many tree nodes a label has once expanded, with the refusals of `expand` and nothing copied.
+/// Returns the number of tree nodes of `raw` once expanded, with the refusals of `expand` and nothing copied.
 pub fn expanded_size(alloc: Global, raw: &RawLabel, aliases: &Aliases) -> Result<u32, Refusal>
     ensures ok { IfOk result (λ size. IsExpanded aliases.now raw.now size) }
     ensures err { IfErr result (IsUnexpanded aliases.now raw.now) }
@@ -99,7 +101,7 @@ pub fn expanded_size(alloc: Global, raw: &RawLabel, aliases: &Aliases) -> Result
     Ok(extent.size)
 }
 
-/// Where the nodes stand that an alias was replaced by.
+/// The position of the nodes that replaced an alias.
 #[derive(Clone, Copy)]
 struct Stretch {
     place: usize,
@@ -107,9 +109,10 @@ struct Stretch {
     end: usize,
 }
 
-/// Appends the nodes of a label with its aliases replaced by the definitions before a place. It goes down at most as
-/// far as the label is deep. An alias whose nodes are kept, or that is the same as the one before it, is copied from
-/// there and not gone down into.
+/// Appends the nodes of `raw` with its aliases replaced by the definitions before the index `before`. Recurses at most
+/// as deep as the label is.
+///
+/// An alias whose nodes are kept, or that is the same as the one before it, is copied and not descended into.
 pub(crate) fn emit(
     aliases: &Aliases,
     raw: &RawLabel,
@@ -139,7 +142,7 @@ pub(crate) fn emit(
             LabelNode::Group => {}
             LabelNode::Alias(count) => {
                 let place = aliases.place(front(names, *count as usize));
-                names = behind(names, *count as usize);
+                names = following(names, *count as usize);
                 if place < before {
                     let body = aliases.body(place);
                     if let Some(kept) = aliases.kept(place) {
@@ -159,7 +162,8 @@ pub(crate) fn emit(
     Ok(())
 }
 
-/// Appends nodes that stand there once more, so many at a time: a few are copied faster than one by one.
+/// Appends the nodes of `out` from `start` to `end` once more, several at a time: a few are copied faster than one by
+/// one.
 fn repeat(out: &mut Vec<LabelNode>, start: usize, end: usize) -> Result<(), Refusal>
     requires forward { start ≤ end }
     requires within { end ≤ length out.old.items }
@@ -177,7 +181,7 @@ fn repeat(out: &mut Vec<LabelNode>, start: usize, end: usize) -> Result<(), Refu
     Ok(())
 }
 
-/// Appends nodes that stand there once more, by way of others, which are lost.
+/// Appends the nodes of `out` from `start` to `end` once more, by way of `room`, whose nodes are lost.
 fn copy_through(
     out: &mut Vec<LabelNode>,
     room: &mut Vec<LabelNode>,

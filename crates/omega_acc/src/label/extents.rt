@@ -13,21 +13,22 @@ const PAST_DEPTH: u32 = 257;
 /// Just past the greatest size: larger labels count as this large.
 const PAST_SIZE: u32 = 65_537;
 
-/// How deep and large a label is, counted no further than just past the limits.
+/// The depth and size of a label, counted no further than just past the limits.
 #[derive(Clone, Copy)]
 pub(crate) struct Extent {
     pub(crate) depth: u32,
     pub(crate) size: u32,
 }
 
-/// An atom's extent.
+/// Returns an atom's extent.
 pub(crate) fn atom() -> Option<Extent>
     ensures { result ≡ atom_extent }
 {
     Some(Extent { depth: 1, size: 1 })
 }
 
-/// The extent of a label without aliases, by its depth up to just past the limit and its atoms and operators.
+/// Returns the extent of a label without aliases, from its depth up to just past the limit and its number of atoms and
+/// operators.
 pub(crate) fn bare(depth: u32, size: usize) -> Extent
     ensures depth { result.depth ≡ depth }
     ensures size { result.size ≡ min size 65537 }
@@ -38,7 +39,7 @@ pub(crate) fn bare(depth: u32, size: usize) -> Extent
     }
 }
 
-/// The extent of a part in parentheses.
+/// Returns the extent of `part` in parentheses.
 pub(crate) fn in_parentheses(part: Option<Extent>) -> Option<Extent>
     ensures { result ≡ option_map deeper_extent part }
 {
@@ -51,7 +52,7 @@ pub(crate) fn in_parentheses(part: Option<Extent>) -> Option<Extent>
     }
 }
 
-/// The extent of a part after `!`.
+/// Returns the extent of `part` after `!`.
 pub(crate) fn negated(part: Option<Extent>) -> Option<Extent>
     ensures { result ≡ option_map negated_extent part }
 {
@@ -64,7 +65,7 @@ pub(crate) fn negated(part: Option<Extent>) -> Option<Extent>
     }
 }
 
-/// The extent of two parts and their operator.
+/// Returns the extent of two parts and their operator.
 pub(crate) fn both(left: Option<Extent>, right: Option<Extent>) -> Option<Extent>
     ensures { result ≡ both_extents left right }
 {
@@ -77,14 +78,14 @@ pub(crate) fn both(left: Option<Extent>, right: Option<Extent>) -> Option<Extent
     }
 }
 
-/// One more than a count, no further than just past a limit.
+/// Returns `count` plus one, but at most `past`.
 fn one_more(count: u32, past: u32) -> u32
     ensures { result ≡ min (count + 1) past }
 {
     if count < past { count + 1 } else { past }
 }
 
-/// A stack of extents, none where an alias is undefined. Up to 16 of them take no memory.
+/// A stack of extents, which are none if an alias is undefined. Up to 16 of them take no memory.
 #[derive(Drop)]
 pub(crate) struct Extents {
     items: SmallVec<Option<Extent>, 16>,
@@ -100,7 +101,7 @@ impl Model for Extents {
 }
 
 impl Extents {
-    /// No extents.
+    /// Makes an empty stack.
     pub(crate) fn new(alloc: Global) -> Self
         ensures { result ≡ [] }
     {
@@ -109,7 +110,7 @@ impl Extents {
         }
     }
 
-    /// Puts an extent on top.
+    /// Pushes `extent`.
     pub(crate) fn push(&mut self, extent: Option<Extent>) -> Result<(), Refusal>
         ensures ok { OnOk result (self.new ≡ extent ∷ self.old) }
         ensures err { IfErr result IsMemory }
@@ -118,7 +119,7 @@ impl Extents {
         Ok(())
     }
 
-    /// Takes the extent on top, none where there is none.
+    /// Pops the extent on top, or returns none if the stack is empty.
     pub(crate) fn pop(&mut self) -> Option<Extent>
         ensures extent { result ≡ top_extent self.old }
         ensures rest { self.new ≡ extents_below self.old }

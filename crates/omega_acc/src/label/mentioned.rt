@@ -24,7 +24,7 @@ impl Model for Mentioned {
 }
 
 impl Mentioned {
-    /// No propositions.
+    /// Makes an empty set of propositions.
     pub(crate) fn new() -> Self
         ensures { result ≡ [] }
     {
@@ -34,7 +34,7 @@ impl Mentioned {
         }
     }
 
-    /// How many there are.
+    /// Returns the number of propositions.
     pub(crate) fn len(&self) -> usize
         ensures len { result ≡ length self.now }
         ensures limit { length self.now ≤ most_mentioned }
@@ -42,7 +42,7 @@ impl Mentioned {
         self.count
     }
 
-    /// Puts a proposition last, unless it is there. Whether there was room for it.
+    /// Appends a proposition, unless it is there. Returns false if there is no room for it.
     pub(crate) fn add(&mut self, number: u32) -> bool
         ensures added { IsTrue result → self.new ≡ (if list_any (λ other. other == number) self.old then self.old else self.old ++ number ∷ []) }
         ensures full { result ≡ false → (list_any (λ other. other == number) self.old ≡ false) × (length self.old ≡ most_mentioned) }
@@ -58,7 +58,7 @@ impl Mentioned {
         true
     }
 
-    /// Whether a proposition is there.
+    /// Whether the proposition `number` is there.
     fn has(&self, number: u32) -> bool
         ensures { result ≡ list_any (λ other. other == number) self.now }
     {
@@ -67,7 +67,7 @@ impl Mentioned {
             .any(|other| *other == number)
     }
 
-    /// The word of a proposition under the valuations of a block.
+    /// Returns the word of the proposition `number` under the valuations of `block`.
     pub(crate) fn word(&self, block: u64, number: u32) -> u64
         ensures { result ≡ word_among block 0 self.now number }
     {
@@ -75,7 +75,7 @@ impl Mentioned {
     }
 }
 
-/// The word of a proposition among some.
+/// Returns the word of the proposition `number` among `numbers`.
 fn word_in(numbers: &[u32], block: u64, number: u32) -> u64
     requires { length numbers.now ≤ most_mentioned }
     ensures { result ≡ word_among block 0 numbers.now number }
@@ -88,7 +88,7 @@ fn word_in(numbers: &[u32], block: u64, number: u32) -> u64
     0
 }
 
-/// The word of the proposition at a place.
+/// Returns the word of the proposition at `place`.
 fn pattern(block: u64, place: usize) -> u64
     requires { place < most_mentioned }
     ensures { result ≡ pattern block place }
@@ -102,7 +102,7 @@ fn pattern(block: u64, place: usize) -> u64
     }
 }
 
-/// The word whose bits count up at a place below six.
+/// Returns the word whose bits count up at `place`, which is below six.
 fn mask(place: usize) -> u64
     ensures { result ≡ mask place }
 {

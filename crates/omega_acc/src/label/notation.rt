@@ -9,8 +9,8 @@ use omega_text::Seq;
 use std::alloc::Global;
 use std::mem;
 
-/// How a label is written: its nodes in postfix order, its alias names one after another,
-/// and its depth as it is counted.
+/// How a label is written: its nodes in postfix order, its alias names one after another, and its depth as it is
+/// counted.
 #[derive(Debug, Drop)]
 pub(crate) struct Notation {
     pub(crate) nodes: Seq<LabelNode>,
@@ -19,7 +19,7 @@ pub(crate) struct Notation {
 }
 
 impl Notation {
-    /// Takes out the nodes of parentheses.
+    /// Drops the nodes of parentheses.
     pub(crate) fn drop_parentheses(&mut self, alloc: Global)
         ensures nodes { self.new.nodes ≡ filter is_bare self.old.nodes }
         ensures names { self.new.names ≡ self.old.names }
@@ -37,7 +37,7 @@ pub(crate) fn any_alias(nodes: &[LabelNode]) -> bool
     nodes.iter().any(|node| stands_for_more(*node))
 }
 
-/// Whether a node is an alias.
+/// Whether `node` is an alias.
 fn stands_for_more(node: LabelNode) -> bool
     ensures { result ≡ is_alias node }
 {
@@ -47,7 +47,7 @@ fn stands_for_more(node: LabelNode) -> bool
     }
 }
 
-/// How many of the nodes are no parentheses, where none is an alias.
+/// Returns the number of nodes that are no parentheses, if no node is an alias.
 pub(crate) fn count_bare(nodes: &[LabelNode]) -> Option<usize>
     ensures { SomeIff result (list_any is_alias nodes.now ≡ false) (count_by is_bare nodes.now) }
 {
@@ -62,7 +62,7 @@ pub(crate) fn count_bare(nodes: &[LabelNode]) -> Option<usize>
     Some(count)
 }
 
-/// The nodes that are no parentheses, in the memory that all have.
+/// Returns the nodes that are no parentheses, in the memory of `nodes`.
 fn bare_nodes(nodes: Vec<LabelNode>) -> Vec<LabelNode>
     ensures { result.items ≡ filter is_bare nodes.items }
 {
@@ -71,7 +71,7 @@ fn bare_nodes(nodes: Vec<LabelNode>) -> Vec<LabelNode>
     nodes
 }
 
-/// Whether a node stays where parentheses are left out.
+/// Whether `node` stays when parentheses are dropped.
 pub(crate) fn stays(node: LabelNode) -> bool
     ensures { result ≡ is_bare node }
 {
@@ -81,14 +81,14 @@ pub(crate) fn stays(node: LabelNode) -> bool
     }
 }
 
-/// Whether the propositions of nodes are all below a count.
+/// Whether the propositions of `nodes` are all below `count`.
 pub(crate) fn all_propositions_below(nodes: &[LabelNode], count: u32) -> bool
     ensures { result ≡ list_all (λ node. proposition_below count node) nodes.now }
 {
     nodes.iter().all(|node| is_proposition_below(*node, count))
 }
 
-/// Whether the proposition of a node is below a count, if it has one.
+/// Whether the proposition of `node` is below `count`, if it has one.
 pub(crate) fn is_proposition_below(node: LabelNode, count: u32) -> bool
     ensures { result ≡ proposition_below count node }
 {

@@ -18,10 +18,10 @@ use smallvec::SmallVec;
 use std::alloc::Global;
 use std::marker::Model;
 
-/// A label as it is written, with alias names and parentheses, of any depth, where an alias name has depth 1.
+/// A label of any depth as it is written, with alias names and parentheses. An alias name has depth 1.
 ///
 /// Contracts see its tree. Reading, measuring, comparing and dropping it need no recursion. It takes 24 bytes, and
-/// memory only where it has an alias, a proposition from 250 on or over 21 atoms, operators and parentheses.
+/// memory only if it has an alias, a proposition from 250 on or over 21 atoms, operators and parentheses.
 #[derive(Debug, Drop)]
 pub struct RawLabel {
     written: Compact,
@@ -45,7 +45,7 @@ impl Model for RawLabel {
 impl RawLabel {
     ghost use Rattle.omega_acc.specs.private.layout.label.Raw.{IsRawLabel, alias_names, raw_postfix, raw_tree_of};
 
-    /// `t` or `f`. Refusal 60.
+    /// Makes the label `t` or `f`.
     pub fn constant(alloc: Global, value: bool) -> Result<RawLabel, Refusal>
         ensures ok { IfOk result (λ label. label ≡ constant_tree value) }
         ensures err { IfErr result IsMemory }
@@ -54,7 +54,7 @@ impl RawLabel {
         RawLabel::of_nodes(alloc, nodes.as_slice(), &[], 1)
     }
 
-    /// A proposition by its number. Refusal 60.
+    /// Makes the proposition `number`.
     pub fn proposition(alloc: Global, number: u32) -> Result<RawLabel, Refusal>
         ensures ok { IfOk result (λ label. label ≡ proposition_tree number) }
         ensures err { IfErr result IsMemory }
@@ -63,8 +63,8 @@ impl RawLabel {
         RawLabel::of_nodes(alloc, nodes.as_slice(), &[], 1)
     }
 
-    /// An alias by its name, its `@` included where it comes from a text: `@a` is another name than `a`. Refusal 60
-    /// also for a name of 2^32 bytes or more.
+    /// Makes an alias of `name`, including its `@` if it comes from a text: `@a` is another name than `a`.
+    /// [Refusal::Memory] also comes for a name of 2^32 bytes or more.
     pub fn alias(alloc: Global, name: &[u8]) -> Result<RawLabel, Refusal>
         ensures ok { IfOk result (λ label. label ≡ alias_tree name.now) }
         ensures err { IfErr result IsMemory }
@@ -73,7 +73,8 @@ impl RawLabel {
         RawLabel::of_nodes(alloc, nodes.as_slice(), name, 1)
     }
 
-    /// `!` before the label, which stands in parentheses only if it is a group. Refusal 32 where it would be too deep.
+    /// Puts `!` before the label, which is in parentheses only if it is a group. Refused with [AutomatonFault::TooDeep]
+    /// if the result would be over 256 deep.
     pub fn not(self) -> Result<RawLabel, Refusal>
         ensures ok { IfOk result (λ label. label ≡ negation self) }
         ensures shallow { IfOk result (λ label. raw_depth label ≤ most_depth) }
@@ -84,7 +85,7 @@ impl RawLabel {
         Ok(RawLabel { written })
     }
 
-    /// The label in parentheses. Refusal 32 where it would be too deep.
+    /// Puts the label in parentheses. Refused with [AutomatonFault::TooDeep] if it would be over 256 deep.
     pub fn group(self) -> Result<RawLabel, Refusal>
         ensures ok { IfOk result (λ label. label ≡ group_tree self) }
         ensures shallow { IfOk result (λ label. raw_depth label ≤ most_depth) }
@@ -95,7 +96,7 @@ impl RawLabel {
         Ok(RawLabel { written })
     }
 
-    /// Both labels joined by `&`. Refusal 32 where they would be too deep.
+    /// Joins both labels by `&`. Refused with [AutomatonFault::TooDeep] if the result would be over 256 deep.
     pub fn and(self, other: RawLabel) -> Result<RawLabel, Refusal>
         ensures ok { IfOk result (λ label. label ≡ conjunction self other) }
         ensures shallow { IfOk result (λ label. raw_depth label ≤ most_depth) }
@@ -104,7 +105,7 @@ impl RawLabel {
         self.joined(other, LabelNode::And)
     }
 
-    /// Both labels joined by `|`. Refusal 32 where they would be too deep.
+    /// Joins both labels by `|`. Refused with [AutomatonFault::TooDeep] if the result would be over 256 deep.
     pub fn or(self, other: RawLabel) -> Result<RawLabel, Refusal>
         ensures ok { IfOk result (λ label. label ≡ disjunction self other) }
         ensures shallow { IfOk result (λ label. raw_depth label ≤ most_depth) }
@@ -113,7 +114,7 @@ impl RawLabel {
         self.joined(other, LabelNode::Or)
     }
 
-    /// Both labels joined by an operator. Refusal 32 where they would be too deep.
+    /// Joins both labels by `operator`. Refused with [AutomatonFault::TooDeep] if the result would be over 256 deep.
     fn joined(self, other: RawLabel, operator: LabelNode) -> Result<RawLabel, Refusal>
         requires { IsJoining operator }
         ensures ok { IfOk result (λ label. label ≡ joined_by operator self other) }
@@ -125,7 +126,7 @@ impl RawLabel {
         Ok(RawLabel { written })
     }
 
-    /// Its depth up to 256, and 257 where it is deeper.
+    /// Returns its depth up to 256, and 257 if it is deeper.
     pub fn depth(&self) -> u32
         ensures { result ≡ counted (raw_depth self.now) }
     {
@@ -139,29 +140,29 @@ impl RawLabel {
         self.depth() > MOST_DEPTH
     }
 
-    /// Whether its propositions, those of its aliases' definitions left out, are all below a count. Takes no memory.
+    /// Whether its propositions, without those in its aliases' definitions, are all below `count`. Takes no memory.
     pub fn propositions_below(&self, count: u32) -> bool
         ensures { result ≡ list_all (λ number. nat_lt number count) (raw_propositions self.now) }
     {
         self.written.propositions_below(count)
     }
 
-    /// Whether an alias stands in it.
+    /// Whether it has an alias.
     pub(crate) fn has_alias(&self) -> bool
         ensures { result ≡ list_any is_alias (raw_postfix self.now) }
     {
         self.written.has_alias()
     }
 
-    /// How many atoms and operators it has, parentheses left out, where no alias stands in it.
+    /// Returns the number of its atoms and operators without parentheses, if it has no alias.
     pub(crate) fn bare_size(&self) -> Option<usize>
         ensures { SomeIff result (list_any is_alias (raw_postfix self.now) ≡ false) (count_by is_bare (raw_postfix self.now)) }
     {
         self.written.bare_size()
     }
 
-    /// Whether no alias stands in it, and it is neither deeper nor of more nodes than a label may be once expanded, as
-    /// it is written: then nothing of it needs to be counted.
+    /// Whether it has no alias, and its depth and number of nodes as it is written are within the limits of an expanded
+    /// label. If so, it needs no counting.
     pub(crate) fn is_within_limits(&self) -> bool
         ensures no_alias { IsTrue result → list_any is_alias (raw_postfix self.now) ≡ false }
         ensures shallow { IsTrue result → raw_depth self.now ≤ most_depth }
@@ -170,7 +171,7 @@ impl RawLabel {
         !self.has_alias() && !self.is_too_deep() && self.written.len() <= MOST_SIZE as usize
     }
 
-    /// The label without its parentheses, in the memory that it has.
+    /// Drops the parentheses, in the memory that it has.
     pub(crate) fn without_parentheses(self) -> Label
         requires no_alias { list_any is_alias (raw_postfix self) ≡ false }
         requires shallow { raw_depth self ≤ most_depth }
@@ -179,7 +180,7 @@ impl RawLabel {
         Label::of_written(self.written.without_parentheses())
     }
 
-    /// The label of nodes in postfix order, alias names and a depth.
+    /// Makes the label of `nodes` in postfix order, with its alias names and its depth.
     pub(crate) fn of_nodes(
         alloc: Global,
         nodes: &[LabelNode],
@@ -194,7 +195,7 @@ impl RawLabel {
         Ok(RawLabel { written })
     }
 
-    /// The label of nodes in postfix order, alias names and a depth, in the memory that they have.
+    /// Makes the label of `nodes` in postfix order, with its alias names and its depth, in the memory that they have.
     pub(crate) fn keeping(
         alloc: Global,
         nodes: SmallVec<LabelNode, 24>,
@@ -209,14 +210,14 @@ impl RawLabel {
         Ok(RawLabel { written })
     }
 
-    /// Its nodes, parts before their operators, in the room where they stand in place.
+    /// Returns its nodes, parts before their operators; those kept in place are decoded into `room`.
     pub(crate) fn nodes<'a>(&'a self, room: &'a mut [LabelNode; 21]) -> &'a [LabelNode]
         ensures { result.now ≡ raw_postfix self.now }
     {
         self.written.nodes(room)
     }
 
-    /// Its alias names from left to right, joined.
+    /// Returns its alias names from left to right, joined.
     pub(crate) fn names(&self) -> &[u8]
         ensures { result.now ≡ alias_names self.now }
     {
@@ -253,8 +254,8 @@ impl Eq for RawLabel {
     ghost laws = { Prim.search (comparing, rules, laws-law) };
 }
 
-/// The length of an alias name, as a node keeps it. Refusal 60 where it is over the numbers of 32 bits, which none is
-/// in a text.
+/// Returns the length of an alias name, as a node keeps it. Refused with [Refusal::Memory] if it does not fit in 32
+/// bits; no name in a text is that long.
 pub(crate) fn name_length(name: &[u8]) -> Result<u32, Refusal>
     ensures ok { IfOk result (λ count. count ≡ length name.now) }
     ensures err { IfErr result IsMemory }

@@ -20,8 +20,8 @@ use crate::pending::Pending;
 use omega_text::{AutomatonFault, HoaKind, Refusal, TextFault, TokenSource};
 use std::alloc::Global;
 
-/// Reads a label as it is written, which is the one front of the tokens that is a label and has neither `&` nor `|`
-/// after it (HOA v1, label expressions). Refusal 3 where there is none. Linear time, without recursion.
+/// Reads a label as it is written (HOA v1, label expressions): the one prefix of the tokens that is a label and has
+/// neither `&` nor `|` after it. Refused with [TextFault::Syntax] if there is none. Linear time, without recursion.
 pub fn read_raw_label<'a, S: TokenSource<'a, HoaKind>>(
     alloc: Global,
     source: &mut S,
@@ -32,7 +32,7 @@ pub fn read_raw_label<'a, S: TokenSource<'a, HoaKind>>(
 {
     let mut unfinished = Unfinished::new(alloc);
     operand(&mut unfinished, source)?;
-    while goes_on(&mut unfinished, source)? {}
+    while read_infix(&mut unfinished, source)? {}
     if unfinished.nodes.as_slice().len() > MOST_IN_PLACE {
         return RawLabel::keeping(alloc, unfinished.nodes, unfinished.names, unfinished.depth);
     }
@@ -44,8 +44,9 @@ pub fn read_raw_label<'a, S: TokenSource<'a, HoaKind>>(
     )
 }
 
-/// Reads a label as `read_raw_label` does. Refusal 3 where there is none, else 32 where it is over 256 deep, an alias
-/// having depth 1; the tokens after it are then left.
+/// Reads a label as `read_raw_label` does. Refused with [TextFault::Syntax] if there is none, else with
+/// [AutomatonFault::TooDeep] if it is over 256 deep, an alias having depth 1. After the latter only the tokens after it
+/// are left.
 pub fn read_label<'a, S: TokenSource<'a, HoaKind>>(
     alloc: Global,
     source: &mut S,
@@ -62,7 +63,7 @@ pub fn read_label<'a, S: TokenSource<'a, HoaKind>>(
     Ok(label)
 }
 
-/// Reads a unary part, with what stands before it, and joins it to what waits for it before `&`.
+/// Reads a unary part and its prefixes, and joins it by `&` to the left part that is pending.
 fn operand<'a, S: TokenSource<'a, HoaKind>>(
     unfinished: &mut Unfinished,
     source: &mut S,
@@ -72,12 +73,12 @@ fn operand<'a, S: TokenSource<'a, HoaKind>>(
     ensures less { OnOk result (length (S.left source.new) < length (S.left source.old)) }
     ensures length { S.length source.new ≡ S.length source.old }
 {
-    while is_prefix(unfinished, source)? {}
+    while read_prefix(unfinished, source)? {}
     unfinished.bind_tightly()
 }
 
-/// Passes a token where a part is wanted, and says whether one is wanted still.
-fn is_prefix<'a, S: TokenSource<'a, HoaKind>>(
+/// Passes the next token when a part is wanted. Returns whether one is still wanted.
+fn read_prefix<'a, S: TokenSource<'a, HoaKind>>(
     unfinished: &mut Unfinished,
     source: &mut S,
 ) -> Result<bool, Refusal>
@@ -114,9 +115,9 @@ fn is_prefix<'a, S: TokenSource<'a, HoaKind>>(
     Ok(false)
 }
 
-/// Passes a token after a part, with the part that it joins, and says whether more may follow; if not,
-/// the whole label is read.
-fn goes_on<'a, S: TokenSource<'a, HoaKind>>(
+/// Passes a token after a part, joining the part that it ends. Returns whether more may follow; if not, the whole label
+/// is read.
+fn read_infix<'a, S: TokenSource<'a, HoaKind>>(
     unfinished: &mut Unfinished,
     source: &mut S,
 ) -> Result<bool, Refusal>
@@ -149,8 +150,8 @@ fn goes_on<'a, S: TokenSource<'a, HoaKind>>(
     Ok(true)
 }
 
-/// Reads the part after an `&`, and joins it. A proposition, or one after a `!`, as most parts are,
-/// waits for nothing.
+/// Reads the part after an `&`, and joins it. For a proposition, or one after a `!`, as most parts are, nothing becomes
+/// pending.
 fn conjunct<'a, S: TokenSource<'a, HoaKind>>(
     unfinished: &mut Unfinished,
     source: &mut S,

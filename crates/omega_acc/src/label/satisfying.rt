@@ -3,7 +3,7 @@
 ghost use Rattle.std.specs.Prelude.{◌≡◌, ◌≤◌, ◌-◌, ◌^◌, ◌↔◌, [], length, IfErr, IfOk, IsTrue};
 ghost use Rattle.omega_acc.specs.Limits.{most_mentioned};
 ghost use Rattle.omega_acc.specs.label.Satisfiable.{IsJudged, IsOverMentioned, IsSatisfiable, mentioned};
-ghost use Rattle.omega_acc.specs.private.layout.label.Words.{peak, top_word, word_among, words_behind};
+ghost use Rattle.omega_acc.specs.private.layout.label.Words.{peak, top_word, word_among, words_after};
 
 use crate::label::codes::{MOST_IN_PLACE, ROOM};
 use crate::label::mentioned::Mentioned;
@@ -11,7 +11,8 @@ use crate::label::words::Words;
 use crate::label::{Label, LabelNode};
 use omega_text::{Refusal, TaskFault};
 
-/// Whether some set of propositions makes a label true. Refusal 42 exactly where the label mentions over 12.
+/// Whether some set of propositions makes `label` true. Refused with [TaskFault::TooManyPropositions] exactly if the
+/// label mentions over 12.
 ///
 /// Takes no memory. At most 64 passes over the label, one for each 64 sets of the propositions mentioned.
 pub fn satisfiable(label: &Label) -> Result<bool, Refusal>
@@ -31,7 +32,7 @@ pub fn satisfiable(label: &Label) -> Result<bool, Refusal>
     Ok(is_true_somewhere(label, &found))
 }
 
-/// Whether a label is true under some valuation of the propositions mentioned.
+/// Whether `label` is true under some valuation of the propositions mentioned.
 fn is_true_somewhere(label: &Label, found: &Mentioned) -> bool
     requires { found.now ≡ mentioned label.now }
     ensures judged { IsTrue result ↔ IsSatisfiable label.now }
@@ -47,7 +48,7 @@ fn is_true_somewhere(label: &Label, found: &Mentioned) -> bool
     false
 }
 
-/// How many blocks of 64 valuations so many propositions have.
+/// Returns the number of blocks of 64 valuations of `count` propositions.
 fn blocks(count: usize) -> u64
     requires { count ≤ most_mentioned }
     ensures { result ≡ 2 ^ (count - 6) }
@@ -55,10 +56,10 @@ fn blocks(count: usize) -> u64
     1 << count.saturating_sub(6)
 }
 
-/// The word of nodes in postfix order under the valuations of a block.
+/// Returns the word of `nodes` in postfix order under the valuations of `block`.
 fn word_of(nodes: &[LabelNode], found: &Mentioned, block: u64) -> u64
     requires { peak 0 nodes.now ≤ 256 }
-    ensures { result ≡ top_word (words_behind (word_among block 0 found.now) [] nodes.now) }
+    ensures { result ≡ top_word (words_after (word_among block 0 found.now) [] nodes.now) }
 {
     // Few nodes need little room, and no more is made ready for them.
     if nodes.len() <= MOST_IN_PLACE {
@@ -68,11 +69,11 @@ fn word_of(nodes: &[LabelNode], found: &Mentioned, block: u64) -> u64
     }
 }
 
-/// The same, where so many words stand at once at most.
+/// Returns the word of `nodes` as `word_of` does, if at most `MOST` words are on the stack at once.
 fn word_within<const MOST: usize>(nodes: &[LabelNode], found: &Mentioned, block: u64) -> u64
     requires room { MOST ≤ 256 }
     requires enough { peak 0 nodes.now ≤ MOST }
-    ensures { result ≡ top_word (words_behind (word_among block 0 found.now) [] nodes.now) }
+    ensures { result ≡ top_word (words_after (word_among block 0 found.now) [] nodes.now) }
 {
     let mut words = Words::<MOST>::new();
     for node in nodes {

@@ -15,9 +15,9 @@ use crate::limits::{MOST_DEPTH, MOST_SIZE};
 use omega_text::{AutomatonFault, Refusal};
 use std::alloc::Global;
 
-/// A label as a tree, whose parts stand in boxes.
+/// A label as a tree, whose parts are boxed.
 ///
-/// It may be of any depth, where [`Label`] has at most 256. Comparing, printing and dropping it recurse as deep as it
+/// It may be of any depth, while [`Label`] has at most 256. Comparing, printing and dropping it recurse as deep as it
 /// is.
 #[derive(Debug, PartialEq, Eq, Drop)]
 pub enum LabelShape {
@@ -29,7 +29,7 @@ pub enum LabelShape {
 }
 
 impl Label {
-    /// The label as a tree of boxes, at most 256 deep. Linear in the label, without recursion.
+    /// Returns the label as a tree of boxes, at most 256 deep. Linear in the label, without recursion.
     pub fn shape(&self, alloc: Global) -> Result<LabelShape, Refusal>
         ensures ok { IfOk result (λ shape. label_tree_of_shape shape ≡ self.now) }
         ensures shallow { label_depth self.now ≤ most_depth }
@@ -39,8 +39,8 @@ impl Label {
         shape_of(alloc, self.nodes(&mut room))
     }
 
-    /// The label of a tree of boxes. Refusal 32 where it is over 256 deep, else 33 where it has over 65,536 atoms and
-    /// operators.
+    /// Makes the label of a tree of boxes. Refused with [AutomatonFault::TooDeep] if it is over 256 deep, else with
+    /// [AutomatonFault::Expansion] if it has over 65,536 atoms and operators.
     ///
     /// Linear in the tree, and recurses no deeper than 257.
     pub fn of_shape(alloc: Global, shape: &LabelShape) -> Result<Label, Refusal>
@@ -57,7 +57,7 @@ impl Label {
     }
 }
 
-/// The tree of nodes in postfix order.
+/// Makes the tree of `nodes` in postfix order.
 fn shape_of(alloc: Global, nodes: &[LabelNode]) -> Result<LabelShape, Refusal>
     ensures ok { IfOk result (λ shape. label_tree_of_shape shape ≡ tree_of nodes.now) }
     ensures err { IfErr result IsMemory }
@@ -76,7 +76,7 @@ fn shape_of(alloc: Global, nodes: &[LabelNode]) -> Result<LabelShape, Refusal>
     Ok(shapes.pop())
 }
 
-/// Appends the nodes of a tree that stands so deep below another one. Refused where it goes past the depth's limit.
+/// Appends the nodes of `shape`, which is `above` deep below the root. Refused if it goes past the depth's limit.
 fn put_nodes(shape: &LabelShape, above: u32, nodes: &mut Vec<LabelNode>) -> Result<(), Refusal>
     requires { above ≤ most_depth }
     ensures shallow { OnOk result (above + label_depth (label_tree_of_shape shape.now) ≤ most_depth) }
@@ -106,7 +106,7 @@ fn put_nodes(shape: &LabelShape, above: u32, nodes: &mut Vec<LabelNode>) -> Resu
     }
 }
 
-/// Appends a node.
+/// Appends `node`.
 fn put_node(node: LabelNode, nodes: &mut Vec<LabelNode>) -> Result<(), Refusal>
     ensures ok { OnOk result (nodes.new.items ≡ nodes.old.items ++ node ∷ []) }
     ensures err { IfErr result IsMemory }

@@ -31,7 +31,7 @@ impl Model for LabelShapes {
 }
 
 impl LabelShapes {
-    /// No labels.
+    /// Makes an empty stack.
     pub(crate) fn new(alloc: Global) -> Self
         ensures { result ≡ [] }
     {
@@ -41,7 +41,7 @@ impl LabelShapes {
         }
     }
 
-    /// Puts a label on top.
+    /// Pushes a label.
     pub(crate) fn push(&mut self, shape: LabelShape) -> Result<(), Refusal>
         ensures ok { OnOk result (self.new ≡ label_tree_of_shape shape ∷ self.old) }
         ensures err { IfErr result IsMemory }
@@ -50,7 +50,7 @@ impl LabelShapes {
         Ok(())
     }
 
-    /// Takes the label on top, a constant where there is none.
+    /// Pops the label on top, or returns a constant if the stack is empty.
     pub(crate) fn pop(&mut self) -> LabelShape
         ensures shape { label_tree_of_shape result ≡ top self.old }
         ensures rest { self.new ≡ below self.old }

@@ -10,8 +10,8 @@ use std::alloc::Global;
 /// Just past the greatest depth: deeper parts count as this deep.
 const PAST_DEPTH: u32 = 257;
 
-/// A label that is being read: the nodes and alias names so far, what waits, and the depth of the part that stands
-/// last. Up to 24 nodes take no memory.
+/// A label that is being read: the nodes and alias names so far, the pending operators and parentheses, and the depth
+/// of the last part. Up to 24 nodes take no memory.
 #[derive(Drop)]
 pub(crate) struct Unfinished {
     pub(crate) nodes: SmallVec<LabelNode, 24>,
@@ -28,7 +28,7 @@ impl Unfinished {
     ghost use Rattle.omega_text.specs.Lexeme.{Lexeme};
     ghost use Rattle.omega_text.specs.declared.hoa.kind.HoaKind.{HoaKind};
 
-    /// Nothing has been read.
+    /// Makes an empty label, before anything is read.
     pub(crate) fn new(alloc: Global) -> Self
         ensures { (whole : List (Lexeme HoaKind)) → WantsIn whole whole result }
     {
@@ -40,7 +40,8 @@ impl Unfinished {
         }
     }
 
-    /// Puts each `!` to the part that stands last, and joins it by `&` to what waits for it so.
+    /// Applies each pending `!` to the last part, and joins it to the left part of `&` that is pending, if there is
+    /// one.
     pub(crate) fn bind_tightly(&mut self) -> Result<(), Refusal>
         ensures ok { OnOk result ((whole : List (Lexeme HoaKind)) (left : List (Lexeme HoaKind)) → HasIn unary whole left self.old → HasIn conjunctive whole left self.new) }
         ensures err { IfErr result IsMemory }
@@ -63,7 +64,7 @@ impl Unfinished {
         Ok(())
     }
 
-    /// Joins a proposition, or `!` and a proposition, by `&` to the part that stands last.
+    /// Joins the proposition `number`, with `!` before it if `negated`, by `&` to the last part.
     pub(crate) fn conjoin_literal(&mut self, negated: bool, number: u32) -> Result<(), Refusal>
         ensures nodes { OnOk result (self.new.nodes.items ≡ (self.old.nodes.items ++ literal negated number) ++ And ∷ []) }
         ensures depth { OnOk result (self.new.depth ≡ min (max (literal_depth negated) self.old.depth + 1) 257) }
@@ -81,7 +82,7 @@ impl Unfinished {
         self.conjoin(left)
     }
 
-    /// The next part waits for `&` and the part that stands last, and after a `!` for that too.
+    /// Makes the last part a pending left part of `&`, and if `negated` a `!` after it.
     pub(crate) fn wait(&mut self, negated: bool) -> Result<(), Refusal>
         ensures pending { OnOk result (self.new.pending ≡ (if negated then Not ∷ WaitingAnd self.old.depth ∷ self.old.pending else WaitingAnd self.old.depth ∷ self.old.pending)) }
         ensures nodes { OnOk result (self.new.nodes.items ≡ self.old.nodes.items) }
@@ -95,7 +96,7 @@ impl Unfinished {
         Ok(())
     }
 
-    /// Joins the part that stands last by `&` to one before it of this depth.
+    /// Joins the last part by `&` to a left part of depth `left`.
     fn conjoin(&mut self, left: u32) -> Result<(), Refusal>
         ensures nodes { OnOk result (self.new.nodes.items ≡ self.old.nodes.items ++ And ∷ []) }
         ensures depth { OnOk result (self.new.depth ≡ min (max self.old.depth left + 1) 257) }
@@ -108,7 +109,7 @@ impl Unfinished {
         Ok(())
     }
 
-    /// Joins the part that stands last by `|` to what waits for it so.
+    /// Joins the last part to the left part of `|` that is pending, if there is one.
     pub(crate) fn bind_loosely(&mut self) -> Result<(), Refusal>
         ensures ok { OnOk result ((whole : List (Lexeme HoaKind)) (left : List (Lexeme HoaKind)) → HasIn conjunctive whole left self.old → HasIn disjunctive whole left self.new) }
         ensures err { IfErr result IsMemory }
@@ -127,7 +128,7 @@ impl Unfinished {
     }
 }
 
-/// One more than a depth, no further than just past the limit.
+/// Returns `depth` plus one, but at most just past the limit.
 pub(crate) fn deeper(depth: u32) -> u32
     ensures { result ≡ min (depth + 1) 257 }
 {

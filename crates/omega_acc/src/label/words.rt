@@ -3,7 +3,7 @@ ghost use Rattle.omega_acc.specs.private.layout.label.Words.{top_word, words_bel
 
 use std::marker::Model;
 
-/// A stack of words with room for so many, which takes no memory.
+/// A stack with room for `ROOM` words, which takes no memory.
 #[derive(Drop)]
 pub(crate) struct Words<const ROOM: usize> {
     items: [u64; ROOM],
@@ -21,7 +21,7 @@ impl<const ROOM: usize> Model for Words<ROOM> {
 }
 
 impl<const ROOM: usize> Words<ROOM> {
-    /// No words.
+    /// Makes an empty stack.
     pub(crate) fn new() -> Self
         ensures { result ≡ [] }
     {
@@ -31,7 +31,7 @@ impl<const ROOM: usize> Words<ROOM> {
         }
     }
 
-    /// Puts a word on top.
+    /// Pushes `word`.
     pub(crate) fn push(&mut self, word: u64)
         requires { length self.old < ROOM }
         ensures { self.new ≡ word ∷ self.old }
@@ -40,7 +40,7 @@ impl<const ROOM: usize> Words<ROOM> {
         self.items[self.first] = word;
     }
 
-    /// Takes the word on top, 0 where there is none.
+    /// Pops the word on top, or returns 0 if the stack is empty.
     pub(crate) fn pop(&mut self) -> u64
         ensures word { result ≡ top_word self.old }
         ensures rest { self.new ≡ words_below self.old }

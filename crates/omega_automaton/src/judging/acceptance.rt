@@ -12,7 +12,7 @@ use omega_raw::{RawAutomaton, RawItem};
 use omega_text::{AutomatonFault, Refusal};
 use std::alloc::Global;
 
-/// Whether an acceptance has an atom that is neither `Fin` nor `Inf` (refusal 31).
+/// Whether an acceptance has an atom that is neither `Fin` nor `Inf` ([AutomatonFault::AcceptanceAtom]).
 #[tactic(auto, unfolding(crate::specs::Faults::has_wrong_atom))]
 pub(crate) fn has_wrong_atom(alloc: Global, raw: &RawAutomaton) -> Result<bool, Refusal>
     ensures ok { IfOk result (λ wrong. wrong ≡ wrong_atom raw.now) }
@@ -21,7 +21,7 @@ pub(crate) fn has_wrong_atom(alloc: Global, raw: &RawAutomaton) -> Result<bool, 
     any_wrong(alloc, raw.items.as_slice())
 }
 
-/// Whether one of the items is an acceptance with an atom that is neither `Fin` nor `Inf`.
+/// Whether one of `items` is an acceptance with an atom that is neither `Fin` nor `Inf`.
 fn any_wrong(alloc: Global, items: &[RawItem]) -> Result<bool, Refusal>
     ensures ok { IfOk result (λ wrong. wrong ≡ list_any (λ item. passes (λ accepted. is_none (acc_meant accepted.formula)) (acceptance_in item)) items.now) }
     ensures err { IfErr result IsMemory }
@@ -34,7 +34,7 @@ fn any_wrong(alloc: Global, items: &[RawItem]) -> Result<bool, Refusal>
     Ok(false)
 }
 
-/// Whether an item is an acceptance with an atom that is neither `Fin` nor `Inf`.
+/// Whether `item` is an acceptance with an atom that is neither `Fin` nor `Inf`.
 fn is_wrong(alloc: Global, item: &RawItem) -> Result<bool, Refusal>
     ensures ok { IfOk result (λ wrong. wrong ≡ passes (λ accepted. is_none (acc_meant accepted.formula)) (acceptance_in item.now)) }
     ensures err { IfErr result IsMemory }
@@ -45,7 +45,7 @@ fn is_wrong(alloc: Global, item: &RawItem) -> Result<bool, Refusal>
     }
 }
 
-/// Whether a formula has an atom that is neither `Fin` nor `Inf`.
+/// Whether `formula` has an atom that is neither `Fin` nor `Inf`.
 fn means_nothing(alloc: Global, formula: &RawAcc) -> Result<bool, Refusal>
     ensures ok { IfOk result (λ wrong. wrong ≡ is_none (acc_meant formula.now)) }
     ensures err { IfErr result IsMemory }
@@ -58,7 +58,7 @@ fn means_nothing(alloc: Global, formula: &RawAcc) -> Result<bool, Refusal>
     }
 }
 
-/// Whether one of the items is an acceptance that is too deep.
+/// Whether one of `items` is an acceptance that is too deep.
 pub(crate) fn has_deep_acceptance(items: &[RawItem]) -> bool
     ensures { result ≡ list_any (λ item. passes (λ accepted. nat_lt most_depth (raw_acc_depth accepted.formula)) (acceptance_in item)) items.now }
 {
@@ -70,7 +70,7 @@ pub(crate) fn has_deep_acceptance(items: &[RawItem]) -> bool
     false
 }
 
-/// Whether an item is an acceptance that is too deep.
+/// Whether `item` is an acceptance that is too deep.
 fn is_deep(item: &RawItem) -> bool
     ensures { result ≡ passes (λ accepted. nat_lt most_depth (raw_acc_depth accepted.formula)) (acceptance_in item.now) }
 {

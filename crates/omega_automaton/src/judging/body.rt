@@ -7,7 +7,7 @@ use crate::judging::propositions::label_beyond;
 use crate::judging::sets::marks_beyond;
 use omega_raw::RawState;
 
-/// Which faults that need no memory the states of a body have.
+/// The faults of a body's states that are found without memory.
 #[derive(Clone, Copy)]
 pub(crate) struct BodyFound {
     /// Whether a state is not below the count of states, or an edge lists one that is not, or none at all.
@@ -22,8 +22,8 @@ pub(crate) struct BodyFound {
     pub miscounted: bool,
 }
 
-/// What is found of the body: each state and each edge is looked at once, since a body is mostly larger than what the
-/// machine keeps at hand.
+/// Finds the faults of the body. Each state and each edge is looked at once, since a body is mostly larger than the
+/// processor's caches.
 pub(crate) fn found_of_states(states: &[RawState], counts: Counts) -> BodyFound
     ensures { IsFoundOfStates counts states.now result }
 {
@@ -45,7 +45,7 @@ pub(crate) fn found_of_states(states: &[RawState], counts: Counts) -> BodyFound
     found
 }
 
-/// What is found of a state and its edges.
+/// Finds the faults of a state and its edges.
 fn found_of_state(state: &RawState, counts: Counts) -> BodyFound
     ensures { IsFoundOfState counts state.now result }
 {

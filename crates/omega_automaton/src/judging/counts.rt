@@ -13,7 +13,7 @@ pub(crate) struct Counts {
     pub propositions: u32,
 }
 
-/// The counts of an automaton that is written.
+/// Returns the counts of an automaton that is written.
 pub(crate) fn counts_of(raw: &RawAutomaton) -> Counts
     ensures { AreCountsOf raw.now result }
 {

@@ -6,7 +6,7 @@ use crate::judging::sets::marks_beyond;
 use crate::judging::states::are_out_of_range;
 use omega_raw::RawEdges;
 
-/// What is found of the edges of a state.
+/// The faults of a state's edges, and whether they have labels.
 #[derive(Clone, Copy)]
 pub(crate) struct EdgesFound {
     /// Whether one lists a state that is not below the count of states, or none at all.
@@ -21,7 +21,7 @@ pub(crate) struct EdgesFound {
     pub unlabelled: bool,
 }
 
-/// What is found of edges, each of which is looked at once.
+/// Finds the faults of `edges`. Each edge is looked at once.
 pub(crate) fn found_of_edges(edges: &RawEdges, counts: Counts) -> EdgesFound
     ensures { IsFoundOfEdges counts edges.now result }
 {

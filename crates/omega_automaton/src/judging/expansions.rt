@@ -8,8 +8,8 @@ use omega_raw::RawState;
 use omega_text::{AutomatonFault, Refusal};
 use std::alloc::Global;
 
-/// Refuses by the least of the faults 27 to 33 that applies. No definition has the fault 27; `late` is the least of 28
-/// to 31, and `acceptance` says whether an acceptance is too deep.
+/// Refuses by the least of the faults 27 to 33 that applies. No definition has [AutomatonFault::Alias]; `late` is the
+/// least of 28 to 31, and `acceptance` says whether an acceptance is too deep.
 ///
 /// Each label is measured once.
 pub(crate) fn judge_last(
@@ -29,7 +29,7 @@ pub(crate) fn judge_last(
     }
 }
 
-/// The least of the faults 27 to 33 that applies, by what is found of the labels.
+/// Returns the least of the faults 27 to 33 that applies, given the faults `found` in labels.
 fn least_fault(
     definitions: &Definitions,
     found: Findings,

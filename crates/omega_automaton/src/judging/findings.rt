@@ -13,21 +13,21 @@ use omega_raw::{RawEdges, RawState};
 use omega_text::{AutomatonFault, Refusal};
 use std::alloc::Global;
 
-/// What is found of labels with their aliases replaced.
+/// The faults and the size of labels with their aliases replaced.
 #[derive(Clone, Copy)]
 pub(crate) struct Findings {
     /// Whether one reaches an undefined alias.
     pub undefined: bool,
     /// Whether one is too deep.
     pub deep: bool,
-    /// Whether one is too large, and not too deep besides.
+    /// Whether one is too large, and not too deep as well.
     pub large: bool,
-    /// The tree nodes of all together, counted up to one more than the limit, where none has a fault.
+    /// The tree nodes of all together, counted up to the limit and one more, if none has a fault.
     pub size: u64,
 }
 
 impl Findings {
-    /// Nothing about labels.
+    /// Makes the findings of no labels.
     fn none() -> Findings
         ensures { AreFound (λ test. false) 0 result }
     {
@@ -39,7 +39,7 @@ impl Findings {
         }
     }
 
-    /// Of these labels and of others.
+    /// Joins the findings of these labels with those of others.
     fn with(self, other: Findings) -> Findings
         requires one { self.size ≤ most_total_size + 1 }
         requires other { other.size ≤ most_total_size + 1 }
@@ -54,7 +54,7 @@ impl Findings {
     }
 }
 
-/// What is found of the labels of the body, each of which is measured once.
+/// Finds the faults of the labels of the body. Each label is measured once.
 pub(crate) fn findings_of_states(
     alloc: Global,
     states: &[RawState],
@@ -71,7 +71,7 @@ pub(crate) fn findings_of_states(
     Ok(found)
 }
 
-/// What is found of the labels of a state and of its edges.
+/// Finds the faults of the labels of a state and of its edges.
 fn findings_of_state(
     alloc: Global,
     state: &RawState,
@@ -85,7 +85,7 @@ fn findings_of_state(
     Ok(own.with(edges))
 }
 
-/// What is found of the labels of edges.
+/// Finds the faults of the labels of `edges`.
 fn findings_of_edges(
     alloc: Global,
     edges: &RawEdges,
@@ -103,7 +103,7 @@ fn findings_of_edges(
     Ok(found)
 }
 
-/// What is found of a label that may be there.
+/// Finds the faults of `label`, if there is one.
 fn findings_of_label(
     alloc: Global,
     label: Option<&RawLabel>,
@@ -118,7 +118,7 @@ fn findings_of_label(
     }
 }
 
-/// What is found of one label.
+/// Finds the faults of `label`.
 pub(crate) fn findings_of(
     alloc: Global,
     label: &RawLabel,

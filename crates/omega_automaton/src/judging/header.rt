@@ -17,7 +17,7 @@ pub(crate) enum Single {
     Name,
 }
 
-/// Whether an item stands twice that may not repeat (refusal 21).
+/// Whether an item that may not repeat is there twice ([AutomatonFault::RepeatedHeader]).
 #[tactic(auto, unfolding(crate::specs::Faults::has_repeated_item))]
 pub(crate) fn has_repeated_item(raw: &RawAutomaton) -> bool
     ensures { result ≡ repeated_item raw.now }
@@ -31,14 +31,14 @@ pub(crate) fn has_repeated_item(raw: &RawAutomaton) -> bool
         || is_twice(Single::Name, items)
 }
 
-/// Whether two or more of the items are of this kind.
+/// Whether two or more of `items` are of this kind.
 fn is_twice(kind: Single, items: &[RawItem]) -> bool
     ensures { result ≡ nat_lt 1 (count_by (says kind) items.now) }
 {
     1 < items.iter().filter(|item| is_of(kind, item)).count()
 }
 
-/// Whether an item is of this kind.
+/// Whether `item` is of this kind.
 fn is_of(kind: Single, item: &RawItem) -> bool
     ensures { result ≡ says kind item.now }
 {
@@ -58,7 +58,7 @@ fn says_acceptance(item: &RawItem) -> bool
     matches!(item, RawItem::Acceptance { .. })
 }
 
-/// Whether there is no acceptance (refusal 22).
+/// Whether there is no acceptance ([AutomatonFault::MissingAcceptance]).
 #[tactic(auto, unfolding(crate::specs::Faults::lacks_acceptance))]
 pub(crate) fn lacks_acceptance(raw: &RawAutomaton) -> bool
     ensures { result ≡ no_acceptance raw.now }
@@ -66,7 +66,7 @@ pub(crate) fn lacks_acceptance(raw: &RawAutomaton) -> bool
     !any_acceptance(raw.items.as_slice())
 }
 
-/// Whether one of the items is an acceptance.
+/// Whether one of `items` is an acceptance.
 fn any_acceptance(items: &[RawItem]) -> bool
     ensures { result ≡ list_any (λ item. is_some (acceptance_in item)) items.now }
 {
@@ -78,7 +78,7 @@ fn any_acceptance(items: &[RawItem]) -> bool
     false
 }
 
-/// Whether a header that the format leaves open begins with a capital (refusal 23).
+/// Whether a header that the format leaves open begins with a capital ([AutomatonFault::UnknownHeader]).
 #[tactic(auto, unfolding(crate::specs::Faults::has_unknown_capital))]
 pub(crate) fn has_unknown_capital(raw: &RawAutomaton) -> bool
     ensures { result ≡ unknown_capital raw.now }
@@ -86,7 +86,7 @@ pub(crate) fn has_unknown_capital(raw: &RawAutomaton) -> bool
     raw.items.as_slice().iter().any(is_capital)
 }
 
-/// Whether an item is a header that the format leaves open and begins with a capital.
+/// Whether `item` is a header that the format leaves open and begins with a capital.
 fn is_capital(item: &RawItem) -> bool
     ensures { result ≡ passes (λ header. capital header.name) (unknown_in item.now) }
 {
@@ -96,7 +96,7 @@ fn is_capital(item: &RawItem) -> bool
     }
 }
 
-/// Whether bytes begin with a letter from A to Z.
+/// Whether `bytes` begin with a letter from A to Z.
 fn begins_capital(bytes: &[u8]) -> bool
     ensures { result ≡ capital bytes.now }
 {

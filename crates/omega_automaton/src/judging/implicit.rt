@@ -1,7 +1,7 @@
 ghost use Rattle.std.specs.Prelude.{◌≡◌, ◌==◌, ◌^◌};
 
-/// Whether a number of edges is one for each valuation of so many propositions: a power of two, without making it where
-/// it is over the machine's numbers.
+/// Whether `edges` is one for each valuation of `propositions` propositions: a power of two, which is not computed if
+/// it does not fit in the machine's numbers.
 pub(crate) fn is_power(edges: usize, propositions: u32) -> bool
     ensures { result ≡ (edges == 2 ^ propositions) }
 {

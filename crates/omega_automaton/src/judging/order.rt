@@ -16,7 +16,7 @@ use omega_raw::RawAutomaton;
 use omega_text::{AutomatonFault, Refusal};
 use std::alloc::Global;
 
-/// The least of the faults 20 to 26 that applies, none where none does.
+/// Returns the least of the faults 20 to 26 that applies, or none.
 pub(crate) fn early_fault(
     alloc: Global,
     raw: &RawAutomaton,
@@ -52,7 +52,7 @@ pub(crate) fn early_fault(
     Ok(None)
 }
 
-/// The least of the faults 28 to 31 that applies, none where none does.
+/// Returns the least of the faults 28 to 31 that applies, or none.
 #[tactic(auto, unfolding(crate::specs::Faults::has_mixed_labels, crate::specs::Faults::has_wrong_edge_count))]
 pub(crate) fn late_fault(
     alloc: Global,

@@ -15,8 +15,8 @@ use omega_raw::{RawAutomaton, RawItem};
 use omega_text::{ByteString, Refusal, Seq};
 use std::alloc::Global;
 
-/// Whether propositions are miscounted, alike or too many, or a label or an alias mentions one
-/// out of range (refusal 26).
+/// Whether propositions are miscounted, alike or too many, or a label or an alias mentions one out of range
+/// ([AutomatonFault::Proposition]).
 #[tactic(auto, unfolding(crate::specs::Faults::has_wrong_proposition))]
 pub(crate) fn has_wrong_proposition(
     alloc: Global,
@@ -35,14 +35,14 @@ pub(crate) fn has_wrong_proposition(
     Ok(any_alias_beyond(raw.items.as_slice(), counts.propositions) || found.proposition)
 }
 
-/// The count of propositions, 0 where there is no `AP:`.
+/// Returns the count of propositions, or 0 without `AP:`.
 pub(crate) fn proposition_count(raw: &RawAutomaton) -> u32
     ensures { result ≡ count_of_propositions raw.now }
 {
     stated_count(raw.items.as_slice())
 }
 
-/// The count that the first `AP:` gives, 0 where there is none.
+/// Returns the count in the first `AP:`, or 0 without one.
 fn stated_count(items: &[RawItem]) -> u32
     ensures { result ≡ unwrap_or (option_map (λ named. named.count) (first_said propositions_in items.now)) 0 }
 {
@@ -54,7 +54,7 @@ fn stated_count(items: &[RawItem]) -> u32
     0
 }
 
-/// Whether the names of some propositions are not as many as stated, or too many, or alike.
+/// Whether an item names propositions and not as many as stated, or too many, or alike.
 fn any_misnamed(alloc: Global, items: &[RawItem]) -> Result<bool, Refusal>
     ensures ok { IfOk result (λ wrong. wrong ≡ list_any (λ item. passes misnamed (propositions_in item)) items.now) }
     ensures err { IfErr result IsMemory }
@@ -67,7 +67,7 @@ fn any_misnamed(alloc: Global, items: &[RawItem]) -> Result<bool, Refusal>
     Ok(false)
 }
 
-/// Whether an item names propositions and not as many as stated, or too many, or alike.
+/// Whether `item` names propositions and not as many as stated, or too many, or alike.
 fn misnames(alloc: Global, item: &RawItem) -> Result<bool, Refusal>
     ensures ok { IfOk result (λ wrong. wrong ≡ passes misnamed (propositions_in item.now)) }
     ensures err { IfErr result IsMemory }
@@ -78,7 +78,7 @@ fn misnames(alloc: Global, item: &RawItem) -> Result<bool, Refusal>
     }
 }
 
-/// Whether names are not as many as stated, or too many, or alike.
+/// Whether `names` are not as many as stated, or too many, or alike.
 fn is_misnamed(alloc: Global, count: u32, names: &Seq<ByteString>) -> Result<bool, Refusal>
     ensures ok { IfOk result (λ wrong. wrong ≡ misnamed (record { count = count; names = names.now })) }
     ensures err { IfErr result IsMemory }
@@ -89,7 +89,7 @@ fn is_misnamed(alloc: Global, count: u32, names: &Seq<ByteString>) -> Result<boo
     has_name_twice(alloc, names.as_slice())
 }
 
-/// Whether the definition of an alias mentions a proposition that is not below a count.
+/// Whether the definition of an alias mentions a proposition that is not below `count`.
 fn any_alias_beyond(items: &[RawItem], count: u32) -> bool
     ensures { result ≡ list_any (λ item. passes (λ defined. beyond count defined.body) (alias_in item)) items.now }
 {
@@ -101,7 +101,7 @@ fn any_alias_beyond(items: &[RawItem], count: u32) -> bool
     false
 }
 
-/// Whether an item is an alias whose definition mentions a proposition that is not below a count.
+/// Whether `item` is an alias whose definition mentions a proposition that is not below `count`.
 fn alias_beyond(item: &RawItem, count: u32) -> bool
     ensures { result ≡ passes (λ defined. beyond count defined.body) (alias_in item.now) }
 {
@@ -111,7 +111,7 @@ fn alias_beyond(item: &RawItem, count: u32) -> bool
     }
 }
 
-/// Whether there is a label that mentions a proposition that is not below a count.
+/// Whether there is a label that mentions a proposition that is not below `count`.
 pub(crate) fn label_beyond(label: Option<&RawLabel>, count: u32) -> bool
     ensures { result ≡ passes (beyond count) (option_copied label.entry) }
 {
@@ -121,7 +121,7 @@ pub(crate) fn label_beyond(label: Option<&RawLabel>, count: u32) -> bool
     }
 }
 
-/// Whether a label mentions a proposition that is not below a count.
+/// Whether `label` mentions a proposition that is not below `count`.
 fn is_beyond(label: &RawLabel, count: u32) -> bool
     ensures { result ≡ beyond count label.now }
 {

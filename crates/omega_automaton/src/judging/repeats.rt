@@ -10,10 +10,10 @@ use omega_raw::{RawAutomaton, RawState};
 use omega_text::{ByteString, Refusal};
 use std::alloc::Global;
 
-/// So many names are compared two by two, which is quicker than to look each up.
+/// The greatest number of names that are compared two by two, which is quicker than looking each up.
 const FEW_NAMES: usize = 8;
 
-/// Whether two states of the body have one number (refusal 28).
+/// Whether two states of the body have the same number ([AutomatonFault::StateTwice]).
 #[tactic(auto, unfolding(crate::specs::Faults::has_state_twice))]
 pub(crate) fn has_state_twice(alloc: Global, raw: &RawAutomaton) -> Result<bool, Refusal>
     ensures ok { IfOk result (λ twice. twice ≡ state_twice raw.now) }
@@ -26,8 +26,8 @@ pub(crate) fn has_state_twice(alloc: Global, raw: &RawAutomaton) -> Result<bool,
     has_number_twice(alloc, states)
 }
 
-/// Whether each state has a greater number than the one before, as most texts write them, so that no two have one
-/// number. Takes no memory.
+/// Whether each state has a greater number than the one before, as in most texts, so that no two have the same number.
+/// Takes no memory.
 fn numbers_rise(states: &[RawState]) -> bool
     ensures { IsTrue result → has_repeat nat_eq (map (λ state. state.number) states.now) ≡ false }
 {
@@ -42,7 +42,7 @@ fn numbers_rise(states: &[RawState]) -> bool
     true
 }
 
-/// Whether two of the states have one number.
+/// Whether two of `states` have the same number.
 fn has_number_twice(alloc: Global, states: &[RawState]) -> Result<bool, Refusal>
     ensures ok { IfOk result (λ twice. twice ≡ has_repeat nat_eq (map (λ state. state.number) states.now)) }
     ensures err { IfErr result IsMemory }
@@ -51,7 +51,7 @@ fn has_number_twice(alloc: Global, states: &[RawState]) -> Result<bool, Refusal>
     sees_number_twice(&mut seen, states)
 }
 
-/// The same where no number is seen yet.
+/// Whether two of `states` have the same number, with `seen` empty at the start.
 fn sees_number_twice(seen: &mut IndexSet<u32>, states: &[RawState]) -> Result<bool, Refusal>
     requires { seen.old.keys ≡ [] }
     ensures ok { IfOk result (λ twice. twice ≡ has_repeat nat_eq (map (λ state. state.number) states.now)) }
@@ -65,7 +65,7 @@ fn sees_number_twice(seen: &mut IndexSet<u32>, states: &[RawState]) -> Result<bo
     Ok(false)
 }
 
-/// Whether two of the names have equal bytes. A few, as nearly all automata have, take no memory.
+/// Whether two of `names` have equal bytes. A few names, as in nearly all automata, take no memory.
 pub(crate) fn has_name_twice(alloc: Global, names: &[ByteString]) -> Result<bool, Refusal>
     ensures ok { IfOk result (λ twice. twice ≡ has_repeat bytes_eq names.now) }
     ensures err { IfErr result IsMemory }
@@ -77,7 +77,7 @@ pub(crate) fn has_name_twice(alloc: Global, names: &[ByteString]) -> Result<bool
     sees_name_twice(&mut seen, names)
 }
 
-/// The same of names each of which is compared with all after it.
+/// Whether two of `names` have equal bytes, found by comparing each with all after it.
 fn any_two_alike(names: &[ByteString]) -> bool
     ensures { result ≡ has_repeat bytes_eq names.now }
 {
@@ -91,7 +91,7 @@ fn any_two_alike(names: &[ByteString]) -> bool
     false
 }
 
-/// Whether one of the names has these bytes.
+/// Whether one of `names` has these bytes.
 fn is_among(bytes: &[u8], names: &[ByteString]) -> bool
     ensures { result ≡ list_any (λ name. bytes_eq name bytes.now) names.now }
 {
@@ -103,7 +103,7 @@ fn is_among(bytes: &[u8], names: &[ByteString]) -> bool
     false
 }
 
-/// The same where no name is seen yet.
+/// Whether two of `names` have equal bytes, with `seen` empty at the start.
 fn sees_name_twice<'a>(
     seen: &mut IndexSet<&'a [u8]>,
     names: &'a [ByteString],

@@ -9,7 +9,8 @@ use crate::judging::counts::Counts;
 use crate::judging::states::any_beyond;
 use omega_raw::{RawAutomaton, RawItem};
 
-/// Whether a mark of a state or an edge, or a set of an acceptance, is not below the count of sets (refusal 25).
+/// Whether a mark of a state or an edge, or a set of an acceptance, is not below the count of sets
+/// ([AutomatonFault::SetRange]).
 #[tactic(auto, unfolding(crate::specs::Faults::has_set_out_of_range))]
 pub(crate) fn has_set_out_of_range(raw: &RawAutomaton, counts: Counts, found: BodyFound) -> bool
     requires counts { AreCountsOf raw.now counts }
@@ -19,14 +20,14 @@ pub(crate) fn has_set_out_of_range(raw: &RawAutomaton, counts: Counts, found: Bo
     any_accepted_beyond(raw.items.as_slice(), counts.sets) || found.mark
 }
 
-/// The count of sets, 0 where there is no acceptance.
+/// Returns the count of sets, or 0 without acceptance.
 pub(crate) fn set_count(raw: &RawAutomaton) -> u32
     ensures { result ≡ count_of_sets raw.now }
 {
     stated_count(raw.items.as_slice())
 }
 
-/// The count that the first acceptance gives, 0 where there is none.
+/// Returns the count in the first acceptance, or 0 without one.
 fn stated_count(items: &[RawItem]) -> u32
     ensures { result ≡ unwrap_or (option_map (λ accepted. accepted.count) (first_said acceptance_in items.now)) 0 }
 {
@@ -38,7 +39,7 @@ fn stated_count(items: &[RawItem]) -> u32
     0
 }
 
-/// Whether an acceptance has a set that is not below a count.
+/// Whether an acceptance has a set that is not below `count`.
 fn any_accepted_beyond(items: &[RawItem], count: u32) -> bool
     ensures { result ≡ list_any (λ item. passes (set_beyond count) (acceptance_in item)) items.now }
 {
@@ -50,7 +51,7 @@ fn any_accepted_beyond(items: &[RawItem], count: u32) -> bool
     false
 }
 
-/// Whether an item is an acceptance with a set that is not below a count.
+/// Whether `item` is an acceptance with a set that is not below `count`.
 fn accepted_beyond(item: &RawItem, count: u32) -> bool
     ensures { result ≡ passes (set_beyond count) (acceptance_in item.now) }
 {
@@ -60,7 +61,7 @@ fn accepted_beyond(item: &RawItem, count: u32) -> bool
     }
 }
 
-/// Whether there are marks and one of them is not below a count.
+/// Whether there are marks and one of them is not below `count`.
 pub(crate) fn marks_beyond(marks: Option<&[u32]>, count: u32) -> bool
     ensures { result ≡ passes (list_any (nat_le count)) (option_map (λ sets. sets.now) marks.entry) }
 {

@@ -9,7 +9,8 @@ use crate::judging::counts::Counts;
 use omega_raw::{RawAutomaton, RawEdges, RawItem, RawState};
 use omega_text::MOST_NUMBER;
 
-/// Whether a state that is mentioned is not below the count of states, or a start or an edge lists none (refusal 24).
+/// Whether a mentioned state is not below the count of states, or a start or an edge lists none
+/// ([AutomatonFault::StateRange]).
 #[tactic(auto, unfolding(crate::specs::Faults::has_state_out_of_range))]
 pub(crate) fn has_state_out_of_range(raw: &RawAutomaton, counts: Counts, found: BodyFound) -> bool
     requires counts { AreCountsOf raw.now counts }
@@ -19,7 +20,7 @@ pub(crate) fn has_state_out_of_range(raw: &RawAutomaton, counts: Counts, found: 
     any_start_out_of_range(raw.items.as_slice(), counts.states) || found.state
 }
 
-/// Whether one of the items is a start whose states are out of range.
+/// Whether one of `items` is a start whose states are out of range.
 fn any_start_out_of_range(items: &[RawItem], count: u32) -> bool
     ensures { result ≡ list_any (λ item. passes (out_of_range count) (start_in item)) items.now }
 {
@@ -31,21 +32,21 @@ fn any_start_out_of_range(items: &[RawItem], count: u32) -> bool
     false
 }
 
-/// Whether one of the numbers is not below a count.
+/// Whether one of `numbers` is not below `count`.
 pub(crate) fn any_beyond(numbers: &[u32], count: u32) -> bool
     ensures { result ≡ list_any (nat_le count) numbers.now }
 {
     numbers.iter().any(|number| count <= *number)
 }
 
-/// Whether states that a start or an edge lists are not all below a count, or none at all, which no text writes.
+/// Whether the states that a start or an edge lists are not all below `count`, or there are none, which no text writes.
 pub(crate) fn are_out_of_range(states: &[u32], count: u32) -> bool
     ensures { result ≡ out_of_range count states.now }
 {
     states.is_empty() || any_beyond(states, count)
 }
 
-/// Whether an item is a start whose states are out of range.
+/// Whether `item` is a start whose states are out of range.
 fn is_start_out_of_range(item: &RawItem, count: u32) -> bool
     ensures { result ≡ passes (out_of_range count) (start_in item.now) }
 {
@@ -55,8 +56,8 @@ fn is_start_out_of_range(item: &RawItem, count: u32) -> bool
     }
 }
 
-/// The count of states: that of `States:`, or by the states mentioned, where a count over the greatest number of a text
-/// is that number.
+/// Returns the count of states: that of `States:`, or else by the mentioned states. A count over the greatest number of
+/// a text is then that number.
 pub(crate) fn state_count(raw: &RawAutomaton) -> u32
     ensures { result ≡ count_of_states raw.now }
 {
@@ -66,7 +67,7 @@ pub(crate) fn state_count(raw: &RawAutomaton) -> u32
     }
 }
 
-/// The count that the first `States:` gives.
+/// Returns the count in the first `States:`.
 fn stated_count(items: &[RawItem]) -> Option<u32>
     ensures { result ≡ first_said states_in items.now }
 {
@@ -78,7 +79,7 @@ fn stated_count(items: &[RawItem]) -> Option<u32>
     None
 }
 
-/// One more than the greatest state that is mentioned, at most the greatest number of a text.
+/// Returns the greatest mentioned state plus one, but at most the greatest number of a text.
 #[tactic(auto, unfolding(crate::specs::Faults::mentioned_count))]
 fn mentioned_count(raw: &RawAutomaton) -> u32
     ensures { result ≡ count_mentioned raw.now }
@@ -88,7 +89,7 @@ fn mentioned_count(raw: &RawAutomaton) -> u32
     started.max(named).min(u64::from(MOST_NUMBER)) as u32
 }
 
-/// One more than the greatest of some numbers, 0 where there are none.
+/// Returns the greatest of `numbers` plus one, or 0 without numbers.
 #[tactic(auto, using(crate::proofs::Greatest::greatest_more))]
 fn bound_of(numbers: &[u32]) -> u64
     ensures value { result ≡ bound_in numbers.now }
@@ -101,7 +102,7 @@ fn bound_of(numbers: &[u32]) -> u64
     bound
 }
 
-/// One more than the greatest state that the starts mention.
+/// Returns the greatest state that the starts mention, plus one.
 #[tactic(auto, using(crate::proofs::Greatest::greatest_more))]
 fn items_bound(items: &[RawItem]) -> u64
     ensures value { result ≡ greatest_of bound_of_item items.now }
@@ -114,7 +115,7 @@ fn items_bound(items: &[RawItem]) -> u64
     bound
 }
 
-/// One more than the greatest state of a start, 0 where an item is none.
+/// Returns the greatest state of a start, plus one, or 0 if `item` is no start.
 fn item_bound(item: &RawItem) -> u64
     ensures value { result ≡ bound_of_item item.now }
     ensures range { result ≤ 2 ^ 32 }
@@ -125,7 +126,7 @@ fn item_bound(item: &RawItem) -> u64
     }
 }
 
-/// One more than the greatest state that the body mentions.
+/// Returns the greatest state that the body mentions, plus one.
 #[tactic(auto, using(crate::proofs::Greatest::greatest_more))]
 fn states_bound(states: &[RawState]) -> u64
     ensures value { result ≡ greatest_of bound_of_state states.now }
@@ -138,7 +139,7 @@ fn states_bound(states: &[RawState]) -> u64
     bound
 }
 
-/// One more than the greatest state that a state of the body mentions.
+/// Returns the greatest state that `state` of the body mentions, plus one.
 fn state_bound(state: &RawState) -> u64
     ensures value { result ≡ bound_of_state state.now }
     ensures range { result ≤ 2 ^ 32 }
@@ -147,7 +148,7 @@ fn state_bound(state: &RawState) -> u64
     targets.max(u64::from(state.number) + 1)
 }
 
-/// One more than the greatest state that edges lead to.
+/// Returns the greatest state that `edges` lead to, plus one.
 #[tactic(auto, using(crate::proofs::Greatest::greatest_more))]
 fn edges_bound(edges: &RawEdges) -> u64
     ensures value { result ≡ greatest_of (λ edge. bound_in edge.targets) edges.now }

@@ -3,7 +3,7 @@ ghost use Rattle.omega_automaton.specs.Faults.{has_other_version as other_versio
 
 use omega_raw::RawAutomaton;
 
-/// Whether the version is another than `v1` (refusal 20).
+/// Whether the version is not `v1` ([AutomatonFault::Version]).
 #[tactic(auto, unfolding(crate::specs::Faults::has_other_version))]
 pub(crate) fn has_other_version(raw: &RawAutomaton) -> bool
     ensures { result ≡ other_version raw.now }

@@ -7,7 +7,7 @@ use omega_acc::{Acc, RawAcc};
 use omega_text::Refusal;
 use std::alloc::Global;
 
-/// What a formula means that is there and has no fault.
+/// Returns the meaning of a formula that is there and has no fault.
 pub(crate) fn acceptance_of(alloc: Global, written: &Option<RawAcc>) -> Result<Acc, Refusal>
     requires { IsSoundAcceptance written.now }
     ensures ok { IfOk result (λ acceptance. option_and_then acc_meant written.now ≡ Some acceptance) }

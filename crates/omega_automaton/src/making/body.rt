@@ -16,7 +16,7 @@ use omega_raw::RawState;
 use omega_text::{Refusal, Seq};
 use std::alloc::Global;
 
-/// The acceptance, the states that the body defines, and how many edges they have.
+/// The acceptance, the states that the body defines, and the number of their edges.
 #[derive(Drop)]
 pub(crate) struct Body {
     pub acceptance: Acc,
@@ -24,7 +24,7 @@ pub(crate) struct Body {
     pub edge_count: u32,
 }
 
-/// The body with its aliases replaced and its edges counted. Neither the acceptance nor a label has a fault.
+/// Makes the body, with its aliases replaced and its edges counted. Neither the acceptance nor a label has a fault.
 pub(crate) fn body_of(
     alloc: Global,
     acceptance: &Option<RawAcc>,

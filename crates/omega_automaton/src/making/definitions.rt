@@ -6,8 +6,7 @@ use omega_acc::{Aliases, RawLabel};
 use omega_text::{AutomatonFault, Refusal, Seq};
 use std::alloc::Global;
 
-/// The aliases of a header so far, and whether the definition of one of them is too deep,
-/// or too large and not too deep.
+/// The aliases of a header so far, and whether one of their definitions is too deep, or too large and not too deep.
 #[derive(Drop)]
 pub(crate) struct Definitions {
     pub aliases: Aliases,
@@ -16,7 +15,7 @@ pub(crate) struct Definitions {
 }
 
 impl Definitions {
-    /// No aliases, which takes no memory.
+    /// Makes an empty list of definitions, which takes no memory.
     pub(crate) fn new(alloc: Global) -> Definitions
         ensures aliases { result.aliases ≡ [] }
         ensures deep { result.deep ≡ false }
@@ -30,7 +29,8 @@ impl Definitions {
     }
 }
 
-/// Puts an alias last. Refusal 27 where its name is there already or its definition reaches an undefined alias.
+/// Appends an alias. Refused with [AutomatonFault::Alias] if its name is there already or its definition reaches an
+/// undefined alias.
 pub(crate) fn define(
     alloc: Global,
     definitions: &mut Definitions,

@@ -5,7 +5,7 @@ ghost use Rattle.omega_automaton.specs.Automaton.{edges_from};
 
 use crate::state::State;
 
-/// How many edges the states have, none where they are over the numbers of 32 bits.
+/// Returns the number of edges of `states`, or none if it does not fit in 32 bits.
 pub(crate) fn count_edges(states: &[State]) -> Option<u32>
     ensures { SomeIff result (length (flat_map edges_from states.now) < 2 ^ 32) (length (flat_map edges_from states.now)) }
 {

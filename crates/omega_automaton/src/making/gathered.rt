@@ -10,8 +10,8 @@ use omega_raw::RawItem;
 use omega_text::{ByteString, Numbers, Refusal, Seq};
 use std::alloc::Global;
 
-/// What the items of a header say, but for the count of states and the aliases: of an item that may not repeat what the
-/// first says.
+/// What the items of a header say, without the count of states and the aliases. If an item that may not repeat does,
+/// the first one counts.
 #[derive(Drop)]
 pub(crate) struct Gathered {
     pub tool: Option<Tool>,
@@ -25,7 +25,7 @@ pub(crate) struct Gathered {
 }
 
 impl Gathered {
-    /// Nothing, which takes no memory.
+    /// Makes the record of no items, which takes no memory.
     pub(crate) fn new(alloc: Global) -> Gathered
         ensures tool { result.tool ≡ None }
         ensures name { result.name ≡ None }
@@ -48,7 +48,7 @@ impl Gathered {
         }
     }
 
-    /// Takes what one more item says, but for a count of states and an alias.
+    /// Adds what `item` says, unless it is a count of states or an alias.
     pub(crate) fn take(&mut self, item: RawItem) -> Result<(), Refusal>
         ensures ok { OnOk result (HasTaken self.old item self.new) }
         ensures err { IfErr result IsMemory }
@@ -84,7 +84,7 @@ impl Gathered {
     }
 }
 
-/// Keeps a value where none is kept yet.
+/// Keeps `value` if no value is kept yet.
 fn keep_first<T: Drop>(kept: &mut Option<T>, value: T)
     ensures { kept.new ≡ option_or kept.old (Some value) }
 {
@@ -93,7 +93,7 @@ fn keep_first<T: Drop>(kept: &mut Option<T>, value: T)
     }
 }
 
-/// Puts words after others. Where there are no others, as at the first item, all are moved at once.
+/// Appends `more` to `words`. If `words` is empty, as at the first item, all are moved at once.
 fn put_all(words: &mut Vec<ByteString>, more: Seq<ByteString>) -> Result<(), Refusal>
     ensures ok { OnOk result (words.new.items ≡ words.old.items ++ more) }
     ensures err { IfErr result IsMemory }

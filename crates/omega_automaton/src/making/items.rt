@@ -10,8 +10,8 @@ use omega_raw::RawItem;
 use omega_text::{Refusal, Seq};
 use std::alloc::Global;
 
-/// Takes the items of a header, of which nothing is taken yet. Refusal 27 where two aliases have one name, or one
-/// reaches an alias that has no item before it.
+/// Takes the items of a header, before which nothing was taken. Refused with [AutomatonFault::Alias] if two aliases
+/// have the same name, or one reaches an alias that has no item before it.
 pub(crate) fn gather(
     alloc: Global,
     gathered: &mut Gathered,
@@ -30,7 +30,8 @@ pub(crate) fn gather(
     Ok(())
 }
 
-/// Takes one more item. Refusal 27 where it is an alias whose name is there already or that reaches an undefined one.
+/// Takes one more item. Refused with [AutomatonFault::Alias] if it is an alias whose name is there already or that
+/// reaches an undefined one.
 fn gather_one(
     alloc: Global,
     gathered: &mut Gathered,

@@ -11,7 +11,7 @@ use omega_raw::RawAutomaton;
 use omega_text::{AutomatonFault, Refusal};
 use std::alloc::Global;
 
-/// What is said of an automaton that is written before its aliases are asked for.
+/// The judgement of an automaton that is written before its aliases are looked up.
 #[derive(Clone, Copy)]
 pub(crate) struct HeaderOutline {
     /// The least of the faults 28 to 31 that applies.
@@ -22,7 +22,8 @@ pub(crate) struct HeaderOutline {
     pub set_count: u32,
 }
 
-/// Judges an automaton that is written up to its aliases. Refusals 20 to 26 by its least fault, and 60.
+/// Judges an automaton that is written up to its aliases. Refused with its least `AutomatonFault` before
+/// [AutomatonFault::Alias], or with [Refusal::Memory].
 pub(crate) fn outline_of(alloc: Global, raw: &RawAutomaton) -> Result<HeaderOutline, Refusal>
     ensures ok { IfOk result (IsOutlineOf raw.now) }
     ensures err { IfErr result (IsMeaningless raw.now) }
@@ -36,7 +37,7 @@ pub(crate) fn outline_of(alloc: Global, raw: &RawAutomaton) -> Result<HeaderOutl
     }
 }
 
-/// The same where none of the faults 20 to 26 applies.
+/// Judges the rest, if none of the faults before [AutomatonFault::Alias] applies.
 fn later_outline(
     alloc: Global,
     raw: &RawAutomaton,

@@ -15,7 +15,7 @@ use omega_raw::{HeldEdges, RawEdge, RawEdges, RawState};
 use omega_text::{Refusal, Seq};
 use std::alloc::Global;
 
-/// The states of the body with their aliases replaced. Their labels have no fault.
+/// Makes the states of the body, with their aliases replaced. Their labels have no fault.
 pub(crate) fn states_of(
     alloc: Global,
     aliases: &Aliases,
@@ -33,7 +33,7 @@ pub(crate) fn states_of(
     Ok(Seq::from_vec(made))
 }
 
-/// A state of the body with its aliases replaced.
+/// Makes a state of the body, with its aliases replaced.
 fn state_of(alloc: Global, aliases: &Aliases, state: RawState) -> Result<State, Refusal>
     requires { is_labelled (λ label. is_faulty (expansion aliases.now label)) state ≡ false }
     ensures ok { IfOk result (λ made. IsStateOf aliases.now state made) }
@@ -58,7 +58,7 @@ fn state_of(alloc: Global, aliases: &Aliases, state: RawState) -> Result<State, 
     })
 }
 
-/// The edges of a state with their aliases replaced. Those that are written in short are moved.
+/// Makes the edges of a state, with their aliases replaced. Edges in compact form are moved.
 fn edges_of(alloc: Global, aliases: &Aliases, edges: RawEdges) -> Result<Edges, Refusal>
     requires { list_any (λ edge. passes (λ label. is_faulty (expansion aliases.now label)) edge.label) edges ≡ false }
     ensures ok { IfOk result (λ made. AllZip (IsEdgeOf aliases.now) edges made) }
@@ -73,7 +73,7 @@ fn edges_of(alloc: Global, aliases: &Aliases, edges: RawEdges) -> Result<Edges, 
     }
 }
 
-/// Edges with their aliases replaced.
+/// Makes edges with their aliases replaced.
 fn full_edges_of(
     alloc: Global,
     aliases: &Aliases,
@@ -91,7 +91,7 @@ fn full_edges_of(
     Ok(Seq::from_vec(made))
 }
 
-/// An edge with its aliases replaced.
+/// Makes an edge with its aliases replaced.
 fn edge_of(alloc: Global, aliases: &Aliases, edge: RawEdge) -> Result<Edge, Refusal>
     requires { passes (λ label. is_faulty (expansion aliases.now label)) edge.label ≡ false }
     ensures ok { IfOk result (λ made. IsEdgeOf aliases.now edge made) }
@@ -111,7 +111,7 @@ fn edge_of(alloc: Global, aliases: &Aliases, edge: RawEdge) -> Result<Edge, Refu
     })
 }
 
-/// A label with its aliases replaced, or none for none.
+/// Makes a label with its aliases replaced, or returns none for none.
 fn label_of(
     alloc: Global,
     aliases: &Aliases,
@@ -127,7 +127,7 @@ fn label_of(
     }
 }
 
-/// A label without a fault with its aliases replaced, so that memory alone can be wanting.
+/// Replaces the aliases of a label without a fault, so that it is refused for memory only.
 fn sound_label(alloc: Global, aliases: &Aliases, label: RawLabel) -> Result<Label, Refusal>
     requires { is_faulty (expansion aliases.now label) ≡ false }
     ensures ok { IfOk result (λ made. IsExpansion aliases.now label made) }

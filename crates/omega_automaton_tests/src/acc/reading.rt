@@ -1,5 +1,5 @@
 //! Which refusal a text has as a label and as an acceptance formula, and how far it is read. No nesting uses the stack.
-use crate::outcomes::{assert_row, told};
+use crate::outcomes::{assert_row, reported};
 use crate::texts::{Piece, text_of};
 use omega_acc::{read_acc, read_label};
 use omega_text::{Cursor, Refusal, hoa_tokens};
@@ -10,7 +10,7 @@ use std::alloc::Global;
 fn as_label(alloc: Global, text: &[u8]) -> Result<(u32, usize), Refusal> {
     let tokens = hoa_tokens(alloc, text)?;
     let mut cursor = Cursor::new(tokens.as_slice(), text.len());
-    let outcome = told(read_label(alloc, &mut cursor));
+    let outcome = reported(read_label(alloc, &mut cursor));
     Ok((outcome.0, outcome.1.unwrap_or(cursor.place())))
 }
 
@@ -18,7 +18,7 @@ fn as_label(alloc: Global, text: &[u8]) -> Result<(u32, usize), Refusal> {
 fn as_formula(alloc: Global, text: &[u8]) -> Result<(u32, usize), Refusal> {
     let tokens = hoa_tokens(alloc, text)?;
     let mut cursor = Cursor::new(tokens.as_slice(), text.len());
-    let outcome = told(read_acc(alloc, &mut cursor));
+    let outcome = reported(read_acc(alloc, &mut cursor));
     Ok((outcome.0, outcome.1.unwrap_or(cursor.place())))
 }
 

@@ -1,8 +1,8 @@
 use super::{is_one, is_stream};
-use crate::outcomes::{Told, assert_row};
+use crate::outcomes::{Reported, assert_row};
 
 // Texts, and what each is answered as that of one automaton.
-static ALONE: [(&str, Told); 15] = [
+static ALONE: [(&str, Reported); 15] = [
     ("", (3, Some(0))),
     ("  ", (3, Some(2))),
     ("x", (3, Some(0))),
@@ -32,7 +32,7 @@ fn texts_of_no_automaton_are_refused(rt: HostRuntime) {
 }
 
 // Texts, and what each is answered as that of a stream.
-static STREAMS: [(&str, Told); 16] = [
+static STREAMS: [(&str, Reported); 16] = [
     ("", (0, None)),
     (" /* */ ", (0, None)),
     ("HOA: --ABORT--", (0, None)),

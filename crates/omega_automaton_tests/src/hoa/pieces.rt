@@ -1,24 +1,26 @@
 use super::counts;
 use super::rows::ABORTED_FIRST;
-use crate::outcomes::{Told, assert_row, told};
+use crate::outcomes::{Reported, assert_row, reported};
 use omega_hoa::{Item, Stream};
 use std::alloc::{AllocError, Global};
-use std::process::Abort;
-use std::test::Fail;
 
 // What each piece is answered, and then the end.
-fn answers(alloc: Global, pieces: &[&str], items: &mut Vec<Item>) -> Result<Vec<Told>, AllocError> {
+fn answers(
+    alloc: Global,
+    pieces: &[&str],
+    items: &mut Vec<Item>,
+) -> Result<Vec<Reported>, AllocError> {
     let mut stream = Stream::new(alloc);
     let mut answers = Vec::new(alloc);
     for piece in pieces {
-        answers.push(told(stream.feed(piece.as_bytes(), items)))?;
+        answers.push(reported(stream.feed(piece.as_bytes(), items)))?;
     }
-    answers.push(told(stream.finish()))?;
+    answers.push(reported(stream.finish()))?;
     Ok(answers)
 }
 
 // Pieces, what each and the end are answered, and how many items are aborted and automata.
-static PIECES: [(&[&str], &[Told], (usize, usize)); 12] = [
+static PIECES: [(&[&str], &[Reported], (usize, usize)); 12] = [
     (
         &["x", " "],
         &[(0, None), (3, Some(0)), (3, Some(0))],
@@ -78,10 +80,10 @@ static PIECES: [(&[&str], &[Told], (usize, usize)); 12] = [
 ];
 
 // Whether pieces and the end are answered so, and give so many items.
-fn is_answered(alloc: Global, pieces: &[&str], want: &[Told], count: (usize, usize)) -> bool {
+fn is_answered(alloc: Global, pieces: &[&str], want: &[Reported], count: (usize, usize)) -> bool {
     let mut items = Vec::new(alloc);
     match answers(alloc, pieces, &mut items) {
-        Ok(told) => told.as_slice() == want && counts(items.as_slice()) == count,
+        Ok(reported) => reported.as_slice() == want && counts(items.as_slice()) == count,
         Err(_) => false,
     }
 }
@@ -132,16 +134,16 @@ fn no_cut_changes_the_items(rt: HostRuntime) {
 // An aborted segment, and a segment with a token with which no automaton goes on, at this place.
 const BROKEN: &str = "HOA: --ABORT-- HOA: v1 States: x --BODY-- --END-- ";
 
-const BROKEN_AT: Told = (3, Some(31));
+const BROKEN_AT: Reported = (3, Some(31));
 
 // Whether of two pieces the one that completes the second segment is refused there, and all that comes after it.
 fn is_broken_in_two(alloc: Global, front: &[u8], back: &[u8]) -> bool {
     let mut items = Vec::new(alloc);
     let mut stream = Stream::new(alloc);
-    let first = told(stream.feed(front, &mut items));
+    let first = reported(stream.feed(front, &mut items));
     (first == (0, None) || first == BROKEN_AT)
-        && told(stream.feed(back, &mut items)) == BROKEN_AT
-        && told(stream.finish()) == BROKEN_AT
+        && reported(stream.feed(back, &mut items)) == BROKEN_AT
+        && reported(stream.finish()) == BROKEN_AT
         && counts(items.as_slice()) == (1, 0)
 }
 
@@ -150,7 +152,7 @@ fn is_broken_in_bytes(alloc: Global, text: &[u8]) -> bool {
     let mut items = Vec::new(alloc);
     let mut stream = Stream::new(alloc);
     !feed_bytes(&mut stream, text, &mut items)
-        && told(stream.finish()) == BROKEN_AT
+        && reported(stream.finish()) == BROKEN_AT
         && counts(items.as_slice()) == (1, 0)
 }
 
@@ -176,29 +178,4 @@ fn is_whole_in_bytes(alloc: Global, text: &[u8]) -> bool {
 #[test]
 fn bytes_give_the_items(rt: HostRuntime) {
     assert!(rt; is_whole_in_bytes(rt.alloc(), ABORTED_FIRST.as_bytes()));
-}
-
-// So many blanks, and whether there are no more than allowed.
-static BLANKS: [(usize, Told); 4] = [
-    (16_777_216, (0, None)),
-    (0, (0, None)),
-    (1, (4, None)),
-    (0, (4, None)),
-];
-
-fn assert_blanks(rt: &impl Abort, stream: &mut Stream, blanks: &[u8], items: &mut Vec<Item>) {
-    for (row, (count, want)) in BLANKS.iter().enumerate() {
-        let piece = &blanks[..(*count).min(blanks.len())];
-        assert_row(rt, row, told(stream.feed(piece, items)) == *want);
-    }
-}
-
-#[test]
-fn pieces_past_the_limit_are_refused(rt: HostRuntime) -> Result<(), Fail> {
-    let blanks = vec![in rt.alloc(); b' '; 16_777_216]?;
-    let mut items = Vec::new(rt.alloc());
-    let mut stream = Stream::new(rt.alloc());
-    assert_blanks(&rt, &mut stream, blanks.as_slice(), &mut items);
-    assert!(rt; told(stream.finish()) == (4, None));
-    Ok(())
 }

@@ -1,6 +1,6 @@
 use super::{are_both, counts, is_one};
 use crate::automaton::values::counts as sizes;
-use crate::outcomes::{Told, assert_row, told};
+use crate::outcomes::assert_row;
 use omega_hoa::{read_one, read_stream};
 use std::alloc::Global;
 
@@ -92,28 +92,4 @@ fn has_one_of_each(alloc: Global, text: &str) -> bool {
 #[test]
 fn parts_of_an_automaton_are_read(rt: HostRuntime) {
     assert!(rt; has_one_of_each(rt.alloc(), ALIASED));
-}
-
-// The first text of the emptiness game.
-const LOOP: &str =
-    "HOA: v1 States: 1 Start: 0 AP: 1 \"a\" acc-name: Buchi Acceptance: 1 Inf(0) --BODY-- State: 0 [0] 0 {0} --END--";
-
-fn is_lexical_or_syntax(told: Told) -> bool {
-    told.0 == 1 || told.0 == 3
-}
-
-// Whether a text is refused for its tokens or its syntax, alone and as a stream, where only the empty one is read.
-fn is_refused_front(alloc: Global, text: &[u8]) -> bool {
-    let stream = told(read_stream(alloc, text));
-    is_lexical_or_syntax(told(read_one(alloc, text)))
-        && (is_lexical_or_syntax(stream) || text.is_empty() && stream == (0, None))
-}
-
-#[test]
-fn fronts_of_an_automaton_are_refused(rt: HostRuntime) {
-    let text = LOOP.as_bytes();
-    assert!(rt; are_both(rt.alloc(), text, (0, None)));
-    for length in 0..text.len() {
-        assert_row(&rt, length, is_refused_front(rt.alloc(), &text[..length]));
-    }
 }

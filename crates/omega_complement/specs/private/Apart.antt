@@ -9,12 +9,12 @@ pub record IsApart (one other : LabelTree) : Type 0 where
   pub fits : FitsALabel (conjunction one other)
   pub apart : IsSatisfiable (conjunction one other) → ⊥
 
--- so is the label at a place from those at places below a count
+-- the label at `second` is apart from the labels at places below `count`
 abbrev pub IsApartFrom : List LabelTree → ℕ → ℕ → Type 0
 IsApartFrom labels second count =
     (first : ℕ) (one other : LabelTree) → first < count → slice_get labels first ≡ Some one
     → slice_get labels second ≡ Some other → IsApart one other
 
--- and each at a place below a count from those before it
+-- each label at a place below `count` is apart from those before it
 abbrev pub AreApartTo : List LabelTree → ℕ → Type 0
 AreApartTo labels count = (second : ℕ) → second < count → IsApartFrom labels second second

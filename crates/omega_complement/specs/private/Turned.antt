@@ -1,4 +1,4 @@
--- What private functions of the complement give, and when they are refused.
+-- Results and refusals of the private functions of the complement.
 use Rattle.std.specs.Prelude.{◌≡◌, ◌⊎◌, ◌↔◌, ℕ, ◌<◌, Bool, IsTrue, List}
 use Rattle.std.specs.Prelude.{length, Some}
 use Rattle.std.specs.List.{AllZip, range_with_len}
@@ -19,19 +19,19 @@ use Rattle.omega_complement.specs.Labels.{labels_at, state_at}
 use Rattle.omega_complement.specs.Letters.{LacksLetter}
 use Rattle.omega_complement.specs.Refusing.{IsFirstFault, IsStateFault}
 use Rattle.omega_complement.specs.Written.{IsTurned}
-use Rattle.omega_written.specs.Fitting.{IsLarge}
+use Rattle.omega_edge_labels.specs.Fitting.{IsLarge}
 
--- why a label is not judged: it is no label, or it mentions too many propositions
+-- why a label is not judged: it is too deep or too large, or it mentions too many propositions
 abbrev pub IsUnjudged : LabelTree → Refusal → Type 0
 IsUnjudged label =
     or_task (λ fault. ((fault ≡ TooLarge) × (FitsALabel label → ⊥)) ⊎ ((fault ≡ TooManyPropositions) × (most_mentioned < length (mentioned label))))
     (or_memory never)
 
--- the refusal of a state, which has an edge for each valuation or not
+-- the refusal of a state; `full` says whether it has an edge for each valuation
 abbrev pub IsStateRefusal : Bool → List LabelTree → ℕ → Refusal → Type 0
 IsStateRefusal full labels number = or_task (IsStateFault full labels number) (or_memory never)
 
--- the states so far are turned, and it is told whether one of them lacks a letter
+-- the states below `count` have an edge for each letter, and `lacks` says whether one of them lacked a letter
 pub record AreTurned (a : Description) (count : ℕ) (states : List RawState) (lacks : Bool) : Type 0 where
   pub turned : AllZip (λ number. IsTurned (length a.propositions) a.states (state_at a number)) (range_with_len 0 count) states
   pub apart : AreExclusiveBelow a count
@@ -42,6 +42,6 @@ pub record AreTurned (a : Description) (count : ℕ) (states : List RawState) (l
 abbrev pub AreRefused : Description → Refusal → Type 0
 AreRefused a = or_task (IsFirstFault a) (or_memory never)
 
--- what is written breaks a limit of automata
+-- the written complement breaks a limit of automata
 abbrev pub IsUnformed : RawAutomaton → Refusal → Type 0
 IsUnformed raw = IsLarge ((fault : AutomatonFault) × (automaton_fault_of raw ≡ Some fault))

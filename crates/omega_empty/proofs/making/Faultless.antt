@@ -16,16 +16,16 @@ use Rattle.omega_game.specs.Game.{Node}
 use Rattle.omega_game.specs.Limits.{most_nodes, most_successors}
 use Rattle.omega_game.specs.declared.node_spec.NodeSpec.{NodeSpec}
 use Rattle.omega_empty.specs.Counters.{counters}
-use Rattle.omega_automaton.specs.Branching.{has_branch}
+use Rattle.omega_automaton.specs.Branching.{has_universal_branching}
 use Rattle.omega_empty.specs.EmptinessGame.{span, table}
-use Rattle.omega_empty.proofs.making.Flat.{IsListed, listed_flat}
+use Rattle.omega_runs.proofs.Flat.{IsListed, listed_flat}
 use Rattle.omega_empty.proofs.making.Named.{table_defined}
-use Rattle.omega_empty.proofs.making.Plain.{single_target}
+use Rattle.omega_runs.proofs.SingleTargets.{single_target}
 use Rattle.omega_empty.proofs.making.Rising.{increasing, rising_length, table_rises}
 use Rattle.omega_empty.proofs.making.Sums.{table_listed}
 
 -- an edge of the body is one of the automaton, with one target
-body_edge : (a : Description) → IsAutomaton a → has_branch a ≡ false → (edge : BodyEdge) → Contains (edges_of a) edge
+body_edge : (a : Description) → IsAutomaton a → has_universal_branching a ≡ false → (edge : BodyEdge) → Contains (edges_of a) edge
     → AreBelow a.states edge.edge.targets × (length edge.edge.targets ≤ 1)
 body_edge a automaton plain edge has =
     let from : IsListed a.defined edge = listed_flat a.defined edge has in
@@ -36,7 +36,7 @@ body_edge a automaton plain edge has =
     (is_edge.targets.below, single_target a plain from.place edge.source edge.edge from.below from.here from.contained)
 
 pub table_faultless : (kind : AccKind) (a : Description) (usable : List Bool) (specs : List NodeSpec) → specs ≡ table kind a usable
-    → IsAutomaton a → has_branch a ≡ false → counters kind * span a + 1 ≤ most_nodes → game_fault_of specs ≡ None
+    → IsAutomaton a → has_universal_branching a ≡ false → counters kind * span a + 1 ≤ most_nodes → game_fault_of specs ≡ None
 table_faultless kind a usable specs is automaton plain fits =
     let all : List NodeSpec = table kind a usable in
     let edges = All-contains_itself (edges_of a) in

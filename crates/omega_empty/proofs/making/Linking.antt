@@ -59,22 +59,22 @@ module _ (usable : List Bool) (first id base number : ℕ) (specs initial : List
   -- a number that is not usable changes nothing
   pub passed : (some : Bool) → is_usable usable number ≡ false → specs ≡ initial ++ begun id (to number) → (some ≡ true) ↔ (0 < length (to number))
       → (specs ≡ initial ++ begun id (to (number + 1))) × ((some ≡ true) ↔ (0 < length (to (number + 1))))
-  passed some unusable is told =
+  passed some unusable is reported =
       let e : to (number + 1) ≡ to number =
       ap (map (λ n. base + n)) (usable_in_more usable first number ordered
       ∙ ap (λ (b : Bool). usable_in usable (record { first = first; end = number }) ++ cond b (number ∷ []) []) unusable ∙ append-nil _) in
       let P : List ℕ → Type 0 = λ list. (specs ≡ initial ++ begun id list) × ((some ≡ true) ↔ (0 < length list)) in
-      subst P (sym e) (is, told)
+      subst P (sym e) (is, reported)
 
   -- a usable one is linked
   pub taken : (some : Bool) (new : List NodeSpec) → is_usable usable number ≡ true → specs ≡ initial ++ begun id (to number)
       → (some ≡ true) ↔ (0 < length (to number)) → new ≡ linked some id (base + number) specs
       → (new ≡ initial ++ begun id (to (number + 1))) × ((true ≡ true) ↔ (0 < length (to (number + 1))))
-  taken some new usable_is is told new_is =
+  taken some new usable_is is reported new_is =
       let e : to (number + 1) ≡ to number ++ (base + number) ∷ [] =
       ap (map (λ n. base + n)) (usable_in_more usable first number ordered
       ∙ ap (λ (b : Bool). usable_in usable (record { first = first; end = number }) ++ cond b (number ∷ []) []) usable_is)
       ∙ map-append (λ n. base + n) (usable_in usable (record { first = first; end = number })) (number ∷ []) in
       let some_now : 0 < length (to number ++ (base + number) ∷ []) = omega (arith, length-append (to number) ((base + number) ∷ [])) in
       let P : List ℕ → Type 0 = λ list. (new ≡ initial ++ begun id list) × ((true ≡ true) ↔ (0 < length list)) in
-      subst P (sym e) (new_is ∙ linked_is some specs initial id (to number) (base + number) is told, (λ _. some_now, λ _. refl))
+      subst P (sym e) (new_is ∙ linked_is some specs initial id (to number) (base + number) is reported, (λ _. some_now, λ _. refl))

@@ -77,9 +77,9 @@ formula_deep order parity (set ∷ next ∷ rest) = go (has_parity parity set) (
     go true deep = omega arith
     go false deep = omega arith
 
-length-sets_left : (order : Order) (count behind : ℕ) → length (sets_left order count behind) ≡ behind
+length-sets_left : (order : Order) (count following : ℕ) → length (sets_left order count following) ≡ following
 length-sets_left order count zero = refl
-length-sets_left order count (suc behind) = ap suc (length-sets_left order count behind)
+length-sets_left order count (suc following) = ap suc (length-sets_left order count following)
 
 -- so its count of sets is at most its depth
 pub count_shallow : (kind : ParityKind) → kind.count ≤ acc_depth (parity_formula kind)

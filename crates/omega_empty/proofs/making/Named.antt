@@ -10,7 +10,7 @@ use Rattle.omega_game.specs.Building.{has_undefined, specified_times}
 use Rattle.omega_game.specs.declared.node_spec.NodeSpec.{NodeSpec}
 use Rattle.omega_empty.specs.Counters.{counter_after, counters}
 use Rattle.omega_empty.specs.EmptinessGame.{edge_id, edge_node, edge_nodes, is_usable, leaving, nodes_at, or_sink, sink_id, sink_node, state_id, state_node, table}
-use Rattle.omega_empty.specs.Lasso.{marks_of}
+use Rattle.omega_runs.specs.Lasso.{marks_of}
 use Rattle.omega_empty.proofs.Counters.{counter_after_below}
 
 -- some specification has the identifier

@@ -1,5 +1,5 @@
 -- States and edges of an automaton of a kind: one target each, and marks of the kind.
-use Rattle.std.proofs.Common.{◌≡◌, ℕ, zero, suc, ◌+◌, ◌*◌, ◌<◌, ◌≤◌, Bool, false, ltb, List, [], ◌∷◌, length, All, Contains, get_or, sym, ap, refl, ◌∙◌, subst, arith, add-one}
+use Rattle.std.proofs.Common.{◌≡◌, ℕ, zero, suc, ◌+◌, ◌*◌, ◌<◌, ◌≤◌, false, ltb, List, [], ◌∷◌, length, All, get_or, sym, ap, refl, subst, arith, add-one}
 use Rattle.std.specs.List.{list_any}
 use Rattle.std.proofs.lemmas.Bool.{ltb-false, or_parts}
 use Rattle.std.proofs.Math.Nat.{add-mul, one-mul}
@@ -14,17 +14,12 @@ use Rattle.omega_automaton.specs.declared.state.State.{State}
 use Rattle.omega_game.specs.Limits.{most_nodes}
 use Rattle.omega_empty.specs.Counters.{counters}
 use Rattle.omega_automaton.specs.AcceptanceKind.{HasKind}
-use Rattle.omega_automaton.specs.Branching.{has_branch, state_branches}
+use Rattle.omega_automaton.specs.Branching.{has_universal_branching, state_branches}
 use Rattle.omega_empty.specs.EmptinessGame.{span}
 use Rattle.omega_empty.specs.private.layout.Marks.{AreMarksBelow, IsSmall}
 use Rattle.omega_empty.specs.private.layout.Ready.{IsPlainState}
+use Rattle.omega_runs.proofs.SingleTargets.{none_passes}
 use Rattle.omega_empty.proofs.making.MarkLists.{count_shallow}
-
--- a test that passes nowhere fails at each place
-none_passes : {X : Type 0} (test : X → Bool) (xs : List X) (i : ℕ) (x : X) → list_any test xs ≡ false → i < length xs → x ≡ get_or xs i x → test x ≡ false
-none_passes test [] i x none below here = absurd (omega arith)
-none_passes test (y ∷ ys) zero x none below here = ap test here ∙ (or_parts (test y) (list_any test ys) none).0
-none_passes test (y ∷ ys) (suc i) x none below here = none_passes test ys i x (or_parts (test y) (list_any test ys) none).1 (omega arith) here
 
 -- marks of the automaton are marks of its kind
 marks_of_kind : (a : Description) (kind : AccKind) (name : AccName) (marks : List ℕ) → IsAcceptanceRow name a.sets a.acceptance kind → AreBelow a.sets marks → AreMarksBelow kind marks
@@ -40,16 +35,8 @@ small_kind a kind automaton has = go kind has.row
     go (kinds.Parity kind) row = omega (arith, automaton.shallow, ap acc_depth row.formula_is, count_shallow kind)
     go (kinds.GenBuchi sets) row = omega (arith, row.limit)
 
--- where nothing branches, an edge that a state lists has one target at most
-pub single_target : (a : Description) → has_branch a ≡ false → (index : ℕ) (state : State) (edge : Edge) → index < length a.defined → state ≡ get_or a.defined index state
-    → Contains state.edges edge → length edge.targets ≤ 1
-single_target a plain index state edge below here has =
-    let single : state_branches state ≡ false =
-    none_passes state_branches a.defined index state (or_parts (list_any (λ (start : List ℕ). ltb 1 (length start)) a.starts) (list_any state_branches a.defined) plain).1 below here in
-    ltb-false 1 (length edge.targets) (none_passes (λ (e : Edge). ltb 1 (length e.targets)) state.edges has.0 edge single has.1 (sym has.2))
-
 -- so are states and edges
-pub plain_state : (a : Description) (kind : AccKind) → IsAutomaton a → HasKind a kind → has_branch a ≡ false
+pub plain_state : (a : Description) (kind : AccKind) → IsAutomaton a → HasKind a kind → has_universal_branching a ≡ false
     → (index : ℕ) (state : State) → index < length a.defined → state ≡ get_or a.defined index state → IsPlainState a kind state
 plain_state a kind automaton has plain index state below here =
     let P : State → Type 0 = λ s. IsState a s in

@@ -3,11 +3,11 @@ use Rattle.std.proofs.Common.{◌≡◌, ◌≢◌, ℕ, zero, suc, ◌+◌, ◌
 use Rattle.std.specs.Prelude.{filter}
 use Rattle.std.specs.List.{flat_map, list_any, range_with_len}
 use Rattle.std.proofs.lemmas.Bool.{cases_eq, eq-eqb, eqb-false, ne_eqb, or_parts}
-use Rattle.std.proofs.lemmas.Grind.{flat_map-append}
-use Rattle.std.proofs.lemmas.List.{append-nil, get_or-replicate, get_or-set_other, get_or-set_same, length-map, take_more}
+use Rattle.std.proofs.lemmas.List.{append-nil, get_or-replicate, get_or-set_other, get_or-set_same, length-map}
 use Rattle.omega_automaton.specs.Automaton.{BodyEdge, edges_from, has_repeat}
 use Rattle.omega_automaton.specs.declared.edge.Edge.{Edge}
 use Rattle.omega_automaton.specs.declared.state.State.{State}
+use Rattle.omega_runs.proofs.Edges.{flat_more}
 use Rattle.omega_empty.specs.EmptinessGame.{is_usable, leaving}
 use Rattle.omega_empty.specs.declared.edge_ranges.EdgeRange.{EdgeRange}
 use Rattle.omega_empty.specs.private.layout.Ranges.{IsRangeOf, no_range, range_of}
@@ -81,13 +81,6 @@ before_others usable (x ∷ xs) (suc index) state once below here =
     ap (λ n. eqb n x.number) (ap (λ st. st.number) here ∙ sym (numbers_at xs index state shorter))
     ∙ none_passes (λ later. nat_eq later x.number) (map (λ state. state.number) xs) index parts.0 (rw length-map shorter) in
     (ne_eqb x.number state.number (λ same. eqb-false state.number x.number apart (sym same)), before_others usable xs index state parts.1 shorter here)
-
--- the edges up to a state and its own
-pub flat_more : (states : List State) (index : ℕ) (state : State) → index < length states → state ≡ get_or states index state
-    → flat_map edges_from (take (index + 1) states) ≡ flat_map edges_from (take index states) ++ edges_from state
-flat_more states index state below here =
-    ap (flat_map edges_from) (take_more states index state below ∙ ap (λ s. take index states ++ s ∷ []) (sym here))
-    ∙ flat_map-append edges_from (take index states) (state ∷ []) ∙ ap (λ list. flat_map edges_from (take index states) ++ list) (append-nil (edges_from state))
 
 -- as many more as the state has edges
 pub length_more : (states : List State) (index : ℕ) (state : State) → index < length states → state ≡ get_or states index state

@@ -1,5 +1,5 @@
 -- The nodes of edges, state by state and edge by edge.
-use Rattle.std.proofs.Common.{◌≡◌, ℕ, zero, suc, ◌+◌, ◌*◌, ◌<◌, ◌≤◌, Bool, true, false, cond, List, [], ◌∷◌, ◌++◌, length, map, take, get_or, sym, ap, refl, ◌∙◌, subst, arith, add-one, add-zero, zero-add, append_assoc}
+use Rattle.std.proofs.Common.{◌≡◌, ℕ, suc, ◌+◌, ◌*◌, ◌<◌, ◌≤◌, Bool, true, false, cond, List, [], ◌∷◌, ◌++◌, length, map, take, get_or, sym, ap, refl, ◌∙◌, subst, arith, add-one, add-zero, zero-add, append_assoc}
 use Rattle.std.specs.List.{flat_map, range_with_len}
 use Rattle.std.proofs.lemmas.Grind.{flat_map-append}
 use Rattle.std.proofs.lemmas.List.{append-nil, get_or_read, length-map, length-take-le, nil_from_length, take_more}
@@ -13,25 +13,8 @@ use Rattle.omega_empty.specs.EmptinessGame.{edge_id, edge_node, edge_nodes, is_u
 use Rattle.omega_empty.specs.declared.edge_ranges.EdgeRange.{EdgeRange}
 use Rattle.omega_empty.specs.private.layout.Nodes.{begun}
 use Rattle.omega_empty.specs.private.layout.Ranges.{AreRanges, IsRangeOf, no_range, usable_in}
+use Rattle.omega_runs.proofs.Edges.{edges_take, length-edges_from}
 use Rattle.omega_empty.proofs.making.Linking.{range_push}
-
--- as many edges as the state lists
-pub length-edges_from : (state : State) → length (edges_from state) ≡ length state.edges
-length-edges_from state = length-map {B = BodyEdge} state.edges (λ (edge : Edge). record { source = state; edge = edge })
-
-take_suc : (state : State) (edges : List Edge) (index : ℕ) (edge : Edge) → index < length edges → edge ≡ get_or edges index edge
-    → take (suc index) (map {B = BodyEdge} (λ (edge : Edge). record { source = state; edge = edge }) edges)
-    ≡ take index (map {B = BodyEdge} (λ (edge : Edge). record { source = state; edge = edge }) edges) ++ record { source = state; edge = edge } ∷ []
-take_suc state [] index edge below here = absurd (omega arith)
-take_suc state (x ∷ xs) zero edge below here = ap (λ (e : Edge). record { source = state; edge = e } ∷ []) (sym here)
-take_suc state (x ∷ xs) (suc index) edge below here =
-    ap (λ (list : List BodyEdge). record { source = state; edge = x } ∷ list) (take_suc state xs index edge (omega arith) here)
-
--- the edges of a state, one more
-pub edges_take : (state : State) (index : ℕ) (edge : Edge) → index < length state.edges → edge ≡ get_or state.edges index edge
-    → take (index + 1) (edges_from state) ≡ take index (edges_from state) ++ record { source = state; edge = edge } ∷ []
-edges_take state index edge below here =
-    ap (λ (n : ℕ). take n (edges_from state)) (add-one index) ∙ take_suc state state.edges index edge below here
 
 module _ (kind : AccKind) (a : Description) (usable : List Bool) (counter : ℕ) where
   -- the nodes of some edges and then of others

@@ -17,11 +17,11 @@ use Rattle.omega_empty.specs.Counters.{counters}
 use Rattle.omega_automaton.specs.AcceptanceKind.{HasKind}
 use Rattle.omega_empty.specs.EmptinessGame.{IsEmptinessGame, span, state_id}
 use Rattle.omega_empty.specs.GameLaws.{WonWalksAccept, numbers_on}
-use Rattle.omega_empty.specs.Lasso.{AcceptsFrom, IsAcceptingLasso, IsStart, Leads, marks_at}
-use Rattle.omega_empty.proofs.Counters.{AreWithin, closed_accepts, counter_behind, formula_of, priorities_from}
-use Rattle.omega_empty.proofs.playing.Places.{marks_low}
+use Rattle.omega_runs.specs.Lasso.{AcceptsFrom, IsAcceptingLasso, IsStart, Leads, marks_at}
+use Rattle.omega_empty.proofs.Counters.{AreWithin, closed_accepts, counter_after_marks, formula_of, priorities_from}
+use Rattle.omega_runs.proofs.Kept.{marks_low}
 use Rattle.omega_empty.proofs.meaning.Reading.{Reading, half, reading, sink_greatest, sunk, whole}
-use Rattle.omega_empty.proofs.meaning.SingleTargets.{EntersOne, enters_one}
+use Rattle.omega_runs.proofs.SingleTargets.{EntersOne, enters_one}
 use Rattle.omega_empty.proofs.meaning.Steps.{AtEdge, AtSink, AtState, edge_within, one_state, state_no_edge, state_no_sink}
 
 -- what a kind says: its formula, that it has a counter, and that marks are within its count
@@ -83,7 +83,7 @@ module _ (a : Description) (game : List Node) (automaton : IsAutomaton a) (is : 
     -- such a closed walk from a state's node is a cycle that is accepted
     module _ (parity : ParityIsPriority) (buchi : BuchiIsEverySet) (counter state : ℕ)
         (at : AtState is.kind a is.usable game automaton is.usable_are is.game_is v counter state) where
-      accepted : (numbers : List ℕ) → 0 < length numbers → counter_behind is.kind counter (map (marks_at a) numbers) ≡ counter
+      accepted : (numbers : List ℕ) → 0 < length numbers → counter_after_marks is.kind counter (map (marks_at a) numbers) ≡ counter
           → greatest_number (priorities_from is.kind counter (map (marks_at a) numbers)) % 2 ≡ 0 → IsTrue (accepts (map (marks_at a) numbers) a.acceptance)
       accepted numbers longer back even_is =
           let some : 0 < length (map (marks_at a) numbers) = omega (arith, longer, length-map numbers (marks_at a)) in
@@ -100,14 +100,14 @@ module _ (a : Description) (game : List Node) (automaton : IsAutomaton a) (is : 
           absurd (state_no_sink is.kind a is.usable game automaton is.usable_are is.game_is v counter state at
           (subst (λ u. AtSink is.kind a is.usable game automaton is.usable_are is.game_is u) closed.closed sink))
       lasso start stem begins leads (whole read) =
-          let after : ℕ = counter_behind is.kind counter (map (marks_at a) read.numbers) in
+          let after : ℕ = counter_after_marks is.kind counter (map (marks_at a) read.numbers) in
           let back = one_state is.kind a is.usable game automaton is.usable_are is.game_is v after read.to counter state
           (subst (λ u. AtState is.kind a is.usable game automaton is.usable_are is.game_is u after read.to) closed.closed read.at_end) at in
           let longer : 0 < length read.numbers = read.longer closed.longer in
           let all : IsAcceptingLasso a stem read.numbers = record {
             lasso = record {
               start = start;
-              knot = state;
+              loop_state = state;
               begins = begins;
               stem_leads = leads;
               cycle_leads = subst (λ t. Leads a state read.numbers t) back.1 read.leads;
@@ -126,7 +126,7 @@ won_walks_accept parity buchi a game choices start v there around automaton is b
     go : Reading is.kind a is.usable game automaton is.usable_are is.game_is v 0 start there
         → AcceptsFrom a start (numbers_on a game there) (numbers_on a game around)
     go (whole read) =
-        let counter : ℕ = counter_behind is.kind 0 (map (marks_at a) read.numbers) in
+        let counter : ℕ = counter_after_marks is.kind 0 (map (marks_at a) read.numbers) in
         let again = reading is.kind a is.usable game automaton is.usable_are is.game_is (single a game automaton is) Zero choices (end_of v there) counter read.to around
         read.at_end closed.walk in
         subst (λ stem. AcceptsFrom a start stem (numbers_on a game around)) (sym read.numbers_are)

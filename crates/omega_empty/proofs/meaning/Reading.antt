@@ -9,12 +9,14 @@ use Rattle.omega_game.specs.Winning.{IsWalk, end_of, greatest_on}
 use Rattle.omega_game.specs.declared.node_spec.NodeSpec.{NodeSpec}
 use Rattle.omega_game.specs.declared.player.Player.{Player}
 use Rattle.omega_empty.specs.Counters.{counter_after, priority_at_counter}
-use Rattle.omega_empty.specs.EmptinessGame.{AreUsable, table}
+use Rattle.omega_runs.specs.Judging.{AreUsable}
+use Rattle.omega_empty.specs.EmptinessGame.{table}
 use Rattle.omega_empty.specs.GameLaws.{number_at, numbers_on}
-use Rattle.omega_empty.specs.Lasso.{Leads, marks_at, marks_of}
-use Rattle.omega_empty.proofs.Counters.{counter_behind, priorities_from}
-use Rattle.omega_empty.proofs.playing.Places.{marks_are, stands_priority}
-use Rattle.omega_empty.proofs.meaning.SingleTargets.{EntersOne}
+use Rattle.omega_runs.specs.Lasso.{Leads, marks_at, marks_of}
+use Rattle.omega_empty.proofs.Counters.{counter_after_marks, priorities_from}
+use Rattle.omega_empty.proofs.playing.Places.{stands_priority}
+use Rattle.omega_runs.proofs.Kept.{marks_are}
+use Rattle.omega_runs.proofs.SingleTargets.{EntersOne}
 use Rattle.omega_empty.proofs.meaning.Steps.{AtEdge, AtSink, AtState, Entering, Leaving, edge_number, edge_stands, leaves_edge, leaves_sink, leaves_state, sink_stands, state_number, step_of}
 
 module _ (kind : AccKind) (a : Description) (usable : List Bool) (game : List Node)
@@ -24,7 +26,7 @@ module _ (kind : AccKind) (a : Description) (usable : List Bool) (game : List No
     pub numbers : List ℕ
     pub numbers_are : numbers_on a game ws ≡ numbers
     pub to : ℕ
-    pub at_end : AtState kind a usable game automaton judged made (end_of v ws) (counter_behind kind counter (map (marks_at a) numbers)) to
+    pub at_end : AtState kind a usable game automaton judged made (end_of v ws) (counter_after_marks kind counter (map (marks_at a) numbers)) to
     pub leads : Leads a state numbers to
     pub greatest_is : greatest_on game v ws ≡ greatest_number (priorities_from kind counter (map (marks_at a) numbers))
     pub longer : 0 < length ws → 0 < length numbers
@@ -61,7 +63,7 @@ module _ (kind : AccKind) (a : Description) (usable : List Bool) (game : List No
         let second : priority_at game w ≡ priority_at_counter kind counter (marks_of edge) =
         ap (λ (s : NodeSpec). s.priority) (edge_stands kind a usable game automaton judged made w counter number edge at').is in
         let P : List ℕ → Type 0 = λ m. AtState kind a usable game automaton judged made (end_of u rest)
-        (counter_behind kind (counter_after kind counter m) (map (marks_at a) read.numbers)) read.to in
+        (counter_after_marks kind (counter_after kind counter m) (map (marks_at a) read.numbers)) read.to in
         let Q : List ℕ → Type 0 = λ m. greatest_on game v (w ∷ u ∷ rest)
         ≡ max (priority_at_counter kind counter m) (greatest_number (priorities_from kind (counter_after kind counter m) (map (marks_at a) read.numbers))) in
         let all : max (priority_at game v) (max (priority_at game w) (greatest_on game u rest))

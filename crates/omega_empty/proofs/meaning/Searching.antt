@@ -8,13 +8,13 @@ use Rattle.omega_game.specs.Game.{Node, identifier_at}
 use Rattle.omega_game.specs.Player.{loses}
 use Rattle.omega_game.specs.Winning.{InRegion, IsClosedWalk, IsWalk, Leaves, end_of, greatest_on}
 use Rattle.omega_game.specs.declared.player.Player.TheVariants.{Zero}
-use Rattle.omega_region.proofs.Following.{choice_at, end-trail, longer_trail, reached, reached-add, reached_below, some_left, trail, walk_of_trail}
-use Rattle.omega_region.proofs.Pigeonhole.{Repeats, repeats}
-use Rattle.omega_region.specs.Laws.{RegionsCover}
+use Rattle.omega_region_laws.proofs.Following.{choice_at, end-trail, longer_trail, reached, reached-add, reached_below, some_left, trail, walk_of_trail}
+use Rattle.omega_region_laws.proofs.Pigeonhole.{Repeats, repeats}
+use Rattle.omega_region_laws.specs.Laws.{RegionsCover}
 use Rattle.omega_empty.specs.EmptinessGame.{IsEmptinessGame}
 use Rattle.omega_empty.specs.GameLaws.{UnwonIsEmpty, WonStartsAccept, numbers_on, within_counter}
-use Rattle.omega_empty.specs.Lasso.{AcceptsFrom, IsStart, marks_at}
-use Rattle.omega_empty.proofs.Counters.{counter_behind}
+use Rattle.omega_runs.specs.Lasso.{AcceptsFrom, IsStart, marks_at}
+use Rattle.omega_empty.proofs.Counters.{counter_after_marks}
 use Rattle.omega_empty.proofs.playing.Winning.{lassos_are_won}
 use Rattle.omega_empty.proofs.meaning.Accepting.{at_start, first_counter, first_id, not_sunk, single, start_below, won_walks_accept}
 use Rattle.omega_empty.proofs.meaning.Reading.{Reading, half, reading, sunk, whole}
@@ -59,7 +59,7 @@ module _ (a : Description) (game : List Node) (automaton : IsAutomaton a) (is : 
         arith,
         read.at_end.state_below,
         state_within is.kind a is.usable game automaton is.usable_are is.game_is (end_of v there)
-            (counter_behind is.kind 0 (map (marks_at a) read.numbers)) read.to read.at_end,
+            (counter_after_marks is.kind 0 (map (marks_at a) read.numbers)) read.to read.at_end,
       )
   ends there around i long closed even (half c number edge at n odd) = absurd (omega (arith, long, odd))
   ends there around i long closed even (sunk sink) = absurd (not_sunk a game automaton is region.choices (end_of v there) around closed even sink)

@@ -11,14 +11,15 @@ use Rattle.omega_game.specs.Building.{IsGameOf}
 use Rattle.omega_game.specs.Game.{HasEdge, Node, identifier_at}
 use Rattle.omega_game.specs.declared.node_spec.NodeSpec.{NodeSpec}
 use Rattle.omega_empty.specs.Counters.{counter_after, counters}
-use Rattle.omega_empty.specs.EmptinessGame.{AreUsable, edge_id, edge_node, is_usable, leaving, sink_id, sink_node, span, state_id, state_node, table}
+use Rattle.omega_runs.specs.Judging.{AreUsable}
+use Rattle.omega_empty.specs.EmptinessGame.{edge_id, edge_node, is_usable, leaving, sink_id, sink_node, span, state_id, state_node, table}
 use Rattle.omega_empty.specs.GameLaws.{number_at, within_counter}
-use Rattle.omega_empty.specs.Lasso.{IsStep, marks_of}
+use Rattle.omega_runs.specs.Lasso.{IsStep, marks_of}
 use Rattle.omega_empty.proofs.Counters.{counter_after_below}
 use Rattle.omega_empty.proofs.playing.Places.{Stands}
 use Rattle.omega_empty.proofs.playing.Table.{same_digits}
 use Rattle.omega_empty.proofs.meaning.Identified.{IsAt, known, listed, place}
-use Rattle.omega_empty.proofs.meaning.SingleTargets.{EntersOne}
+use Rattle.omega_runs.proofs.SingleTargets.{EntersOne}
 use Rattle.omega_empty.proofs.meaning.Tables.{IsLeaving, leaving_is, or_sink_is, table_has_edge, table_has_sink, table_has_state}
 
 -- the remainder of an identifier

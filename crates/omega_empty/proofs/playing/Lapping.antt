@@ -4,8 +4,8 @@ use Rattle.std.proofs.lemmas.List.{map-append}
 use Rattle.omega_acc.specs.formula.Acceptance.{AccTree, accepts, conjunction, constant, disjunction, fin, inf, occurs}
 use Rattle.omega_acc.specs.declared.formula.kind.AccKind.{AccKind}
 use Rattle.omega_empty.specs.Counters.{counter_after}
-use Rattle.omega_empty.proofs.Counters.{counter_behind}
-use Rattle.omega_empty.proofs.Leads.{laps, occurs_on, or_false, or_same}
+use Rattle.omega_empty.proofs.Counters.{counter_after_marks}
+use Rattle.omega_runs.proofs.Leads.{laps, occurs_on, or_false, or_same}
 
 -- so many laps and then more
 pub laps_on : (cycle : List ℕ) (p m q : ℕ) → p + m ≡ q → laps cycle p ++ laps cycle m ≡ laps cycle q
@@ -14,7 +14,7 @@ laps_on cycle (suc p) m zero sum = absurd (omega arith)
 laps_on cycle (suc p) m (suc q) sum = append_assoc cycle (laps cycle p) (laps cycle m) ∙ ap (λ list. cycle ++ list) (laps_on cycle p m q (omega arith))
 
 -- the counter after some marks and then others
-pub counter_on : (kind : AccKind) (counter : ℕ) (xs ys : List (List ℕ)) → counter_behind kind counter (xs ++ ys) ≡ counter_behind kind (counter_behind kind counter xs) ys
+pub counter_on : (kind : AccKind) (counter : ℕ) (xs ys : List (List ℕ)) → counter_after_marks kind counter (xs ++ ys) ≡ counter_after_marks kind (counter_after_marks kind counter xs) ys
 counter_on kind counter [] ys = refl
 counter_on kind counter (x ∷ xs) ys = counter_on kind (counter_after kind counter x) xs ys
 

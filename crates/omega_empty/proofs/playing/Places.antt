@@ -1,20 +1,16 @@
 -- The places of an emptiness game: each stands for a state at a counter, an edge at a counter or the sink,
 -- and edges of the automaton lead from place to place.
-use Rattle.std.proofs.Common.{◌≡◌, ℕ, zero, suc, ◌+◌, ◌<◌, inl, inr, Bool, true, List, [], ◌∷◌, length, map, get_or, Contains, Option, Some, None, sym, ap, refl, ◌∙◌, subst, arith, zero-add}
-use Rattle.std.specs.Prelude.{slice_get, option_map}
-use Rattle.std.specs.Option.{unwrap_or}
+use Rattle.std.proofs.Common.{◌≡◌, ℕ, zero, suc, ◌+◌, ◌<◌, inl, inr, Bool, true, List, [], ◌∷◌, length, map, get_or, Contains, Option, Some, sym, ap, refl, ◌∙◌, subst, arith, zero-add}
+use Rattle.std.specs.Prelude.{slice_get}
 use Rattle.std.specs.List.Sorted.{IsStrictlyIncreasing}
 use Rattle.std.proofs.lemmas.Bool.{cases_order}
-use Rattle.std.proofs.lemmas.List.Elements.{All-append, All-nil}
 use Rattle.std.proofs.lemmas.List.Kept.{AllPairs-from_increasing}
 use Rattle.std.proofs.lemmas.List.Sorted.{Contains-permutation, IsPermutation-sym}
 use Rattle.std.proofs.lemmas.List.{length-map}
 use Rattle.std.proofs.lemmas.Option.{slice_get_within}
 use Rattle.omega_acc.specs.formula.Kind.{greatest_number}
 use Rattle.omega_acc.specs.declared.formula.kind.AccKind.{AccKind}
-use Rattle.omega_automaton.specs.Automaton.{AreBelow, BodyEdge, Description, IsAutomaton, IsEdge, IsState, edge_at, edge_count, edges_of}
-use Rattle.omega_automaton.specs.declared.edge.Edge.{Edge}
-use Rattle.omega_automaton.specs.declared.state.State.{State}
+use Rattle.omega_automaton.specs.Automaton.{AreBelow, Description, IsAutomaton, edge_count, edges_of}
 use Rattle.omega_game.proofs.elements.Membership.{map-Contains}
 use Rattle.omega_game.specs.Building.{IsGameOf, specified}
 use Rattle.omega_game.specs.Game.{HasEdge, Node, identifier_at, identifiers, node_at, owner_at, priority_at, successors_at}
@@ -22,50 +18,12 @@ use Rattle.omega_game.specs.Winning.{IsWalk, Leaves, end_of, greatest_on}
 use Rattle.omega_game.specs.declared.node_spec.NodeSpec.{NodeSpec}
 use Rattle.omega_game.specs.declared.player.Player.TheVariants.{Zero, One}
 use Rattle.omega_empty.specs.Counters.{counter_after, counters, priority_at_counter}
-use Rattle.omega_empty.specs.EmptinessGame.{AreUsable, edge_id, edge_node, is_usable, leaving, or_sink, sink_id, state_id, state_node, table}
-use Rattle.omega_empty.specs.Lasso.{IsStep, Leads, marks_at, marks_of}
-use Rattle.omega_empty.proofs.Counters.{counter_after_below, counter_behind, priorities_from}
-use Rattle.omega_empty.proofs.making.Flat.{IsListed, listed_flat}
+use Rattle.omega_runs.specs.Judging.{AreUsable}
+use Rattle.omega_empty.specs.EmptinessGame.{edge_id, edge_node, is_usable, leaving, or_sink, sink_id, state_id, state_node, table}
+use Rattle.omega_runs.specs.Lasso.{IsStep, Leads, marks_at, marks_of}
+use Rattle.omega_empty.proofs.Counters.{counter_after_below, counter_after_marks, priorities_from}
+use Rattle.omega_runs.proofs.Kept.{edge_kept, marks_are}
 use Rattle.omega_empty.proofs.playing.Table.{IsRow, edge_row, leaving_has, row_of, state_row}
-
--- an edge of a number is one of the body
-contains_get : (edges : List BodyEdge) (k : ℕ) (edge : BodyEdge) → slice_get edges k ≡ Some edge → Contains edges edge
-contains_get [] zero edge here = absurd (none here)
-  where
-    none : slice_get [] zero ≡ Some edge → ⊥
-    none e = cc
-contains_get [] (suc k) edge here = absurd (none here)
-  where
-    none : slice_get [] (suc k) ≡ Some edge → ⊥
-    none e = cc
-contains_get (x ∷ xs) zero edge here = (0, omega arith, some_same x edge here)
-  where
-    some_same : (x y : BodyEdge) → Some x ≡ Some y → x ≡ y
-    some_same x y e = cc
-contains_get (x ∷ xs) (suc k) edge here = let rest = contains_get xs k edge here in (suc rest.0, omega (arith, rest.1), rest.2)
-
--- what an automaton keeps of an edge of a number
-pub edge_kept : (a : Description) → IsAutomaton a → (number : ℕ) (edge : BodyEdge) → edge_at a number ≡ Some edge → IsState a edge.source × IsEdge a edge.edge
-edge_kept a automaton number edge here =
-    let from : IsListed a.defined edge = listed_flat a.defined edge (contains_get (edges_of a) number edge here) in
-    let P : State → Type 0 = λ s. IsState a s in
-    let state : IsState a edge.source = subst P (sym from.here) (automaton.states from.place edge.source from.below) in
-    let Q : Edge → Type 0 = λ e. IsEdge a e in
-    (state, subst Q from.contained.2 (state.edges from.contained.0 edge.edge from.contained.1))
-
--- the marks of an edge of a number
-pub marks_are : (a : Description) (number : ℕ) (edge : BodyEdge) → edge_at a number ≡ Some edge → marks_at a number ≡ marks_of edge
-marks_are a number edge here = ap (λ (found : Option BodyEdge). unwrap_or (option_map marks_of found) []) here
-
--- they are below the count of sets
-pub marks_low : (a : Description) → IsAutomaton a → (number : ℕ) → AreBelow a.sets (marks_at a number)
-marks_low a automaton number = go (edge_at a number) refl
-  where
-    go : (found : Option BodyEdge) → edge_at a number ≡ found → AreBelow a.sets (unwrap_or (option_map marks_of found) [])
-    go None here = All-nil (λ mark. mark < a.sets)
-    go (Some edge) here =
-        let kept = edge_kept a automaton number edge here in
-        All-append (λ mark. mark < a.sets) edge.source.marks edge.edge.marks kept.0.marks.below kept.1.marks.below
 
 -- identifiers tell places
 identifier_get : (nodes : List Node) (v : ℕ) → v < length nodes → get_or (identifiers nodes) v 0 ≡ identifier_at nodes v
@@ -144,7 +102,7 @@ module _ (kind : AccKind) (a : Description) (usable : List Bool) (nodes : List N
   moves v counter from number to stands step =
       let below : number < edge_count a = slice_get_within (edges_of a) number step.edge step.numbered in
       let test : slice_get usable number ≡ Some true = (usable_are.judged number step.edge step.numbered).1 step.usable in
-      let usable_is : is_usable usable (0 + number) ≡ true = ap (is_usable usable) (zero-add number) ∙ told usable number test in
+      let usable_is : is_usable usable (0 + number) ≡ true = ap (is_usable usable) (zero-add number) ∙ reported usable number test in
       let left : Contains (leaving usable from 0 (edges_of a)) number =
       subst (λ (n : ℕ). Contains (leaving usable from 0 (edges_of a)) n) (zero-add number)
       (leaving_has kind a usable from 0 number (edges_of a) step.edge step.numbered step.leaves usable_is) in
@@ -184,17 +142,17 @@ module _ (kind : AccKind) (a : Description) (usable : List Bool) (nodes : List N
         };
       }
     where
-      told : (entries : List Bool) (number : ℕ) → slice_get entries number ≡ Some true → is_usable entries number ≡ true
-      told [] zero test = cc
-      told [] (suc number) test = cc
-      told (x ∷ xs) zero test = cc
-      told (x ∷ xs) (suc number) test = told xs number test
+      reported : (entries : List Bool) (number : ℕ) → slice_get entries number ≡ Some true → is_usable entries number ≡ true
+      reported [] zero test = cc
+      reported [] (suc number) test = cc
+      reported (x ∷ xs) zero test = cc
+      reported (x ∷ xs) (suc number) test = reported xs number test
 
   -- edges of the automaton are a walk of the game, whichever strategy player 1 has
   pub record Walks (choices : List (Option ℕ)) (v counter : ℕ) (numbers : List ℕ) (to : ℕ) : Type 0 where
     pub places : List ℕ
     pub walk : IsWalk nodes One choices v places
-    pub stands : Stands (end_of v places) (counter_behind kind counter (map (marks_at a) numbers)) to
+    pub stands : Stands (end_of v places) (counter_after_marks kind counter (map (marks_at a) numbers)) to
     pub greatest_is : greatest_on nodes v places ≡ greatest_number (priorities_from kind counter (map (marks_at a) numbers))
     pub longer : 0 < length numbers → 0 < length places
 

@@ -15,17 +15,18 @@ use Rattle.omega_automaton.specs.Automaton.{AreBelow, Description, IsAutomaton}
 use Rattle.omega_game.specs.Game.{Node}
 use Rattle.omega_game.specs.Winning.{InRegion, Wins, end_of, greatest_on}
 use Rattle.omega_game.specs.declared.player.Player.TheVariants.{Zero, One}
-use Rattle.omega_region.proofs.Pigeonhole.{Repeats, repeats}
-use Rattle.omega_region.specs.Laws.{RegionsCover}
+use Rattle.omega_region_laws.proofs.Pigeonhole.{Repeats, repeats}
+use Rattle.omega_region_laws.specs.Laws.{RegionsCover}
 use Rattle.omega_empty.specs.Counters.{counters}
 use Rattle.omega_automaton.specs.AcceptanceKind.{HasKind}
 use Rattle.omega_empty.specs.EmptinessGame.{IsEmptinessGame, span, state_id}
-use Rattle.omega_empty.specs.Lasso.{IsAcceptingLasso, IsStart, Leads, marks_at}
+use Rattle.omega_runs.specs.Lasso.{IsAcceptingLasso, IsStart, Leads, marks_at}
 use Rattle.omega_empty.specs.Laws.{AcceptingLassosAreWon}
-use Rattle.omega_empty.proofs.Counters.{AreWithin, closed_accepts, counter_behind, counter_behind_below, formula_of, priorities_from}
-use Rattle.omega_empty.proofs.Leads.{laps, laps_lead, leads_on}
+use Rattle.omega_empty.proofs.Counters.{AreWithin, closed_accepts, counter_after_marks, counter_after_marks_below, formula_of, priorities_from}
+use Rattle.omega_runs.proofs.Leads.{laps, laps_lead, leads_on}
 use Rattle.omega_empty.proofs.playing.Lapping.{counter_on, laps_accept, laps_longer, laps_on}
-use Rattle.omega_empty.proofs.playing.Places.{Stands, marks_low, same_place, walks}
+use Rattle.omega_empty.proofs.playing.Places.{Stands, same_place, walks}
+use Rattle.omega_runs.proofs.Kept.{marks_low}
 
 -- the formula of the automaton is that of its kind, and its marks are within
 formula_is : (a : Description) (kind : AccKind) → HasKind a kind → a.acceptance ≡ formula_of kind
@@ -45,12 +46,12 @@ module _ (parity : ParityIsPriority) (buchi : BuchiIsEverySet) (a : Description)
   path n = stem ++ laps cycle n
 
   abbrev counter_at : ℕ → ℕ
-  counter_at n = counter_behind game.kind 0 (map (marks_at a) (path n))
+  counter_at n = counter_after_marks game.kind 0 (map (marks_at a) (path n))
 
-  path_leads : (n : ℕ) → Leads a lasso.lasso.start (path n) lasso.lasso.knot
+  path_leads : (n : ℕ) → Leads a lasso.lasso.start (path n) lasso.lasso.loop_state
   path_leads n =
-      leads_on a lasso.lasso.start stem lasso.lasso.knot (laps cycle n) lasso.lasso.knot lasso.lasso.stem_leads
-      (laps_lead a lasso.lasso.knot cycle n lasso.lasso.cycle_leads)
+      leads_on a lasso.lasso.start stem lasso.lasso.loop_state (laps cycle n) lasso.lasso.loop_state lasso.lasso.stem_leads
+      (laps_lead a lasso.lasso.loop_state cycle n lasso.lasso.cycle_leads)
 
   -- player 1 wins with no choices from there
   lost : (choices : List (Option ℕ)) → Repeats counter_at (counters game.kind) → Wins nodes One choices v → ⊥
@@ -60,17 +61,17 @@ module _ (parity : ParityIsPriority) (buchi : BuchiIsEverySet) (a : Description)
       let some : 0 < m = omega (arith, same.later) in
       let round : List ℕ = laps cycle m in
       let c : ℕ = counter_at same.first in
-      let there = walks game.kind a game.usable nodes automaton game.usable_are game.game_is choices v 0 lasso.lasso.start (path same.first) lasso.lasso.knot stands (path_leads same.first) in
-      let around = walks game.kind a game.usable nodes automaton game.usable_are game.game_is choices (end_of v there.places) c lasso.lasso.knot round lasso.lasso.knot there.stands
-      (laps_lead a lasso.lasso.knot cycle m lasso.lasso.cycle_leads) in
+      let there = walks game.kind a game.usable nodes automaton game.usable_are game.game_is choices v 0 lasso.lasso.start (path same.first) lasso.lasso.loop_state stands (path_leads same.first) in
+      let around = walks game.kind a game.usable nodes automaton game.usable_are game.game_is choices (end_of v there.places) c lasso.lasso.loop_state round lasso.lasso.loop_state there.stands
+      (laps_lead a lasso.lasso.loop_state cycle m lasso.lasso.cycle_leads) in
       let joined : path same.first ++ round ≡ path same.second =
       append_assoc stem (laps cycle same.first) round ∙ ap (λ list. stem ++ list) (laps_on cycle same.first m same.second sum) in
-      let back : counter_behind game.kind c (map (marks_at a) round) ≡ c =
+      let back : counter_after_marks game.kind c (map (marks_at a) round) ≡ c =
       sym (counter_on game.kind 0 (map (marks_at a) (path same.first)) (map (marks_at a) round))
-      ∙ ap (counter_behind game.kind 0) (sym (map-append (marks_at a) (path same.first) round) ∙ ap (map (marks_at a)) joined) ∙ sym same.same in
+      ∙ ap (counter_after_marks game.kind 0) (sym (map-append (marks_at a) (path same.first) round) ∙ ap (map (marks_at a)) joined) ∙ sym same.same in
       let closed : end_of (end_of v there.places) around.places ≡ end_of v there.places =
       same_place nodes (end_of (end_of v there.places) around.places) (end_of v there.places) game.game_is.game.rising around.stands.place there.stands.place
-      (around.stands.named ∙ ap (λ counter. state_id a counter lasso.lasso.knot) back ∙ sym there.stands.named) in
+      (around.stands.named ∙ ap (λ counter. state_id a counter lasso.lasso.loop_state) back ∙ sym there.stands.named) in
       let longer : 0 < length round = laps_longer cycle m lasso.lasso.longer some in
       let accepted : accepts (map (marks_at a) round) (formula_of game.kind) ≡ true =
       ap (accepts (map (marks_at a) round)) (sym (formula_is a game.kind game.kind_is)) ∙ laps_accept (marks_at a) cycle m a.acceptance some ∙ lasso.accepted in
@@ -84,7 +85,7 @@ module _ (parity : ParityIsPriority) (buchi : BuchiIsEverySet) (a : Description)
   won cover = elim (cover nodes v game.game_is.game stands.place) [
     | inl zero_wins ↦ zero_wins
     | inr one_wins ↦ absurd (lost one_wins.choices
-        (repeats (counters game.kind) counter_at (λ n least. counter_behind_below game.kind 0 (map (marks_at a) (path n)) stands.counter_below)) one_wins.wins)
+        (repeats (counters game.kind) counter_at (λ n least. counter_after_marks_below game.kind 0 (map (marks_at a) (path n)) stands.counter_below)) one_wins.wins)
   ]
 
 -- a start is a state of the automaton

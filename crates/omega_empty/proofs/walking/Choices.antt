@@ -12,13 +12,13 @@ use Rattle.omega_game.specs.Game.{Node, owner_at}
 use Rattle.omega_game.specs.Winning.{Chooses, IsClosedWalk, IsWalk, Leaves, Wins, end_of, greatest_on}
 use Rattle.omega_game.specs.declared.node_spec.NodeSpec.{NodeSpec}
 use Rattle.omega_game.specs.declared.player.Player.TheVariants.{Zero}
-use Rattle.omega_lift.proofs.Reaching.{end_of-append, walk-append}
-use Rattle.omega_region.proofs.Walks.{wins_onward}
+use Rattle.omega_lift_laws.proofs.Reaching.{end_of-append, walk-append}
+use Rattle.omega_region_laws.proofs.Walks.{wins_onward}
 use Rattle.omega_solve.specs.Headline.{IsExact}
 use Rattle.omega_empty.specs.EmptinessGame.{IsEmptinessGame}
 use Rattle.omega_empty.specs.GameLaws.{WonWalksAccept, number_at, numbers_on, within_counter}
-use Rattle.omega_empty.specs.Lasso.{IsAcceptingLasso}
-use Rattle.omega_empty.specs.private.layout.Following.{IsKnotted, IsWonStart}
+use Rattle.omega_runs.specs.Lasso.{IsAcceptingLasso}
+use Rattle.omega_empty.specs.private.layout.Following.{IsLooped, IsWonStart}
 use Rattle.omega_empty.proofs.meaning.Accepting.{at_start}
 use Rattle.omega_empty.proofs.meaning.Searching.{even_from}
 use Rattle.omega_empty.proofs.meaning.Steps.{AtSink, AtState, Leaving, edge_number, edge_stands, edge_within, leaves_state, sink_stands, state_number, state_stands, state_within}
@@ -89,7 +89,7 @@ module _ (a : Description) (game : List Node) (automaton : IsAutomaton a) (is : 
   -- two steps pass the edge whose node stands between
   pub record Passed (v w u : ℕ) : Type 0 where
     pub between : w < length game
-    pub behind : a.states ≤ within_counter a game w
+    pub following : a.states ≤ within_counter a game w
     pub few : within_counter a game w - a.states < edge_count a
     pub numbers : numbers_on a game (w ∷ u ∷ []) ≡ (within_counter a game w - a.states) ∷ []
     pub first : Leaves game Zero choices v w
@@ -112,7 +112,7 @@ module _ (a : Description) (game : List Node) (automaton : IsAutomaton a) (is : 
       state_number is.kind a is.usable game automaton is.usable_are is.game_is u _ step.entering.state step.entering.at_state in
       record {
         between = at_edge.place_below;
-        behind = omega (arith, within);
+        following = omega (arith, within);
         few = omega (arith, within, below);
         numbers =
             ap (λ (list : List ℕ). list ++ (number_at a game u ++ [])) one
@@ -221,10 +221,10 @@ module _ (a : Description) (game : List Node) (automaton : IsAutomaton a) (is : 
       met = λ z j marked. met_by z j (put seen at z j (length edges) (omega (arith, so_far.entries, so_far.here.at.place)) marked);
     }
 
-  -- a place that was met is a knot
-  pub knotted : WonWalksAccept → (v at j : ℕ) (edges : List ℕ) (seen : List (Option ℕ)) → IsWonStart a game won v → Followed v at edges seen
-      → slice_get seen at ≡ Some (Some j) → IsKnotted a edges j
-  knotted law v at j edges seen start followed marked =
+  -- at a place that was met the loop starts
+  pub looped : WonWalksAccept → (v at j : ℕ) (edges : List ℕ) (seen : List (Option ℕ)) → IsWonStart a game won v → Followed v at edges seen
+      → slice_get seen at ≡ Some (Some j) → IsLooped a edges j
+  looped law v at j edges seen start followed marked =
       let m = followed.met at j marked in
       let stem : List ℕ = numbers_on a game m.before in
       let cycle : List ℕ = numbers_on a game m.after in
@@ -240,8 +240,8 @@ module _ (a : Description) (game : List Node) (automaton : IsAutomaton a) (is : 
       (subst (λ n. within_counter a game n < a.states) (sym m.ends) node)
       (subst (λ n. IsClosedWalk game Zero choices n m.after) (sym m.ends) closed)
       (subst (λ n. greatest_on game n m.after % 2 ≡ 0) (sym m.ends) even)).0 in
-      let P : List ℕ → Type 0 = λ list. IsKnotted a list j in
-      let Q : ℕ → Type 0 = λ n. IsKnotted a (stem ++ cycle) n in
+      let P : List ℕ → Type 0 = λ list. IsLooped a list j in
+      let Q : ℕ → Type 0 = λ n. IsLooped a (stem ++ cycle) n in
       let within : length stem ≤ length (stem ++ cycle) = omega (arith, length-append stem cycle) in
       subst P m.edges_are (subst Q m.counted (record {
         within = within;
@@ -329,8 +329,8 @@ module _ (a : Description) (game : List Node) (won : List Bool) (choices : List 
       pub between_below : w < length game
       between_below = (pass second.0 second.1).between
 
-      pub behind_states : a.states ≤ within_counter a game w
-      behind_states = (pass second.0 second.1).behind
+      pub after_states : a.states ≤ within_counter a game w
+      after_states = (pass second.0 second.1).following
 
       pub second_read : (x : Option ℕ) → x ≡ get_or choices w x → (u : ℕ) × (x ≡ Some u)
       second_read x here = (second.0, some_read w second.0 x between_below here second.1)
@@ -351,8 +351,8 @@ module _ (a : Description) (game : List Node) (won : List Bool) (choices : List 
             followed = subst Q (sym is_more) (subst P (sym is_length) next);
           }
 
-    pub knotted_at : WonWalksAccept → IsWonStart a game won v → (j : ℕ) (x : Option ℕ) → x ≡ get_or seen at x → x ≡ Some j → IsKnotted a edges j
-    knotted_at law start j x here is =
+    pub looped_at : WonWalksAccept → IsWonStart a game won v → (j : ℕ) (x : Option ℕ) → x ≡ get_or seen at x → x ≡ Some j → IsLooped a edges j
+    looped_at law start j x here is =
         let marked : slice_get seen at ≡ Some (Some j) =
         slice_get_read seen (length seen) at x refl (omega (arith, at_below, so_far.followed.entries)) here ∙ ap (λ (entry : Option ℕ). Some entry) is in
-        knotted a game so_far.automaton so_far.is won choices so_far.exact law v at j edges seen start so_far.followed marked
+        looped a game so_far.automaton so_far.is won choices so_far.exact law v at j edges seen start so_far.followed marked

@@ -1,4 +1,4 @@
--- Verdicts: the lasso of a knot is right, and `Empty` is where no start is won.
+-- Verdicts: the lasso of a loop is right, and `Empty` is where no start is won.
 use Rattle.std.proofs.Common.{◌≡◌, ℕ, Bool, List, Some, Ok, Err, Result, IfOk, drop, slice_get, sym, subst, take, true}
 use Rattle.omega_text.specs.declared.refusal.Refusal.{Refusal}
 use Rattle.omega_automaton.specs.Automaton.{Description, IsAutomaton}
@@ -8,19 +8,19 @@ use Rattle.omega_solve.specs.Headline.{IsExact}
 use Rattle.omega_budget.specs.declared.found.Found.{Found}
 use Rattle.omega_empty.specs.EmptinessGame.{IsEmptinessGame}
 use Rattle.omega_empty.specs.GameLaws.{UnwonIsEmpty}
-use Rattle.omega_empty.specs.Lasso.{IsAcceptingLasso}
-use Rattle.omega_empty.specs.Verdict.{IsVerdict}
-use Rattle.omega_empty.specs.declared.verdict.Verdict.{Verdict}
-use Rattle.omega_empty.specs.declared.verdict.Verdict.TheVariants.{Lasso}
-use Rattle.omega_empty.specs.private.layout.Following.{HasNoWonStart, IsKnotted}
+use Rattle.omega_runs.specs.Lasso.{IsAcceptingLasso}
+use Rattle.omega_runs.specs.Verdict.{IsVerdict}
+use Rattle.omega_runs.specs.declared.verdict.Verdict.{Verdict}
+use Rattle.omega_runs.specs.declared.verdict.Verdict.TheVariants.{Lasso}
+use Rattle.omega_empty.specs.private.layout.Following.{HasNoWonStart, IsLooped}
 
--- the edges before the knot and those from there on are a right verdict
-pub knot_is_right : (a : Description) (edges list : List ℕ) (knot : ℕ) (answer : Result Verdict Refusal) → IsKnotted a edges knot → list ≡ edges
-    → IfOk answer (λ verdict. verdict ≡ Lasso (take knot list) (drop knot list)) → IfOk answer (IsVerdict a)
-knot_is_right a edges list knot (Err refusal) knotted same is = tt
-knot_is_right a edges list knot (Ok verdict) knotted same is =
-    let accepting : IsAcceptingLasso a (take knot list) (drop knot list) =
-    subst (λ (l : List ℕ). IsAcceptingLasso a (take knot l) (drop knot l)) (sym same) knotted.accepting in
+-- the edges before the loop and those from there on are a right verdict
+pub loop_state_is_right : (a : Description) (edges list : List ℕ) (loop_state : ℕ) (answer : Result Verdict Refusal) → IsLooped a edges loop_state → list ≡ edges
+    → IfOk answer (λ verdict. verdict ≡ Lasso (take loop_state list) (drop loop_state list)) → IfOk answer (IsVerdict a)
+loop_state_is_right a edges list loop_state (Err refusal) looped same is = tt
+loop_state_is_right a edges list loop_state (Ok verdict) looped same is =
+    let accepting : IsAcceptingLasso a (take loop_state list) (drop loop_state list) =
+    subst (λ (l : List ℕ). IsAcceptingLasso a (take loop_state l) (drop loop_state l)) (sym same) looped.accepting in
     subst (λ (v : Verdict). IsVerdict a v) (sym is) accepting
 
 -- where what is won is exact and no start is won, no lasso accepts

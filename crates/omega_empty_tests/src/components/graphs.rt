@@ -1,17 +1,17 @@
-//! Graphs by their edges, and small ones with their groups by hand.
+//! Graphs by their edges, and small ones with their components by hand.
 ghost use Rattle.std.specs.Prelude.{◌≡◌, ◌≤◌, IfOk};
 ghost use Rattle.omega_components.specs.Graph.{AreEdges, AreStates};
 
-use omega_components::{Graph, Groups, Refusal, Room, components, path, reached};
+use omega_components::{EdgeComponents, Graph, Refusal, Scratch, components, path, reached};
 use std::alloc::Global;
 use std::process::Abort;
 use std::test::Fail;
 
-/// What stands for no group.
-pub(crate) const NONE: u32 = u32::MAX;
+/// What stands for no component.
+const NONE: u32 = u32::MAX;
 
 /// A graph of so many states with these edges, without those that are no edges between its states.
-pub(crate) fn graph_of(alloc: Global, states: u32, edges: &[(u32, u32)]) -> Result<Graph, Refusal>
+fn graph_of(alloc: Global, states: u32, edges: &[(u32, u32)]) -> Result<Graph, Refusal>
     ensures { IfOk result (λ graph. graph.states ≡ states) }
 {
     let mut graph = Graph::new(alloc, states);
@@ -24,7 +24,7 @@ pub(crate) fn graph_of(alloc: Global, states: u32, edges: &[(u32, u32)]) -> Resu
 }
 
 /// All edges of a graph.
-pub(crate) fn all_edges(alloc: Global, graph: &Graph) -> Result<Vec<u32>, Refusal>
+fn all_edges(alloc: Global, graph: &Graph) -> Result<Vec<u32>, Refusal>
     ensures { IfOk result (λ edges. AreEdges graph.now edges.items) }
 {
     let mut edges = Vec::new(alloc);
@@ -61,7 +61,7 @@ fn states_in(alloc: Global, graph: &Graph, listed: &[u32]) -> Result<Vec<u32>, R
 }
 
 /// Which states these edges reach from these states.
-pub(crate) fn reached_by(
+fn reached_by(
     alloc: Global,
     graph: &Graph,
     edges: &[u32],
@@ -73,7 +73,7 @@ pub(crate) fn reached_by(
 }
 
 /// A walk of these edges from one of these states to another, none where that is no state.
-pub(crate) fn path_by(
+fn path_by(
     alloc: Global,
     graph: &Graph,
     edges: &[u32],
@@ -91,38 +91,42 @@ pub(crate) fn path_by(
 /// The components of these edges.
 fn components_by(
     alloc: Global,
-    room: &mut Room,
+    scratch: &mut Scratch,
     graph: &Graph,
     edges: &[u32],
-) -> Result<Groups, Refusal>
-    requires { graph.now.states ≤ room.old }
-    ensures { room.new ≡ room.old }
+) -> Result<EdgeComponents, Refusal>
+    requires { graph.now.states ≤ scratch.old }
+    ensures { scratch.new ≡ scratch.old }
 {
     let edges = edges_in(alloc, graph, edges)?;
-    components(alloc, room, graph, &edges)
+    components(alloc, scratch, graph, &edges)
 }
 
 /// The components of all edges of a graph.
-pub(crate) fn components_of(
+fn components_of(
     alloc: Global,
     states: u32,
     edges: &[(u32, u32)],
-) -> Result<Groups, Refusal> {
+) -> Result<EdgeComponents, Refusal> {
     let graph = graph_of(alloc, states, edges)?;
     let all = all_edges(alloc, &graph)?;
-    let mut room = Room::new(alloc, states)?;
-    components(alloc, &mut room, &graph, &all)
+    let mut scratch = Scratch::new(alloc, states)?;
+    components(alloc, &mut scratch, &graph, &all)
 }
 
-/// For each of so many edges the least edge of its group, or `NONE`.
-pub(crate) fn least_of(alloc: Global, edges: usize, groups: &Groups) -> Result<Vec<u32>, Refusal> {
+/// For each of so many edges the least edge of its component, or `NONE`.
+fn least_of(
+    alloc: Global,
+    edges: usize,
+    edge_components: &EdgeComponents,
+) -> Result<Vec<u32>, Refusal> {
     let mut least = vec![in alloc; NONE; edges]?;
-    for index in 0..groups.len() {
+    for index in 0..edge_components.len() {
         let mut first = NONE;
-        for edge in groups.group(index) {
+        for edge in edge_components.edge_component(index) {
             first = first.min(*edge);
         }
-        for edge in groups.group(index) {
+        for edge in edge_components.edge_component(index) {
             if let Some(entry) = least.get_mut(*edge as usize) {
                 *entry = first;
             }
@@ -131,26 +135,26 @@ pub(crate) fn least_of(alloc: Global, edges: usize, groups: &Groups) -> Result<V
     Ok(least)
 }
 
-/// Compares the groups of all edges of a graph: for each edge the least edge of its group is wanted.
-fn has_groups(
+/// Compares the components of all edges of a graph: for each edge the least edge of its component is wanted.
+fn has_edge_components(
     rt: &impl Abort,
     alloc: Global,
     states: u32,
     edges: &[(u32, u32)],
     wanted: &[u32],
 ) -> Result<(), Refusal> {
-    let groups = components_of(alloc, states, edges)?;
-    let least = least_of(alloc, edges.len(), &groups)?;
+    let edge_components = components_of(alloc, states, edges)?;
+    let least = least_of(alloc, edges.len(), &edge_components)?;
     assert_eq!(rt; least.as_slice(), wanted);
     Ok(())
 }
 
 #[test]
-fn small_graphs_have_their_groups(rt: HostRuntime) -> Result<(), Fail> {
+fn small_graphs_have_their_components(rt: HostRuntime) -> Result<(), Fail> {
     let alloc = rt.alloc();
     // No edges, and edges on no closed walk.
-    has_groups(&rt, alloc, 0, &[], &[])?;
-    has_groups(
+    has_edge_components(&rt, alloc, 0, &[], &[])?;
+    has_edge_components(
         &rt,
         alloc,
         3,
@@ -158,12 +162,12 @@ fn small_graphs_have_their_groups(rt: HostRuntime) -> Result<(), Fail> {
         &[NONE, NONE, NONE],
     )?;
     // An edge from a state to itself, twice, and one away from it.
-    has_groups(&rt, alloc, 2, &[(0, 0), (0, 1), (0, 0)], &[0, NONE, 0])?;
+    has_edge_components(&rt, alloc, 2, &[(0, 0), (0, 1), (0, 0)], &[0, NONE, 0])?;
     // Two components joined by one edge.
     let two = [(0, 1), (1, 0), (1, 2), (2, 3), (3, 2)];
-    has_groups(&rt, alloc, 4, &two, &[0, 0, NONE, 3, 3])?;
+    has_edge_components(&rt, alloc, 4, &two, &[0, 0, NONE, 3, 3])?;
     // Two circles through one state.
-    has_groups(
+    has_edge_components(
         &rt,
         alloc,
         3,
@@ -173,43 +177,50 @@ fn small_graphs_have_their_groups(rt: HostRuntime) -> Result<(), Fail> {
     Ok(())
 }
 
-/// Compares the groups of some edges of a graph.
-fn has_groups_among(
+/// Compares the components of some edges of a graph.
+fn has_edge_components_among(
     rt: &impl Abort,
     alloc: Global,
-    room: &mut Room,
+    scratch: &mut Scratch,
     graph: &Graph,
     edges: &[u32],
     wanted: &[u32],
 ) -> Result<(), Refusal>
-    requires { graph.now.states ≤ room.old }
-    ensures { room.new ≡ room.old }
+    requires { graph.now.states ≤ scratch.old }
+    ensures { scratch.new ≡ scratch.old }
 {
-    let groups = components_by(alloc, room, graph, edges)?;
-    let least = least_of(alloc, graph.len(), &groups)?;
+    let edge_components = components_by(alloc, scratch, graph, edges)?;
+    let least = least_of(alloc, graph.len(), &edge_components)?;
     assert_eq!(rt; least.as_slice(), wanted);
     Ok(())
 }
 
 #[test]
-fn some_edges_have_their_groups(rt: HostRuntime) -> Result<(), Fail> {
+fn some_edges_have_their_components(rt: HostRuntime) -> Result<(), Fail> {
     let alloc = rt.alloc();
     let graph = graph_of(alloc, 3, &[(0, 1), (1, 0), (1, 2), (2, 1)])?;
-    let mut room = Room::new(alloc, 3)?;
-    // The room serves one call after another.
-    has_groups_among(&rt, alloc, &mut room, &graph, &[2, 3], &[NONE, NONE, 2, 2])?;
-    has_groups_among(
+    let mut scratch = Scratch::new(alloc, 3)?;
+    // The scratch space serves one call after another.
+    has_edge_components_among(
         &rt,
         alloc,
-        &mut room,
+        &mut scratch,
+        &graph,
+        &[2, 3],
+        &[NONE, NONE, 2, 2],
+    )?;
+    has_edge_components_among(
+        &rt,
+        alloc,
+        &mut scratch,
         &graph,
         &[0, 3, 1],
         &[0, 0, NONE, NONE],
     )?;
-    has_groups_among(
+    has_edge_components_among(
         &rt,
         alloc,
-        &mut room,
+        &mut scratch,
         &graph,
         &[3, 0],
         &[NONE, NONE, NONE, NONE],

@@ -4,7 +4,7 @@ use Rattle.std.proofs.lemmas.Bool.{cases_Bool}
 use Rattle.omega_game.specs.declared.player.Player.{Player}
 use Rattle.omega_game.specs.declared.priority_counts.PriorityCount.{PriorityCount}
 use Rattle.omega_game.specs.Player.{loses}
-use Rattle.omega_game.specs.Bound.{bearers, borne_priorities, priority_counts, product, product_of}
+use Rattle.omega_game.specs.Bound.{occurrences, priorities_in_use, priority_counts, product, product_of}
 use Rattle.omega_game.specs.private.priorities.Factors.{factor_of}
 use Rattle.omega_game.proofs.priorities.Products.{product_kept}
 
@@ -30,13 +30,13 @@ factor_kept true n = omega arith
 factor_kept false n = refl
 
 -- the product of the factors is that over the losing priorities among these
-product_of_borne : (player : Player) (priorities qs : List ℕ)
-    → product (map (factor_of player) (map (λ q. record { priority = q; nodes = bearers priorities q }) qs)) ≡ product (map (λ q. cond (loses player q) (1 + bearers priorities q) 1) qs)
-product_of_borne player priorities [] = refl
-product_of_borne player priorities (q ∷ qs) = ap₂ ◌*◌ (factor_kept (loses player q) (bearers priorities q)) (product_of_borne player priorities qs)
+product_in_use : (player : Player) (priorities qs : List ℕ)
+    → product (map (factor_of player) (map (λ q. record { priority = q; nodes = occurrences priorities q }) qs)) ≡ product (map (λ q. cond (loses player q) (1 + occurrences priorities q) 1) qs)
+product_in_use player priorities [] = refl
+product_in_use player priorities (q ∷ qs) = ap₂ ◌*◌ (factor_kept (loses player q) (occurrences priorities q)) (product_in_use player priorities qs)
 
--- the product of the factors of the priorities counted is that over the priorities that are borne and lose
+-- the product of the factors of the priorities counted is that over the priorities in use that lose
 pub product_by_counts : (player : Player) (priorities : List ℕ) → product (map (factor_of player) (priority_counts priorities)) ≡ product_of player priorities
 product_by_counts player priorities =
-    product_of_borne player priorities (borne_priorities priorities)
-    ∙ sym (product_kept (loses player) (λ q. 1 + bearers priorities q) (borne_priorities priorities))
+    product_in_use player priorities (priorities_in_use priorities)
+    ∙ sym (product_kept (loses player) (λ q. 1 + occurrences priorities q) (priorities_in_use priorities))

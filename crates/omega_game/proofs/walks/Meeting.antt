@@ -64,9 +64,9 @@ module _ (nodes : List Node) (most : ℕ) (places : List ℕ) (origin : Option �
     longer = omega (arith, length_push met' p, so_far.longer);
     same = λ i within. get_or_append_left met' (p ∷ []) 0 i (omega (arith, so_far.longer)) ∙ so_far.same i within;
     same_origin = λ i within. get_or_append_left origins' (origin ∷ []) None i (omega (arith, so_far.longer, so_far.even)) ∙ so_far.same_origin i within;
-    listed = λ i past within. listed i past (behind i within);
-    low = λ i past within. low i past (behind i within);
-    from = λ i past within. from i past (behind i within);
+    listed = λ i past within. listed i past (following i within);
+    low = λ i past within. low i past (following i within);
+    from = λ i past within. from i past (following i within);
     left = omega (arith, one_fewer marks' p below p_unmarked, length_push met' p, so_far.left);
   }
     where
@@ -83,8 +83,8 @@ module _ (nodes : List Node) (most : ℕ) (places : List ℕ) (origin : Option �
       fresh v mark (inr apart) = older v (so_far.fresh v (sym (mark_other marks' p v apart) ∙ mark))
 
       -- an index was there before, or is the last one
-      behind : (i : ℕ) → i < length (met' ++ p ∷ []) → (i < length met') ⊎ (length met' ≡ i)
-      behind i within = go (cases_lt i (length met'))
+      following : (i : ℕ) → i < length (met' ++ p ∷ []) → (i < length met') ⊎ (length met' ≡ i)
+      following i within = go (cases_lt i (length met'))
         where
           go : (i < length met') ⊎ (length met' ≤ i) → (i < length met') ⊎ (length met' ≡ i)
           go (inl before) = inl before

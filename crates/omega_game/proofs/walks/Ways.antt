@@ -41,8 +41,8 @@ way_back_on met origins index i b before before' is so_far pushed front way =
     joined = append_assoc front (get_or met b 0 ∷ []) (reverse before) ∙ ap (λ ws. front ++ ws) (sym (reverse-append before (get_or met b 0 ∷ [])) ∙ ap reverse (sym pushed))
 
 -- a place that is met and was not found before an index is found from there on
-pub found_behind : (met : List ℕ) (v i : ℕ) → Contains met v → ((k : ℕ) → k < i → get_or met k 0 ≡ v → ⊥) → i < length met
-found_behind met v i contained none = go (cases_lt contained.0 i)
+pub found_after : (met : List ℕ) (v i : ℕ) → Contains met v → ((k : ℕ) → k < i → get_or met k 0 ≡ v → ⊥) → i < length met
+found_after met v i contained none = go (cases_lt contained.0 i)
   where
     go : (contained.0 < i) ⊎ (i ≤ contained.0) → i < length met
     go (inl before) = absurd (none contained.0 before (get_or_default met contained.0 0 v contained.1 ∙ contained.2))

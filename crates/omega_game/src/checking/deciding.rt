@@ -4,14 +4,14 @@ ghost use Rattle.std.specs.Prelude.{◌≡◌, ℕ, ◌<◌, length, vec_len, If
 ghost use Rattle.omega_game.specs.private.checking.Decision.{IsLosingPlace, IsRightDecision};
 ghost use Rattle.omega_game.specs.private.checking.Reaching.{LeadsInside, AreClosed};
 
-use crate::arena::Arena;
 use crate::checking::components::Edge;
 use crate::checking::decision::Decision;
 use crate::checking::finding::Finding;
 use crate::checking::nesting::search_nested;
 use crate::checking::ordering::shows_none;
 use crate::checking::recurring::{decide_plainly, recurs};
-use crate::checking::tops::search_by_tops;
+use crate::checking::top_nodes::search_by_top_nodes;
+use crate::forward_game::ForwardGame;
 use crate::player::Player;
 use crate::reaching::edges_left;
 use std::alloc::{AllocError, Global};
@@ -19,7 +19,7 @@ use std::alloc::{AllocError, Global};
 /// Decides whether no marked place of a priority that loses for the player recurs.
 pub(crate) fn decide(
     alloc: Global,
-    game: &Arena,
+    game: &ForwardGame,
     player: Player,
     choices: &[Option<u32>],
     marks: &[bool],
@@ -39,7 +39,7 @@ pub(crate) fn decide(
 /// The same where what the fast search suggests is confirmed, else none.
 pub(crate) fn decide_fast(
     alloc: Global,
-    game: &Arena,
+    game: &ForwardGame,
     player: Player,
     choices: &[Option<u32>],
     marks: &[bool],
@@ -49,7 +49,7 @@ pub(crate) fn decide_fast(
     requires closed { AreClosed game.now choices.now marks.now }
     ensures right { IfOk result (λ found. IfSome found (IsRightDecision game.now player choices.now marks.now)) }
 {
-    if let Some(finding) = search_by_tops(alloc, game, player, choices, marks)?
+    if let Some(finding) = search_by_top_nodes(alloc, game, player, choices, marks)?
         && let Some(decision) = confirmed(alloc, game, player, choices, marks, finding)?
     {
         return Ok(Some(decision));
@@ -61,7 +61,7 @@ pub(crate) fn decide_fast(
 /// The decision that a search suggests, none where it is not confirmed.
 fn confirmed(
     alloc: Global,
-    game: &Arena,
+    game: &ForwardGame,
     player: Player,
     choices: &[Option<u32>],
     marks: &[bool],
@@ -90,7 +90,7 @@ fn confirmed(
 /// Whether a place is marked, of a losing priority, and recurs.
 fn loses_at(
     alloc: Global,
-    game: &Arena,
+    game: &ForwardGame,
     player: Player,
     choices: &[Option<u32>],
     marks: &[bool],
@@ -113,7 +113,7 @@ fn loses_at(
 /// What the search by nested components finds among the marked places.
 fn suggest(
     alloc: Global,
-    game: &Arena,
+    game: &ForwardGame,
     player: Player,
     choices: &[Option<u32>],
     marks: &[bool],

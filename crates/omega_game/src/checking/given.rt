@@ -5,8 +5,8 @@ ghost use Rattle.omega_game.specs.Solution.{WinsAsGiven, choices_of};
 ghost use Rattle.omega_game.specs.Winning.{IsStrategy};
 ghost use Rattle.omega_game.specs.private.checking.Ordering.{AreEnds, StandsAsGiven};
 
-use crate::arena::Arena;
 use crate::checking::ordering::{ends_of, is_in_order, numbers_in, ranks_along};
+use crate::forward_game::ForwardGame;
 use crate::reaching::edges_left;
 use crate::solution::Solution;
 use std::alloc::{AllocError, Global};
@@ -15,7 +15,7 @@ use std::alloc::{AllocError, Global};
 /// that they leave possible leads to a place given to the other. Linear in nodes and edges.
 pub(crate) fn shows_given(
     alloc: Global,
-    game: &Arena,
+    game: &ForwardGame,
     solution: &Solution,
     order: &[u32],
 ) -> Result<bool, AllocError>
@@ -41,7 +41,7 @@ pub(crate) fn shows_given(
 
 /// Whether each place stands in the order as one of its winner's.
 fn all_stand_as_given(
-    game: &Arena,
+    game: &ForwardGame,
     solution: &Solution,
     numbers: &[u32],
     ranks: &[u32],
@@ -66,7 +66,7 @@ fn all_stand_as_given(
 /// Whether a place stands in the order at a position of its priority, with each edge that its winner leaves possible in
 /// order for the winner, and leading to a place of that winner.
 fn stands_as_given(
-    game: &Arena,
+    game: &ForwardGame,
     solution: &Solution,
     numbers: &[u32],
     ranks: &[u32],

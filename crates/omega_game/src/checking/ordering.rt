@@ -5,7 +5,7 @@ ghost use Rattle.omega_game.specs.private.checking.Reaching.{mark_at, LeadsInsid
 ghost use Rattle.omega_game.specs.private.checking.Ordering.{AreEnds, IsInOrder, StandsInOrder};
 ghost use Rattle.omega_game.specs.private.checking.Recurring.{NoneRecurs};
 
-use crate::arena::Arena;
+use crate::forward_game::ForwardGame;
 use crate::player::Player;
 use crate::reaching::edges_left;
 use std::alloc::{AllocError, Global};
@@ -13,7 +13,7 @@ use std::alloc::{AllocError, Global};
 /// Whether an order of the places shows that no marked place of a losing priority recurs. Linear in nodes and edges.
 pub(crate) fn shows_none(
     alloc: Global,
-    game: &Arena,
+    game: &ForwardGame,
     player: Player,
     choices: &[Option<u32>],
     marks: &[bool],
@@ -60,7 +60,7 @@ pub(crate) fn numbers_in(alloc: Global, count: usize, order: &[u32]) -> Result<V
 /// The priorities of the places in the order.
 pub(crate) fn ranks_along(
     alloc: Global,
-    game: &Arena,
+    game: &ForwardGame,
     order: &[u32],
 ) -> Result<Vec<u32>, AllocError>
     ensures { IfOk result (λ ranks. vec_len ranks ≡ length order.now) }
@@ -88,20 +88,20 @@ pub(crate) fn ends_of(alloc: Global, ranks: &[u32]) -> Result<Vec<u32>, AllocErr
     let mut index = ranks.len();
     while index > 0 {
         index -= 1;
-        let end = end_behind(ranks, ends.as_slice(), index as u32);
+        let end = end_after(ranks, ends.as_slice(), index as u32);
         ends[index] = end;
     }
     Ok(ends)
 }
 
 /// The first position after `index` with a greater rank, found by the ends of the positions after it.
-fn end_behind(ranks: &[u32], ends: &[u32], index: u32) -> u32
+fn end_after(ranks: &[u32], ends: &[u32], index: u32) -> u32
     requires few { length ranks.now + 1 < 2 ^ 32 }
     requires index { index < length ranks.now }
     requires count { length ends.now ≡ length ranks.now }
     requires onward { (i : ℕ) → index < i → i < length ranks.now → i < slice_index ends.now i }
     requires ends { (i k : ℕ) → index < i → i < length ranks.now → i ≤ k → k < slice_index ends.now i → slice_index ranks.now k ≤ slice_index ranks.now i }
-    ensures behind { index < result }
+    ensures following { index < result }
     ensures ranks { (k : ℕ) → index ≤ k → k < result → slice_index ranks.now k ≤ slice_index ranks.now index }
 {
     let rank = ranks[index as usize];
@@ -114,7 +114,7 @@ fn end_behind(ranks: &[u32], ends: &[u32], index: u32) -> u32
 
 /// Whether each marked place stands in the order.
 fn all_stand(
-    game: &Arena,
+    game: &ForwardGame,
     player: Player,
     choices: &[Option<u32>],
     marks: &[bool],
@@ -140,7 +140,7 @@ fn all_stand(
 
 /// Whether a place stands in the order at a position of its priority, with each of its edges in order.
 fn stands(
-    game: &Arena,
+    game: &ForwardGame,
     player: Player,
     choices: &[Option<u32>],
     numbers: &[u32],
@@ -168,7 +168,7 @@ fn stands(
 
 /// Whether an edge leads forward, or back to a place whose priority does not lose and is the greatest on the way.
 pub(crate) fn is_in_order(
-    game: &Arena,
+    game: &ForwardGame,
     player: Player,
     numbers: &[u32],
     ends: &[u32],

@@ -4,8 +4,8 @@ ghost use Rattle.omega_game.specs.private.checking.Decision.{IsRightDecision};
 ghost use Rattle.omega_game.specs.private.checking.Reaching.{LeadsInside};
 ghost use Rattle.omega_game.specs.private.checking.Recurring.{Recurs};
 
-use crate::arena::Arena;
 use crate::checking::decision::Decision;
+use crate::forward_game::ForwardGame;
 use crate::player::Player;
 use crate::reaching::{edges_left, reached_from};
 use std::alloc::{AllocError, Global};
@@ -13,7 +13,7 @@ use std::alloc::{AllocError, Global};
 /// Whether a place is reached again after itself through priorities at most its own.
 pub(crate) fn recurs(
     alloc: Global,
-    game: &Arena,
+    game: &ForwardGame,
     choices: &[Option<u32>],
     place: u32,
 ) -> Result<bool, AllocError>
@@ -29,7 +29,7 @@ pub(crate) fn recurs(
 /// Decides whether no marked place of a priority that loses for the player recurs. One search for each such place.
 pub(crate) fn decide_plainly(
     alloc: Global,
-    game: &Arena,
+    game: &ForwardGame,
     player: Player,
     choices: &[Option<u32>],
     marks: &[bool],

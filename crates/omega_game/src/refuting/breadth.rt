@@ -3,7 +3,7 @@ ghost use Rattle.std.specs.Prelude.{◌≡◌, ℕ, ◌<◌, length, vec_len, Al
 ghost use Rattle.omega_game.specs.private.checking.Reaching.{LeadsInside};
 ghost use Rattle.omega_game.specs.private.refuting.Ways.{AreMet, IsTree, MeetsAll};
 
-use crate::arena::Arena;
+use crate::forward_game::ForwardGame;
 use crate::reaching::edges_left;
 use std::alloc::{AllocError, Global};
 
@@ -18,7 +18,7 @@ pub(crate) struct Met {
 /// Meets the places that are reached from the given ones through priorities at most `most`. Linear in nodes and edges.
 pub(crate) fn met_from(
     alloc: Global,
-    game: &Arena,
+    game: &ForwardGame,
     choices: &[Option<u32>],
     most: u32,
     places: &[u32],
@@ -54,7 +54,7 @@ pub(crate) fn met_from(
 
 /// Marks the places of priority at most `most` that were not marked, and meets them from an origin.
 fn meet(
-    game: &Arena,
+    game: &ForwardGame,
     most: u32,
     places: &[u32],
     origin: Option<usize>,

@@ -3,7 +3,7 @@ ghost use Rattle.std.specs.Prelude.{◌≡◌, ℕ, ◌<◌, length, vec_len, Al
 ghost use Rattle.omega_game.specs.private.checking.Reaching.{LeadsInside, IsReachedFrom};
 ghost use Rattle.omega_game.specs.private.refuting.Ways.{IsWay, LeadBack, LeadsTo};
 
-use crate::arena::Arena;
+use crate::forward_game::ForwardGame;
 use crate::refuting::breadth::met_from;
 use std::alloc::{AllocError, Global};
 
@@ -11,7 +11,7 @@ use std::alloc::{AllocError, Global};
 /// Linear in nodes and edges.
 pub(crate) fn way_to(
     alloc: Global,
-    game: &Arena,
+    game: &ForwardGame,
     choices: &[Option<u32>],
     most: u32,
     places: &[u32],

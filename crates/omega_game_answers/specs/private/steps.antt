@@ -1,4 +1,4 @@
--- What stands between a text and its answer: cited by private contracts alone.
+-- The steps between a text and its answer: cited by private contracts alone.
 pub mod SolveGameRefusal
 pub mod PartRefusal
 pub mod Places

@@ -1,4 +1,4 @@
--- The answer text for one player, and when it answers rightly.
+-- The answer text for one player, and when it is right.
 use Rattle.std.specs.Prelude.{◌≡◌, ◌↔◌, ◌++◌, List, Option, false, ℕ, IsSome, Contains, codes, decimal, option_map}
 use Rattle.std.specs.List.{flat_map}
 use Rattle.std.specs.List.Sorted.{IsStrictlyIncreasing}
@@ -20,7 +20,7 @@ answer_line nodes v choice =
 abbrev pub won_line : List Node → List (Option ℕ) → ℕ → List ℕ
 won_line nodes choices v = answer_line nodes v (choice_at choices v)
 
--- the line of the player: how many lifts were made
+-- the line of the player, with the number of lifts made
 abbrev pub lifts_line : Player → ℕ → List ℕ
 lifts_line player lifts = player_text player ++ codes " lifts " ++ decimal lifts ++ codes "\n"
 
@@ -28,8 +28,8 @@ lifts_line player lifts = player_text player ++ codes " lifts " ++ decimal lifts
 abbrev pub answer_text : Player → ℕ → List Node → List ℕ → List (Option ℕ) → List ℕ
 answer_text player lifts nodes won choices = lifts_line player lifts ++ flat_map (won_line nodes choices) won
 
--- the places won are exactly the player's region, rising; the choices stand exactly where the player owns one of them,
--- and win from all of them
+-- the places won are exactly the player's region, in rising order; there is a choice exactly if the player owns one of
+-- them, and the choices win from all of them
 pub record WinsExactly (nodes : List Node) (player : Player) (won : List ℕ) (choices : List (Option ℕ)) : Type 0 where
   pub rising : IsStrictlyIncreasing won
   pub exactly : (v : ℕ) → Contains won v ↔ InRegion nodes player v
@@ -38,8 +38,8 @@ pub record WinsExactly (nodes : List Node) (player : Player) (won : List ℕ) (c
   pub printed : (v w : ℕ) → Chooses choices v w → Contains won v
   pub wins : (v : ℕ) → Contains won v → Wins nodes player choices v
 
--- a right answer for a game that is not too wide: it wins exactly, and the lifts that it counts,
--- at most the budget and at most the bound, end a lifting run
+-- a right answer for a game that is not too wide: it wins exactly, and the lifts that it counts, at most the budget and
+-- at most the bound, end a lifting run
 pub record IsAnswerOf (nodes : List Node) (player : Player) (budget lifts : ℕ) (output : List ℕ) : Type 0 where
   pub narrow : is_too_wide player (priorities nodes) ≡ false
   pub won : List ℕ

@@ -1,4 +1,4 @@
--- Which refusal `solve` answers: that of the text, or else the first fault of its game.
+-- The refusal of `solve`: that of the text, or else the first fault of its game.
 use Rattle.std.specs.Prelude.{◌≡◌, List, Option, Some, None, true, false, ℕ}
 use Rattle.omega_text.specs.Cases.{or_task}
 use Rattle.omega_text.specs.declared.refusal.Refusal.{Refusal}
@@ -14,7 +14,7 @@ use Rattle.omega_game_answers.specs.declared.solve.asked.Asked.{Asked}
 use Rattle.omega_game_answers.specs.declared.solve.asked.Asked.TheVariants as way
 use Rattle.omega_game_answers.specs.Part.{IsPartFrom, IsUnknownIdentifier}
 
--- the game is solved for this player: for the one asked for, or for both
+-- the game is solved for this player: `asked` is for this player, or for both
 abbrev pub IsSolvedFor : Asked → Player → Type 0
 IsSolvedFor way.Both player = Unit {0}
 IsSolvedFor way.Search player = Unit {0}
@@ -46,8 +46,8 @@ pub record IsPartFault (game : List Node) (asked : Asked) (identifier budget : �
   pub part_of : IsPartFrom game identifier part
   pub fault_there : IsWholeFault part asked budget fault
 
--- the fault of solving a game, or where an identifier is given, the part that its node reaches: first,
--- that no node has it
+-- the fault of solving a game, or the part that the node of a given identifier reaches; the first is that no node has
+-- the identifier
 abbrev pub IsSolveFault : List Node → Asked → Option ℕ → ℕ → TaskFault → Type 0
 IsSolveFault game asked None budget fault = IsWholeFault game asked budget fault
 IsSolveFault game asked (Some identifier) budget UnknownNode = IsUnknownIdentifier game identifier

@@ -1,4 +1,4 @@
--- The solution text, and when it answers rightly.
+-- The solution text, and when it is right.
 use Rattle.std.specs.Prelude.{◌≡◌, false, List, ℕ}
 use Rattle.omega_game.specs.declared.player.Player.{Player}
 use Rattle.omega_game.specs.declared.solution.Solution.{Solution}

@@ -3,19 +3,19 @@ ghost use Rattle.omega_text.specs.Cases.{or_memory};
 ghost use Rattle.omega_game_answers.specs.Part.{IsPartTextRefusal};
 ghost use Rattle.omega_game_answers.specs.Canon.{IsCanonPartAnswer};
 
-use crate::game_text::arena_of;
+use crate::game_text::forward_game_of;
 use crate::part::part_from;
 use omega_game::Refusal;
 use omega_pg::write_game;
 use std::alloc::Global;
 
-/// The canonical text of the part that the node with an identifier reaches in the game that a text stands for. 1 to 4,
-/// 10 to 14, 54 or 60.
+/// Returns the canonical text of the part that the node with the identifier `from` reaches in the game of `text`. Fails
+/// with the [Refusal::Text] or [Refusal::Game] of the text, or with [TaskFault::UnknownNode].
 pub fn canon_part(alloc: Global, text: Vec<u8>, from: u32) -> Result<Vec<u8>, Refusal>
     ensures answer { IfOk result (λ output. IsCanonPartAnswer text.items from output.items) }
     ensures refused { IfErr result (or_memory (IsPartTextRefusal text.items from)) }
 {
-    let game = arena_of(alloc, text)?;
+    let game = forward_game_of(alloc, text)?;
     let part = part_from(alloc, game, from)?;
     write_game(alloc, &part)
 }

@@ -5,15 +5,15 @@ ghost use Rattle.omega_game_answers.specs.solve.AnswerText.{answer_text, lifts_l
 ghost use Rattle.omega_game_answers.specs.private.steps.Places.{places_from};
 
 use crate::player_text::append_player;
-use omega_game::{Arena, Player, Refusal};
+use omega_game::{ForwardGame, Player, Refusal};
 use omega_text::write_number;
 use std::alloc::Global;
 
-/// The answer text for a player: how many lifts were made, and for each node won its identifier, and that of the chosen
-/// successor. 60 alone.
+/// Returns the answer text for `player`: the number of lifts, and for each node won its identifier and that of the
+/// chosen successor.
 pub fn write_answer(
     alloc: Global,
-    game: &Arena,
+    game: &ForwardGame,
     player: Player,
     lifts: u64,
     won: &[bool],
@@ -47,7 +47,7 @@ fn append_lifts(player: Player, lifts: u64, out: &mut Vec<u8>) -> Result<(), Ref
 }
 
 fn append_won(
-    game: &Arena,
+    game: &ForwardGame,
     place: u32,
     choice: Option<u32>,
     out: &mut Vec<u8>,

@@ -11,73 +11,74 @@ ghost use Rattle.omega_game_answers.specs.solve.Solution.{IsRight, IsSolutionOf}
 ghost use Rattle.omega_game_answers.specs.private.steps.SolveGameRefusal.{IsSolveGameRefusal};
 ghost use Rattle.omega_game_answers.specs.solve.Winners.{winners_of};
 ghost use Rattle.omega_game_answers.specs.private.steps.Lifts.{LiftsWholeGame};
-ghost use Rattle.omega_budget.specs.Watching.{IsWatched, refusal_in};
+ghost use Rattle.omega_budget.specs.Observing.{IsObserved, refusal_in};
 
-use omega_budget::{Reordered, Watch};
-use omega_game::{Arena, Player, Refusal, Seq, Solution, Strategy, TaskFault};
+use omega_budget::{Reordered, Reporter};
+use omega_game::{ForwardGame, Player, Refusal, Seq, Solution, Strategy, TaskFault};
 use omega_measure::fits;
 use omega_pg::write_solution;
-use omega_region::{regions_are_apart, regions_cover};
+use omega_region_laws::{regions_are_apart, regions_cover};
 use std::alloc::Global;
 
-/// The solution text of a game. 50, 51 or 60.
-pub fn solve_both<L, W: Watch<L>>(
+/// Returns the solution text of `game`, by lifting. Fails with [TaskFault::TooWide] or [TaskFault::Budget].
+pub fn solve_both<L, W: Reporter<L>>(
     alloc: Global,
-    game: &Arena,
+    game: &ForwardGame,
     budget: u64,
-    watch: &W,
-    listener: &mut L,
+    reporter: &W,
+    observer: &mut L,
 ) -> Result<Vec<u8>, Refusal>
     requires { budget ≤ most_lifts }
     ensures answer { IfOk result (λ output. IsSolutionOf game.now budget output.items) }
     ensures refused { IfErr result (IsSolveGameRefusal game.now Both None budget) }
-    ensures told { IsWatched (LiftsWholeGame game.now Both) (refusal_in result) (W.tells watch.now) (W.pace watch.now) budget listener.old listener.new }
+    ensures reported { IsObserved (LiftsWholeGame game.now Both) (refusal_in result) (W.tells reporter.now) (W.pace reporter.now) budget observer.old observer.new }
 {
-    let solution = solution_of(alloc, game, budget, watch, listener)?;
+    let solution = solution_of(alloc, game, budget, reporter, observer)?;
     write_solution(alloc, game, &solution)
 }
 
-/// The solution of a game. Whether the tables of both players fit is asked before either is lifted for, so that 50
-/// comes before 51; the game is put in order once for both, and each may make the whole budget of lifts. 50, 51 or 60.
-pub fn solution_of<L, W: Watch<L>>(
+/// Returns the solution of `game`, by lifting. The tables of both players are judged before either is lifted for, so
+/// that [TaskFault::TooWide] comes before [TaskFault::Budget]. The game is reordered once for both players, and each
+/// may make the whole budget of lifts.
+pub fn solution_of<L, W: Reporter<L>>(
     alloc: Global,
-    game: &Arena,
+    game: &ForwardGame,
     budget: u64,
-    watch: &W,
-    listener: &mut L,
+    reporter: &W,
+    observer: &mut L,
 ) -> Result<Solution, Refusal>
     requires { budget ≤ most_lifts }
     ensures right { IfOk result (IsRight game.now budget) }
     ensures refused { IfErr result (IsSolveGameRefusal game.now Both None budget) }
-    ensures told { IsWatched (LiftsWholeGame game.now Both) (refusal_in result) (W.tells watch.now) (W.pace watch.now) budget listener.old listener.new }
+    ensures reported { IsObserved (LiftsWholeGame game.now Both) (refusal_in result) (W.tells reporter.now) (W.pace reporter.now) budget observer.old observer.new }
 {
     fits_both(game)?;
     let reordered = Reordered::of(alloc, game)?;
-    lifted_solution(alloc, game, &reordered, budget, watch, listener)
+    lifted_solution(alloc, game, &reordered, budget, reporter, observer)
 }
 
-/// The solution of a game that is too wide for neither player, by lifting for one player and then for the other.
-/// 51 or 60.
-fn lifted_solution<L, W: Watch<L>>(
+/// Returns the solution of a game that is too wide for neither player, by lifting for one player and then for the
+/// other. Fails with [TaskFault::Budget] if the budget does not suffice for one of them.
+fn lifted_solution<L, W: Reporter<L>>(
     alloc: Global,
-    game: &Arena,
+    game: &ForwardGame,
     reordered: &Reordered<'_>,
     budget: u64,
-    watch: &W,
-    listener: &mut L,
+    reporter: &W,
+    observer: &mut L,
 ) -> Result<Solution, Refusal>
     requires budget { budget ≤ most_lifts }
     requires given { reordered.now.given ≡ game.now }
     requires narrow { (player : Player) → is_too_wide player (priorities game.now) ≡ false }
     ensures right { IfOk result (IsRight game.now budget) }
     ensures refused { IfErr result (IsSolveGameRefusal game.now Both None budget) }
-    ensures told { IsWatched (LiftsWholeGame game.now Both) (refusal_in result) (W.tells watch.now) (W.pace watch.now) budget listener.old listener.new }
+    ensures reported { IsObserved (LiftsWholeGame game.now Both) (refusal_in result) (W.tells reporter.now) (W.pace reporter.now) budget observer.old observer.new }
 {
     regions_are_apart();
     regions_cover();
     game.keeps_limits();
-    let zero = reordered.solve(alloc, Player::Zero, budget, watch, listener)?;
-    let one = reordered.solve(alloc, Player::One, budget, watch, listener)?;
+    let zero = reordered.solve(alloc, Player::Zero, budget, reporter, observer)?;
+    let one = reordered.solve(alloc, Player::One, budget, reporter, observer)?;
     let winners = winners_of(alloc, zero.won.as_slice())?;
     Ok(Solution {
         winners: Seq::from_vec(winners),
@@ -90,8 +91,8 @@ fn lifted_solution<L, W: Watch<L>>(
     })
 }
 
-/// Refuses a game that is too wide for either player. 50 alone.
-pub fn fits_both(game: &Arena) -> Result<(), Refusal>
+/// Fails with [TaskFault::TooWide] alone, if the game is too wide for either player.
+pub fn fits_both(game: &ForwardGame) -> Result<(), Refusal>
     ensures narrow { IsOk result → (player : Player) → is_too_wide player (priorities game.now) ≡ false }
     ensures refused { IfErr result (λ refusal. (refusal ≡ Task TooWide) × IsTooWide game.now Both) }
 {
@@ -99,8 +100,8 @@ pub fn fits_both(game: &Arena) -> Result<(), Refusal>
     fits_for(game, Player::One)
 }
 
-/// Refuses a game that is too wide for a player. 50 alone.
-fn fits_for(game: &Arena, player: Player) -> Result<(), Refusal>
+/// Fails with [TaskFault::TooWide] alone, if the game is too wide for `player`.
+fn fits_for(game: &ForwardGame, player: Player) -> Result<(), Refusal>
     ensures narrow { IsOk result → is_too_wide player (priorities game.now) ≡ false }
     ensures refused { IfErr result (λ refusal. (refusal ≡ Task TooWide) × (is_too_wide player (priorities game.now) ≡ true)) }
 {
@@ -111,7 +112,7 @@ fn fits_for(game: &Arena, player: Player) -> Result<(), Refusal>
     }
 }
 
-/// The winner of each node, of which player 0 wins these. 60 alone.
+/// Returns the winner of each node: player 0 if `won` says so, else player 1.
 pub fn winners_of(alloc: Global, won: &[bool]) -> Result<Vec<Player>, Refusal>
     ensures winners { IfOk result (λ winners. winners.items ≡ winners_of won.now) }
     ensures memory { IsOkUnless result Memory }

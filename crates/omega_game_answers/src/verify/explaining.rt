@@ -1,18 +1,18 @@
-//! Why the choices of a solution do not win.
+//! Explains why the choices of a solution do not win.
 ghost use Rattle.std.specs.Prelude.{◌≡◌, ◌<◌, ◌++◌, All, IfNone, IfOk, IfSome, IsOkUnless, OnOk, length, true};
 ghost use Rattle.omega_text.specs.declared.refusal.Refusal.TheVariants.{Memory};
 ghost use Rattle.omega_game.specs.Solution.{IsSolution, WinsGiven};
 ghost use Rattle.omega_game_answers.specs.Verify.{IsSolutionVerdict, LosesGiven, explained_text, identifiers_text};
 
-use omega_game::{Arena, Lasso, Player, Refusal, Solution, counterexample};
+use omega_game::{ForwardGame, Lasso, Player, Refusal, Solution, counterexample};
 use omega_io::Exit;
 use omega_text::write_number;
 use std::alloc::Global;
 
-/// The verdict on a solution, where `no` is explained for the least player whose choices do not win as given. 60 alone.
+/// Returns the verdict on `solution`. A `no` is explained for the least player whose choices do not win as given.
 pub(crate) fn explained(
     alloc: Global,
-    game: &Arena,
+    game: &ForwardGame,
     solution: &Solution,
 ) -> Result<(Exit, Vec<u8>), Refusal>
     requires { IsSolution game.now solution.now }
@@ -30,10 +30,11 @@ pub(crate) fn explained(
     Ok((Exit::Done, Vec::from_slice(alloc, b"yes\n")?))
 }
 
-/// Why the choices of a player do not win from all nodes given to the player, none where they do. 60 alone.
+/// Returns a counterexample to the choices of `player`: why they do not win from all nodes given to the player. Returns
+/// none if they do.
 pub fn lost_by(
     alloc: Global,
-    game: &Arena,
+    game: &ForwardGame,
     solution: &Solution,
     player: Player,
 ) -> Result<Option<Lasso>, Refusal>
@@ -51,10 +52,10 @@ pub fn lost_by(
     Ok(found)
 }
 
-/// The text of `no` with its explanation. 60 alone.
+/// Returns the text of `no` with its explanation.
 fn explanation(
     alloc: Global,
-    game: &Arena,
+    game: &ForwardGame,
     player: Player,
     lasso: &Lasso,
 ) -> Result<Vec<u8>, Refusal>
@@ -74,8 +75,8 @@ fn explanation(
     Ok(out)
 }
 
-/// Appends the identifiers of nodes, a space before each. 60 alone.
-fn write_identifiers(game: &Arena, places: &[u32], out: &mut Vec<u8>) -> Result<(), Refusal>
+/// Appends the identifiers of the nodes at `places`, a space before each.
+fn write_identifiers(game: &ForwardGame, places: &[u32], out: &mut Vec<u8>) -> Result<(), Refusal>
     requires { All (λ place. place < length game.now) places.now }
     ensures ok { OnOk result (out.new.items ≡ out.old.items ++ identifiers_text game.now places.now) }
     ensures memory { IsOkUnless result Memory }

@@ -4,8 +4,8 @@ use Rattle.omega_game.specs.Game.{Node, HasEdge}
 use Rattle.omega_game_drawing.specs.Extent.{is_drawn}
 
 -- an edge leads to w from one of the places
-abbrev pub IsBehind : List Node → List ℕ → ℕ → Type 0
-IsBehind nodes front w = (v : ℕ) × Contains front v × HasEdge nodes v w
+abbrev pub IsAfter : List Node → List ℕ → ℕ → Type 0
+IsAfter nodes front w = (v : ℕ) × Contains front v × HasEdge nodes v w
 
 -- the places of which this holds are flagged, and those that were not flagged before are the next
 pub record AreEntered (Holds : ℕ → Type 0) (drawn : List Bool) (next : List ℕ) (drawn' : List Bool) (next' : List ℕ) : Type 0 where

@@ -1,4 +1,4 @@
-use super::is_told;
+use super::is_reported;
 use crate::samples::assert_row;
 use omega_pg::{Refusal, read_game, write_game};
 use std::alloc::Global;
@@ -106,7 +106,7 @@ static REFUSED: [(&str, u32, Option<usize>); 52] = [
 /// Whether a game text is written anew as wanted.
 fn is_rewritten(alloc: Global, text: &str, want: &str) -> bool {
     match read_game(alloc, text.as_bytes()) {
-        Ok(game) => is_written(write_game(alloc, game.arena()), want),
+        Ok(game) => is_written(write_game(alloc, game.forward()), want),
         Err(_) => false,
     }
 }
@@ -123,7 +123,7 @@ pub(crate) fn is_written(found: Result<Vec<u8>, Refusal>, want: &str) -> bool {
 fn is_refused(alloc: Global, text: &str, number: u32, place: Option<usize>) -> bool {
     match read_game(alloc, text.as_bytes()) {
         Ok(_game) => false,
-        Err(refusal) => is_told(refusal, number, place),
+        Err(refusal) => is_reported(refusal, number, place),
     }
 }
 

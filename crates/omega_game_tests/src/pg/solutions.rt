@@ -1,5 +1,5 @@
 use super::games::is_written;
-use super::is_told;
+use super::is_reported;
 use crate::samples::assert_row;
 use omega_pg::{Game, Player, Refusal, Solution, read_game, read_solution, write_solution};
 use std::alloc::Global;
@@ -87,8 +87,8 @@ fn is_rewritten(alloc: Global, game: &str, text: &str, want: &str) -> bool {
 
 /// The written form of the solution that a text stands for.
 fn rewritten(alloc: Global, game: &Game, text: &str) -> Result<Vec<u8>, Refusal> {
-    match read_solution(alloc, game.arena(), text.as_bytes()) {
-        Ok(solution) => write_solution(alloc, game.arena(), &solution),
+    match read_solution(alloc, game.forward(), text.as_bytes()) {
+        Ok(solution) => write_solution(alloc, game.forward(), &solution),
         Err(refusal) => Err(refusal),
     }
 }
@@ -96,7 +96,7 @@ fn rewritten(alloc: Global, game: &Game, text: &str) -> Result<Vec<u8>, Refusal>
 /// The solution of `GAME` that a text stands for.
 fn solution_of_game(alloc: Global, text: &str) -> Result<Solution, Refusal> {
     match read_game(alloc, GAME.as_bytes()) {
-        Ok(game) => read_solution(alloc, game.arena(), text.as_bytes()),
+        Ok(game) => read_solution(alloc, game.forward(), text.as_bytes()),
         Err(refusal) => Err(refusal),
     }
 }
@@ -117,7 +117,7 @@ fn places_given_in(
     player: Player,
 ) -> Result<Vec<u32>, Refusal> {
     game.keeps_limits();
-    match read_solution(alloc, game.arena(), text.as_bytes()) {
+    match read_solution(alloc, game.forward(), text.as_bytes()) {
         Ok(solution) => Ok(solution.places_given(alloc, player)?),
         Err(refusal) => Err(refusal),
     }
@@ -135,7 +135,7 @@ fn gives(alloc: Global, text: &str, player: Player, wanted: &[u32]) -> bool {
 fn is_refused(alloc: Global, text: &str, number: u32, place: Option<usize>) -> bool {
     match solution_of_game(alloc, text) {
         Ok(_solution) => false,
-        Err(refusal) => is_told(refusal, number, place),
+        Err(refusal) => is_reported(refusal, number, place),
     }
 }
 

@@ -2,7 +2,7 @@
 use crate::samples::{assert_row, finish};
 use omega_game::Player::{One, Zero};
 use omega_game::{Game, GameBuilder, Player, Refusal};
-use omega_search::{Solution, solve_by_search};
+use omega_judged_search::{Solution, solve_by_search};
 use std::alloc::Global;
 
 /// Identifier, priority and owner of a node, and its one or two successors.

@@ -33,7 +33,7 @@ fn follow<S: Schedule, R: Abort>(rt: &R, schedule: &mut S, places: u32, steps: &
 }
 
 /// Takes out a place that is not the one to look at, and then the others in turn.
-fn take_behind<S: Schedule, R: Abort>(rt: &R, schedule: &mut S, others: &[u8])
+fn take_after<S: Schedule, R: Abort>(rt: &R, schedule: &mut S, others: &[u8])
     requires { S.waiting schedule.old ≡ all_pending 4 }
 {
     schedule.take(2);
@@ -51,9 +51,9 @@ fn follows<S: Schedule, R: Abort>(rt: &R, alloc: Global, places: u32, steps: &[u
 }
 
 /// Takes a place out of a new schedule that is not the one to look at, and then the others in turn.
-fn takes_behind<S: Schedule, R: Abort>(rt: &R, alloc: Global, others: &[u8]) {
+fn takes_after<S: Schedule, R: Abort>(rt: &R, alloc: Global, others: &[u8]) {
     match S::prepare(alloc, 4) {
-        Ok(mut schedule) => take_behind(rt, &mut schedule, others),
+        Ok(mut schedule) => take_after(rt, &mut schedule, others),
         Err(_) => assert!(rt; false, "a schedule"),
     }
 }
@@ -91,8 +91,8 @@ fn a_nested_schedule_sweeps_and_stays_with_the_least(rt: HostRuntime) {
 }
 
 #[test]
-fn a_place_behind_the_front_is_taken(rt: HostRuntime) {
-    takes_behind::<Sweep, HostRuntime>(&rt, rt.alloc(), b"013");
-    takes_behind::<Worklist, HostRuntime>(&rt, rt.alloc(), b"013");
-    takes_behind::<Nested, HostRuntime>(&rt, rt.alloc(), b"301");
+fn a_place_after_the_front_is_taken(rt: HostRuntime) {
+    takes_after::<Sweep, HostRuntime>(&rt, rt.alloc(), b"013");
+    takes_after::<Worklist, HostRuntime>(&rt, rt.alloc(), b"013");
+    takes_after::<Nested, HostRuntime>(&rt, rt.alloc(), b"301");
 }

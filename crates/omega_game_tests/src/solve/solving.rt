@@ -3,7 +3,7 @@
 //! A test is proved before it runs, and what owns a game or a solver over a `?` is slow to prove: so one function
 //! prepares, and the next one is lent what was prepared.
 use crate::samples::finish;
-use omega_budget::{Found, Reordered, Unwatched};
+use omega_budget::{Found, NoObserver, Reordered};
 use omega_game::{Game, GameBuilder, Player, Refusal, TaskFault, bound};
 use omega_solve::{
     MOST_LIFTS, MeasureTable, Nested, Outcome, PackedTable, PlainTable, Schedule, Solver, Sweep,
@@ -321,7 +321,7 @@ fn found_reordered(
     if budget > MOST_LIFTS {
         return Err(Refusal::Io);
     }
-    reordered.solve(alloc, player, budget, &Unwatched, &mut ())
+    reordered.solve(alloc, player, budget, &NoObserver, &mut ())
 }
 
 /// Asserts what is found in an order of its own, by the places of the row, within each budget up to the lifts that are
@@ -342,7 +342,7 @@ fn assert_reordered<R: Abort>(rt: &R, alloc: Global, reordered: &Reordered<'_>, 
 
 /// Asserts that a game is solved in an order of its own.
 fn assert_solved_reordered<R: Abort>(rt: &R, alloc: Global, game: &Game, row: &Row<'_>) {
-    match Reordered::of(alloc, game.arena()) {
+    match Reordered::of(alloc, game.forward()) {
         Ok(reordered) => assert_reordered(rt, alloc, &reordered, row),
         Err(_) => assert!(rt; false, "an order"),
     }
@@ -352,7 +352,7 @@ fn assert_solved_reordered<R: Abort>(rt: &R, alloc: Global, game: &Game, row: &R
 fn assert_solved<R: Abort>(rt: &R, alloc: Global, row: &Row<'_>) {
     match game_of(alloc, row.0) {
         Ok(game) => {
-            assert!(rt; bound(game.arena(), row.1) == Some(row.2));
+            assert!(rt; bound(game.forward(), row.1) == Some(row.2));
             assert!(rt; solves_by_all(rt, alloc, &game, row).is_ok());
             assert_solved_reordered(rt, alloc, &game, row);
         }

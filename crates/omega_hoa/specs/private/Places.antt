@@ -10,7 +10,7 @@ use Rattle.omega_hoa.specs.Segment.{HasMeaningFault, IsNoRaw, IsStartOf, IsSynta
 abbrev pub counted_from : ℕ → Lexeme HoaKind → Lexeme HoaKind
 counted_from begins lexeme = record { kind = lexeme.kind; text = lexeme.text; value = lexeme.value; span = record { start = lexeme.span.start + begins; end = lexeme.span.end + begins } }
 
--- the tokens of a part are those of no automaton as it is written: 3 at one of them, or memory
+-- the tokens of a part spell no automaton as it is written: 3 at one of them, or memory
 abbrev pub IsPartUnread : ℕ → List (Lexeme HoaKind) → Refusal → Type 0
 IsPartUnread begins lexemes = or_text (λ fault. IsNoRaw lexemes × IsSyntaxWithin (map (counted_from begins) lexemes) fault) (or_memory never)
 

@@ -1,2 +1,2 @@
--- What only private contracts cite: a text that is to hold one segment, seen from outside.
+-- What only private contracts cite: a text that is to hold one segment, without the inside of the segment.
 pub mod Outline

@@ -4,7 +4,7 @@ use Rattle.omega_text.specs.Cases.{never, or_memory, or_task}
 use Rattle.omega_text.specs.declared.refusal.Refusal.{Refusal}
 use Rattle.omega_text.specs.declared.refusal.task.TaskFault.TheVariants.{TooManyPropositions}
 use Rattle.omega_automaton.specs.Automaton.{Description}
-use Rattle.omega_empty.specs.Lasso.{IsAcceptingLasso}
+use Rattle.omega_runs.specs.Lasso.{IsAcceptingLasso}
 use Rattle.omega_lasso_judge.specs.Conditions.{IsLassoWalk}
 use Rattle.omega_lasso_judge.specs.Fault.{IsLassoFault}
 use Rattle.omega_lasso_judge.specs.Refusing.{IsUndecidedAlong}

@@ -1,4 +1,4 @@
--- How tables keep measures: what only private contracts cite.
+-- How tables keep measures: what private contracts alone cite.
 pub mod Falling
 pub mod Shape
 pub mod Rows

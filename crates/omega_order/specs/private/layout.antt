@@ -1,2 +1,2 @@
 -- How orders are kept.
-pub mod Ranking
+pub mod Permutation

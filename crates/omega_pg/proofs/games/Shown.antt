@@ -32,7 +32,7 @@ abbrev pub front : NodeSpec → List PgSymbol
 front spec = number spec.id ∷ number spec.priority ∷ number (player_number spec.owner) ∷ successor_symbols spec.successors
 
 -- whole nodes, and then these symbols
-pub record IsBehind (header : Option ℕ) (specs : List NodeSpec) (begun symbols : List PgSymbol) : Type 0 where
+pub record IsAfter (header : Option ℕ) (specs : List NodeSpec) (begun symbols : List PgSymbol) : Type 0 where
   pub continued : All IsContinued specs
   pub shown : symbols ≡ spelled header specs ++ begun
 
@@ -60,11 +60,11 @@ abbrev pub ShowsAt : Stage → Option ℕ → List NodeSpec → List PgSymbol �
 ShowsAt Start header specs symbols = IsHeader header specs [] symbols
 ShowsAt Word header specs symbols = IsHeader header specs (parity ∷ []) symbols
 ShowsAt (Number n) header specs symbols = IsHeader header specs (parity ∷ number n ∷ []) symbols
-ShowsAt Headed header specs symbols = (specs ≡ []) × IsBehind header specs [] symbols
-ShowsAt Ended header specs symbols = (0 < length specs) × IsBehind header specs [] symbols
-ShowsAt (Identifier id) header specs symbols = IsBehind header specs (number id ∷ []) symbols
-ShowsAt (Priority id priority) header specs symbols = IsBehind header specs (number id ∷ number priority ∷ []) symbols
-ShowsAt (Owner id priority owner) header specs symbols = IsBehind header specs (number id ∷ number priority ∷ number (player_number owner) ∷ []) symbols
+ShowsAt Headed header specs symbols = (specs ≡ []) × IsAfter header specs [] symbols
+ShowsAt Ended header specs symbols = (0 < length specs) × IsAfter header specs [] symbols
+ShowsAt (Identifier id) header specs symbols = IsAfter header specs (number id ∷ []) symbols
+ShowsAt (Priority id priority) header specs symbols = IsAfter header specs (number id ∷ number priority ∷ []) symbols
+ShowsAt (Owner id priority owner) header specs symbols = IsAfter header specs (number id ∷ number priority ∷ number (player_number owner) ∷ []) symbols
 ShowsAt Listed header specs symbols = IsUnnamed header specs front symbols
 ShowsAt Comma header specs symbols = IsUnnamed header specs (λ spec. front spec ++ comma ∷ []) symbols
 ShowsAt Named header specs symbols = IsOpen header specs (λ spec. front spec ++ name_symbols spec.name) symbols
@@ -96,9 +96,9 @@ spelled-push header specs spec =
     ∙ sym (append_assoc (header_symbols header) (flat_map node_symbols specs) (node_symbols spec))
 
 -- one symbol more after whole nodes
-IsBehind-push : (header : Option ℕ) (specs : List NodeSpec) (begun symbols : List PgSymbol) (symbol : PgSymbol)
-    → IsBehind header specs begun symbols → IsBehind header specs (begun ++ symbol ∷ []) (symbols ++ symbol ∷ [])
-IsBehind-push header specs begun symbols symbol shown = record {
+IsAfter-push : (header : Option ℕ) (specs : List NodeSpec) (begun symbols : List PgSymbol) (symbol : PgSymbol)
+    → IsAfter header specs begun symbols → IsAfter header specs (begun ++ symbol ∷ []) (symbols ++ symbol ∷ [])
+IsAfter-push header specs begun symbols symbol shown = record {
   continued = shown.continued;
   shown = ap (λ list. list ++ symbol ∷ []) shown.shown ∙ append_assoc (spelled header specs) begun (symbol ∷ []);
 }
@@ -131,15 +131,15 @@ number_shown Word header specs small symbols n shows = record {
 }
 number_shown (Number m) header specs small symbols n shows = tt
 number_shown Headed header specs small symbols n shows = record {
-  there = IsBehind-push header specs [] symbols (number n) shows.there.1;
+  there = IsAfter-push header specs [] symbols (number n) shows.there.1;
   small = shows.small;
 }
 number_shown Ended header specs small symbols n shows = record {
-  there = IsBehind-push header specs [] symbols (number n) shows.there.1;
+  there = IsAfter-push header specs [] symbols (number n) shows.there.1;
   small = shows.small;
 }
 number_shown (Identifier id) header specs small symbols n shows = record {
-  there = IsBehind-push header specs (number id ∷ []) symbols (number n) shows.there;
+  there = IsAfter-push header specs (number id ∷ []) symbols (number n) shows.there;
   small = shows.small;
 }
 number_shown (Priority id priority) header specs small symbols n shows =
@@ -148,8 +148,8 @@ number_shown (Priority id priority) header specs small symbols n shows =
     → IfSome (option_map (λ owner. to_stage (Owner id priority owner) (at (Priority id priority) header specs small)) o) (λ next. Shows next (symbols ++ number n ∷ []))) [
       | None ↦ λ e. tt
       | Some owner ↦ λ e. record {
-        there = subst (λ m. IsBehind header specs (number id ∷ number priority ∷ number m ∷ []) (symbols ++ number n ∷ [])) (sym e)
-            (IsBehind-push header specs (number id ∷ number priority ∷ []) symbols (number n) shows.there);
+        there = subst (λ m. IsAfter header specs (number id ∷ number priority ∷ number m ∷ []) (symbols ++ number n ∷ [])) (sym e)
+            (IsAfter-push header specs (number id ∷ number priority ∷ []) symbols (number n) shows.there);
         small = shows.small;
       }
     ]
@@ -162,7 +162,7 @@ number_shown (Owner id priority owner) header specs small symbols n shows = reco
       split = refl;
       before = shows.there.continued;
       continued = omega arith;
-      shown = (IsBehind-push header specs (number id ∷ number priority ∷ number (player_number owner) ∷ []) symbols (number n) shows.there).shown;
+      shown = (IsAfter-push header specs (number id ∷ number priority ∷ number (player_number owner) ∷ []) symbols (number n) shows.there).shown;
     };
     unnamed = refl;
   };
@@ -204,7 +204,7 @@ word_shown _ header specs small symbols shows = tt
 -- an open node that ends is a node more
 ended_shown : (header : Option ℕ) (specs : List NodeSpec) (shows : NodeSpec → List PgSymbol) (symbols : List PgSymbol) (opened : IsOpen header specs shows symbols)
     → shows opened.last ++ semicolon ∷ [] ≡ node_symbols opened.last
-    → (0 < length specs) × IsBehind header specs [] (symbols ++ semicolon ∷ [])
+    → (0 < length specs) × IsAfter header specs [] (symbols ++ semicolon ∷ [])
 ended_shown header specs shows symbols opened ends = (
   omega (arith, ap length opened.split, length-append opened.done (opened.last ∷ [])),
   record {

@@ -87,13 +87,13 @@ specs_well_formed [] continued all = All-nil IsWellFormed
 specs_well_formed (spec ∷ specs) continued all =
     let rest = flat_map node_symbols specs in
     let called = name_symbols spec.name ++ semicolon ∷ [] in
-    let behind = subst (AllByRecursion IsSound) (append_assoc (successor_symbols spec.successors) called rest) all.1.1.1 in
+    let following = subst (AllByRecursion IsSound) (append_assoc (successor_symbols spec.successors) called rest) all.1.1.1 in
     All-cons IsWellFormed spec specs
     (record {
       id = all.0;
       priority = all.1.0;
-      successors = sound_successors spec.successors (called ++ rest) behind;
+      successors = sound_successors spec.successors (called ++ rest) following;
       continued = All-head (λ (one : NodeSpec). 0 < length one.successors) spec specs continued;
-      name = sound_name spec.name ((semicolon ∷ []) ++ rest) (subst (AllByRecursion IsSound) (append_assoc (name_symbols spec.name) (semicolon ∷ []) rest) (sound_back (successor_symbols spec.successors) (called ++ rest) behind));
+      name = sound_name spec.name ((semicolon ∷ []) ++ rest) (subst (AllByRecursion IsSound) (append_assoc (name_symbols spec.name) (semicolon ∷ []) rest) (sound_back (successor_symbols spec.successors) (called ++ rest) following));
     })
     (specs_well_formed specs (All-tail (λ (one : NodeSpec). 0 < length one.successors) spec specs continued) (sound_back (node_symbols spec) (flat_map node_symbols specs) all))

@@ -11,7 +11,7 @@ use Rattle.omega_text.specs.Limits.{most_number}
 use Rattle.omega_game.specs.declared.node_spec.NodeSpec.{NodeSpec}
 use Rattle.omega_game.specs.declared.player.Player.{Player}
 use Rattle.omega_game.specs.declared.player.Player.TheVariants.{One, Zero}
-use Rattle.omega_pg.specs.game.Canonical.{header_line, name_part, node_line, successors_behind, successors_text}
+use Rattle.omega_pg.specs.game.Canonical.{header_line, name_part, node_line, successors_after, successors_text}
 use Rattle.omega_pg.specs.game.Grammar.{header_symbols, name_symbols, node_symbols, successor_symbols}
 use Rattle.omega_pg.specs.Symbols.{PgSymbol, comma, number, semicolon}
 use Rattle.omega_game.specs.Player.{player_number}
@@ -40,7 +40,7 @@ name_ends None rest = refl
 name_ends (Some bytes) rest = refl
 
 -- so does a comma
-others_end : (others rest : List ℕ) → EndsNumber rest → EndsNumber (successors_behind others ++ rest)
+others_end : (others rest : List ℕ) → EndsNumber rest → EndsNumber (successors_after others ++ rest)
 others_end [] rest ends = ends
 others_end (id ∷ others) rest ends = refl
 
@@ -55,13 +55,13 @@ module _ (tokens : TokensFollow) (gaps : EndsAreGaps) (numbers : NumbersAreLonge
 
   -- further identifiers, each after a comma
   others_written : (others rest : List ℕ) (symbols : List PgSymbol) → All (λ id. id ≤ most_number) others → EndsNumber rest → IsWritten rest symbols
-      → IsWritten (successors_behind others ++ rest) (flat_map (λ id. comma ∷ number id ∷ []) others ++ symbols)
+      → IsWritten (successors_after others ++ rest) (flat_map (λ id. comma ∷ number id ∷ []) others ++ symbols)
   others_written [] rest symbols fits ends then = then
   others_written (id ∷ others) rest symbols fits ends then =
       comma_written tokens gaps numbers words signs names _ _
       (subst (λ text. IsWritten text (number id ∷ (flat_map (λ id. comma ∷ number id ∷ []) others ++ symbols)))
-      (sym (append_assoc (decimal id) (successors_behind others) rest))
-      (number_written tokens gaps numbers words signs names [] (successors_behind others ++ rest) id _ nothing
+      (sym (append_assoc (decimal id) (successors_after others) rest))
+      (number_written tokens gaps numbers words signs names [] (successors_after others ++ rest) id _ nothing
       (All-head (λ id. id ≤ most_number) id others fits)
       (others_end others rest ends)
       (others_written others rest symbols (All-tail (λ id. id ≤ most_number) id others fits) ends then)))
@@ -72,8 +72,8 @@ module _ (tokens : TokensFollow) (gaps : EndsAreGaps) (numbers : NumbersAreLonge
   listed_written [] rest symbols some fits ends then = absurd (omega (arith, some))
   listed_written (first ∷ others) rest symbols some fits ends then =
       subst (λ text. IsWritten (32 ∷ text) (number first ∷ (flat_map (λ id. comma ∷ number id ∷ []) others ++ symbols)))
-      (sym (append_assoc (decimal first) (successors_behind others) rest))
-      (number_written tokens gaps numbers words signs names (32 ∷ []) (successors_behind others ++ rest) first _ space
+      (sym (append_assoc (decimal first) (successors_after others) rest))
+      (number_written tokens gaps numbers words signs names (32 ∷ []) (successors_after others ++ rest) first _ space
       (All-head (λ id. id ≤ most_number) first others fits)
       (others_end others rest ends)
       (others_written others rest symbols (All-tail (λ id. id ≤ most_number) first others fits) ends then))

@@ -80,14 +80,14 @@ module _ (tokens : TokensFollow) (gaps : EndsAreGaps) (numbers : NumbersAreLonge
   token_written gap text rest kind value symbols white some spells longest then source from within e =
       let follows = tokens source gap text rest from kind value e within white some spells longest in
       let place = from + length gap + length text in
-      let behind : drop place source ≡ rest =
+      let following : drop place source ≡ rest =
       ap (λ n. drop n source) (let sum : place ≡ from + (length gap + length text) = omega arith in sum)
       ∙ sym (drop-drop (length gap + length text) from source)
       ∙ ap (drop (length gap + length text)) e
       ∙ sym (drop-drop (length text) (length gap) (gap ++ (text ++ rest)))
       ∙ ap (drop (length text)) (drop-append_seam gap (text ++ rest))
       ∙ drop-append_seam text rest in
-      let next = then source place follows.within behind in
+      let next = then source place follows.within following in
       record {
         lexemes = lexeme_at (from + length gap) kind value text ∷ next.lexemes;
         end = next.end;

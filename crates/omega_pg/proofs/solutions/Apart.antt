@@ -118,7 +118,7 @@ identifiers_apart nodes v w game h k same =
       | inl e ↦ e
       | inr apart ↦ elim apart as (λ _. v ≡ w) [
         | inl before ↦ absurd (omega (arith, rising v w 0 before (omega (arith, count))))
-        | inr behind ↦ absurd (omega (arith, rising w v 0 behind (omega (arith, count))))
+        | inr following ↦ absurd (omega (arith, rising w v 0 following (omega (arith, count))))
       ]
     ]
 

@@ -12,13 +12,13 @@ abbrev pub header_line : ℕ → List ℕ
 header_line number = codes "parity " ++ (decimal number ++ codes ";\n")
 
 -- identifiers with a comma before each
-abbrev pub successors_behind : List ℕ → List ℕ
-successors_behind ids = flat_map (λ id. codes "," ++ decimal id) ids
+abbrev pub successors_after : List ℕ → List ℕ
+successors_after ids = flat_map (λ id. codes "," ++ decimal id) ids
 
 -- identifiers with a comma between each two
 abbrev pub successors_text : List ℕ → List ℕ
 successors_text [] = []
-successors_text (first ∷ others) = decimal first ++ successors_behind others
+successors_text (first ∷ others) = decimal first ++ successors_after others
 
 -- a space and the quoted name, if there is one
 abbrev pub name_part : Option (List ℕ) → List ℕ

@@ -7,7 +7,7 @@ ghost use Rattle.omega_pg.specs.game.Refusing.{IsReadRefusal};
 ghost use Rattle.omega_pg.specs.game.Text.{IsGameText};
 
 use crate::game::reader::Reader;
-use omega_game::{Arena, Game, GameBuilder, GameFault, Refusal};
+use omega_game::{ForwardGame, Game, GameBuilder, GameFault, Refusal};
 use omega_text::{PgKind, read_text};
 use std::alloc::Global;
 
@@ -23,12 +23,12 @@ pub fn read_game(alloc: Global, bytes: &[u8]) -> Result<Game, Refusal>
     ensures game { IfOk result (IsGameText bytes.now) }
     ensures refused { IfErr result (IsReadRefusal bytes.now) }
 {
-    let arena = read_arena(alloc, bytes)?;
-    arena.with_predecessors(alloc)
+    let forward = read_forward_game(alloc, bytes)?;
+    forward.with_predecessors(alloc)
 }
 
 /// The same without predecessors, and without the time and the memory that they take.
-pub fn read_arena(alloc: Global, bytes: &[u8]) -> Result<Arena, Refusal>
+pub fn read_forward_game(alloc: Global, bytes: &[u8]) -> Result<ForwardGame, Refusal>
     ensures game { IfOk result (IsGameText bytes.now) }
     ensures refused { IfErr result (IsReadRefusal bytes.now) }
 {
@@ -40,8 +40,8 @@ pub fn read_arena(alloc: Global, bytes: &[u8]) -> Result<Arena, Refusal>
     built(builder, header_too_small)
 }
 
-/// The arena of specifications, of which one is above the number of the header if that is `too_small`.
-fn built(builder: GameBuilder, too_small: bool) -> Result<Arena, Refusal>
+/// The forward game of specifications, of which one is above the number of the header if that is `too_small`.
+fn built(builder: GameBuilder, too_small: bool) -> Result<ForwardGame, Refusal>
     requires { 0 < length builder }
     ensures game { IfOk result (IsGameOf builder) }
     ensures limits { IfOk result IsWithinLimits }
@@ -49,10 +49,10 @@ fn built(builder: GameBuilder, too_small: bool) -> Result<Arena, Refusal>
     ensures refused { IfErr result (IsBuiltRefusal too_small builder) }
 {
     if !too_small {
-        return builder.finish_arena();
+        return builder.finish_forward();
     }
-    match builder.finish_arena() {
-        Ok(_arena) => Err(Refusal::Game(GameFault::HeaderTooSmall)),
+    match builder.finish_forward() {
+        Ok(_forward) => Err(Refusal::Game(GameFault::HeaderTooSmall)),
         Err(refusal) => Err(first_of(refusal)),
     }
 }

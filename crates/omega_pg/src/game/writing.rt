@@ -1,9 +1,9 @@
 ghost use Rattle.std.specs.Prelude.{◌≡◌, ◌<◌, ◌++◌, All, IfOk, IsOkUnless, OnOk, codes, decimal, length, map, option_map};
 ghost use Rattle.omega_game.specs.Building.{specified};
 ghost use Rattle.omega_game.specs.Game.{IsGame, node_at, identifier_at};
-ghost use Rattle.omega_pg.specs.game.Canonical.{canonical_game, header_line, name_part, node_line, successors_behind, successors_text};
+ghost use Rattle.omega_pg.specs.game.Canonical.{canonical_game, header_line, name_part, node_line, successors_after, successors_text};
 
-use omega_game::{Arena, Refusal};
+use omega_game::{ForwardGame, Refusal};
 use omega_text::write_number;
 use std::alloc::Global;
 
@@ -11,7 +11,7 @@ use std::alloc::Global;
 ///
 /// If it has at most `MOST_TEXT` bytes, it is read back to the same game, by `laws::canonical_texts_are_read`. The
 /// cost is linear in the text.
-pub fn write_game(alloc: Global, game: &Arena) -> Result<Vec<u8>, Refusal>
+pub fn write_game(alloc: Global, game: &ForwardGame) -> Result<Vec<u8>, Refusal>
     ensures text { IfOk result (λ text. text.items ≡ canonical_game game.now) }
     ensures memory { IsOkUnless result Refusal.Memory }
 {
@@ -36,7 +36,7 @@ fn write_header(number: u32, out: &mut Vec<u8>) -> Result<(), Refusal>
 }
 
 /// Appends the line of the node at a place.
-fn write_node(game: &Arena, place: u32, out: &mut Vec<u8>) -> Result<(), Refusal>
+fn write_node(game: &ForwardGame, place: u32, out: &mut Vec<u8>) -> Result<(), Refusal>
     requires game { IsGame game.now }
     requires place { place < length game.now }
     ensures ok { OnOk result (out.new.items ≡ out.old.items ++ node_line (specified game.now (node_at game.now place))) }
@@ -62,7 +62,7 @@ pub(crate) fn write_part(number: u32, out: &mut Vec<u8>) -> Result<(), Refusal>
 }
 
 /// Appends the identifiers of nodes at places, with a comma between each two.
-fn write_listed(game: &Arena, places: &[u32], out: &mut Vec<u8>) -> Result<(), Refusal>
+fn write_listed(game: &ForwardGame, places: &[u32], out: &mut Vec<u8>) -> Result<(), Refusal>
     requires { All (λ place. place < length game.now) places.now }
     ensures ok { OnOk result (out.new.items ≡ out.old.items ++ successors_text (map (identifier_at game.now) places.now)) }
     ensures memory { IsOkUnless result Refusal.Memory }
@@ -75,9 +75,9 @@ fn write_listed(game: &Arena, places: &[u32], out: &mut Vec<u8>) -> Result<(), R
 }
 
 /// Appends the identifiers of nodes at places, with a comma before each.
-fn write_others(game: &Arena, places: &[u32], out: &mut Vec<u8>) -> Result<(), Refusal>
+fn write_others(game: &ForwardGame, places: &[u32], out: &mut Vec<u8>) -> Result<(), Refusal>
     requires { All (λ place. place < length game.now) places.now }
-    ensures ok { OnOk result (out.new.items ≡ out.old.items ++ successors_behind (map (identifier_at game.now) places.now)) }
+    ensures ok { OnOk result (out.new.items ≡ out.old.items ++ successors_after (map (identifier_at game.now) places.now)) }
     ensures memory { IsOkUnless result Refusal.Memory }
 {
     for place in places {

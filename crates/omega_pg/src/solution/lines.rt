@@ -2,7 +2,7 @@ ghost use Rattle.std.specs.Prelude.{◌≡◌, ◌<◌, ◌^◌, ◌≢◌, ◌�
 ghost use Rattle.omega_game.specs.Game.{identifier_at};
 ghost use Rattle.omega_pg.specs.private.solution.reader.Lines.{IsWrongLine, Says};
 
-use omega_game::{Arena, Player, Refusal, Seq, Solution, Strategy, TaskFault};
+use omega_game::{ForwardGame, Player, Refusal, Seq, Solution, Strategy, TaskFault};
 use std::alloc::Global;
 
 /// The lines of a solution text as they are kept: a winner and two choices for each, by place.
@@ -38,7 +38,7 @@ impl Lines {
     /// Adds a line, which is kept if it is one of a solution and so were all before.
     pub(crate) fn add(
         &mut self,
-        game: &Arena,
+        game: &ForwardGame,
         id: u32,
         winner: Player,
         successor: Option<u32>,
@@ -61,7 +61,7 @@ impl Lines {
     }
 
     /// The solution of the lines, if they are those of one after a header with this number. 53 else.
-    pub(crate) fn finish(self, game: &Arena, greatest: u32) -> Result<Solution, Refusal>
+    pub(crate) fn finish(self, game: &ForwardGame, greatest: u32) -> Result<Solution, Refusal>
         ensures judged { (lines : List SolutionLine) → AreJudged game.now lines self.good self.winners.items self.zero.items self.one.items
             → IsOutcome game.now (record { greatest = greatest; lines = lines }) result }
     {
@@ -101,7 +101,7 @@ impl Lines {
 
 /// The choice that a line says of the node at a place, if a solution can say it.
 fn said_choice(
-    game: &Arena,
+    game: &ForwardGame,
     place: usize,
     id: u32,
     winner: Player,
@@ -125,7 +125,7 @@ fn said_choice(
 }
 
 /// The first of some places whose node has an identifier.
-fn place_with(game: &Arena, places: &[u32], id: u32) -> Option<u32>
+fn place_with(game: &ForwardGame, places: &[u32], id: u32) -> Option<u32>
     requires { All (λ w. w < length game.now) places.now }
     ensures found { IfSome result (λ w. Contains places.now w × (identifier_at game.now w ≡ id)) }
     ensures none { IfNone result (All (λ w. identifier_at game.now w ≢ id) places.now) }

@@ -3,14 +3,14 @@ ghost use Rattle.omega_pg.specs.private.solution.reader.Automaton.{stage_after_n
 
 use crate::solution::lines::Lines;
 use crate::solution::stage::Stage;
-use omega_game::{Arena, Player, Refusal};
+use omega_game::{ForwardGame, Player, Refusal};
 use omega_text::{PgKind, Token, TokenReader};
 use std::alloc::Global;
 
 /// What was read so far of a text of a game's solution.
 #[derive(Drop)]
 pub(crate) struct Reader<'g> {
-    pub(crate) game: &'g Arena,
+    pub(crate) game: &'g ForwardGame,
     pub(crate) stage: Stage,
     /// The number of the header.
     pub(crate) greatest: u32,
@@ -21,7 +21,7 @@ impl<'g> Reader<'g> {
     ghost use Rattle.omega_pg.specs.private.solution.reader.Automaton.{SolutionReaderState, after_semicolon, initial};
     ghost use Rattle.omega_pg.specs.private.solution.reader.Reading.{GoesOnTo, Keeps, KeepsNext};
 
-    pub(crate) fn new(alloc: Global, game: &'g Arena) -> Self
+    pub(crate) fn new(alloc: Global, game: &'g ForwardGame) -> Self
         ensures game { result.game.now ≡ game.now }
         ensures keeps { Keeps game.now initial result.stage result.greatest result.lines }
     {

@@ -3,7 +3,7 @@ ghost use Rattle.omega_pg.specs.solution.Refusing.{IsReadSolutionRefusal};
 ghost use Rattle.omega_pg.specs.solution.Text.{IsSolutionText};
 
 use crate::solution::reader::Reader;
-use omega_game::{Arena, Refusal, Solution};
+use omega_game::{ForwardGame, Refusal, Solution};
 use omega_text::{PgKind, read_text};
 use std::alloc::Global;
 
@@ -16,7 +16,7 @@ use std::alloc::Global;
 /// `solutions_of_texts_are_one`, `solution_refusals_are_one`, `solutions_are_not_refused`,
 /// `solution_texts_are_read_or_refused`. Of the place of 3 there is `solution_syntax_faults_are_first`, of the reasons
 /// of 53 `reasons_are_exact`.
-pub fn read_solution(alloc: Global, game: &Arena, bytes: &[u8]) -> Result<Solution, Refusal>
+pub fn read_solution(alloc: Global, game: &ForwardGame, bytes: &[u8]) -> Result<Solution, Refusal>
     ensures solution { IfOk result (IsSolutionText game.now bytes.now) }
     ensures refused { IfErr result (IsReadSolutionRefusal game.now bytes.now) }
 {

@@ -5,7 +5,7 @@ ghost use Rattle.omega_pg.specs.solution.Text.{line_at};
 ghost use Rattle.omega_pg.specs.solution.Canonical.{choice_part, solution_line, solution_text};
 
 use crate::game::writing::write_part;
-use omega_game::{Arena, Refusal, Solution};
+use omega_game::{ForwardGame, Refusal, Solution};
 use omega_text::write_number;
 use std::alloc::Global;
 
@@ -13,7 +13,11 @@ use std::alloc::Global;
 ///
 /// If it has at most `MOST_TEXT` bytes, it is read back to the same solution, by `laws::written_solutions_are_read`.
 /// The cost is linear in the nodes.
-pub fn write_solution(alloc: Global, game: &Arena, solution: &Solution) -> Result<Vec<u8>, Refusal>
+pub fn write_solution(
+    alloc: Global,
+    game: &ForwardGame,
+    solution: &Solution,
+) -> Result<Vec<u8>, Refusal>
     requires { IsSolution game.now solution.now }
     ensures text { IfOk result (λ text. text.items ≡ solution_text game.now solution.now) }
     ensures memory { IsOkUnless result Refusal.Memory }
@@ -31,7 +35,7 @@ pub fn write_solution(alloc: Global, game: &Arena, solution: &Solution) -> Resul
 
 /// Appends the line of the node at a place.
 fn write_line(
-    game: &Arena,
+    game: &ForwardGame,
     solution: &Solution,
     place: u32,
     out: &mut Vec<u8>,
@@ -51,7 +55,7 @@ fn write_line(
 }
 
 /// Appends a space and the identifier of a chosen place, if there is one.
-fn write_choice(game: &Arena, choice: Option<u32>, out: &mut Vec<u8>) -> Result<(), Refusal>
+fn write_choice(game: &ForwardGame, choice: Option<u32>, out: &mut Vec<u8>) -> Result<(), Refusal>
     requires { IfSome choice (λ place. place < length game.now) }
     ensures ok { OnOk result (out.new.items ≡ out.old.items ++ choice_part (option_map (identifier_at game.now) choice)) }
     ensures memory { IsOkUnless result Refusal.Memory }

@@ -4,7 +4,7 @@ use Rattle.omega_automaton.specs.declared.state.State.{State}
 use Rattle.omega_product.specs.Transitions.{Standing, transitions_from}
 use Rattle.omega_product.specs.declared.transition.Transition.{Transition}
 
--- how an automaton stands whose propositions have these places
+-- how a product sees an automaton whose propositions have these places
 abbrev pub standing_at : List ℕ → ℕ → Standing
 standing_at places before = record { count = length places; places = places; before = before }
 

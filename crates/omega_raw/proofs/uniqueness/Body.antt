@@ -38,8 +38,8 @@ state_part = record { begun = state_begun; follows = state_follows }
 
 joined_one : IsOne IsAny joined_row (FirstIs IsKind)
 joined_one tokens x y others more rest left _ _ ends last spells reads =
-    let behind = sign_passed kind.And tokens (number x ∷ others) (number y ∷ more) rest left (λ lexeme. refl) spells reads in
-    int_one (FirstIs IsKind) behind.middle x y others more rest left tt tt ends last behind.one behind.other
+    let following = sign_passed kind.And tokens (number x ∷ others) (number y ∷ more) rest left (λ lexeme. refl) spells reads in
+    int_one (FirstIs IsKind) following.middle x y others more rest left tt tt ends last following.one following.other
 
 pub conj_one : IsOne IsConj conj_row (FirstIs EndsConj)
 conj_one tokens [] y others more rest left is so ends last spells reads = absurd (omega arith)
@@ -53,15 +53,15 @@ conj_one tokens (x ∷ xs) (y ∷ ys) others more rest left is so ends last spel
 label_one : LabelsAreOne → IsOne IsAny label_row (FirstIs IsKind)
 label_one labels tokens x y others more rest left _ _ ends last spells reads =
     let inside = sign_passed kind.OpenBracket tokens (label x ∷ sign kind.CloseBracket ∷ others) (label y ∷ sign kind.CloseBracket ∷ more) rest left (λ lexeme. refl) spells reads in
-    let behind = expression_one Reads labels x y inside.middle (sign kind.CloseBracket ∷ others) (sign kind.CloseBracket ∷ more) rest left inside.one inside.other in
-    (behind.0, sign_passed kind.CloseBracket behind.1.middle others more rest left (λ lexeme. refl) behind.1.one behind.1.other)
+    let following = expression_one Reads labels x y inside.middle (sign kind.CloseBracket ∷ others) (sign kind.CloseBracket ∷ more) rest left inside.one inside.other in
+    (following.0, sign_passed kind.CloseBracket following.1.middle others more rest left (λ lexeme. refl) following.1.one following.1.other)
 
 sig_one : IsOne IsAny sig_row (FirstIs IsKind)
 sig_one tokens x y others more rest left _ _ ends last spells reads =
     let inside = sign_passed kind.OpenBrace tokens (each int_row x (sign kind.CloseBrace ∷ others)) (each int_row y (sign kind.CloseBrace ∷ more)) rest left (λ lexeme. refl) spells reads in
-    let behind = each_one IsAny int_row is_int IsKind int_part (int_one (FirstIs IsKind)) inside.middle x y (sign kind.CloseBrace ∷ others) (sign kind.CloseBrace ∷ more) rest left
+    let following = each_one IsAny int_row is_int IsKind int_part (int_one (FirstIs IsKind)) inside.middle x y (sign kind.CloseBrace ∷ others) (sign kind.CloseBrace ∷ more) rest left
     (all_any x) (all_any y) (refl, tt) (refl, tt) inside.one inside.other in
-    (behind.0, sign_passed kind.CloseBrace behind.1.middle others more rest left (λ lexeme. refl) behind.1.one behind.1.other)
+    (following.0, sign_passed kind.CloseBrace following.1.middle others more rest left (λ lexeme. refl) following.1.one following.1.other)
 
 edge_one : LabelsAreOne → IsOne IsRawEdge edge_row (FirstIs EndsEdge)
 edge_one labels tokens x y others more rest left is so ends last spells reads =
@@ -72,15 +72,15 @@ edge_one labels tokens x y others more rest left is so ends last spells reads =
     (edge_same x.label x.targets x.marks y a.0 b.0 c.0, c.1)
 
 -- what stands after the number of a state
-abbrev behind_number : RawState → List AutomatonSymbol → List AutomatonSymbol
-behind_number state others = optional_row string_row state.name (optional_row sig_row state.marks (each edge_row state.edges others))
+abbrev after_number : RawState → List AutomatonSymbol → List AutomatonSymbol
+after_number state others = optional_row string_row state.name (optional_row sig_row state.marks (each edge_row state.edges others))
 
 pub state_one : LabelsAreOne → IsOne IsRawState state_row (FirstIs EndsState)
 state_one labels tokens x y others more rest left is so ends last spells reads =
-    let name = token_one (header _) (header _) tokens (optional_row label_row x.label (number x.number ∷ behind_number x others)) (optional_row label_row y.label (number y.number ∷ behind_number y more)) rest left tt tt spells reads in
-    let a = optional_one IsAny label_row is_bracket IsKind label_part (label_one labels) name.1.middle x.label y.label (number x.number ∷ behind_number x others) (number y.number ∷ behind_number y more) rest left
+    let name = token_one (header _) (header _) tokens (optional_row label_row x.label (number x.number ∷ after_number x others)) (optional_row label_row y.label (number y.number ∷ after_number y more)) rest left tt tt spells reads in
+    let a = optional_one IsAny label_row is_bracket IsKind label_part (label_one labels) name.1.middle x.label y.label (number x.number ∷ after_number x others) (number y.number ∷ after_number y more) rest left
     (some_any x.label) (some_any y.label) (refl, tt) (refl, tt) name.1.one name.1.other in
-    let b = token_one (number x.number) (number y.number) a.1.middle (behind_number x others) (behind_number y more) rest left tt tt a.1.one a.1.other in
+    let b = token_one (number x.number) (number y.number) a.1.middle (after_number x others) (after_number y more) rest left tt tt a.1.one a.1.other in
     let c = optional_one IsAny string_row is_string IsKind string_part (string_one (FirstIs IsKind)) b.1.middle x.name y.name (optional_row sig_row x.marks (each edge_row x.edges others)) (optional_row sig_row y.marks (each edge_row y.edges more)) rest left
     (some_any x.name) (some_any y.name) (name_ends x.marks _ (edges_begin x.edges others is ends)) (name_ends y.marks _ (edges_begin y.edges more so last)) b.1.one b.1.other in
     let d = optional_one IsAny sig_row is_brace IsKind sig_part sig_one c.1.middle x.marks y.marks (each edge_row x.edges others) (each edge_row y.edges more) rest left

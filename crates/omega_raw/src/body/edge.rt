@@ -50,7 +50,7 @@ impl<'a, S: TokenSource<'a, HoaKind>> Part<'a, S> for Edge {
     ghost follows = { edge_follows };
 }
 
-/// Reads as many edges as stand there, into as much memory as they need.
+/// Reads edges as long as the next token begins one, into as much memory as they need.
 #[inline(always)]
 pub(crate) fn read_edges<'a, S: TokenSource<'a, HoaKind>>(
     alloc: Global,

@@ -41,7 +41,7 @@ impl<'a, S: TokenSource<'a, HoaKind>> Part<'a, S> for Sig {
     ghost follows = { λ kind is. tt };
 }
 
-/// Reads the sets of a state or an edge, if braces stand there.
+/// Reads the sets of a state or an edge, if braces are next.
 #[inline(always)]
 pub(crate) fn read_marks<'a, S: TokenSource<'a, HoaKind>>(
     alloc: Global,

@@ -55,7 +55,7 @@ impl<'a, S: TokenSource<'a, HoaKind>> Part<'a, S> for State {
     ghost follows = { state_follows };
 }
 
-/// Reads the name of a state, if it stands there.
+/// Reads the name of a state, if a string is next.
 fn read_name<'a, S: TokenSource<'a, HoaKind>>(
     alloc: Global,
     source: &mut S,

@@ -13,8 +13,8 @@ use crate::taking::copied;
 use omega_text::{HoaKind, Refusal, TextFault, TokenSource};
 use std::alloc::Global;
 
-/// Reads what stands after the header of this name, which is without its colon. Where no item has it 3 is answered at
-/// the header's place.
+/// Reads what follows the header `name`, which is without its colon. Refused with [TextFault::Syntax] at the header's
+/// place `at` if no item has that name.
 pub(crate) fn content<'a, S: TokenSource<'a, HoaKind>>(
     alloc: Global,
     name: &[u8],
@@ -41,7 +41,7 @@ pub(crate) fn content<'a, S: TokenSource<'a, HoaKind>>(
     }
 }
 
-/// The values after an unknown header.
+/// Reads the values after an unknown header.
 fn unknown<'a, S: TokenSource<'a, HoaKind>>(
     alloc: Global,
     name: &[u8],

@@ -1,4 +1,4 @@
-//! What stands after the header of an item.
+//! What follows the header of an item.
 
 ghost use Rattle.std.specs.Prelude.{◌≡◌, IfErr};
 ghost use Rattle.omega_raw.specs.private.steps.Contents.{FindsContent, GivesContent};
@@ -15,7 +15,7 @@ use omega_acc::AccName;
 use omega_text::{HoaKind, Refusal, TokenSource};
 use std::alloc::Global;
 
-/// The count of states after `States:`.
+/// Reads the count of states after `States:`.
 pub(crate) fn state_count<'a, S: TokenSource<'a, HoaKind>>(
     source: &mut S,
 ) -> Result<RawItem, Refusal>
@@ -27,7 +27,7 @@ pub(crate) fn state_count<'a, S: TokenSource<'a, HoaKind>>(
     Ok(RawItem::States(take_int(source)?))
 }
 
-/// A conj after `Start:`.
+/// Reads the conj after `Start:`.
 pub(crate) fn start<'a, S: TokenSource<'a, HoaKind>>(
     alloc: Global,
     source: &mut S,
@@ -41,7 +41,7 @@ pub(crate) fn start<'a, S: TokenSource<'a, HoaKind>>(
     Ok(RawItem::Start(states))
 }
 
-/// The count and the names after `AP:`.
+/// Reads the count and the names after `AP:`.
 pub(crate) fn propositions<'a, S: TokenSource<'a, HoaKind>>(
     alloc: Global,
     source: &mut S,
@@ -56,7 +56,7 @@ pub(crate) fn propositions<'a, S: TokenSource<'a, HoaKind>>(
     Ok(RawItem::Propositions { count, names })
 }
 
-/// The name and the definition after `Alias:`.
+/// Reads the name and the definition after `Alias:`.
 pub(crate) fn alias<'a, S: TokenSource<'a, HoaKind>>(
     alloc: Global,
     source: &mut S,
@@ -72,7 +72,7 @@ pub(crate) fn alias<'a, S: TokenSource<'a, HoaKind>>(
     Ok(RawItem::Alias { name, definition })
 }
 
-/// The count of sets and the formula after `Acceptance:`.
+/// Reads the count of sets and the formula after `Acceptance:`.
 pub(crate) fn acceptance<'a, S: TokenSource<'a, HoaKind>>(
     alloc: Global,
     source: &mut S,
@@ -87,7 +87,7 @@ pub(crate) fn acceptance<'a, S: TokenSource<'a, HoaKind>>(
     Ok(RawItem::Acceptance { count, formula })
 }
 
-/// The identifier and the parameters after `acc-name:`.
+/// Reads the identifier and the parameters after `acc-name:`.
 pub(crate) fn acc_name<'a, S: TokenSource<'a, HoaKind>>(
     alloc: Global,
     source: &mut S,
@@ -102,7 +102,7 @@ pub(crate) fn acc_name<'a, S: TokenSource<'a, HoaKind>>(
     Ok(RawItem::AccName(AccName { name, parameters }))
 }
 
-/// One or two strings after `tool:`.
+/// Reads one or two strings after `tool:`.
 pub(crate) fn tool<'a, S: TokenSource<'a, HoaKind>>(
     alloc: Global,
     source: &mut S,
@@ -117,7 +117,7 @@ pub(crate) fn tool<'a, S: TokenSource<'a, HoaKind>>(
     Ok(RawItem::Tool { first, second })
 }
 
-/// The string after `name:`.
+/// Reads the string after `name:`.
 pub(crate) fn title<'a, S: TokenSource<'a, HoaKind>>(
     alloc: Global,
     source: &mut S,
@@ -130,7 +130,7 @@ pub(crate) fn title<'a, S: TokenSource<'a, HoaKind>>(
     Ok(RawItem::Name(take_string(alloc, source)?))
 }
 
-/// The identifiers after `properties:`.
+/// Reads the identifiers after `properties:`.
 pub(crate) fn properties<'a, S: TokenSource<'a, HoaKind>>(
     alloc: Global,
     source: &mut S,

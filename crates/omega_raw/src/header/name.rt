@@ -3,7 +3,7 @@ ghost use Rattle.omega_raw.specs.Grammar.{header_named};
 
 use crate::same::is_name;
 
-/// What the name of a header says that it is.
+/// The kind of a header, by its name.
 #[derive(Clone, Copy, Debug, PartialEq, Eq)]
 pub enum HeaderKind {
     /// `HOA:`, which begins an automaton and is no item.
@@ -24,7 +24,7 @@ pub enum HeaderKind {
 }
 
 impl HeaderKind {
-    /// The header of a name, which is without its colon.
+    /// Returns the kind of the header `name`, which is without its colon.
     pub(crate) fn of_name(name: &[u8]) -> HeaderKind
         ensures { result ≡ header_named name.now }
     {

@@ -2,4 +2,3 @@
 pub mod Beside
 pub mod Kinds
 pub mod Telling
-pub mod WithFile

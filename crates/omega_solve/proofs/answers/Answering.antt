@@ -7,20 +7,20 @@ use Rattle.std.proofs.lemmas.List.{get_or-map, length-map, take_more, take_more_
 use Rattle.omega_game.specs.declared.player.Player.{Player}
 use Rattle.omega_game.specs.Game.{Node, owner_at}
 use Rattle.omega_game.specs.Winning.{Chooses}
-use Rattle.omega_lift.specs.Measure.{Measure}
-use Rattle.omega_lift.specs.Allowance.{measure_at}
-use Rattle.omega_lift.specs.Answer.{AreChoices, IsFirstLeast, won_in}
+use Rattle.omega_lift_laws.specs.Measure.{Measure}
+use Rattle.omega_lift_laws.specs.Allowance.{measure_at}
+use Rattle.omega_lift_laws.specs.Answer.{AreChoices, IsFirstLeast, won_in}
 use Rattle.omega_solve.specs.private.solving.Successor.{IsChoiceAt}
 use Rattle.omega_solve.proofs.schedules.Flags.{slice_get-set_other, slice_get-set_same}
 
--- a place is won where its measure is not top
+-- a place is won if its measure is not top
 won_at : (b : Bool) (x : Measure) → (IsTrue b ↔ (x ≡ None)) → not b ≡ is_some x
 won_at true None h = refl
 won_at true (Some xs) h = absurd (let e = h.0 refl in cc)
 won_at false None h = absurd (false≢true (h.1 refl))
 won_at false (Some xs) h = refl
 
--- the places won are told one further
+-- the places won are right up to one place more
 pub won_more : (table : List Measure) (won : List Bool) (p : ℕ) (b : Bool) → p < length won → p < length table
     → take p won ≡ take p (won_in table) → (IsTrue b ↔ (measure_at table p ≡ None))
     → take (p + 1) (set won p (not b)) ≡ take (p + 1) (won_in table)
@@ -33,7 +33,7 @@ won_more table won p b in_won in_table so_far top =
     ∙ (ap (λ (y : Bool). take p (won_in table) ++ y ∷ []) here
     ∙ sym (take_more (won_in table) p false in_all)))
 
--- the choices are told one further
+-- the choices are right up to one place more
 pub choice_more : (nodes : List Node) (player : Player) (table : List Measure) (choices : List (Option ℕ)) (p : ℕ) (choice : Option ℕ)
     → p < length choices
     → ((v : ℕ) → v < p → (c : Option ℕ) × (slice_get choices v ≡ Some c) × IsChoiceAt nodes player table v c)

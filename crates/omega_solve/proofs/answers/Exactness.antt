@@ -1,4 +1,4 @@
--- Where no lift is due, the answer of a table that is reached is exact.
+-- If no lift is due, the answer of a table that is reached is exact.
 use Rattle.std.proofs.Common.{◌≡◌, ℕ, ◌<◌, true, false, List, Option, Some, None, length, refl, sym, ap, ◌∙◌, arith}
 use Rattle.std.specs.List.{slice_get}
 use Rattle.std.specs.Option.{IsSome, is_some}
@@ -7,24 +7,24 @@ use Rattle.std.proofs.lemmas.Option.{get_or_from_slice_get, slice_get-get_or, sl
 use Rattle.omega_game.specs.declared.player.Player.{Player}
 use Rattle.omega_game.specs.Game.{Node, IsGame, priorities}
 use Rattle.omega_game.specs.Winning.{Chooses, InRegion}
-use Rattle.omega_lift.specs.Measure.{Measure}
-use Rattle.omega_lift.specs.Allowance.{measure_at}
-use Rattle.omega_lift.specs.Answer.{AreChoices, won_in}
-use Rattle.omega_lift.specs.Laws.{ChoicesAreAStrategy, ChoicesWin, RegionsStayBelowTop}
-use Rattle.omega_lift.specs.Run.{IsLiftingRun, IsStable, IsTable, zero_table}
+use Rattle.omega_lift_laws.specs.Measure.{Measure}
+use Rattle.omega_lift_laws.specs.Allowance.{measure_at}
+use Rattle.omega_lift_laws.specs.Answer.{AreChoices, won_in}
+use Rattle.omega_lift_laws.specs.Laws.{ChoicesAreAStrategy, ChoicesWin, RegionsStayBelowTop}
+use Rattle.omega_lift_laws.specs.Run.{IsLiftingRun, IsStable, IsTable, zero_table}
 use Rattle.omega_solve.specs.Headline.{IsExact}
 
 -- a table of a game has a measure for each node
 pub entries_are : (nodes : List Node) (player : Player) (table : List Measure) → IsTable player (priorities nodes) table → length table ≡ length nodes
 entries_are nodes player table is = is.entries ∙ length-map nodes (λ (node : Node). node.priority)
 
--- a place is told won exactly if its measure is below top
-pub told_at : (table : List Measure) (v : ℕ) → v < length table → slice_get (won_in table) v ≡ Some (is_some (measure_at table v))
-told_at table v lt =
+-- the flag of a place says won exactly if its measure is below top
+pub reported_at : (table : List Measure) (v : ℕ) → v < length table → slice_get (won_in table) v ≡ Some (is_some (measure_at table v))
+reported_at table v lt =
     let inside : v < length (won_in table) = omega (arith, length-map table (λ (x : Measure). is_some x)) in
     slice_get-get_or (won_in table) v false inside ∙ ap Some (get_or-map (λ (x : Measure). is_some x) table v None false lt)
 
--- a place that is told won is one of the table
+-- a place that is won is one of the table
 won_inside : (table : List Measure) (v : ℕ) → slice_get (won_in table) v ≡ Some true → v < length table
 won_inside table v at = omega (arith, slice_get_within (won_in table) v true at, length-map table (λ (x : Measure). is_some x))
 
@@ -33,16 +33,16 @@ won_below_top : (table : List Measure) (v : ℕ) → slice_get (won_in table) v 
 won_below_top table v at =
     sym (get_or-map (λ (x : Measure). is_some x) table v None false (won_inside table v at)) ∙ get_or_from_slice_get (won_in table) v true false at
 
--- a place with a choice is told won
+-- a place with a choice is won
 chosen_won : (nodes : List Node) (player : Player) (table : List Measure) (choices : List (Option ℕ)) (v w : ℕ) (x : Measure)
     → AreChoices nodes player table choices → v < length nodes → v < length table → Chooses choices v w → measure_at table v ≡ x
     → slice_get (won_in table) v ≡ Some true
 chosen_won nodes player table choices v w None are node entry chooses at =
     let none : slice_get choices v ≡ Some None = are.lost v node at in cc
 chosen_won nodes player table choices v w (Some entries) are node entry chooses at =
-    told_at table v entry ∙ ap (λ (x : Measure). Some (is_some x)) at
+    reported_at table v entry ∙ ap (λ (x : Measure). Some (is_some x)) at
 
--- where no lift is due, the answer of a table that is reached is exact
+-- if no lift is due, the answer of a table that is reached is exact
 pub answer_exact : (nodes : List Node) (player : Player) (places : List ℕ) (table : List Measure) (choices : List (Option ℕ))
     → ChoicesAreAStrategy → ChoicesWin → RegionsStayBelowTop
     → IsGame nodes → IsTable player (priorities nodes) table → IsLiftingRun nodes player (zero_table player (priorities nodes)) places table
@@ -50,9 +50,9 @@ pub answer_exact : (nodes : List Node) (player : Player) (places : List ℕ) (ta
 answer_exact nodes player places table choices is_strategy win stay game is lifted stable chosen =
     let strategy = is_strategy nodes player table choices chosen in
     let entries = entries_are nodes player table is in
-    let told : (v : ℕ) → InRegion nodes player v → slice_get (won_in table) v ≡ Some true =
+    let reported : (v : ℕ) → InRegion nodes player v → slice_get (won_in table) v ≡ Some true =
     λ v region. let inside : v < length table = omega (arith, region.node) in
-    told_at table v inside ∙ ap Some (stay nodes player places table v game lifted region) in
+    reported_at table v inside ∙ ap Some (stay nodes player places table v game lifted region) in
     let wins = λ (v : ℕ) (at : slice_get (won_in table) v ≡ Some true).
     win nodes player table choices v game is stable chosen (won_below_top table v at) in
     record {
@@ -67,7 +67,7 @@ answer_exact nodes player places table choices is_strategy win stay game is lift
           chosen_won nodes player table choices v w (measure_at table v) chosen node (omega arith) chooses refl;
       exactly = λ v. (
         λ at. record { node = omega (arith, won_inside table v at); choices = choices; strategy = strategy; wins = wins v at },
-        told v,
+        reported v,
       );
-      wins = λ v region. wins v (told v region);
+      wins = λ v region. wins v (reported v region);
     }

@@ -5,15 +5,15 @@ use Rattle.std.proofs.lemmas.Bool.{false≢true}
 use Rattle.omega_game.specs.declared.player.Player.{Player}
 use Rattle.omega_game.specs.declared.player.Player.TheVariants.{Zero, One}
 use Rattle.omega_game.specs.Game.{Node, priorities}
-use Rattle.omega_lift.specs.Measure.{Measure}
-use Rattle.omega_lift.specs.Allowance.{measure_at}
-use Rattle.omega_lift.specs.Answer.{won_in}
-use Rattle.omega_lift.specs.Laws.{RegionsStayBelowTop, RunsKeepTables, WonPlacesAreInRegions, ZeroTablesAreTables}
-use Rattle.omega_lift.specs.Run.{IsLiftingRun, IsStable, IsTable, zero_table}
-use Rattle.omega_region.specs.Laws.{RegionsAreApart, RegionsCover}
+use Rattle.omega_lift_laws.specs.Measure.{Measure}
+use Rattle.omega_lift_laws.specs.Allowance.{measure_at}
+use Rattle.omega_lift_laws.specs.Answer.{won_in}
+use Rattle.omega_lift_laws.specs.Laws.{RegionsStayBelowTop, RunsKeepTables, WonPlacesAreInRegions, ZeroTablesAreTables}
+use Rattle.omega_lift_laws.specs.Run.{IsLiftingRun, IsStable, IsTable, zero_table}
+use Rattle.omega_region_laws.specs.Laws.{RegionsAreApart, RegionsCover}
 use Rattle.omega_solve.specs.Determinacy.{AnswersPartTheGame, IsInOne}
 use Rattle.omega_solve.specs.Solver.{SolverState, IsFinished, IsReached}
-use Rattle.omega_solve.proofs.answers.Exactness.{entries_are, told_at}
+use Rattle.omega_solve.proofs.answers.Exactness.{entries_are, reported_at}
 
 -- a table of the game for the player in which no lift is due, and to which a lifting run leads from the all-zero table
 record IsFinal (nodes : List Node) (player : Player) (table : List Measure) : Type 0 where
@@ -41,9 +41,9 @@ in_one : (zero one : List Measure) (v : ℕ) (b c : Bool) → v < length zero �
     → IsInOne (won_in zero) (won_in one) v
 in_one zero one v true true in_zero in_one_table b c some apart = absurd (apart b c)
 in_one zero one v true false in_zero in_one_table b c some apart =
-    inl (told_at zero v in_zero ∙ ap Some b, told_at one v in_one_table ∙ ap Some c)
+    inl (reported_at zero v in_zero ∙ ap Some b, reported_at one v in_one_table ∙ ap Some c)
 in_one zero one v false true in_zero in_one_table b c some apart =
-    inr (told_at zero v in_zero ∙ ap Some b, told_at one v in_one_table ∙ ap Some c)
+    inr (reported_at zero v in_zero ∙ ap Some b, reported_at one v in_one_table ∙ ap Some c)
 in_one zero one v false false in_zero in_one_table b c some apart = elim some [
   | inl here ↦ absurd (false≢true (sym b ∙ here))
   | inr here ↦ absurd (false≢true (sym c ∙ here))

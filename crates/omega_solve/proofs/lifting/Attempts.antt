@@ -11,9 +11,9 @@ use Rattle.omega_game.specs.declared.player.Player.{Player}
 use Rattle.omega_game.specs.Bound.{product_of}
 use Rattle.omega_game.specs.Game.{Node, IsGame, successor_count, listed_times, no_node, priorities, successors_at}
 use Rattle.omega_game.specs.Limits.{most_successors}
-use Rattle.omega_lift.specs.Measure.{Measure}
-use Rattle.omega_lift.specs.Run.{IsLiftingRun, zero_table}
-use Rattle.omega_lift.specs.Laws.{PlacesAreLiftedBoundedly}
+use Rattle.omega_lift_laws.specs.Measure.{Measure}
+use Rattle.omega_lift_laws.specs.Run.{IsLiftingRun, zero_table}
+use Rattle.omega_lift_laws.specs.Laws.{PlacesAreLiftedBoundedly}
 use Rattle.omega_solve.specs.Limits.{most_lifts}
 use Rattle.omega_solve.specs.private.solving.Progress.{in_degree}
 use Rattle.omega_solve.proofs.lifting.Totals.{sum_by-indices, sum_by-range, sum_by-times, times_in, total, total_le, total_same, total_swap, total_times}

@@ -1,4 +1,4 @@
--- Where a lift is due, told by the measures of the successors.
+-- The measures of the successors decide whether a lift is due.
 use Rattle.std.proofs.Common.{◌≡◌, ◌≢◌, ℕ, ◌<◌, List, Option, Some, None, length, arith, refl, sym, ◌∙◌, subst, slice_index, take}
 use Rattle.std.specs.Option.{IsSome, MatchOption, option_map}
 use Rattle.std.specs.Cmp.{IsTotalOrder}
@@ -9,11 +9,11 @@ use Rattle.std.proofs.lemmas.Bool.{false≢true}
 use Rattle.std.proofs.lemmas.List.{get_or-map, length-map}
 use Rattle.omega_game.specs.declared.player.Player.{Player}
 use Rattle.omega_game.specs.Game.{Node, IsGame, HasEdge, no_node, owner_at, priorities, priority_at, successors_at}
-use Rattle.omega_lift.specs.Measure.{Measure, IsAbove, IsAtMost, compare_from, entries_from}
-use Rattle.omega_lift.specs.Allowance.{IsAllowance, IsAllowanceOf, IsLiftValue, measure_at}
-use Rattle.omega_lift.specs.Run.{IsDue}
-use Rattle.omega_lift.specs.Answer.{IsFirstLeast}
-use Rattle.omega_lift.specs.Laws.{AllowancesAreMonotone, AllowancesAreStrict, AllowancesExist, MeasuresAreOrdered}
+use Rattle.omega_lift_laws.specs.Measure.{Measure, IsAbove, IsAtMost, compare_from, entries_from}
+use Rattle.omega_lift_laws.specs.Allowance.{IsAllowance, IsAllowanceOf, IsLiftValue, measure_at}
+use Rattle.omega_lift_laws.specs.Run.{IsDue}
+use Rattle.omega_lift_laws.specs.Answer.{IsFirstLeast}
+use Rattle.omega_lift_laws.specs.Laws.{AllowancesAreMonotone, AllowancesAreStrict, AllowancesExist, MeasuresAreOrdered}
 use Rattle.omega_measure.specs.Table.{Content, Exceeds, IsAllowanceIn}
 use Rattle.omega_solve.specs.private.solving.Successor.{ExceedsToAll, IsDueTowards, IsFirstBest, IsLeastExceeded, IsTableOf, KeepsToSome, order_from}
 use Rattle.omega_solve.proofs.lifting.Edges.{edge_at, index_of_edge}

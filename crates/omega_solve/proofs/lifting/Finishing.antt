@@ -3,7 +3,7 @@ use Rattle.std.proofs.Common.{ℕ, ◌^◌, ◌+◌, ◌-◌, ◌<◌, ◌≤◌
 use Rattle.std.specs.Option.{MatchOption}
 use Rattle.std.proofs.lemmas.Bool.{false≢true}
 use Rattle.std.proofs.lemmas.Option.{same_Some}
-use Rattle.omega_lift.specs.Laws.{PlacesAreLiftedBoundedly, RunsAreBounded}
+use Rattle.omega_lift_laws.specs.Laws.{PlacesAreLiftedBoundedly, RunsAreBounded}
 use Rattle.omega_solve.specs.Limits.{most_lifts}
 use Rattle.omega_solve.specs.Schedule.{IsIdle, IsPending}
 use Rattle.omega_solve.specs.Solver.{IsFinished, IsReached, SolverState, attempt_bound, lift_bound}
@@ -41,7 +41,7 @@ pub takes_bounded : (state : SolverState) → PlacesAreLiftedBoundedly → IsSol
 takes_bounded state bounded s =
     omega (arith, s.most, in_degrees_bounded state.nodes state.player s.places state.table.measures s.game bounded s.lifted)
 
--- each place was taken where none is pending
+-- each place was taken if none is pending
 pub takes_each : (state : SolverState) → IsSolving state → IsIdle state.pending → length state.nodes ≤ state.pending.taken
 takes_each state s idle = omega (arith, s.least, waits_none state.pending idle)
 

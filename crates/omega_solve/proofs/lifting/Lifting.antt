@@ -10,10 +10,10 @@ use Rattle.std.proofs.Math.Nat.{mul-le-mul_left}
 use Rattle.omega_game.specs.declared.player.Player.{Player}
 use Rattle.omega_game.specs.declared.player.Player.TheVariants.{One, Zero}
 use Rattle.omega_game.specs.Game.{Node, HasEdge, owner_at, predecessors_of, priorities, priority_at, successors_at}
-use Rattle.omega_lift.specs.Measure.{Measure, IsAbove}
-use Rattle.omega_lift.specs.Allowance.{IsAllowance, IsAllowanceOf, IsLiftValue, measure_at}
-use Rattle.omega_lift.specs.Run.{IsDue, IsLiftingRun, IsTable, Lifts}
-use Rattle.omega_lift.specs.Laws.{AllowancesAreUnique, RunsKeepTables}
+use Rattle.omega_lift_laws.specs.Measure.{Measure, IsAbove}
+use Rattle.omega_lift_laws.specs.Allowance.{IsAllowance, IsAllowanceOf, IsLiftValue, measure_at}
+use Rattle.omega_lift_laws.specs.Run.{IsDue, IsLiftingRun, IsTable, Lifts}
+use Rattle.omega_lift_laws.specs.Laws.{AllowancesAreUnique, RunsKeepTables}
 use Rattle.omega_measure.specs.Table.{Content, Exceeds, Raises, with_measure}
 use Rattle.omega_solve.specs.Limits.{most_lifts}
 use Rattle.omega_solve.specs.Schedule.{IsPending, Pending, with_taken}

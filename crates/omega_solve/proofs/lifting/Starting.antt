@@ -4,7 +4,7 @@ use Rattle.std.proofs.lemmas.Bool.{false≢true}
 use Rattle.std.proofs.lemmas.List.{length-replicate}
 use Rattle.omega_game.specs.declared.player.Player.{Player}
 use Rattle.omega_game.specs.Game.{Node, IsGame, IsWithinLimits, priorities}
-use Rattle.omega_lift.specs.Laws.{ZeroTablesAreTables}
+use Rattle.omega_lift_laws.specs.Laws.{ZeroTablesAreTables}
 use Rattle.omega_solve.specs.Solver.{SolverState, start_of}
 use Rattle.omega_solve.specs.private.solving.Progress.{IsAnswered, IsSolving}
 use Rattle.omega_solve.proofs.lifting.Edges.{edge_leaves}

@@ -6,10 +6,10 @@ use Rattle.std.proofs.lemmas.List.Sums.{sum_by-cons}
 use Rattle.std.proofs.Math.Nat.{mul-pos}
 use Rattle.omega_game.specs.declared.player.Player.{Player}
 use Rattle.omega_game.specs.Game.{Node, IsGame, priorities}
-use Rattle.omega_game.specs.Bound.{bearers, bound_of, losing_priorities, product}
-use Rattle.omega_lift.specs.Measure.{Measure}
-use Rattle.omega_lift.specs.Run.{IsDue, IsLiftingRun, zero_table}
-use Rattle.omega_lift.specs.Laws.{RunsAreBounded}
+use Rattle.omega_game.specs.Bound.{occurrences, bound_of, losing_priorities, product}
+use Rattle.omega_lift_laws.specs.Measure.{Measure}
+use Rattle.omega_lift_laws.specs.Run.{IsDue, IsLiftingRun, zero_table}
+use Rattle.omega_lift_laws.specs.Laws.{RunsAreBounded}
 use Rattle.omega_solve.specs.Solver.{SolverState, IsFinished, IsReached, HasLiftDue, LiftsWithin, start_of}
 use Rattle.omega_solve.specs.Headline.{DealsOut, Runs}
 use Rattle.omega_solve.proofs.lifting.Edges.{edge_leaves}
@@ -23,8 +23,8 @@ lifts_none state budget = record { places = []; lifted = refl; counted = omega a
 pub call_done : (old state new : SolverState) (made budget : ℕ)
     → state.nodes ≡ old.nodes → state.player ≡ old.player → LiftsWithin old made state → made ≤ budget
     → IsFinished state → new ≡ record state { done = true } → Runs old budget new
-call_done old state new made budget same_nodes same_player lifts within finished told =
-    rw told (record {
+call_done old state new made budget same_nodes same_player lifts within finished reported =
+    rw reported (record {
       same_nodes = same_nodes;
       same_player = same_player;
       lifted = record {
@@ -170,7 +170,7 @@ product_some f (x ∷ xs) = mul-pos (omega arith) (product_some f xs)
 bound_some : (nodes : List Node) (player : Player) → IsGame nodes → 0 < bound_of player (priorities nodes)
 bound_some nodes player game =
     let some : 0 < length (priorities nodes) = omega (arith, game.inhabited, length-map nodes (λ (node : Node). node.priority)) in
-    mul-pos some (product_some (bearers (priorities nodes)) (losing_priorities player (priorities nodes)))
+    mul-pos some (product_some (occurrences (priorities nodes)) (losing_priorities player (priorities nodes)))
 
 -- where a lift is due, the lifts so far are below the bound
 lifts_below : (solver : SolverState) → RunsAreBounded → IsReached solver → HasLiftDue solver

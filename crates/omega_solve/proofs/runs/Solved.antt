@@ -3,8 +3,8 @@ use Rattle.std.proofs.Common.{◌≡◌, true, List, [], refl, subst, arith}
 use Rattle.std.proofs.lemmas.Bool.{false≢true}
 use Rattle.omega_game.specs.declared.player.Player.{Player}
 use Rattle.omega_game.specs.Game.{Node, priorities}
-use Rattle.omega_lift.specs.Laws.{ChoicesAreAStrategy, ChoicesWin, RegionsStayBelowTop, RunsAreBounded, RunsKeepTables, ZeroTablesAreTables}
-use Rattle.omega_lift.specs.Run.{IsLiftingRun, IsStable, zero_table}
+use Rattle.omega_lift_laws.specs.Laws.{ChoicesAreAStrategy, ChoicesWin, RegionsStayBelowTop, RunsAreBounded, RunsKeepTables, ZeroTablesAreTables}
+use Rattle.omega_lift_laws.specs.Run.{IsLiftingRun, IsStable, zero_table}
 use Rattle.omega_solve.specs.Solver.{IsReached, start_of}
 use Rattle.omega_solve.specs.Headline.{Headline}
 use Rattle.omega_solve.proofs.runs.Dealing.{deals_finish, deals_keep_nodes, deals_keep_player, deals_reach, deals_suffice}

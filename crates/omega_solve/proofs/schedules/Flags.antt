@@ -83,8 +83,8 @@ waits_newly pending v at =
     omega (arith, step, none_if (get_or pending.flags v false) (get_or_from_slice_get pending.flags v false false at))
 
 -- a place that is not pending leaves room
-pub waits_room : (pending : Pending) (v : ℕ) → slice_get pending.flags v ≡ Some false → waits pending < length pending.flags
-waits_room pending v at =
+pub waits_below : (pending : Pending) (v : ℕ) → slice_get pending.flags v ≡ Some false → waits pending < length pending.flags
+waits_below pending v at =
     omega (arith, waits_newly pending v at, count_by-le-length (λ (flag : Bool). flag) (with_added pending v).flags, length-set pending.flags v true)
 
 none_counted_idle : (flags : List Bool) → count_by (λ flag. flag) flags ≡ 0 → (v : ℕ) → v < length flags → slice_get flags v ≡ Some false
@@ -94,7 +94,7 @@ none_counted_idle (false ∷ flags) none zero lt = refl
 none_counted_idle (false ∷ flags) none (suc v) lt =
     none_counted_idle flags (omega (arith, sum_by-cons (λ (flag : Bool). cond {A = ℕ} flag 1 0) false flags)) v (omega arith)
 
--- no place is pending where none counts
+-- no place is pending if none counts
 pub idle_none : (pending : Pending) → waits pending ≡ 0 → IsIdle pending
 idle_none pending none = none_counted_idle pending.flags none
 

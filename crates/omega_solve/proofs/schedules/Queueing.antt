@@ -8,7 +8,7 @@ use Rattle.std.proofs.lemmas.List.Sums.{count_by-le-length}
 use Rattle.std.proofs.lemmas.Option.{same_Some}
 use Rattle.omega_solve.specs.Schedule.{IsPending, Pending, with_added, with_taken}
 use Rattle.omega_solve.specs.private.schedules.Worklist.{ClosesGap, IsWorklist, queued, slot_of}
-use Rattle.omega_solve.proofs.schedules.Flags.{added_before, added_pending, pending_added, pending_all, pending_inside, pending_taken, taken_before, taken_other, waits_all, waits_newly, waits_room, waits_taken}
+use Rattle.omega_solve.proofs.schedules.Flags.{added_before, added_pending, pending_added, pending_all, pending_inside, pending_taken, taken_before, taken_other, waits_all, waits_newly, waits_below, waits_taken}
 
 -- slots before the end
 slot_low : (n first k : ℕ) → k < n - first → slot_of n first k ≡ first + k
@@ -84,7 +84,7 @@ pub worklist_added : (pending : Pending) (ring : List ℕ) (first count place : 
     → slice_get pending.flags place ≡ Some false → place < length pending.flags
     → IsWorklist (with_added pending place) (set ring (slot_of (length ring) first count) place) first (count + 1)
 worklist_added pending ring first count place w idle inside =
-    let room : count < length ring = omega (arith, w.counted, w.slots, waits_room pending place idle) in
+    let room : count < length ring = omega (arith, w.counted, w.slots, waits_below pending place idle) in
     let written = set ring (slot_of (length ring) first count) place in
     let same : queued written first count ≡ place = queued_same ring first count place w.begins room in
     let kept = λ (k : ℕ) (lt : k < count).

@@ -2,8 +2,8 @@
 use Rattle.std.proofs.Common.{inl, inr, ◌≡◌, ℕ, ◌+◌, ◌<◌, List, None, length, arith, ◌∙◌, slice_index}
 use Rattle.std.proofs.lemmas.Bool.{cases_eq, false≢true}
 use Rattle.std.proofs.lemmas.List.{length-set}
-use Rattle.omega_lift.specs.Measure.{Measure}
-use Rattle.omega_lift.specs.Allowance.{measure_at}
+use Rattle.omega_lift_laws.specs.Measure.{Measure}
+use Rattle.omega_lift_laws.specs.Allowance.{measure_at}
 use Rattle.omega_solve.specs.Schedule.{Pending, with_added}
 use Rattle.omega_solve.specs.private.solving.Wake.{Wakes}
 use Rattle.omega_solve.proofs.schedules.Flags.{added_pending, pending_added, waits_added, waits_kept}

@@ -1,4 +1,4 @@
--- What only the three schedules cite.
+-- What the three schedules alone cite.
 pub mod Sweep
 pub mod Worklist
 pub mod Nested

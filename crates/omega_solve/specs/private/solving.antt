@@ -1,4 +1,4 @@
--- What only the solver's own functions cite: what it keeps, the successor of a lift, lifting again, and waking.
+-- What the solver's own functions alone cite: its invariant, the successor of a lift, lifting again, and waking.
 pub mod Progress
 pub mod Repeating
 pub mod Successor

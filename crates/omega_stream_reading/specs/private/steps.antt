@@ -1,2 +1,2 @@
--- What stands between the pieces of a stream: cited by private contracts alone.
+-- The state between the pieces of a stream: cited by private contracts alone.
 pub mod Following

@@ -55,7 +55,7 @@ module _ {Kind : Type 0} (format : TextFormat Kind) (exact : GoesOneWay format) 
   shorter : (left : ℕ) (source : List ℕ) (from : ℕ) (lexeme : Lexeme Kind) → format.follows source from lexeme → length source ≤ from + suc left
       → (lexeme.span.end ≤ length source) × (length source ≤ lexeme.span.end + left)
   shorter left source from lexeme follows all =
-      let part = exact.behind source from lexeme follows in
+      let part = exact.following source from lexeme follows in
       (part.within, omega (arith, part.forward, part.nonempty, all))
 
   -- a text that is not longer than a number
@@ -63,7 +63,7 @@ module _ {Kind : Type 0} (format : TextFormat Kind) (exact : GoesOneWay format) 
   cut_from zero source from inside all = ⊎_elim
       (λ end. inl ([], from, refl, end))
       (⊎_elim
-      (λ token. absurd (let part = exact.behind source from token.0 token.1 in omega (arith, part.forward, part.nonempty, part.within)))
+      (λ token. absurd (let part = exact.following source from token.0 token.1 in omega (arith, part.forward, part.nonempty, part.within)))
       (λ fault. inr ([], from, fault.0, refl, fault.1)))
       (exact.some_way source from inside)
   cut_from (suc left) source from inside all = ⊎_elim

@@ -5,7 +5,7 @@ use Rattle.std.specs.Prelude.{drop, option_map, slice_get, IfNone, IfSome}
 use Rattle.omega_text.specs.Cursor.{next_place}
 use Rattle.std.proofs.Math.Logic.{∥∥₁_elim, ∥∥₁_map}
 use Rattle.omega_text.specs.Cut.{Cuts, IsCut}
-use Rattle.omega_text.specs.Format.{TextFormat, GoesOneWay, IsPartBehind}
+use Rattle.omega_text.specs.Format.{TextFormat, GoesOneWay, IsPartAfter}
 use Rattle.omega_text.specs.private.Left.{IsAllLeft, IsLeft, IsNextOfLeft, IsRestOfText, Left, lexeme_code, next_of}
 use Rattle.omega_text.specs.Lexeme.{Lexeme, lexeme_of}
 use Rattle.omega_text.specs.declared.refusal.text.TextFault.{TextFault}
@@ -27,8 +27,8 @@ module _ {Kind : Type 0} (format : TextFormat Kind) (source : List ℕ) where
     left_once : (next : Option (Lexeme Kind)) (one other : List (Lexeme Kind)) → IsLeft format source next one → IsLeft format source next other → one ≡ other
     left_once None one other first second = first ∙ sym second
     left_once (Some token) one other first second =
-        let same = (one_stop format exact source token.span.end first.others second.others first.behind.end second.behind.end None None
-        first.behind.cuts first.behind.rest second.behind.cuts second.behind.rest).0 in
+        let same = (one_stop format exact source token.span.end first.others second.others first.following.end second.following.end None None
+        first.following.cuts first.following.rest second.following.cuts second.following.rest).0 in
         first.split ∙ ap (λ others. token ∷ others) same ∙ sym second.split
 
     -- where a token follows, it is the first of the rest
@@ -41,7 +41,7 @@ module _ {Kind : Type 0} (format : TextFormat Kind) (source : List ℕ) where
           others = others;
           split = ap (λ first. first ∷ others) same;
           within = within;
-          behind = record { end = rest.end; cuts = subst (λ (one : Lexeme Kind). Cuts format source one.span.end others rest.end) same rest.cuts.1; rest = rest.rest };
+          following = record { end = rest.end; cuts = subst (λ (one : Lexeme Kind). Cuts format source one.span.end others rest.end) same rest.cuts.1; rest = rest.rest };
         } in
         record { are_left = left; only = λ more again. left_once (Some token) (lexeme ∷ others) more left again }
 
@@ -51,13 +51,13 @@ module _ {Kind : Type 0} (format : TextFormat Kind) (source : List ℕ) where
     rest_none at (lexeme ∷ others) ends rest = absurd (exact.no_token_at_end source at lexeme rest.cuts.0 ends)
 
     -- the same of a token that may have been told
-    pub told_first : (at : ℕ) (next : Option (Token Kind)) → IfSome next (λ token. format.follows source at (lexeme_of token)) → IfSome next (λ token. IsPartBehind source at token.span)
+    pub reported_first : (at : ℕ) (next : Option (Token Kind)) → IfSome next (λ token. format.follows source at (lexeme_of token)) → IfSome next (λ token. IsPartAfter source at token.span)
         → IfSome next (λ token. (lexemes : List (Lexeme Kind)) → IsRestOfText format source at lexemes → IsAllLeft format source (Some (lexeme_of token)) lexemes)
-    told_first at None follows part = tt
-    told_first at (Some token) follows part = λ lexemes rest. rest_first at (lexeme_of token) lexemes follows part.within rest
+    reported_first at None follows part = tt
+    reported_first at (Some token) follows part = λ lexemes rest. rest_first at (lexeme_of token) lexemes follows part.within rest
 
     -- what comes next is all that is left
-    pub rest_next : (at : ℕ) (next : Option (Token Kind)) → IfSome next (λ token. format.follows source at (lexeme_of token)) → IfSome next (λ token. IsPartBehind source at token.span)
+    pub rest_next : (at : ℕ) (next : Option (Token Kind)) → IfSome next (λ token. format.follows source at (lexeme_of token)) → IfSome next (λ token. IsPartAfter source at token.span)
         → IfNone next (format.ends source at) → (lexemes : List (Lexeme Kind)) → IsRestOfText format source at lexemes → IsAllLeft format source (option_map lexeme_of next) lexemes
     rest_next at None follows part ends lexemes rest = rest_none at lexemes ends rest
     rest_next at (Some token) follows part ends lexemes rest = rest_first at (lexeme_of token) lexemes follows part.within rest
@@ -100,11 +100,11 @@ module _ {Kind : Type 0} (format : TextFormat Kind) (source : List ℕ) where
         (λ all. let first : IsNextOfLeft format source token left.lexemes = subst (λ n. IsLeft format source n left.lexemes) is all.are_left in first.within)
 
     -- after it the others are the rest
-    pub left_behind : (token : Lexeme Kind) → next ≡ Some token → ∥ IsRestOfText format source token.span.end (drop 1 left.lexemes) ∥₁
-    left_behind token is = ∥∥₁_map left.all_left
+    pub left_after : (token : Lexeme Kind) → next ≡ Some token → ∥ IsRestOfText format source token.span.end (drop 1 left.lexemes) ∥₁
+    left_after token is = ∥∥₁_map left.all_left
         (λ (all : IsAllLeft format source next left.lexemes).
         let first : IsNextOfLeft format source token left.lexemes = subst (λ n. IsLeft format source n left.lexemes) is all.are_left in
-        subst (IsRestOfText format source token.span.end) (sym (ap (drop 1) first.split)) first.behind)
+        subst (IsRestOfText format source token.span.end) (sym (ap (drop 1) first.split)) first.following)
 
     -- the place of the next token is its own
     pub place_some : (token : Lexeme Kind) (size : ℕ) → next ≡ Some token → token.span.start ≡ next_place left.lexemes size
@@ -125,8 +125,8 @@ module _ {Kind : Type 0} (format : TextFormat Kind) (source : List ℕ) where
     pub parts_within : (some : Kind) → kind ≡ Some some → span.end ≤ length source
     parts_within some is = left_within coded _ left _ (next_is some is)
 
-    pub parts_behind : (some : Kind) → kind ≡ Some some → ∥ IsRestOfText format source span.end (drop 1 left.lexemes) ∥₁
-    parts_behind some is = left_behind coded _ left _ (next_is some is)
+    pub parts_after : (some : Kind) → kind ≡ Some some → ∥ IsRestOfText format source span.end (drop 1 left.lexemes) ∥₁
+    parts_after some is = left_after coded _ left _ (next_is some is)
 
     pub parts_none : kind ≡ None → left.lexemes ≡ []
     parts_none is = left_none coded _ left (next_none is)

@@ -1,6 +1,6 @@
 -- Hanoi texts go on from each place in one way.
 use Rattle.std.proofs.Common.{ℕ, ◌+◌, List, ◌++◌, length, ap, arith, length-append, length-drop}
-use Rattle.omega_text.specs.Format.{GoesOneWay, IsLexical, IsPartBehind}
+use Rattle.omega_text.specs.Format.{GoesOneWay, IsLexical, IsPartAfter}
 use Rattle.omega_text.specs.Lexeme.{Lexeme}
 use Rattle.omega_text.specs.declared.hoa.kind.HoaKind.{HoaKind}
 use Rattle.omega_text.specs.declared.refusal.text.TextFault.{TextFault}
@@ -20,8 +20,8 @@ lexical bytes place (Syntax at) is = is
 lexical bytes place TooLong is = is
 
 -- a token is a part of the text after the place
-pub follows_behind : (source : List ℕ) (from : ℕ) (lexeme : Lexeme HoaKind) → Follows source from lexeme → IsPartBehind source from lexeme.span
-follows_behind source from lexeme follows =
+pub follows_after : (source : List ℕ) (from : ℕ) (lexeme : Lexeme HoaKind) → Follows source from lexeme → IsPartAfter source from lexeme.span
+follows_after source from lexeme follows =
     let some = form_size lexeme.kind lexeme.text (spelled_form lexeme.kind lexeme.value lexeme.text follows.spells) in
     let size = ap length follows.split in
     let left = length-drop from source in
@@ -33,7 +33,7 @@ follows_behind source from lexeme follows =
 
 pub hoa_exact : GoesOneWay hoa_format
 hoa_exact = record {
-  behind = follows_behind;
+  following = follows_after;
   lexical = λ source from fault faults. lexical faults.bytes (from + length faults.gap) fault faults.fault_there;
   one_token = one_follows;
   one_fault = one_faults;

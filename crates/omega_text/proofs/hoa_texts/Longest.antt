@@ -45,24 +45,24 @@ not_left state more mode sort reads reached unread = ⊎_elim
     (stays state more (inl (sort, reads)))
 
 -- of two fronts of a list one is a front of the other
-pub fronts : {A : Type 0} (one rest other behind : List A) → one ++ rest ≡ other ++ behind
-    → ((more : List A) × (one ≡ other ++ more) × (behind ≡ more ++ rest)) ⊎ ((item : A) × (more : List A) × (other ≡ one ++ item ∷ more) × (rest ≡ item ∷ (more ++ behind)))
-fronts [] rest [] behind same = inl ([], refl, sym same)
-fronts [] rest (item ∷ other) behind same = inr (item, other, refl, same)
-fronts (item ∷ one) rest [] behind same = inl (item ∷ one, refl, sym same)
-fronts (item ∷ one) rest (first ∷ other) behind same =
+pub fronts : {A : Type 0} (one rest other following : List A) → one ++ rest ≡ other ++ following
+    → ((more : List A) × (one ≡ other ++ more) × (following ≡ more ++ rest)) ⊎ ((item : A) × (more : List A) × (other ≡ one ++ item ∷ more) × (rest ≡ item ∷ (more ++ following)))
+fronts [] rest [] following same = inl ([], refl, sym same)
+fronts [] rest (item ∷ other) following same = inr (item, other, refl, same)
+fronts (item ∷ one) rest [] following same = inl (item ∷ one, refl, sym same)
+fronts (item ∷ one) rest (first ∷ other) following same =
     let head : item ≡ first = cc in
     ⊎_elim
     (λ (more, is, left). inl (more, (λ i. head i ∷ is i), left))
     (λ (next, more, is, left). inr (next, more, (λ i. sym head i ∷ is i), left))
-    (fronts one rest other behind (cc))
+    (fronts one rest other following (cc))
 
 -- a run that can't go on
 module _ (text rest : List ℕ) (mode : Mode) (is : run (Some Start) text ≡ Some mode) (stuck : IsStuck mode rest) where
   -- its text is the longest unit, if it is a unit
   pub stuck_longest : IsLongest text rest
-  stuck_longest [] behind sort split some unit = absurd (omega arith)
-  stuck_longest (byte ∷ more) behind sort split some unit =
+  stuck_longest [] following sort split some unit = absurd (omega arith)
+  stuck_longest (byte ∷ more) following sort split some unit =
       let ends : next_mode mode byte ≡ None = subst (IsStuck mode) split stuck in
       answer_none more sort (ap (λ state. answer (run state more)) (sym ends) ∙ ap (λ state. answer (run state (byte ∷ more))) (sym is)
       ∙ ap answer (sym (run_append (Some Start) text (byte ∷ more))) ∙ unit_written sort (text ++ byte ∷ more) unit)
@@ -71,12 +71,12 @@ module _ (text rest : List ℕ) (mode : Mode) (is : run (Some Start) text ≡ So
   pub stuck_no_unit : 0 < length (text ++ rest) → unit_of mode ≡ None → BeginsNoUnit (text ++ rest)
   stuck_no_unit some unread = record {
     some = some;
-    none = λ front behind sort split unit. ⊎_elim
+    none = λ front following sort split unit. ⊎_elim
         (λ (more, longer, _).
         let reached : run (run (Some Start) front) more ≡ Some mode = sym (run_append (Some Start) front more) ∙ ap (run (Some Start)) (sym longer) ∙ is in
         not_left (run (Some Start) front) more mode sort (unit_written sort front unit) reached unread)
-        (λ (byte, more, longer, left). stuck_longest (byte ∷ more) behind sort left (omega arith) (subst (IsUnit sort) longer unit))
-        (fronts text rest front behind split);
+        (λ (byte, more, longer, left). stuck_longest (byte ∷ more) following sort left (omega arith) (subst (IsUnit sort) longer unit))
+        (fronts text rest front following split);
   }
 
 -- a part of a gap can't be longer

@@ -26,9 +26,9 @@ record Scanned (mode : Mode) (bytes : List ℕ) : Type 0 where
   stuck : IsStuck last rest
 
 scan_on : (mode : Mode) (byte : ℕ) (rest : List ℕ) (state : Option Mode) → next_mode mode byte ≡ state → ((next : Mode) → Scanned next rest) → Scanned mode (byte ∷ rest)
-scan_on mode byte rest None is behind = record { text = []; rest = byte ∷ rest; last = mode; split = refl; reached = refl; stuck = is }
-scan_on mode byte rest (Some next) is behind =
-    let found = behind next in
+scan_on mode byte rest None is following = record { text = []; rest = byte ∷ rest; last = mode; split = refl; reached = refl; stuck = is }
+scan_on mode byte rest (Some next) is following =
+    let found = following next in
     record {
       text = byte ∷ found.text;
       rest = found.rest;
@@ -91,14 +91,14 @@ way (suc fuel) (byte ∷ bytes) place short = ⊎_elim
     (λ (text, rest, split, is, some).
     let size = ap length split in
     let longer = length-append text rest in
-    let behind = way fuel rest (place + length text) (omega arith) in
-    let both : place + length (text ++ behind.gap) ≡ place + length text + length behind.gap = omega (arith, length-append text behind.gap) in
+    let following = way fuel rest (place + length text) (omega arith) in
+    let both : place + length (text ++ following.gap) ≡ place + length text + length following.gap = omega (arith, length-append text following.gap) in
     record {
-      gap = text ++ behind.gap;
-      rest = behind.rest;
-      split = split ∙ ap (λ bs. text ++ bs) behind.split ∙ sym (append_assoc text behind.gap behind.rest);
-      passed = blank text behind.gap is behind.passed;
-      goes_on = subst (λ at. (behind.rest ≡ []) ⊎ (Token behind.rest ⊎ ((fault : TextFault) × IsFaultOf behind.rest at fault))) (sym both) behind.goes_on;
+      gap = text ++ following.gap;
+      rest = following.rest;
+      split = split ∙ ap (λ bs. text ++ bs) following.split ∙ sym (append_assoc text following.gap following.rest);
+      passed = blank text following.gap is following.passed;
+      goes_on = subst (λ at. (following.rest ≡ []) ⊎ (Token following.rest ⊎ ((fault : TextFault) × IsFaultOf following.rest at fault))) (sym both) following.goes_on;
     })
     (λ here. record {
       gap = [];
@@ -112,22 +112,22 @@ way (suc fuel) (byte ∷ bytes) place short = ⊎_elim
 -- how a text goes on from a place
 pub onward : (source : List ℕ) (from : ℕ) → from ≤ length source → Ends source from ⊎ (((lexeme : Lexeme HoaKind) × Follows source from lexeme) ⊎ ((fault : TextFault) × HasFaultFrom source from fault))
 onward source from within =
-    let behind = way (length (drop from source)) (drop from source) from (omega arith) in
+    let following = way (length (drop from source)) (drop from source) from (omega arith) in
     ⊎_elim
-    (λ none. inl (record { passed = subst IsGap (sym (behind.split ∙ ap (λ bs. behind.gap ++ bs) none ∙ append-nil behind.gap)) behind.passed; within = within }))
+    (λ none. inl (record { passed = subst IsGap (sym (following.split ∙ ap (λ bs. following.gap ++ bs) none ∙ append-nil following.gap)) following.passed; within = within }))
     (⊎_elim
     (λ token. inr (inl (
-      lexeme_at (from + length behind.gap) token.kind token.value token.text,
+      lexeme_at (from + length following.gap) token.kind token.value token.text,
       record {
-        gap = behind.gap;
+        gap = following.gap;
         rest = token.rest;
-        split = behind.split ∙ ap (λ bs. behind.gap ++ bs) token.split;
-        passed = behind.passed;
+        split = following.split ∙ ap (λ bs. following.gap ++ bs) token.split;
+        passed = following.passed;
         spells = token.spells;
         longest = token.longest;
         start = refl;
         end = refl;
       },
     )))
-    (λ (fault, there). inr (inr (fault, record { gap = behind.gap; bytes = behind.rest; split = behind.split; passed = behind.passed; fault_there = there }))))
-    behind.goes_on
+    (λ (fault, there). inr (inr (fault, record { gap = following.gap; bytes = following.rest; split = following.split; passed = following.passed; fault_there = there }))))
+    following.goes_on

@@ -267,9 +267,9 @@ single_ends start byte single seen lexemes place at =
     subst (λ n. Passed seen lexemes (byte ∷ []) (fresh (n + 1))) (sym place) (single_read seen lexemes byte (at_with seen lexemes (fresh (length seen)) byte here) single)
 
 -- either answer of a test
-told : (test : Bool) → (test ≡ true) ⊎ (test ≡ false)
-told true = inl refl
-told false = inr refl
+reported : (test : Bool) → (test ≡ true) ⊎ (test ≡ false)
+reported true = inl refl
+reported false = inr refl
 
 -- a byte that begins a longer unit, or none, is no unit by itself
 not_single : (byte : ℕ) (mode : Option Mode) → first_mode byte ≡ mode → (mode ≡ Some Blank → ⊥) → ((kind : HoaKind) → mode ≡ Some (Whole kind) → ⊥) → IsSingle byte → ⊥
@@ -280,13 +280,13 @@ pub single_no_letter : (byte : ℕ) → IsSingle byte → is_letter byte ≡ fal
 single_no_letter byte single = ⊎_elim
     (λ letter. absurd (not_single byte (Some (Word (letter_kind byte))) (first_letter byte letter) (λ same. cc) (λ kind same. cc) single))
     (λ none. none)
-    (told (is_letter byte))
+    (reported (is_letter byte))
 
 pub single_no_digit : (byte : ℕ) → IsSingle byte → is_digit byte ≡ false
 single_no_digit byte single = ⊎_elim
     (λ digit. absurd (not_single byte (Some Digits) (first_digit byte digit) (λ same. cc) (λ kind same. cc) single))
     (λ none. none)
-    (told (is_digit byte))
+    (reported (is_digit byte))
 
 pub single_no_hyphen : (byte : ℕ) → IsSingle byte → byte ≢ 45
 single_no_hyphen byte single same = not_single 45 (Some Dash) refl (λ same. cc) (λ kind same. cc) (subst IsSingle same single)

@@ -20,7 +20,7 @@ use Rattle.omega_text.specs.hoa.Fault.{HasFaultFrom, IsFaultOf}
 use Rattle.omega_text.specs.hoa.Format.{hoa_format}
 use Rattle.omega_text.specs.hoa.Forms.{Spells}
 use Rattle.omega_text.specs.private.hoa.scanning.Modes.{IsStuck, IsWithin, next_mode, run, unit_of}
-use Rattle.omega_text.specs.hoa.Pieces.{FaultsBehind, IsSettled, SettlesFault, lexeme_in, lexemes_in, settled_lexemes}
+use Rattle.omega_text.specs.hoa.Pieces.{FaultsAfter, IsSettled, SettlesFault, lexeme_in, lexemes_in, settled_lexemes}
 use Rattle.omega_text.specs.private.hoa.scanning.Reading.{Any, IsAt, IsKept, IsUnfinishedUnit, With, IsValueOf}
 use Rattle.omega_text.specs.private.hoa.scanning.Unfinished.{Continues, IsFaultIn, IsGrown, IsPlaced, IsTokenIn, ValueGrows, fresh}
 use Rattle.omega_text.specs.Forms.{IsDigits}
@@ -41,27 +41,27 @@ module _ (source gap text : List ℕ) (end start : ℕ) (split : drop end source
   parts = let size = length-drop end source in let all = ap length split in omega (arith, length-append gap text)
 
   -- what stands after the gap
-  pub behind_gap : drop start source ≡ text
-  behind_gap = ap (λ n. drop n source) start_is ∙ sym (drop-drop (length gap) end source) ∙ ap (drop (length gap)) split ∙ drop_at gap text (length gap) refl
+  pub after_gap : drop start source ≡ text
+  after_gap = ap (λ n. drop n source) start_is ∙ sym (drop-drop (length gap) end source) ∙ ap (drop (length gap)) split ∙ drop_at gap text (length gap) refl
 
   -- with more after it
   pub split_more : (rest : List ℕ) → drop end (source ++ rest) ≡ gap ++ (text ++ rest)
   split_more rest = drop-append-le end source rest within ∙ ap (λ bytes. bytes ++ rest) split ∙ append_assoc gap text rest
 
 -- the bytes of a placed token
-placed_text : (source before text behind : List ℕ) (token : PlacedToken) (kind : HoaKind) (value start stop : ℕ) → IsPlaced token kind value start stop
-    → drop start source ≡ text ++ behind → stop ≡ start + length text → (lexeme_in source token).text ≡ text
-placed_text source before text behind token kind value start stop placed is size =
+placed_text : (source before text following : List ℕ) (token : PlacedToken) (kind : HoaKind) (value start stop : ℕ) → IsPlaced token kind value start stop
+    → drop start source ≡ text ++ following → stop ≡ start + length text → (lexeme_in source token).text ≡ text
+placed_text source before text following token kind value start stop placed is size =
     let long : token.span.end - token.span.start ≡ length text = omega (arith, placed.start_is, placed.end_is) in
     ap (λ n. take (token.span.end - token.span.start) (drop n source)) placed.start_is
-    ∙ ap (take (token.span.end - token.span.start)) is ∙ take_at text behind (token.span.end - token.span.start) (sym long)
+    ∙ ap (take (token.span.end - token.span.start)) is ∙ take_at text following (token.span.end - token.span.start) (sym long)
 
 -- a placed token after a gap follows
-placed_follows : (source seen gap text rest behind : List ℕ) (end : ℕ) (token : PlacedToken) (kind : HoaKind) (value start stop : ℕ) → IsPlaced token kind value start stop
-    → drop end source ≡ gap ++ (text ++ rest) → IsGap gap → drop start seen ≡ text ++ behind → start ≡ end + length gap → stop ≡ start + length text
+placed_follows : (source seen gap text rest following : List ℕ) (end : ℕ) (token : PlacedToken) (kind : HoaKind) (value start stop : ℕ) → IsPlaced token kind value start stop
+    → drop end source ≡ gap ++ (text ++ rest) → IsGap gap → drop start seen ≡ text ++ following → start ≡ end + length gap → stop ≡ start + length text
     → Spells kind value text → IsLongest text rest → Follows source end (lexeme_in seen token)
-placed_follows source seen gap text rest behind end token kind value start stop placed split passed is begins size spells longest =
-    let text_is = placed_text seen gap text behind token kind value start stop placed is size in
+placed_follows source seen gap text rest following end token kind value start stop placed split passed is begins size spells longest =
+    let text_is = placed_text seen gap text following token kind value start stop placed is size in
     record {
       gap = gap;
       rest = rest;
@@ -188,7 +188,7 @@ module _ (seen : List ℕ) (lexemes : List (Lexeme HoaKind)) (before : Pending) 
       let follows : (rest : List ℕ) → Follows (source ++ rest) at.end (lexeme_in source token) = λ rest.
       placed_follows (source ++ rest) source at.gap text rest [] at.end token kind 0 before.start (length seen + 1) placed
       (split_more source at.gap text at.end before.start split_longer within_longer at.start rest) at.passed
-      (behind_gap source at.gap text at.end before.start split_longer within_longer at.start ∙ sym (append-nil text)) at.start (omega arith)
+      (after_gap source at.gap text at.end before.start split_longer within_longer at.start ∙ sym (append-nil text)) at.start (omega arith)
       spells (stuck_longest text rest (Whole kind) reached (whole_stuck kind rest)) in
       record {
         end = length seen + 1;
@@ -267,7 +267,7 @@ at_with seen lexemes pending byte at = record {
 
 -- a mode that a byte ends is stuck before it
 stuck_with : (mode : Mode) (byte : ℕ) (rest : List ℕ) → next_mode mode byte ≡ None → With byte rest → IsStuck mode rest
-stuck_with mode byte rest ends (behind, is) = subst (IsStuck mode) (sym is) ends
+stuck_with mode byte rest ends (following, is) = subst (IsStuck mode) (sym is) ends
 
 -- a token that is settled by the byte after it
 pub judged : (seen : List ℕ) (lexemes : List (Lexeme HoaKind)) (before : Pending) (byte : ℕ) (token : PlacedToken) → IsAt Any seen lexemes before → next_mode before.mode byte ≡ None
@@ -278,10 +278,10 @@ judged seen lexemes before byte token at ends is =
     let found = judged_spells before.mode before.value before.start (length seen) token at.begun at.reached at.unfinished is in
     let all = parts seen at.gap at.begun at.end before.start at.split at.within at.start in
     let here = at_with seen lexemes before byte at in
-    let behind = behind_gap source at.gap (at.begun ++ byte ∷ []) at.end before.start (split_longer seen lexemes before byte here) (within_longer seen lexemes before byte here) at.start in
+    let following = after_gap source at.gap (at.begun ++ byte ∷ []) at.end before.start (split_longer seen lexemes before byte here) (within_longer seen lexemes before byte here) at.start in
     let follows : (rest : List ℕ) → With byte rest → Follows (seen ++ rest) at.end (lexeme_in source token) = λ rest with.
     placed_follows (seen ++ rest) source at.gap at.begun rest (byte ∷ []) at.end token found.0 found.1 before.start (length seen) found.2
-    (split_more seen at.gap at.begun at.end before.start at.split at.within at.start rest) at.passed behind at.start all
+    (split_more seen at.gap at.begun at.end before.start at.split at.within at.start rest) at.passed following at.start all
     found.3 (stuck_longest at.begun rest before.mode at.reached (stuck_with before.mode byte rest ends with)) in
     record {
       end = length seen;
@@ -357,10 +357,10 @@ module _ (seen : List ℕ) (lexemes : List (Lexeme HoaKind)) (pending : Pending)
   ends_in_token token is =
       let found = judged_spells pending.mode pending.value pending.start (length seen) token at.begun at.reached at.unfinished is in
       let all = parts seen at.gap at.begun at.end pending.start at.split at.within at.start in
-      let behind = behind_gap seen at.gap at.begun at.end pending.start at.split at.within at.start in
+      let following = after_gap seen at.gap at.begun at.end pending.start at.split at.within at.start in
       let follows : Follows seen at.end (lexeme_in seen token) =
       placed_follows seen seen at.gap at.begun [] [] at.end token found.0 found.1 pending.start (length seen) found.2
-      (at.split ∙ ap (λ bytes. at.gap ++ bytes) (sym (append-nil at.begun))) at.passed (behind ∙ sym (append-nil at.begun)) at.start all
+      (at.split ∙ ap (λ bytes. at.gap ++ bytes) (sym (append-nil at.begun))) at.passed (following ∙ sym (append-nil at.begun)) at.start all
       found.3 (stuck_longest at.begun [] pending.mode at.reached tt) in
       record {
         end = length seen;
@@ -368,7 +368,7 @@ module _ (seen : List ℕ) (lexemes : List (Lexeme HoaKind)) (pending : Pending)
         rest = record { passed = subst IsGap (sym (drop_all (length seen) seen (omega arith))) nothing; within = omega arith };
       }
 
-  pub ends_in_fault : (fault : TextFault) → pending.mode ≢ Start → IsFaultIn pending.mode pending.value pending.start fault → FaultsBehind seen lexemes fault
+  pub ends_in_fault : (fault : TextFault) → pending.mode ≢ Start → IsFaultIn pending.mode pending.value pending.start fault → FaultsAfter seen lexemes fault
   ends_in_fault fault begun is = record {
     end = at.end;
     cuts = cuts_here;
@@ -386,7 +386,7 @@ module _ (seen : List ℕ) (lexemes : List (Lexeme HoaKind)) (pending : Pending)
       some [] none = absurd (begun (let reached = ap (run (Some Start)) none ∙ at.reached in cc))
       some (byte ∷ bytes) same = omega (arith, ap length same, length-append at.begun [])
 
-pub ends_in_settled_fault : (seen : List ℕ) (lexemes : List (Lexeme HoaKind)) (fault : TextFault) → SettlesFault seen lexemes fault → FaultsBehind seen lexemes fault
+pub ends_in_settled_fault : (seen : List ℕ) (lexemes : List (Lexeme HoaKind)) (fault : TextFault) → SettlesFault seen lexemes fault → FaultsAfter seen lexemes fault
 ends_in_settled_fault seen lexemes fault settled = record {
   end = settled.end;
   cuts = subst (λ source. Cuts hoa_format source 0 lexemes settled.end) (append-nil seen) (settled.cuts []);

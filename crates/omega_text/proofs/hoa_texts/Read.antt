@@ -58,7 +58,7 @@ word_read kind (byte ∷ rest) sort is = ⊎_elim
 alias_read : (rest : List ℕ) (sort : Option HoaKind) → answer (run (Some Alias) rest) ≡ Some sort → AllPass is_word_byte rest × (sort ≡ Some AliasName)
 alias_read [] sort is = (All-nil (λ b. is_word_byte b ≡ true), cc)
 alias_read (byte ∷ rest) sort is = ⊎_elim
-    (λ (goes_on, more). let behind = alias_read rest sort more in (All-cons (λ b. is_word_byte b ≡ true) byte rest goes_on behind.0, behind.1))
+    (λ (goes_on, more). let following = alias_read rest sort more in (All-cons (λ b. is_word_byte b ≡ true) byte rest goes_on following.0, following.1))
     (λ (stops, none). absurd (answer_none rest sort none))
     (chosen (λ state. answer (run state rest) ≡ Some sort) (is_word_byte byte) _ _ is)
 
@@ -66,7 +66,7 @@ alias_read (byte ∷ rest) sort is = ⊎_elim
 digits_read : (rest : List ℕ) (sort : Option HoaKind) → answer (run (Some Digits) rest) ≡ Some sort → AllPass is_digit rest × (sort ≡ Some Int)
 digits_read [] sort is = (All-nil (λ b. is_digit b ≡ true), cc)
 digits_read (byte ∷ rest) sort is = ⊎_elim
-    (λ (goes_on, more). let behind = digits_read rest sort more in (All-cons (λ b. is_digit b ≡ true) byte rest goes_on behind.0, behind.1))
+    (λ (goes_on, more). let following = digits_read rest sort more in (All-cons (λ b. is_digit b ≡ true) byte rest goes_on following.0, following.1))
     (λ (stops, none). absurd (answer_none rest sort none))
     (chosen (λ state. answer (run state rest) ≡ Some sort) (is_digit byte) _ _ is)
 
@@ -84,7 +84,7 @@ StringRest rest sort = (inside : List ℕ) × (rest ≡ inside ++ 34 ∷ []) × 
 
 -- after a backslash: one byte more
 abbrev EscapedRest : List ℕ → Option HoaKind → Type 0
-EscapedRest rest sort = (byte : ℕ) × (behind : List ℕ) × (rest ≡ byte ∷ behind) × StringRest behind sort
+EscapedRest rest sort = (byte : ℕ) × (following : List ℕ) × (rest ≡ byte ∷ following) × StringRest following sort
 
 quoted_read : (rest : List ℕ) (sort : Option HoaKind) → answer (run (Some Quoted) rest) ≡ Some sort → StringRest rest sort
 quoted_read [] sort is = absurd (cc)
@@ -96,9 +96,9 @@ quoted_read (byte ∷ []) sort is = ⊎_elim
 quoted_read (byte ∷ next ∷ rest) sort is = ⊎_elim
     (λ (quote, whole). let e = (whole_read String (next ∷ rest) sort whole).0 in absurd (cc))
     (λ (differ, more). ⊎_elim
-    (λ (backslash, behind). let found = quoted_read rest sort behind in
+    (λ (backslash, following). let found = quoted_read rest sort following in
     (92 ∷ next ∷ found.0, (λ i. eqb-true byte 92 backslash i ∷ next ∷ found.1 i), escaped next found.0 found.2, found.3))
-    (λ (simple, behind). let found = quoted_read (next ∷ rest) sort behind in
+    (λ (simple, following). let found = quoted_read (next ∷ rest) sort following in
     (byte ∷ found.0, ap (λ bs. byte ∷ bs) found.1, plain byte found.0 (differs byte 34 differ) (differs byte 92 simple) found.2, found.3))
     (chosen (λ mode. answer (run (Some mode) (next ∷ rest)) ≡ Some sort) (byte == 92) _ _ more))
     (chosen (λ mode. answer (run (Some mode) (next ∷ rest)) ≡ Some sort) (byte == 34) _ _ is)
@@ -148,8 +148,8 @@ comment_step : (byte : ℕ) (rest : List ℕ) → CommentReads rest → (around 
 comment_step byte rest reads around sort is = ⊎_elim
     (λ (star, more). let found = reads.star around sort more in (subst (λ b. Closes (suc around) (b ∷ rest)) (sym (eqb-true byte 42 star)) found.0, found.1))
     (λ (no_star, more). ⊎_elim
-    (λ (slash, behind). let found = reads.slashed around sort behind in (subst (λ b. Closes (suc around) (b ∷ rest)) (sym (eqb-true byte 47 slash)) found.0, found.1))
-    (λ (no_slash, behind). let found = reads.comment around sort behind in
+    (λ (slash, following). let found = reads.slashed around sort following in (subst (λ b. Closes (suc around) (b ∷ rest)) (sym (eqb-true byte 47 slash)) found.0, found.1))
+    (λ (no_slash, following). let found = reads.comment around sort following in
     (other around byte rest (no_mark byte (get_or rest 0 0) (λ is. absurd (differs byte 47 no_slash is)) (λ is. absurd (differs byte 42 no_star is))) found.0, found.1))
     (chosen (λ mode. answer (run (Some mode) rest) ≡ Some sort) (byte == 47) _ _ more))
     (chosen (λ mode. answer (run (Some mode) rest) ≡ Some sort) (byte == 42) _ _ is)
@@ -160,9 +160,9 @@ star_step byte rest reads around sort is = ⊎_elim
     (λ (slash, more). let found = closed_read around rest sort (λ depth same inner. reads.comment depth sort inner) more in
     (subst (λ b. Closes (suc around) (42 ∷ b ∷ rest)) (sym (eqb-true byte 47 slash)) (close around rest found.0), found.1))
     (λ (no_slash, more). ⊎_elim
-    (λ (star, behind). let found = reads.star around sort behind in
+    (λ (star, following). let found = reads.star around sort following in
     (other around 42 (byte ∷ rest) (no_mark 42 byte (λ is. absurd (cc)) (λ _. differs byte 47 no_slash)) (subst (λ b. Closes (suc around) (b ∷ rest)) (sym (eqb-true byte 42 star)) found.0), found.1))
-    (λ (no_star, behind). let found = reads.comment around sort behind in (
+    (λ (no_star, following). let found = reads.comment around sort following in (
       other around 42 (byte ∷ rest) (no_mark 42 byte (λ is. absurd (cc)) (λ _. differs byte 47 no_slash))
           (other around byte rest (no_mark byte (get_or rest 0 0) (λ is. absurd (differs byte 47 no_slash is)) (λ is. absurd (differs byte 42 no_star is))) found.0),
       found.1,
@@ -176,9 +176,9 @@ slashed_step byte rest reads around sort is = ⊎_elim
     (λ (star, more). let found = reads.comment (suc around) sort more in
     (subst (λ b. Closes (suc around) (47 ∷ b ∷ rest)) (sym (eqb-true byte 42 star)) (nest around rest found.0), found.1))
     (λ (no_star, more). ⊎_elim
-    (λ (slash, behind). let found = reads.slashed around sort behind in
+    (λ (slash, following). let found = reads.slashed around sort following in
     (other around 47 (byte ∷ rest) (no_mark 47 byte (λ _. differs byte 42 no_star) (λ is. absurd (cc))) (subst (λ b. Closes (suc around) (b ∷ rest)) (sym (eqb-true byte 47 slash)) found.0), found.1))
-    (λ (no_slash, behind). let found = reads.comment around sort behind in (
+    (λ (no_slash, following). let found = reads.comment around sort following in (
       other around 47 (byte ∷ rest) (no_mark 47 byte (λ _. differs byte 42 no_star) (λ is. absurd (cc)))
           (other around byte rest (no_mark byte (get_or rest 0 0) (λ is. absurd (differs byte 47 no_slash is)) (λ is. absurd (differs byte 42 no_star is))) found.0),
       found.1,
@@ -193,8 +193,8 @@ comment_reads [] = record {
   slashed = λ around sort is. absurd (cc);
 }
 comment_reads (byte ∷ rest) =
-    let behind = comment_reads rest in
-    record { comment = comment_step byte rest behind; star = star_step byte rest behind; slashed = slashed_step byte rest behind }
+    let following = comment_reads rest in
+    record { comment = comment_step byte rest following; star = star_step byte rest following; slashed = slashed_step byte rest following }
 
 -- what was read of a unit from its second byte on
 abbrev IsRead : Option Mode → ℕ → List ℕ → Type 0
@@ -260,32 +260,32 @@ module _ (byte : ℕ) (rest : List ℕ) where
   -- digits
   digit_read : is_digit byte ≡ true → IsRead (Some Digits) byte rest
   digit_read digit sort is =
-      let behind = digits_read rest sort is in
-      let digits : IsDigits (byte ∷ rest) = (omega arith, All-cons (λ b. is_digit b ≡ true) byte rest digit behind.0) in
-      subst (λ s. IsUnit s (byte ∷ rest)) (sym behind.1) digits
+      let following = digits_read rest sort is in
+      let digits : IsDigits (byte ∷ rest) = (omega arith, All-cons (λ b. is_digit b ≡ true) byte rest digit following.0) in
+      subst (λ s. IsUnit s (byte ∷ rest)) (sym following.1) digits
 
   -- a white byte
   white_read : is_white byte ≡ true → IsRead (Some Blank) byte rest
   white_read white sort is =
-      let behind = blank_read rest sort is in
-      let blank : IsUnit None (byte ∷ rest) = inl (byte, ap (λ bytes. byte ∷ bytes) behind.0, white) in
-      subst (λ s. IsUnit s (byte ∷ rest)) (sym behind.1) blank
+      let following = blank_read rest sort is in
+      let blank : IsUnit None (byte ∷ rest) = inl (byte, ap (λ bytes. byte ∷ bytes) following.0, white) in
+      subst (λ s. IsUnit s (byte ∷ rest)) (sym following.1) blank
 
   -- a string
   quote_read : byte ≡ 34 → IsRead (Some Quoted) byte rest
   quote_read quote sort is =
-      let behind = quoted_read rest sort is in
-      let text : IsUnit (Some String) (byte ∷ rest) = (behind.0, (λ i. quote i ∷ behind.1 i), behind.2) in
-      subst (λ s. IsUnit s (byte ∷ rest)) (sym behind.3) text
+      let following = quoted_read rest sort is in
+      let text : IsUnit (Some String) (byte ∷ rest) = (following.0, (λ i. quote i ∷ following.1 i), following.2) in
+      subst (λ s. IsUnit s (byte ∷ rest)) (sym following.3) text
 
 -- an alias name, after `@`
 at_read : (rest : List ℕ) (sort : Option HoaKind) → answer (run (Some At) rest) ≡ Some sort → IsUnit sort (64 ∷ rest)
 at_read [] sort is = absurd (cc)
 at_read (byte ∷ rest) sort is = ⊎_elim
     (λ (goes_on, more).
-    let behind = alias_read rest sort more in
-    let name : IsUnit (Some AliasName) (64 ∷ byte ∷ rest) = (byte ∷ rest, refl, omega arith, All-cons (λ b. is_word_byte b ≡ true) byte rest goes_on behind.0) in
-    subst (λ s. IsUnit s (64 ∷ byte ∷ rest)) (sym behind.1) name)
+    let following = alias_read rest sort more in
+    let name : IsUnit (Some AliasName) (64 ∷ byte ∷ rest) = (byte ∷ rest, refl, omega arith, All-cons (λ b. is_word_byte b ≡ true) byte rest goes_on following.0) in
+    subst (λ s. IsUnit s (64 ∷ byte ∷ rest)) (sym following.1) name)
     (λ (stops, unread). absurd (answer_none rest sort unread))
     (chosen (λ state. answer (run state rest) ≡ Some sort) (is_word_byte byte) _ _ is)
 
@@ -294,9 +294,9 @@ slash_read : (rest : List ℕ) (sort : Option HoaKind) → answer (run (Some Sla
 slash_read [] sort is = absurd (cc)
 slash_read (byte ∷ rest) sort is = ⊎_elim
     (λ (star, more).
-    let behind = (comment_reads rest).comment 0 sort more in
-    let comment : IsUnit None (47 ∷ byte ∷ rest) = inr (rest, ap (λ b. 47 ∷ b ∷ rest) (eqb-true byte 42 star), behind.0) in
-    subst (λ s. IsUnit s (47 ∷ byte ∷ rest)) (sym behind.1) comment)
+    let following = (comment_reads rest).comment 0 sort more in
+    let comment : IsUnit None (47 ∷ byte ∷ rest) = inr (rest, ap (λ b. 47 ∷ b ∷ rest) (eqb-true byte 42 star), following.0) in
+    subst (λ s. IsUnit s (47 ∷ byte ∷ rest)) (sym following.1) comment)
     (λ (stops, unread). absurd (answer_none rest sort unread))
     (chosen (λ state. answer (run state rest) ≡ Some sort) (byte == 42) _ _ is)
 
@@ -305,9 +305,9 @@ mark_reads : (kind : HoaKind) (byte value : ℕ) (rest : List ℕ) (sort : Optio
     → ((text : List ℕ) → text ≡ spelling kind → IsUnit (Some kind) text)
     → (byte == value) ≡ true → answer (run (Some (Mark kind 3)) rest) ≡ Some sort → IsUnit sort (45 ∷ 45 ∷ byte ∷ rest)
 mark_reads kind byte value rest sort inside is form same more =
-    let behind = mark_read kind 3 rest sort inside more in
-    subst (λ s. IsUnit s (45 ∷ 45 ∷ byte ∷ rest)) (sym behind.1)
-    (form (45 ∷ 45 ∷ byte ∷ rest) ((λ i. 45 ∷ 45 ∷ eqb-true byte value same i ∷ behind.0 i) ∙ sym is))
+    let following = mark_read kind 3 rest sort inside more in
+    subst (λ s. IsUnit s (45 ∷ 45 ∷ byte ∷ rest)) (sym following.1)
+    (form (45 ∷ 45 ∷ byte ∷ rest) ((λ i. 45 ∷ 45 ∷ eqb-true byte value same i ∷ following.0 i) ∙ sym is))
 
 dashes_read : (rest : List ℕ) (sort : Option HoaKind) → answer (run (Some Dashes) rest) ≡ Some sort → IsUnit sort (45 ∷ 45 ∷ rest)
 dashes_read [] sort is = absurd (cc)

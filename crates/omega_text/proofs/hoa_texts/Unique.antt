@@ -18,37 +18,37 @@ pub one_sort : (text : List ℕ) (one other : Option HoaKind) → IsUnit one tex
 one_sort text one other first second = let reads = unit_written one text first in let again = unit_written other text second in cc
 
 -- bytes begin with at most one longest unit
-pub one_longest : (text rest other behind : List ℕ) (sort another : Option HoaKind) → text ++ rest ≡ other ++ behind
-    → IsUnit sort text → IsUnit another other → IsLongest text rest → IsLongest other behind
-    → (text ≡ other) × (rest ≡ behind) × (sort ≡ another)
-one_longest text rest other behind sort another split first second longest most = ⊎_elim
+pub one_longest : (text rest other following : List ℕ) (sort another : Option HoaKind) → text ++ rest ≡ other ++ following
+    → IsUnit sort text → IsUnit another other → IsLongest text rest → IsLongest other following
+    → (text ≡ other) × (rest ≡ following) × (sort ≡ another)
+one_longest text rest other following sort another split first second longest most = ⊎_elim
     (λ (more, is, left). first_over more is left)
-    (λ (byte, more, is, left). absurd (longest (byte ∷ more) behind another left (omega arith) (subst (IsUnit another) is second)))
-    (fronts text rest other behind split)
+    (λ (byte, more, is, left). absurd (longest (byte ∷ more) following another left (omega arith) (subst (IsUnit another) is second)))
+    (fronts text rest other following split)
   where
-    first_over : (more : List ℕ) → text ≡ other ++ more → behind ≡ more ++ rest → (text ≡ other) × (rest ≡ behind) × (sort ≡ another)
+    first_over : (more : List ℕ) → text ≡ other ++ more → following ≡ more ++ rest → (text ≡ other) × (rest ≡ following) × (sort ≡ another)
     first_over [] is left = let same = is ∙ append-nil other in (same, sym left, one_sort text sort another first (subst (IsUnit another) (sym same) second))
     first_over (byte ∷ more) is left = absurd (most (byte ∷ more) rest sort left (omega arith) (subst (IsUnit sort) is first))
 
 -- bytes that begin with no part of a gap
 abbrev pub EndsGap : List ℕ → Type 0
-EndsGap bytes = (front behind : List ℕ) → bytes ≡ front ++ behind → IsBlank front → ⊥
+EndsGap bytes = (front following : List ℕ) → bytes ≡ front ++ following → IsBlank front → ⊥
 
 -- a gap goes as far as it can in one way
 pub one_gap : (one other bytes rest : List ℕ) → IsGap one → IsGap other → EndsGap bytes → EndsGap rest → one ++ bytes ≡ other ++ rest → (one ≡ other) × (bytes ≡ rest)
 one_gap _ _ bytes rest nothing nothing first second same = (refl, same)
-one_gap _ _ bytes rest nothing (blank text gap is behind) first second same = absurd (first text (gap ++ rest) (same ∙ append_assoc text gap rest) is)
-one_gap _ _ bytes rest (blank text gap is behind) nothing first second same = absurd (second text (gap ++ bytes) (sym same ∙ append_assoc text gap bytes) is)
-one_gap _ _ bytes rest (blank text gap is behind) (blank other more also left) first second same =
+one_gap _ _ bytes rest nothing (blank text gap is following) first second same = absurd (first text (gap ++ rest) (same ∙ append_assoc text gap rest) is)
+one_gap _ _ bytes rest (blank text gap is following) nothing first second same = absurd (second text (gap ++ bytes) (sym same ∙ append_assoc text gap bytes) is)
+one_gap _ _ bytes rest (blank text gap is following) (blank other more also left) first second same =
     let units = one_longest text (gap ++ bytes) other (more ++ rest) None None (sym (append_assoc text gap bytes) ∙ same ∙ append_assoc other more rest)
     is also (blank_longest text (gap ++ bytes) is) (blank_longest other (more ++ rest) also) in
-    let gaps = one_gap gap more bytes rest behind left first second units.1 in
+    let gaps = one_gap gap more bytes rest following left first second units.1 in
     ((λ i. units.0 i ++ gaps.0 i), gaps.1)
 
 -- a longest token ends a gap
 token_ends_gap : (kind : HoaKind) (text rest : List ℕ) → IsForm kind text → IsLongest text rest → EndsGap (text ++ rest)
-token_ends_gap kind text rest form longest front behind split is =
-    let sorts = (one_longest text rest front behind (Some kind) None split form is longest (blank_longest front behind is)).2 in cc
+token_ends_gap kind text rest form longest front following split is =
+    let sorts = (one_longest text rest front following (Some kind) None split form is longest (blank_longest front following is)).2 in cc
 
 -- a part of a gap is not empty
 blank_some : (text : List ℕ) → IsBlank text → text ≡ [] → ⊥
@@ -56,12 +56,12 @@ blank_some text is none = ⊎_elim (λ (byte, same, white). cc) (λ (inside, sam
 
 -- the end of a text ends a gap
 end_ends_gap : EndsGap []
-end_ends_gap [] behind split is = blank_some [] is refl
-end_ends_gap (byte ∷ front) behind split is = cc
+end_ends_gap [] following split is = blank_some [] is refl
+end_ends_gap (byte ∷ front) following split is = cc
 
 -- what has a fault ends a gap
 fault_ends_gap : (bytes : List ℕ) (place : ℕ) (fault : TextFault) → IsFaultOf bytes place fault → EndsGap bytes
-fault_ends_gap bytes place (Lex at) faults = λ front behind split is. faults.1.none front behind None split is
+fault_ends_gap bytes place (Lex at) faults = λ front following split is. faults.1.none front following None split is
 fault_ends_gap bytes place (Number at) faults = subst EndsGap (sym faults.1.split) (token_ends_gap Int faults.1.text faults.1.rest faults.1.digits faults.1.longest)
 fault_ends_gap bytes place (Syntax at) faults = absurd faults
 fault_ends_gap bytes place TooLong faults = absurd faults

@@ -100,9 +100,9 @@ digits_run (byte ∷ rest) digits = ap (λ state. run state rest) (first_digit b
 -- what stands between quotes, and a quote
 pub quoted_run : (inside : List ℕ) → IsQuotable inside → run (Some Quoted) (inside ++ 34 ∷ []) ≡ Some (Whole String)
 quoted_run _ empty = refl
-quoted_run _ (plain byte rest no_quote no_backslash behind) =
-    ap (λ mode. run (Some mode) (rest ++ 34 ∷ [])) (pass (byte == 34) _ _ (no_test byte 34 no_quote) ∙ pass (byte == 92) _ _ (no_test byte 92 no_backslash)) ∙ quoted_run rest behind
-quoted_run _ (escaped byte rest behind) = quoted_run rest behind
+quoted_run _ (plain byte rest no_quote no_backslash following) =
+    ap (λ mode. run (Some mode) (rest ++ 34 ∷ [])) (pass (byte == 34) _ _ (no_test byte 34 no_quote) ∙ pass (byte == 92) _ _ (no_test byte 92 no_backslash)) ∙ quoted_run rest following
+quoted_run _ (escaped byte rest following) = quoted_run rest following
 
 -- after `*`, what does not begin with `/` is read as elsewhere in a comment,
 -- and so is what does not begin with `*` after `/`
@@ -118,9 +118,9 @@ slashed_same around byte no_star = pass (byte == 42) _ _ (no_test byte 42 no_sta
 -- there is more where comments are still to be closed
 closes_some : (depth : ℕ) (rest : List ℕ) → Closes depth rest → 0 < depth → 0 < length rest
 closes_some _ _ closed deep = absurd (omega arith)
-closes_some _ _ (close depth rest behind) deep = omega arith
-closes_some _ _ (nest depth rest behind) deep = omega arith
-closes_some _ _ (other depth byte rest no_mark behind) deep = omega arith
+closes_some _ _ (close depth rest following) deep = omega arith
+closes_some _ _ (nest depth rest following) deep = omega arith
+closes_some _ _ (other depth byte rest no_mark following) deep = omega arith
 
 -- a byte that begins no mark changes nothing
 other_run : (around byte : ℕ) (rest : List ℕ) → IsNoMark byte (get_or rest 0 0) → 0 < length rest → run (Some (Comment around)) (byte ∷ rest) ≡ run (Some (Comment around)) rest
@@ -136,10 +136,10 @@ other_run around byte (next ∷ rest) no_mark some = ⊎_elim
 -- what closes comments
 pub closes_run : (depth : ℕ) (rest : List ℕ) → Closes depth rest → run (Some (closed_mode depth)) rest ≡ Some Blank
 closes_run _ _ closed = refl
-closes_run _ _ (close depth rest behind) = closes_run depth rest behind
-closes_run _ _ (nest depth rest behind) = closes_run (suc (suc depth)) rest behind
-closes_run _ _ (other depth byte rest no_mark behind) =
-    other_run depth byte rest no_mark (closes_some (suc depth) rest behind (omega arith)) ∙ closes_run (suc depth) rest behind
+closes_run _ _ (close depth rest following) = closes_run depth rest following
+closes_run _ _ (nest depth rest following) = closes_run (suc (suc depth)) rest following
+closes_run _ _ (other depth byte rest no_mark following) =
+    other_run depth byte rest no_mark (closes_some (suc depth) rest following (omega arith)) ∙ closes_run (suc depth) rest following
 
 -- a word that is neither `t` nor `f` is an identifier
 identifier_kind : (byte : ℕ) (rest : List ℕ) → byte ∷ rest ≢ codes "t" → byte ∷ rest ≢ codes "f" → word_kind byte rest ≡ Identifier

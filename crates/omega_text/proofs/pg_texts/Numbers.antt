@@ -39,15 +39,15 @@ either_digits true one other first second = first
 either_digits false one other first second = second
 
 -- a digit in front of digits, or of nothing, makes digits
-digit_more : (n : ℕ) (behind : List ℕ) → AllPass is_digit behind → IsDigits (digit_glyph false (n % 10) ∷ behind)
-digit_more n behind all = (omega arith, All-cons (λ byte. is_digit byte ≡ true) (digit_glyph false (n % 10)) behind (digit_byte n) all)
+digit_more : (n : ℕ) (following : List ℕ) → AllPass is_digit following → IsDigits (digit_glyph false (n % 10) ∷ following)
+digit_more n following all = (omega arith, All-cons (λ byte. is_digit byte ≡ true) (digit_glyph false (n % 10)) following (digit_byte n) all)
 
 -- the digits of a number in front of digits are digits
-digits_more : (left n : ℕ) (behind : List ℕ) → IsDigits behind → IsDigits (digits_onto left 10 false n behind)
-digits_more zero n behind digits = digits
-digits_more (suc left) n behind digits =
-    let more = digit_more n behind digits.1 in
-    either_digits (eqb (n / 10) 0) _ _ more (digits_more left (n / 10) (digit_glyph false (n % 10) ∷ behind) more)
+digits_more : (left n : ℕ) (following : List ℕ) → IsDigits following → IsDigits (digits_onto left 10 false n following)
+digits_more zero n following digits = digits
+digits_more (suc left) n following digits =
+    let more = digit_more n following digits.1 in
+    either_digits (eqb (n / 10) 0) _ _ more (digits_more left (n / 10) (digit_glyph false (n % 10) ∷ following) more)
 
 -- a number has digits
 some_digits : (left n : ℕ) → IsDigits (digits_onto (suc left) 10 false n [])

@@ -48,9 +48,9 @@ form_follows source at start kind value count gap form =
     record { gap = gap; token = begins_at (drop start source) start count kind value form.longest form.spells; within = omega arith }
 
 -- the form that bytes after a gap begin with is the token that follows
-pub form_behind : (source bytes : List ℕ) (at start : ℕ) (kind : PgKind) (value count : ℕ) (lexeme : Lexeme PgKind) → IsGap source at start → bytes ≡ drop start source
+pub form_after : (source bytes : List ℕ) (at start : ℕ) (kind : PgKind) (value count : ℕ) (lexeme : Lexeme PgKind) → IsGap source at start → bytes ≡ drop start source
     → IsFirstForm bytes kind value count → lexeme ≡ lexeme_at start kind value (take count bytes) → Follows source at lexeme
-form_behind source bytes at start kind value count lexeme gap rest form is =
+form_after source bytes at start kind value count lexeme gap rest form is =
     subst (Follows source at) (sym is)
     (subst (λ bs. Follows source at (lexeme_at start kind value (take count bs))) (sym rest)
     (form_follows source at start kind value count gap (subst (λ bs. IsFirstForm bs kind value count) rest form)))

@@ -49,8 +49,8 @@ pub record IsBlack (source : List ℕ) (place : ℕ) : Type 0 where
 
 -- a gap does not go past a black byte
 pub gap_stops : (source : List ℕ) (from to place : ℕ) → IsGap source from to → from ≤ place → IsBlack source place → to ≤ place
-gap_stops source from to place gap behind black = ⊎_elim
-    (λ past. absurd (both_ways _ (gap.white place 0 behind past) black.black))
+gap_stops source from to place gap following black = ⊎_elim
+    (λ past. absurd (both_ways _ (gap.white place 0 following past) black.black))
     (λ before. before)
     (order place to)
 

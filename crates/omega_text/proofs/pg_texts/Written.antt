@@ -56,17 +56,17 @@ sign_longest text rest sign = ⊎_elim
 -- a name between quotes is the longest form
 pub name_longest : (text rest : List ℕ) → IsQuoted text → IsLongest (text ++ rest) (length text)
 name_longest text rest (name, is, all) =
-    let behind = (name ++ 34 ∷ []) ++ rest in
-    let split : behind ≡ name ++ (34 ∷ rest) = append_assoc name (34 ∷ []) rest in
-    let count : prefix_len is_name_byte behind ≡ length name = ap (prefix_len is_name_byte) split ∙ run_of is_name_byte name (34 ∷ rest) all refl in
+    let following = (name ++ 34 ∷ []) ++ rest in
+    let split : following ≡ name ++ (34 ∷ rest) = append_assoc name (34 ∷ []) rest in
+    let count : prefix_len is_name_byte following ≡ length name = ap (prefix_len is_name_byte) split ∙ run_of is_name_byte name (34 ∷ rest) all refl in
     let size = length-append name (34 ∷ []) in
     let longer = length-append (name ++ 34 ∷ []) rest in
     let none : length name - length name ≡ 0 = omega arith in
-    let quote : get_or behind (prefix_len is_name_byte behind) 0 ≡ 34 =
+    let quote : get_or following (prefix_len is_name_byte following) 0 ≡ 34 =
     (λ i. get_or (split i) (count i) 0) ∙ get_or-append_right name (34 ∷ rest) (length name) (length name) 0 refl (omega arith) ∙ ap (λ n. get_or (34 ∷ rest) n 0) none in
-    let whole : 1 + prefix_len is_name_byte behind + 1 ≡ length (quoted name) = omega arith in
+    let whole : 1 + prefix_len is_name_byte following + 1 ≡ length (quoted name) = omega arith in
     subst (λ t. IsLongest (t ++ rest) (length t)) (sym is)
-    (subst (IsLongest (34 ∷ behind)) whole (longest_quoted behind (omega arith) quote).0)
+    (subst (IsLongest (34 ∷ following)) whole (longest_quoted following (omega arith) quote).0)
 
 -- where white space and then the longest form stand, which spells a token
 module _ (source gap text rest : List ℕ) (from : ℕ) (kind : PgKind) (value : ℕ) (is : drop from source ≡ gap ++ (text ++ rest)) (inside : from ≤ length source) where
@@ -77,8 +77,8 @@ module _ (source gap text rest : List ℕ) (from : ℕ) (kind : PgKind) (value :
       omega (arith, length-drop from source, length-append gap (text ++ rest), length-append text rest)
 
   -- what stands after the white space
-  behind_gap : drop (from + length gap) source ≡ text ++ rest
-  behind_gap = sym (drop-drop (length gap) from source) ∙ ap (drop (length gap)) is ∙ drop_at gap (text ++ rest) (length gap) refl
+  after_gap : drop (from + length gap) source ≡ text ++ rest
+  after_gap = sym (drop-drop (length gap) from source) ∙ ap (drop (length gap)) is ∙ drop_at gap (text ++ rest) (length gap) refl
 
   -- the white space
   written_gap : AllPass is_white gap → IsGap source from (from + length gap)
@@ -102,7 +102,7 @@ module _ (source gap text rest : List ℕ) (from : ℕ) (kind : PgKind) (value :
       (begins_at (text ++ rest) (from + length gap) (length text) kind value longest (subst (Spells kind value) (sym front) spells)) in
       record {
         gap = written_gap white;
-        token = subst (λ bytes. BeginsWith bytes (lexeme_at (from + length gap) kind value text)) (sym behind_gap) begins;
+        token = subst (λ bytes. BeginsWith bytes (lexeme_at (from + length gap) kind value text)) (sym after_gap) begins;
         within = omega (arith, sizes);
       }
 

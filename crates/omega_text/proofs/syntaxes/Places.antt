@@ -9,25 +9,25 @@ use Rattle.omega_text.proofs.syntaxes.Fronts.{begins_through, cases_split}
 
 module _ {Kind : Type 0} (format : TextFormat Kind) (exact : GoesOneWay format) where
   -- a token of a cut begins at its place or after it
-  behind : (source : List ℕ) (from to : ℕ) (front rest : List (Lexeme Kind)) (token : Lexeme Kind) → Cuts format source from (front ++ token ∷ rest) to → from ≤ token.span.start
-  behind source from to [] rest token cuts = (exact.behind source from token cuts.0).forward
-  behind source from to (one ∷ front) rest token cuts =
-      let part = exact.behind source from one cuts.0 in
-      let later = behind source one.span.end to front rest token cuts.1 in
+  following : (source : List ℕ) (from to : ℕ) (front rest : List (Lexeme Kind)) (token : Lexeme Kind) → Cuts format source from (front ++ token ∷ rest) to → from ≤ token.span.start
+  following source from to [] rest token cuts = (exact.following source from token cuts.0).forward
+  following source from to (one ∷ front) rest token cuts =
+      let part = exact.following source from one cuts.0 in
+      let later = following source one.span.end to front rest token cuts.1 in
       omega (arith, part.forward, part.nonempty, later)
 
   -- a token of a cut begins before those after it
   pub ordered : (source : List ℕ) (from to : ℕ) (front more rest : List (Lexeme Kind)) (token other : Lexeme Kind)
       → Cuts format source from (front ++ token ∷ (more ++ other ∷ rest)) to → token.span.start < other.span.start
   ordered source from to [] more rest token other cuts =
-      let part = exact.behind source from token cuts.0 in
-      let later = behind source token.span.end to more rest other cuts.1 in
+      let part = exact.following source from token cuts.0 in
+      let later = following source token.span.end to more rest other cuts.1 in
       omega (arith, part.nonempty, later)
   ordered source from to (one ∷ front) more rest token other cuts = ordered source one.span.end to front more rest token other cuts.1
 
   -- a token of a cut begins within the text
   pub within : (source : List ℕ) (from to : ℕ) (front rest : List (Lexeme Kind)) (token : Lexeme Kind) → Cuts format source from (front ++ token ∷ rest) to → token.span.start < length source
-  within source from to [] rest token cuts = let part = exact.behind source from token cuts.0 in omega (arith, part.nonempty, part.within)
+  within source from to [] rest token cuts = let part = exact.following source from token cuts.0 in omega (arith, part.nonempty, part.within)
   within source from to (one ∷ front) rest token cuts = within source one.span.end to front rest token cuts.1
 
 module _ {Kind Symbol Raw : Type 0} (syntax : Syntax Kind Symbol Raw) (exact : GoesOneWay syntax.format) where

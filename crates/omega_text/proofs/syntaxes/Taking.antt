@@ -75,9 +75,9 @@ pub fault_here : {Kind : Type 0} (format : TextFormat Kind) (source : List ℕ) 
 fault_here format source place fault faults = record { lexemes = []; end = place; cuts = refl; fault_there = faults }
 
 -- and one after a token that follows
-pub fault_behind : {Kind : Type 0} (format : TextFormat Kind) (source : List ℕ) (place : ℕ) (lexeme : Lexeme Kind) (fault : TextFault) → format.follows source place lexeme
+pub fault_after : {Kind : Type 0} (format : TextFormat Kind) (source : List ℕ) (place : ℕ) (lexeme : Lexeme Kind) (fault : TextFault) → format.follows source place lexeme
     → IsFaultFrom format source lexeme.span.end fault → IsFaultFrom format source place fault
-fault_behind format source place lexeme fault follows from = record {
+fault_after format source place lexeme fault follows from = record {
   lexemes = lexeme ∷ from.lexemes;
   end = from.end;
   cuts = (follows, from.cuts);

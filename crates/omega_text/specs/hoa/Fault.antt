@@ -11,7 +11,7 @@ use Rattle.omega_text.specs.Forms.{IsDigits}
 -- there are bytes, and no front of them is a unit: neither a token's form nor a white byte nor a comment
 pub record BeginsNoUnit (bytes : List ℕ) : Type 0 where
   pub some : 0 < length bytes
-  pub none : (front behind : List ℕ) (sort : Option HoaKind) → bytes ≡ front ++ behind → IsUnit sort front → ⊥
+  pub none : (front following : List ℕ) (sort : Option HoaKind) → bytes ≡ front ++ following → IsUnit sort front → ⊥
 
 -- the longest unit that the bytes begin with is digits that are no number
 pub record BeginsWrongDigits (bytes : List ℕ) : Type 0 where
@@ -22,7 +22,7 @@ pub record BeginsWrongDigits (bytes : List ℕ) : Type 0 where
   pub digits : IsDigits text
   pub wrong : (value : ℕ) → Spells Int value text → ⊥
 
--- the fault of bytes that begin no token, where they stand at this place
+-- the fault of bytes at this place that begin no token
 abbrev pub IsFaultOf : List ℕ → ℕ → TextFault → Type 0
 IsFaultOf bytes place (Lex at) = (at ≡ place) × BeginsNoUnit bytes
 IsFaultOf bytes place (Number at) = (at ≡ place) × BeginsWrongDigits bytes

@@ -1,4 +1,4 @@
--- The forms of a Hanoi text's tokens, and of what stands between them.
+-- The forms of a Hanoi text's tokens, and of what is between them.
 use Rattle.std.specs.Prelude.{◌≡◌, ◌≢◌, ℕ, suc, ◌<◌, ◌≤◌, true, ◌⊎◌, Option, Some, None, List, [], ◌∷◌, ◌++◌, length, slice_index, codes, decimal}
 use Rattle.std.specs.List.{AllPass}
 use Rattle.omega_text.specs.Limits.{most_number}
@@ -15,7 +15,7 @@ IsHeader text = (word : List ℕ) × (text ≡ word ++ 58 ∷ []) × IsWord word
 abbrev pub IsAlias : List ℕ → Type 0
 IsAlias text = (name : List ℕ) × (text ≡ 64 ∷ name) × (0 < length name) × AllPass is_word_byte name
 
--- what may stand between two quotes: a backslash takes the next byte with it, and no other quote is there
+-- what may be between two quotes: a backslash takes the next byte with it, and no other quote is there
 pub data IsQuotable : List ℕ → Type 0 where
   empty : IsQuotable []
   plain : (byte : ℕ) (rest : List ℕ) → byte ≢ 34 → byte ≢ 92 → IsQuotable rest → IsQuotable (byte ∷ rest)
@@ -57,7 +57,8 @@ pub record IsNoMark (byte next : ℕ) : Type 0 where
   pub opens_none : byte ≡ 47 → next ≡ 42 → ⊥
   pub closes_none : byte ≡ 42 → next ≡ 47 → ⊥
 
--- bytes that close so many comments, the outermost by their last two; marks are found from the left, and do not overlap
+-- bytes that close this number of comments, the outermost by their last two; marks are found from the left, and do not
+-- overlap
 pub data Closes : ℕ → List ℕ → Type 0 where
   closed : Closes 0 []
   close : (depth : ℕ) (rest : List ℕ) → Closes depth rest → Closes (suc depth) (42 ∷ 47 ∷ rest)

@@ -1,4 +1,4 @@
--- What holds of every Hanoi text and its cut, and how written tokens are cut.
+-- Laws of every Hanoi text and its cut, and how written tokens are cut.
 use Rattle.std.specs.Prelude.{◌≡◌, ◌≢◌, ℕ, ◌+◌, ◌≤◌, Bool, true, false, ◌↔◌, List, ◌++◌, length, drop, slice_index}
 use Rattle.std.specs.List.{AllPass}
 use Rattle.std.specs.Str.Parse.{digits_value}
@@ -33,7 +33,7 @@ AliasNamesAreLongest = (text rest : List ℕ) → IsAlias text → is_word_byte 
 abbrev pub NumbersAreLongest : Type 0
 NumbersAreLongest = (text rest : List ℕ) → IsDigits text → is_digit (slice_index rest 0) ≡ false → IsLongest text rest
 
--- the kinds whose tokens show by themselves where they end: header names, strings, marks and signs
+-- the kinds of tokens that settle their own end: header names, strings, marks and signs
 abbrev pub is_closed : HoaKind → Bool
 is_closed Identifier = false
 is_closed AliasName = false
@@ -42,7 +42,7 @@ is_closed False = false
 is_closed Int = false
 is_closed kind = true
 
--- such a token ends where it ends, whatever follows
+-- such a token ends at its last byte, whatever follows
 abbrev pub ClosedAreLongest : Type 0
 ClosedAreLongest = (kind : HoaKind) (text rest : List ℕ) → is_closed kind ≡ true → IsForm kind text → IsLongest text rest
 

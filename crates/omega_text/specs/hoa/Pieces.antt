@@ -1,4 +1,4 @@
--- What is settled of a text that comes byte by byte: what is so in whichever way the text goes on.
+-- What is settled of a text that comes byte by byte: it stays so however the text goes on.
 use Rattle.std.specs.Prelude.{◌≡◌, ℕ, ◌+◌, ◌-◌, ◌<◌, ◌^◌, Bool, true, false, Option, Some, None, List, [], ◌∷◌, ◌++◌, length, take, drop}
 use Rattle.omega_text.specs.Cut.{Cuts, IsCut}
 use Rattle.omega_text.specs.Lexeme.{Lexeme}
@@ -55,7 +55,7 @@ IsSettled None seen lexemes = Settles seen lexemes
 IsSettled (Some fault) seen lexemes = SettlesFault seen lexemes fault
 
 -- the text has this fault after these tokens
-pub record FaultsBehind (source : List ℕ) (lexemes : List (Lexeme HoaKind)) (fault : TextFault) : Type 0 where
+pub record FaultsAfter (source : List ℕ) (lexemes : List (Lexeme HoaKind)) (fault : TextFault) : Type 0 where
   pub end : ℕ
   pub cuts : Cuts hoa_format source 0 lexemes end
   pub faults : HasFaultFrom source end fault
@@ -63,7 +63,7 @@ pub record FaultsBehind (source : List ℕ) (lexemes : List (Lexeme HoaKind)) (f
 -- the tokens are the text's, or those before its fault
 abbrev pub IsCutUpToFault : Option TextFault → List ℕ → List (Lexeme HoaKind) → Type 0
 IsCutUpToFault None source lexemes = IsCut hoa_format source lexemes
-IsCutUpToFault (Some fault) source lexemes = FaultsBehind source lexemes fault
+IsCutUpToFault (Some fault) source lexemes = FaultsAfter source lexemes fault
 
 -- the marks `--BODY--`, `--END--` and `--ABORT--`
 abbrev pub is_mark : HoaKind → Bool
@@ -72,7 +72,7 @@ is_mark End = true
 is_mark Abort = true
 is_mark kind = false
 
--- none of the tokens is a mark
+-- no token is a mark
 abbrev pub NoneMarks : List (Lexeme HoaKind) → Type 0
 NoneMarks [] = Unit {0}
 NoneMarks (lexeme ∷ lexemes) = (is_mark lexeme.kind ≡ false) × NoneMarks lexemes
@@ -96,7 +96,7 @@ StopsBefore seen lexemes byte = (settled : Settled) × IsSettled settled.fault (
 abbrev pub Reading : Type 1
 Reading = List ℕ → List (Lexeme HoaKind) → Type 0
 
--- some bytes were read, and after them places can be counted further by so many
+-- some bytes were read, and after them places can be counted further by this number
 abbrev pub HasRoom : Reading → ℕ → Type 0
 HasRoom IsRead count = (seen : List ℕ) × (lexemes : List (Lexeme HoaKind)) × IsRead seen lexemes × (length seen + count < 2 ^ 64)
 

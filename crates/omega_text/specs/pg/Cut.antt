@@ -6,7 +6,7 @@ use Rattle.omega_text.specs.pg.Forms.{IsLongest, Spells}
 use Rattle.omega_text.specs.declared.pg.kind.PgKind.{PgKind}
 use Rattle.omega_text.specs.Lexeme.{Lexeme}
 
--- only white space stands from one place up to another
+-- only white space is from one place up to another
 pub record IsGap (source : List ℕ) (from to : ℕ) : Type 0 where
   pub forward : from ≤ to
   pub within : to ≤ length source

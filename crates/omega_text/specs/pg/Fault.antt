@@ -25,7 +25,7 @@ pub record BeginsWrongDigits (bytes : List ℕ) : Type 0 where
   pub digits : IsDigits (take count bytes)
   pub wrong : IsNoToken (take count bytes)
 
--- the fault of bytes that begin no token, where they stand at this place
+-- the fault of bytes at this place that begin no token
 abbrev pub IsFaultOf : List ℕ → ℕ → TextFault → Type 0
 IsFaultOf bytes place (Lex at) = (at ≡ place) × (BeginsNoForm bytes ⊎ BeginsWrongWord bytes)
 IsFaultOf bytes place (Number at) = (at ≡ place) × BeginsWrongDigits bytes

@@ -11,7 +11,7 @@ use Rattle.omega_text.specs.declared.pg.kind.PgKind.TheVariants.{Comma, Name, Nu
 abbrev pub IsSign : List ℕ → Type 0
 IsSign text = (text ≡ codes ";") ⊎ (text ≡ codes ",")
 
--- a byte that may stand between the quotes of a name: 32 to 126, and not the quote itself
+-- a byte that may be between the quotes of a name: 32 to 126, and not the quote itself
 abbrev pub is_name_byte : ℕ → Bool
 is_name_byte byte = is_in_range 32 126 byte && not (byte == 34)
 

@@ -1,4 +1,4 @@
--- What holds of every game text and its cut, and how written tokens are cut.
+-- Laws of every game text and its cut, and how written tokens are cut.
 use Rattle.std.specs.Prelude.{◌≡◌, ℕ, ◌+◌, ◌<◌, ◌≤◌, false, ◌↔◌, List, ◌++◌, length, drop, slice_index, decimal}
 use Rattle.std.specs.List.{AllPass}
 use Rattle.std.specs.Str.Parse.{digits_value}

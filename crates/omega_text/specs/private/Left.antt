@@ -1,4 +1,4 @@
--- The tokens of a text that are left where some of them were taken.
+-- The tokens of a text that are left after some of them were taken.
 use Rattle.std.specs.Prelude.{◌≡◌, ℕ, ◌≤◌, Option, Some, None, List, [], ◌∷◌, length}
 use Rattle.std.specs.Coded.{Coded, Coded-set, code_by, coded×, coded_list, coded_ℕ}
 use Rattle.std.proofs.Common.{refl}
@@ -28,7 +28,7 @@ pub record IsNextOfLeft {Kind : Type 0} (format : TextFormat Kind) (source : Lis
   pub others : List (Lexeme Kind)
   pub split : lexemes ≡ lexeme ∷ others
   pub within : lexeme.span.end ≤ length source
-  pub behind : IsRestOfText format source lexeme.span.end others
+  pub following : IsRestOfText format source lexeme.span.end others
 
 -- the next token, by its parts, if there is one
 abbrev pub next_of : {Kind : Type 0} → Option Kind → List ℕ → ℕ → Span → Option (Lexeme Kind)

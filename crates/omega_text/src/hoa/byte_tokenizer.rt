@@ -4,12 +4,14 @@ ghost use Rattle.omega_text.specs.hoa.Pieces.{HasPassed, HasRoom, IsCutUpToFault
 
 use super::placed::Settled;
 
-/// Cuts a Hanoi text that comes byte by byte, in pieces of any length,
-/// into the tokens that `hoa_tokens` gives of the whole.
+/// Cuts a Hanoi text that comes byte by byte, in pieces of any length, into the tokens that `hoa_tokens` returns for
+/// the whole.
 ///
-/// A token is settled by the first byte that is not part of it, or at the end; signs, marks, header names and strings
-/// by their last byte. A fault is settled by the first byte that rules out a token, that of a number when its digits
-/// have ended, that of a string or comment without end at the end. After a fault nothing more is settled.
+/// A token is settled by the first byte that is not part of it, or at the end. Signs, marks, header names and strings
+/// are settled by their last byte.
+///
+/// A fault is settled by the first byte that rules out a token. The fault of a number is settled when its digits have
+/// ended, and that of a string or comment without end at the end. After a fault nothing more is settled.
 ///
 /// Contracts say what was read and settled so far, and not how it is kept. No call takes memory.
 pub trait ByteTokenizer {
@@ -24,12 +26,12 @@ pub trait ByteTokenizer {
     /// The fault after these tokens, once one is settled.
     ghost fault: { Self → Option TextFault };
 
-    /// Before the first byte.
+    /// Makes a tokenizer before the first byte.
     fn new() -> Self
         ensures reads { read result [] [] }
         ensures sound { fault result ≡ None };
 
-    /// Reads one byte, and gives what it settles.
+    /// Reads `byte`, and returns what it settles.
     fn step(&mut self, byte: u8) -> Settled
         requires room { HasRoom (read self.old) 1 }
         ensures reads { (seen : List ℕ) (lexemes : List (Lexeme HoaKind)) → read self.old seen lexemes
@@ -38,11 +40,11 @@ pub trait ByteTokenizer {
             → IsSettled result.fault (seen ++ byte ∷ []) (lexemes ++ settled_lexemes (seen ++ byte ∷ []) result) }
         ensures fault { result.fault ≡ fault self.new };
 
-    /// Reads the bytes from a place on, up to one that settles a mark or a fault, and gives the place of that one, or
-    /// the end. The tokens that are settled before it are not given.
+    /// Reads bytes from `from` on, up to one that settles a mark or a fault. Returns the place of that byte, or the
+    /// end. Tokens settled before it are not returned.
     ///
-    /// It does what as many steps do, in a fraction of their time: each byte is looked at once, or a few times where it
-    /// ends a word or a number, or stands in a mark or a number of many digits.
+    /// The result is that of as many calls of `step`, in a fraction of their time. Each byte is looked at once, or a
+    /// few times if it ends a word or a number, or is in a mark or a number of many digits.
     fn pass(&mut self, bytes: &[u8], from: usize) -> usize
         requires within { from ≤ length bytes.now }
         requires room { HasRoom (read self.old) (length bytes.now - from) }
@@ -54,7 +56,7 @@ pub trait ByteTokenizer {
             → StopsBefore seen lexemes (slice_index bytes.now result) }
         ensures sound { fault self.new ≡ fault self.old };
 
-    /// What is settled where the text ends: at most one token, and none that its own last byte settles.
+    /// Returns what is settled if the text ends here: at most one token, and none that its own last byte settles.
     fn finish(&self) -> Settled
         ensures finishes { (seen : List ℕ) (lexemes : List (Lexeme HoaKind)) → read self.now seen lexemes
             → IsCutUpToFault result.fault seen (lexemes ++ settled_lexemes seen result) }
@@ -62,7 +64,7 @@ pub trait ByteTokenizer {
         ensures unclosed { (seen : List ℕ) (lexemes : List (Lexeme HoaKind)) → read self.now seen lexemes
             → IfSome result.first (λ token. is_closed token.kind ≡ false) };
 
-    /// What was settled so far is settled in whichever way the text goes on: a law, which its proof states.
+    /// States that what was settled so far is settled however the text goes on. An implementation proves this law.
     fn read_is_settled(&self)
         ensures { (seen : List ℕ) (lexemes : List (Lexeme HoaKind)) → read self.now seen lexemes → IsSettled (fault self.now) seen lexemes };
 }

@@ -28,8 +28,8 @@ enum Stage {
     Blank,
 }
 
-/// A `Mode`, as it is kept from byte to byte: its parts stand apart, so that a byte changes those that it means and the
-/// others stay where they are. Contracts see the mode.
+/// A `Mode`, as it is kept from byte to byte. Its parts are separate fields, so that a byte changes those that it
+/// concerns and leaves the others. Contracts see the mode.
 #[derive(Clone, Copy, Debug, PartialEq, Eq)]
 pub(crate) struct KeptMode {
     stage: Stage,
@@ -82,7 +82,7 @@ impl KeptMode {
         KeptMode { stage, kind, count }
     }
 
-    /// The mode.
+    /// Returns the mode.
     #[inline(always)]
     pub(crate) fn get(self) -> Mode
         ensures { result ≡ self }
@@ -107,7 +107,7 @@ impl KeptMode {
         }
     }
 
-    /// How far it has been read with one more byte, or none if no unit goes on so.
+    /// Returns the mode after `byte`, or none if no unit goes on so.
     #[inline(always)]
     pub(crate) fn next(self, byte: u8) -> Option<KeptMode>
         requires { IsWithin (2 ^ 64 - 1) self }

@@ -1,8 +1,8 @@
 ghost use Rattle.std.specs.Prelude.{◌≡◌};
 ghost use Rattle.omega_text.specs.hoa.Forms.{spelling};
 
-/// What a token of a Hanoi text is. With the value of a number and the bytes of a name or a string it is all that a
-/// grammar sees of a token.
+/// The kind of a token of a Hanoi text. A grammar sees the kind, the value of a number and the bytes of a name or a
+/// string, and nothing else of a token.
 #[derive(Clone, Copy, Debug, PartialEq, Eq)]
 pub enum HoaKind {
     /// A word that no colon follows directly, other than `t` and `f`.
@@ -45,7 +45,7 @@ pub enum HoaKind {
     CloseBrace,
 }
 
-/// How a constant, a mark or a sign is written; nothing for the other kinds.
+/// Returns the spelling of a constant, a mark or a sign, and nothing for the other kinds.
 pub(crate) fn spelling(kind: HoaKind) -> &'static [u8]
     ensures { result.now ≡ spelling kind }
 {

@@ -6,7 +6,7 @@ use super::kind::HoaKind::{
     OpenParenthesis, Or,
 };
 
-/// What the first byte of a unit tells of it.
+/// What the first byte of a unit says of it.
 #[derive(Clone, Copy, Debug, PartialEq, Eq)]
 pub(super) enum Lead {
     /// A part of a gap, which has no more bytes.
@@ -27,7 +27,7 @@ pub(super) enum Lead {
 
 use Lead::{At, Digit, Letter, Other, Quote, Sign, White};
 
-// What each byte tells, so that no byte is compared with others.
+// A table, so that no byte is compared with others.
 #[rattlefmt::skip]
 static LEADS: [Lead; 256] = [
     Other, Other, Other, Other, Other, Other, Other, Other,
@@ -64,7 +64,7 @@ static LEADS: [Lead; 256] = [
     Other, Other, Other, Other, Other, Other, Other, Other,
 ];
 
-/// What a byte tells of the unit that it begins.
+/// Returns what `byte` says of the unit that it begins.
 #[inline(always)]
 pub(super) fn lead_of(byte: u8) -> Lead
     ensures { result ≡ lead_of byte }

@@ -7,7 +7,7 @@ ghost use Rattle.omega_text.specs.hoa.Pieces.{is_mark};
 
 use super::kind::{HoaKind, spelling};
 
-/// The mark that bytes begin with.
+/// Returns the mark that `bytes` begin with.
 #[inline(never)]
 pub(super) fn front_mark(bytes: &[u8]) -> Option<HoaKind>
     ensures mark { IfSome result (λ kind. is_mark kind ≡ true) }
@@ -24,7 +24,7 @@ pub(super) fn front_mark(bytes: &[u8]) -> Option<HoaKind>
     }
 }
 
-/// Whether bytes begin as a mark is written.
+/// Whether `bytes` begin with the spelling of `kind`.
 #[inline(always)]
 fn is_marked(bytes: &[u8], kind: HoaKind) -> bool
     ensures { IsTrue result → BeginsAs bytes.now (spelling kind) }

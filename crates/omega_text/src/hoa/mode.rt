@@ -25,7 +25,7 @@ pub(crate) enum Mode {
     Escaped,
     /// `/`, which begins a comment.
     Slash,
-    /// A comment without its end, inside so many others.
+    /// A comment without its end, inside as many others as the number says.
     Comment(usize),
     /// The same, with `*` as its last byte, which may end the innermost comment.
     Star(usize),
@@ -35,7 +35,7 @@ pub(crate) enum Mode {
     Dash,
     /// `--`.
     Dashes,
-    /// So many bytes of a mark.
+    /// As many bytes of a mark as the number says.
     Mark(HoaKind, usize),
     /// A whole token of this kind, which no byte can make longer.
     Whole(HoaKind),
@@ -46,7 +46,7 @@ pub(crate) enum Mode {
 impl Mode {
     ghost use Rattle.omega_text.specs.private.hoa.scanning.Modes.{unit_of};
 
-    /// The unit that has been read, if it may end here: a token of a kind, or a part of a gap.
+    /// Returns the unit that has been read, if it may end here: a token of a kind, or a part of a gap.
     pub(crate) fn unit(self) -> Option<Option<HoaKind>>
         ensures { result ≡ unit_of self }
     {
@@ -60,7 +60,7 @@ impl Mode {
     }
 }
 
-/// What a byte begins.
+/// Returns the mode after `byte` at the start of a unit.
 #[inline(always)]
 pub(super) fn first_mode(byte: u8) -> Option<KeptMode>
     ensures { result ≡ first_mode byte }
@@ -76,7 +76,7 @@ pub(super) fn first_mode(byte: u8) -> Option<KeptMode>
     }
 }
 
-/// The kind of a word of one letter.
+/// Returns the kind of the word of the one letter `byte`.
 #[inline(always)]
 pub(crate) fn letter_kind(byte: u8) -> HoaKind
     ensures { result ≡ letter_kind byte }
@@ -90,7 +90,7 @@ pub(crate) fn letter_kind(byte: u8) -> HoaKind
     }
 }
 
-/// What a byte begins that is neither white, a letter nor a digit.
+/// Returns the mode after `byte` at the start of a unit, if it is neither white, a letter nor a digit.
 #[inline(always)]
 fn mark_mode(byte: u8) -> Option<KeptMode>
     ensures { result ≡ mark_mode byte }
@@ -118,7 +118,7 @@ fn sign_mode(byte: u8) -> Option<KeptMode>
     }
 }
 
-/// The sign that a byte is.
+/// Returns the kind of the sign `byte`.
 #[inline(always)]
 pub(crate) fn sign_kind(byte: u8) -> Option<HoaKind>
     ensures { result ≡ sign_kind byte }
@@ -155,7 +155,7 @@ fn bracket_kind(byte: u8) -> Option<HoaKind>
     }
 }
 
-/// After the beginning of a word.
+/// Returns the mode after `byte` in a word.
 #[inline(always)]
 pub(super) fn word_mode(byte: u8) -> Option<KeptMode>
     ensures { result ≡ word_mode byte }
@@ -169,7 +169,7 @@ pub(super) fn word_mode(byte: u8) -> Option<KeptMode>
     }
 }
 
-/// After `@`, and after the beginning of a name that follows it.
+/// Returns the mode after `byte` in an alias name: after `@`, or after the beginning of the name that follows it.
 #[inline(always)]
 pub(super) fn alias_mode(byte: u8) -> Option<KeptMode>
     ensures { result ≡ alias_mode byte }
@@ -181,7 +181,7 @@ pub(super) fn alias_mode(byte: u8) -> Option<KeptMode>
     }
 }
 
-/// After digits.
+/// Returns the mode after digits and `byte`.
 #[inline(always)]
 pub(super) fn digits_mode(byte: u8) -> Option<KeptMode>
     ensures { result ≡ digits_mode byte }
@@ -193,7 +193,7 @@ pub(super) fn digits_mode(byte: u8) -> Option<KeptMode>
     }
 }
 
-/// Between the quotes of a string.
+/// Returns the mode after `byte` between the quotes of a string.
 #[inline(always)]
 pub(super) fn quoted_mode(byte: u8) -> KeptMode
     ensures { result ≡ quoted_mode byte }
@@ -207,7 +207,7 @@ pub(super) fn quoted_mode(byte: u8) -> KeptMode
     }
 }
 
-/// After `/`.
+/// Returns the mode after `/` and `byte`.
 pub(super) fn slash_mode(byte: u8) -> Option<KeptMode>
     ensures { result ≡ slash_mode byte }
 {
@@ -218,7 +218,7 @@ pub(super) fn slash_mode(byte: u8) -> Option<KeptMode>
     }
 }
 
-/// In a comment.
+/// Returns the mode after `byte` in a comment inside `around` others.
 pub(super) fn comment_mode(around: usize, byte: u8) -> KeptMode
     ensures { result ≡ comment_mode around byte }
 {
@@ -231,7 +231,7 @@ pub(super) fn comment_mode(around: usize, byte: u8) -> KeptMode
     }
 }
 
-/// In a comment, after `*`.
+/// Returns the mode after `*` and `byte`, in a comment inside `around` others.
 pub(super) fn star_mode(around: usize, byte: u8) -> KeptMode
     ensures { result ≡ star_mode around byte }
 {
@@ -244,7 +244,7 @@ pub(super) fn star_mode(around: usize, byte: u8) -> KeptMode
     }
 }
 
-/// After the end of a comment that stands inside so many others.
+/// Returns the mode after the end of a comment inside `around` others.
 fn closed_mode(around: usize) -> KeptMode
     ensures { result ≡ closed_mode around }
 {
@@ -255,7 +255,7 @@ fn closed_mode(around: usize) -> KeptMode
     }
 }
 
-/// In a comment, after `/`.
+/// Returns the mode after `/` and `byte`, in a comment inside `around` others.
 pub(super) fn slashed_mode(around: usize, byte: u8) -> KeptMode
     requires { around < 2 ^ 64 - 1 }
     ensures { result ≡ slashed_mode around byte }
@@ -269,7 +269,7 @@ pub(super) fn slashed_mode(around: usize, byte: u8) -> KeptMode
     }
 }
 
-/// After `-`.
+/// Returns the mode after `-` and `byte`.
 pub(super) fn dash_mode(byte: u8) -> Option<KeptMode>
     ensures { result ≡ dash_mode byte }
 {
@@ -280,7 +280,7 @@ pub(super) fn dash_mode(byte: u8) -> Option<KeptMode>
     }
 }
 
-/// After `--`.
+/// Returns the mode after `--` and `byte`.
 pub(super) fn dashes_mode(byte: u8) -> Option<KeptMode>
     ensures { result ≡ dashes_mode byte }
 {
@@ -295,7 +295,7 @@ pub(super) fn dashes_mode(byte: u8) -> Option<KeptMode>
     }
 }
 
-/// After so many bytes of a mark.
+/// Returns the mode after the first `count` bytes of the mark `kind` and `byte`.
 pub(super) fn mark_byte_mode(kind: HoaKind, count: usize, byte: u8) -> Option<KeptMode>
     requires { count < length (spelling kind) }
     ensures { result ≡ next_mode (Mode.Mark kind count) byte }
@@ -308,7 +308,7 @@ pub(super) fn mark_byte_mode(kind: HoaKind, count: usize, byte: u8) -> Option<Ke
     }
 }
 
-/// A mark of which so many bytes were read.
+/// Returns the mode after the first `count` bytes of the mark `kind`.
 fn marked(kind: HoaKind, count: usize) -> KeptMode
     ensures { result ≡ mode_in_mark kind count }
 {

@@ -1,4 +1,4 @@
-//! Bytes that settle neither a mark nor a fault, read at once.
+//! Reads bytes that settle neither a mark nor a fault all at once.
 
 ghost use Rattle.std.specs.Prelude.{◌≡◌, ◌+◌, ◌-◌, ◌<◌, ◌≤◌, ◌^◌, ◌∷◌, ◌↔◌, [], length, slice_index, take, true, IfNone, IfSome, IsTrue};
 ghost use Rattle.omega_text.specs.Bytes.{is_digit, is_letter};
@@ -20,8 +20,8 @@ use super::tokenizer::read_byte;
 use crate::bytes::{tail, word_count};
 use crate::digits::{few_digits, has_needless_zero};
 
-/// The unit that is being read, with the bytes from a place on, up to one that settles a mark or a fault; and the place
-/// of that one, or the end. `start` is the place among the bytes of all.
+/// Extends `pending` by `bytes` from `from` on, up to one that settles a mark or a fault. Returns the unit being read,
+/// and the place of that byte, or the end. `start` is the place of the first of these bytes in the whole text.
 pub(super) fn pass_bytes(
     pending: Pending,
     start: usize,
@@ -51,7 +51,7 @@ pub(super) fn pass_bytes(
     (reached, place)
 }
 
-/// The unit with one byte more, or the unit that the byte begins, unless the byte settles a mark or a fault.
+/// Extends `pending` by `byte`, or begins a unit with it. Returns none if the byte settles a mark or a fault.
 #[inline(always)]
 fn pass_byte(pending: &Pending, place: usize, byte: u8) -> Option<Pending>
     requires { IsOnWay pending.now place }
@@ -72,7 +72,7 @@ fn pass_byte(pending: &Pending, place: usize, byte: u8) -> Option<Pending>
     }
 }
 
-/// What comes of a unit by one byte more.
+/// How a unit goes on with one byte more.
 #[derive(Clone, Copy, Debug, PartialEq, Eq)]
 enum Course {
     /// It is not whole yet, and has no value.
@@ -98,7 +98,7 @@ fn course_of(next: KeptMode) -> Course
     }
 }
 
-/// The same for any byte.
+/// Does what `pass_byte` does, for any byte.
 fn pass_settling(pending: &Pending, place: usize, byte: u8) -> Option<Pending>
     requires { IsOnWay pending.now place }
     ensures passes { IfSome result (λ after. PassesAs place (byte ∷ []) pending.now after) }
@@ -108,7 +108,7 @@ fn pass_settling(pending: &Pending, place: usize, byte: u8) -> Option<Pending>
     if is_plain(settled) { Some(after) } else { None }
 }
 
-/// Whether neither a mark nor a fault was settled.
+/// Whether `settled` has neither a mark nor a fault.
 #[inline(always)]
 fn is_plain(settled: Settled) -> bool
     ensures { IsTrue result ↔ IsPlain settled }
@@ -132,7 +132,7 @@ fn is_no_mark(settled: Option<PlacedToken>) -> bool
     }
 }
 
-/// Where no unit has been begun, those that a first byte and a run of bytes after it tell.
+/// Passes the units that a first byte and a run of bytes after it determine, if no unit has been begun.
 #[inline(always)]
 fn pass_plain(pending: Pending, start: usize, bytes: &[u8], from: usize) -> (Pending, usize)
     requires within { from ≤ length bytes.now }
@@ -145,8 +145,8 @@ fn pass_plain(pending: Pending, start: usize, bytes: &[u8], from: usize) -> (Pen
     }
 }
 
-/// White bytes, signs, words, numbers, strings and alias names, as far as they are ended one after the other; and the
-/// unit that is not.
+/// Passes white bytes, signs, words, numbers, strings and alias names as long as each is ended, and begins the unit
+/// that is not.
 #[inline(always)]
 fn pass_simple(start: usize, bytes: &[u8], from: usize) -> (Pending, usize)
     requires within { from ≤ length bytes.now }
@@ -166,7 +166,7 @@ fn pass_simple(start: usize, bytes: &[u8], from: usize) -> (Pending, usize)
     (Pending::new(start + (place - from)), place)
 }
 
-/// How far a unit was read that a first byte and a run of bytes after it tell.
+/// How far a unit was read that is determined by its first byte and a run of bytes after it.
 #[derive(Clone, Copy, Debug, PartialEq, Eq)]
 enum Simple {
     /// It is whole, and so is the unit that the byte after it is, if that byte was needed to end it.
@@ -175,7 +175,7 @@ enum Simple {
     Begun { pending: Pending, place: usize },
 }
 
-/// Reads the unit that begins at a place.
+/// Reads the unit that begins at `place`.
 #[inline(always)]
 fn simple_unit(bytes: &[u8], place: usize, start: usize) -> Simple
     requires { place < length bytes.now }
@@ -194,7 +194,7 @@ fn simple_unit(bytes: &[u8], place: usize, start: usize) -> Simple
     }
 }
 
-/// Whether a byte is a unit of its own and no mark: white, or a sign.
+/// Whether `byte` is a unit of its own and no mark: white, or a sign.
 #[inline(always)]
 fn is_single(byte: u8) -> bool
     ensures { IsTrue result → IsSingle byte }
@@ -233,7 +233,7 @@ fn pass_word(bytes: &[u8], place: usize, start: usize) -> Simple
     }
 }
 
-/// Whether a byte ends a word, as a colon or a unit of its own.
+/// Whether `byte` ends a word, as a colon or a unit of its own.
 #[inline(always)]
 fn ends_word(byte: u8) -> bool
     ensures { IsTrue result → EndsWord byte }
@@ -262,7 +262,7 @@ fn pass_digits(bytes: &[u8], place: usize, start: usize) -> Simple
     not_begun(place, start)
 }
 
-/// No byte of the unit that begins at a place, which is read byte by byte then.
+/// Leaves the unit at `place` unbegun, so that it is read byte by byte.
 #[inline(always)]
 fn not_begun(place: usize, start: usize) -> Simple
     ensures { result ≡ Begun (fresh start) place }
@@ -309,7 +309,7 @@ fn pass_alias(bytes: &[u8], place: usize, start: usize) -> Simple
     not_begun(place, start)
 }
 
-/// A mark up to its last byte, which settles it.
+/// Passes a mark up to before its last byte, which settles it.
 #[inline(always)]
 fn pass_mark(bytes: &[u8], place: usize, start: usize) -> Simple
     requires { place < length bytes.now }

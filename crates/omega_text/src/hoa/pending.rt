@@ -13,7 +13,7 @@ use crate::limits::MOST_NUMBER;
 use crate::refusal::TextFault;
 use crate::token::Span;
 
-/// Above every number: the value of digits that are none.
+/// The value of digits that are no number, which is above every number.
 pub(super) const NO_NUMBER: u64 = MOST_NUMBER as u64 + 1;
 
 /// The unit that is being read: how far, where it begins, and the value of its digits.
@@ -25,7 +25,7 @@ pub(crate) struct Pending {
 }
 
 impl Pending {
-    /// Nothing of a unit, which begins here.
+    /// Makes an empty unit that begins at `start`.
     #[inline(always)]
     pub(crate) fn new(start: usize) -> Pending
         ensures { result ≡ fresh start }
@@ -37,8 +37,7 @@ impl Pending {
         }
     }
 
-    /// With one byte more, which ends at this place and by which the unit has come so far;
-    /// and the token that is whole then.
+    /// Extends the unit to `next` by `byte`, which ends at `end`. Also returns the token that is whole then.
     #[inline(always)]
     pub(crate) fn grow(self, next: KeptMode, byte: u8, end: usize) -> (Pending, Option<PlacedToken>)
         requires { self.start < end }
@@ -75,7 +74,8 @@ impl Pending {
         }
     }
 
-    /// The token that the unit is if it ends at this place. A fault is 1 or 2, where it begins.
+    /// Returns the token that the unit is if it ends at `end`. If it is none, returns [TextFault::Lex] or
+    /// [TextFault::Number] at its beginning.
     #[inline(always)]
     pub(crate) fn judge(self, end: usize) -> Result<PlacedToken, TextFault>
         ensures token { IfOk result (IsTokenIn self.mode self.value self.start end) }
@@ -109,7 +109,7 @@ fn placed_token(kind: HoaKind, value: u32, start: usize, end: usize) -> PlacedTo
     }
 }
 
-/// The value of a digit.
+/// Returns the value of the digit `byte`.
 #[inline(always)]
 fn first_value(byte: u8) -> u64
     ensures { is_digit byte ≡ true → IsValueOf result (byte ∷ []) }
@@ -117,7 +117,7 @@ fn first_value(byte: u8) -> u64
     u64::from(byte.saturating_sub(b'0'))
 }
 
-/// The value of digits with one more, from their value: none of them is a number that begins with a needless zero.
+/// Returns the value of digits followed by `byte`, if `value` is theirs. With a needless zero the digits are no number.
 #[inline(always)]
 fn more_value(value: u64, byte: u8) -> u64
     ensures { (text : List ℕ) → IsDigits text → is_digit byte ≡ true → IsValueOf value text → IsValueOf result (text ++ byte ∷ []) }

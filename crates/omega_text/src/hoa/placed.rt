@@ -8,7 +8,7 @@ pub struct PlacedToken {
     pub kind: HoaKind,
     /// The value of a number, and 0 for every other kind.
     pub value: u32,
-    /// Where it stands, counted from the first byte of all.
+    /// The place of the token, counted from the first byte of the text.
     pub span: Span,
 }
 

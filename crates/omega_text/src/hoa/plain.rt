@@ -1,4 +1,4 @@
-//! Tokens that a first byte and a run of bytes after it tell.
+//! Tokens that are determined by a first byte and a run of bytes after it.
 
 ghost use Rattle.std.specs.Prelude.{◌≡◌, ◌<◌, length, slice_index, true, IfSome};
 ghost use Rattle.omega_text.specs.Bytes.{is_digit, is_letter};
@@ -12,7 +12,7 @@ use super::unit::{Unit, whole_byte};
 use crate::bytes::{tail, word_count};
 use crate::digits::{few_digits, has_needless_zero};
 
-/// The token that bytes begin with, if its first byte and a run of bytes after it tell it.
+/// Returns the token that `bytes` begin with, if its first byte and a run of bytes after it determine it.
 #[inline(always)]
 pub(crate) fn plain_unit(bytes: &[u8]) -> Option<Unit>
     requires { 0 < length bytes.now }
@@ -28,7 +28,7 @@ pub(crate) fn plain_unit(bytes: &[u8]) -> Option<Unit>
     }
 }
 
-/// The word that bytes begin with, with the colon that follows it directly.
+/// Returns the word that `bytes` begin with, and the colon if one follows it directly.
 #[inline(always)]
 fn first_word(bytes: &[u8]) -> Unit
     requires some { 0 < length bytes.now }
@@ -55,7 +55,7 @@ fn first_word(bytes: &[u8]) -> Unit
     }
 }
 
-/// The number that bytes begin with, if it has few digits.
+/// Returns the number that `bytes` begin with, if it has few digits.
 #[inline(always)]
 fn plain_number(bytes: &[u8]) -> Option<Unit>
     requires some { 0 < length bytes.now }
@@ -81,7 +81,7 @@ fn plain_number(bytes: &[u8]) -> Option<Unit>
     })
 }
 
-/// The string that bytes begin with, if it has no backslash.
+/// Returns the string that `bytes` begin with, if it has no backslash.
 #[inline(always)]
 fn plain_string(bytes: &[u8]) -> Option<Unit>
     requires some { 0 < length bytes.now }
@@ -99,7 +99,7 @@ fn plain_string(bytes: &[u8]) -> Option<Unit>
     None
 }
 
-/// The alias name that bytes begin with, if a byte of a word stands after the `@`.
+/// Returns the alias name that `bytes` begin with, if a byte of a word follows the `@`.
 #[inline(always)]
 fn plain_alias(bytes: &[u8]) -> Option<Unit>
     requires some { 0 < length bytes.now }

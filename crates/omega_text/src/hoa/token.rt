@@ -1,5 +1,5 @@
 ghost use Rattle.std.specs.Prelude.{◌≡◌, ◌+◌, ◌<◌, ◌≤◌, ◌^◌, drop, take, length, IfErr, IfNone, IfOk, IfSome};
-ghost use Rattle.omega_text.specs.Format.{IsLexical, IsPartBehind};
+ghost use Rattle.omega_text.specs.Format.{IsLexical, IsPartAfter};
 ghost use Rattle.omega_text.specs.Lexeme.{lexeme_at, lexeme_of};
 ghost use Rattle.omega_text.specs.hoa.Cut.{Ends, Follows};
 ghost use Rattle.omega_text.specs.private.hoa.Gaps.{IsGapTo};
@@ -12,11 +12,13 @@ use crate::bytes::{is_white, tail};
 use crate::refusal::TextFault;
 use crate::token::{Span, Token};
 
-/// The next token of a Hanoi text from a place on, or none where only a gap is left.
+/// Returns the next token of a Hanoi text from `at` on, or none if only a gap is left.
 ///
-/// White space and comments before the token are skipped. A fault is 1 or 2, at the least place from there. No memory
-/// is taken, and each byte up to the end of the token is looked at once, or a few times in a comment, a mark, a string
-/// with a backslash or a fault; the one after it perhaps too.
+/// White space and comments before the token are skipped. A fault is [TextFault::Lex] or [TextFault::Number], at the
+/// least place from there.
+///
+/// No memory is taken. Each byte up to the end of the token is looked at once, or a few times in a comment, a mark, a
+/// string with a backslash or a fault. The byte after the token may be looked at too.
 #[inline(always)]
 pub fn next_hoa_token(source: &[u8], at: usize) -> Result<Option<Token<'_, HoaKind>>, TextFault>
     requires { at ≤ length source.now }
@@ -24,7 +26,7 @@ pub fn next_hoa_token(source: &[u8], at: usize) -> Result<Option<Token<'_, HoaKi
     ensures end { IfOk result (λ found. IfNone found (Ends source.now at)) }
     ensures fault { IfErr result (HasFaultFrom source.now at) }
     ensures lexical { IfErr result IsLexical }
-    ensures progress { IfOk result (λ found. IfSome found (λ token. IsPartBehind source.now at token.span)) }
+    ensures progress { IfOk result (λ found. IfSome found (λ token. IsPartAfter source.now at token.span)) }
 {
     match plain_hoa_token(source, at) {
         Some(token) => Ok(Some(token)),
@@ -32,13 +34,13 @@ pub fn next_hoa_token(source: &[u8], at: usize) -> Result<Option<Token<'_, HoaKi
     }
 }
 
-/// The next token from a place on, if white bytes alone stand before it and its first byte and a run of bytes after it
-/// tell it.
+/// Returns the next token from `at` on, if only white bytes precede it, and its first byte and a run of bytes after it
+/// determine it.
 #[inline(always)]
 pub(super) fn plain_hoa_token(source: &[u8], at: usize) -> Option<Token<'_, HoaKind>>
     requires { at ≤ length source.now }
     ensures token { IfSome result (λ token. Follows source.now at (lexeme_of token)) }
-    ensures progress { IfSome result (λ token. IsPartBehind source.now at token.span) }
+    ensures progress { IfSome result (λ token. IsPartAfter source.now at token.span) }
 {
     let mut start = at;
     while start < source.len() {
@@ -54,8 +56,8 @@ pub(super) fn plain_hoa_token(source: &[u8], at: usize) -> Option<Token<'_, HoaK
     None
 }
 
-/// The same as `next_behind`. The call stands apart so that only its result goes through memory, and not a token that
-/// was recognized at once.
+/// Does what `next_after` does. The call is a function of its own so that only its result goes through memory, and not
+/// a token that was recognized at once.
 #[inline(always)]
 fn next_later(source: &[u8], at: usize) -> Result<Option<Token<'_, HoaKind>>, TextFault>
     requires { at ≤ length source.now }
@@ -63,23 +65,23 @@ fn next_later(source: &[u8], at: usize) -> Result<Option<Token<'_, HoaKind>>, Te
     ensures end { IfOk result (λ found. IfNone found (Ends source.now at)) }
     ensures fault { IfErr result (HasFaultFrom source.now at) }
     ensures lexical { IfErr result IsLexical }
-    ensures progress { IfOk result (λ found. IfSome found (λ token. IsPartBehind source.now at token.span)) }
+    ensures progress { IfOk result (λ found. IfSome found (λ token. IsPartAfter source.now at token.span)) }
 {
-    match next_behind(source, at) {
+    match next_after(source, at) {
         Ok(found) => Ok(found),
         Err(fault) => Err(fault),
     }
 }
 
-/// The next token from a place on, whatever follows there.
+/// Returns the next token from `at` on, whatever follows there.
 #[inline(never)]
-fn next_behind(source: &[u8], at: usize) -> Result<Option<Token<'_, HoaKind>>, TextFault>
+fn next_after(source: &[u8], at: usize) -> Result<Option<Token<'_, HoaKind>>, TextFault>
     requires { at ≤ length source.now }
     ensures token { IfOk result (λ found. IfSome found (λ token. Follows source.now at (lexeme_of token))) }
     ensures end { IfOk result (λ found. IfNone found (Ends source.now at)) }
     ensures fault { IfErr result (HasFaultFrom source.now at) }
     ensures lexical { IfErr result IsLexical }
-    ensures progress { IfOk result (λ found. IfSome found (λ token. IsPartBehind source.now at token.span)) }
+    ensures progress { IfOk result (λ found. IfSome found (λ token. IsPartAfter source.now at token.span)) }
 {
     let mut start = at;
     while start < source.len() {
@@ -96,7 +98,7 @@ fn next_behind(source: &[u8], at: usize) -> Result<Option<Token<'_, HoaKind>>, T
     Ok(None)
 }
 
-/// The token of a kind and value that the first bytes are.
+/// Makes the token of `kind` and `value` of the first `count` bytes.
 fn front_token(
     bytes: &[u8],
     place: usize,

@@ -13,13 +13,11 @@ use super::pending::Pending;
 use super::placed::{PlacedToken, Settled};
 use crate::refusal::TextFault;
 
-/// The tokens of a Hanoi text that comes byte by byte, as `ByteTokenizer` gives them.
-///
-/// It keeps a few words and takes no memory.
+/// A `ByteTokenizer` that keeps a few words and takes no memory.
 #[derive(Clone, Copy, Debug, PartialEq, Eq)]
 pub struct HoaTokenizer {
     pending: Pending,
-    /// How many bytes were read.
+    /// The number of bytes read.
     place: usize,
     fault: Option<TextFault>,
 }
@@ -93,7 +91,7 @@ fn settled(
     }
 }
 
-/// Reads one byte at a place: into the unit that is being read, if it goes on so.
+/// Reads `byte` at `place` into `pending`, if the unit goes on so.
 #[inline(always)]
 pub(super) fn read_byte(pending: Pending, place: usize, byte: u8) -> (Pending, Settled)
     requires { IsOnWay pending place }
@@ -109,7 +107,7 @@ pub(super) fn read_byte(pending: Pending, place: usize, byte: u8) -> (Pending, S
     }
 }
 
-/// Reads one byte at a place where the unit before it has ended, and another begins.
+/// Ends the unit `pending` before `byte` at `place`, and begins another with it.
 #[inline(always)]
 fn end_unit(pending: Pending, place: usize, byte: u8) -> (Pending, Settled)
     requires { place < 2 ^ 64 - 1 }
@@ -132,7 +130,7 @@ fn end_unit(pending: Pending, place: usize, byte: u8) -> (Pending, Settled)
     }
 }
 
-/// What is settled where the text ends at a place.
+/// Returns what is settled if the text ends at `place`.
 fn end_of_text(pending: Pending, place: usize) -> Settled
     ensures finishes { (seen : List ℕ) (lexemes : List (Lexeme HoaKind)) → place ≡ length seen → IsAt Any seen lexemes pending
         → IsCutUpToFault result.fault seen (lexemes ++ settled_lexemes seen result) }

@@ -9,7 +9,8 @@ use crate::token::Token;
 use crate::tokens::all_tokens;
 use std::alloc::Global;
 
-/// All tokens of a Hanoi text, in order: refused 1 or 2 at the least place of a fault, or 60.
+/// Returns all tokens of a Hanoi text, in order. Refused with [TextFault::Lex] or [TextFault::Number] at the least
+/// place of a fault, or with [Refusal::Memory].
 ///
 /// The list takes 48 bytes a token at most. A reader that needs a token at a time calls `next_hoa_token`.
 pub fn hoa_tokens(alloc: Global, source: &[u8]) -> Result<Vec<Token<'_, HoaKind>>, Refusal>

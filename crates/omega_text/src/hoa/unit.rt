@@ -19,11 +19,12 @@ use crate::refusal::TextFault;
 pub(crate) struct Unit {
     pub(crate) kind: Option<HoaKind>,
     pub(crate) value: u32,
-    /// How many bytes it has.
+    /// The number of its bytes.
     pub(crate) count: usize,
 }
 
-/// The unit that bytes begin with, which stand at a place of the text. A fault is 1 or 2 there.
+/// Returns the unit that `bytes` begin with, which are at `place` of the text. A fault is [TextFault::Lex] or
+/// [TextFault::Number] there.
 pub(crate) fn first_unit(bytes: &[u8], place: usize) -> Result<Unit, TextFault>
     requires some { 0 < length bytes.now }
     requires room { length bytes.now < 2 ^ 64 }
@@ -44,7 +45,7 @@ pub(crate) fn first_unit(bytes: &[u8], place: usize) -> Result<Unit, TextFault>
     }
 }
 
-/// A unit of one byte.
+/// Makes a unit of one byte.
 pub(super) fn whole_byte(kind: Option<HoaKind>) -> Unit
     ensures kind { result.kind ≡ kind }
     ensures value { result.value ≡ 0 }
@@ -57,7 +58,7 @@ pub(super) fn whole_byte(kind: Option<HoaKind>) -> Unit
     }
 }
 
-/// The number that bytes begin with: their whole run of digits is one, or is refused.
+/// Returns the number that `bytes` begin with. Their whole run of digits is one, or is refused.
 #[inline(always)]
 fn first_number(bytes: &[u8], place: usize) -> Result<Unit, TextFault>
     requires some { 0 < length bytes.now }
@@ -76,7 +77,7 @@ fn first_number(bytes: &[u8], place: usize) -> Result<Unit, TextFault>
     })
 }
 
-/// The mark that bytes begin with.
+/// Returns the mark that `bytes` begin with.
 fn first_mark(bytes: &[u8]) -> Option<Unit>
     ensures { IfSome result (λ unit. IsFirstUnit bytes.now unit.kind unit.value unit.count) }
 {
@@ -84,7 +85,7 @@ fn first_mark(bytes: &[u8]) -> Option<Unit>
     Some(mark(kind))
 }
 
-/// A mark as a unit.
+/// Makes a unit of the mark `kind`.
 fn mark(kind: HoaKind) -> Unit
     ensures kind { result.kind ≡ Some kind }
     ensures value { result.value ≡ 0 }
@@ -97,7 +98,7 @@ fn mark(kind: HoaKind) -> Unit
     }
 }
 
-/// Any other unit, byte by byte.
+/// Returns any other unit, read byte by byte.
 fn other_unit(bytes: &[u8], place: usize) -> Result<Unit, TextFault>
     requires some { 0 < length bytes.now }
     requires room { length bytes.now < 2 ^ 64 }
@@ -116,7 +117,7 @@ fn other_unit(bytes: &[u8], place: usize) -> Result<Unit, TextFault>
     }
 }
 
-/// How many bytes at the front can be read as one unit or as its beginning, and how far they are one.
+/// Returns the number of bytes at the front that can be read as one unit or as its beginning, and the mode after them.
 fn scan(bytes: &[u8]) -> (usize, Mode)
     requires { length bytes.now < 2 ^ 64 }
     ensures { IsScanned bytes.now result.0 result.1 }

@@ -3,11 +3,11 @@ ghost use Rattle.std.specs.List.{prefix_len};
 ghost use Rattle.std.specs.Str.Parse.{digits_value};
 ghost use Rattle.omega_text.specs.Bytes.{is_digit};
 
-/// Fewer digits than these have a value far below 2^64.
+/// A run of digits shorter than this has a value far below 2^64.
 const MANY_DIGITS: usize = 12;
 
-/// How many bytes at the front are digits, and their value, if they are few, another byte ends them, and the bytes are
-/// many; else 0 of them. So many bytes are there that no place needs to be compared with their number.
+/// Returns the number of digits at the front and their value, if they are few, another byte ends them, and `bytes` has
+/// at least `MANY_DIGITS`. Otherwise returns 0 digits. With that length no index needs to be compared with it.
 #[inline(always)]
 pub(crate) fn ended_digits(bytes: &[u8]) -> (usize, u64)
     requires some { 0 < length bytes.now }

@@ -1,4 +1,4 @@
-/// What a token of a PGSolver text is.
+/// The kind of a token of a PGSolver text.
 #[derive(Clone, Copy, Debug, PartialEq, Eq)]
 pub enum PgKind {
     /// A number, from 0 to `MOST_NUMBER`.

@@ -10,7 +10,7 @@ fn is_name_byte(byte: u8) -> bool
     byte >= 32 && byte <= 126 && byte != QUOTE
 }
 
-/// How many bytes at the front may stand in a name.
+/// Returns the number of bytes at the front that may be in a name.
 pub(crate) fn name_count(bytes: &[u8]) -> usize
     ensures { result ≡ prefix_len is_name_byte bytes.now }
 {

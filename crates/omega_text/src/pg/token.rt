@@ -7,7 +7,7 @@ ghost use Rattle.omega_text.specs.private.pg.FirstForm.{IsFirstForm};
 ghost use Rattle.omega_text.specs.pg.Fault.{HasFaultFrom, IsFaultOf};
 ghost use Rattle.omega_text.specs.Forms.{IsDigits};
 ghost use Rattle.omega_text.specs.pg.Forms.{IsNoToken};
-ghost use Rattle.omega_text.specs.Format.{IsPartBehind};
+ghost use Rattle.omega_text.specs.Format.{IsPartAfter};
 ghost use Rattle.omega_text.specs.Lexeme.{lexeme_at, lexeme_of};
 ghost use Rattle.omega_text.specs.Limits.{most_number};
 ghost use Rattle.omega_text.specs.declared.pg.kind.PgKind.TheVariants.{Number};
@@ -21,17 +21,19 @@ use crate::limits::MOST_NUMBER;
 use crate::refusal::TextFault;
 use crate::token::{Span, Token};
 
-/// The next token of a game text from a place on, or none where only white space is left.
+/// Returns the next token of a game text from `at` on, or none if only white space is left.
 ///
-/// White space before the token is skipped. A fault is 1 or 2, at the least place from there. No memory is taken, and
-/// no byte after the token is looked at, but for the one after a number or a word.
+/// White space before the token is skipped. A fault is [TextFault::Lex] or [TextFault::Number], at the least place from
+/// there.
+///
+/// No memory is taken, and no byte after the token is looked at, except the one after a number or a word.
 #[inline(always)]
 pub fn next_pg_token(source: &[u8], at: usize) -> Result<Option<Token<'_, PgKind>>, TextFault>
     requires { at ≤ length source.now }
     ensures token { IfOk result (λ found. IfSome found (λ token. Follows source.now at (lexeme_of token))) }
     ensures end { IfOk result (λ found. IfNone found (IsGap source.now at (length source.now))) }
     ensures fault { IfErr result (HasFaultFrom source.now at) }
-    ensures progress { IfOk result (λ found. IfSome found (λ token. IsPartBehind source.now at token.span)) }
+    ensures progress { IfOk result (λ found. IfSome found (λ token. IsPartAfter source.now at token.span)) }
 {
     let start = gap_end(source, at);
     if start == source.len() {
@@ -45,15 +47,15 @@ pub fn next_pg_token(source: &[u8], at: usize) -> Result<Option<Token<'_, PgKind
     Ok(Some(front_token(bytes, start, front)))
 }
 
-/// The number that is the next token from a place on, if it can be told at once: after one byte of white space at
-/// most, and with few digits. None says nothing: `next_pg_token` tells then.
+/// Returns the next token from `at` on if it is a number that is recognized at once: after at most one byte of white
+/// space, and with few digits. None says nothing; call `next_pg_token` then.
 #[inline(always)]
 pub fn next_pg_number(source: &[u8], at: usize) -> Option<Token<'_, PgKind>>
     requires { at ≤ length source.now }
     ensures token { IfSome result (λ token. Follows source.now at (lexeme_of token)) }
     ensures number { IfSome result (λ token. token.kind ≡ Number) }
     ensures small { IfSome result (λ token. token.value ≤ most_number) }
-    ensures progress { IfSome result (λ token. IsPartBehind source.now at token.span) }
+    ensures progress { IfSome result (λ token. IsPartAfter source.now at token.span) }
 {
     let start = blank_end(source, at);
     let bytes = tail(source, start);
@@ -61,7 +63,7 @@ pub fn next_pg_number(source: &[u8], at: usize) -> Option<Token<'_, PgKind>>
     Some(front_token(bytes, start, front))
 }
 
-/// Where white space of one byte at most ends that stands at a place.
+/// Returns the end of white space of at most one byte at `from`.
 #[inline(always)]
 fn blank_end(source: &[u8], from: usize) -> usize
     requires { from ≤ length source.now }
@@ -73,7 +75,7 @@ fn blank_end(source: &[u8], from: usize) -> usize
     from + 1
 }
 
-/// Where the white space ends that stands at a place.
+/// Returns the end of the white space at `from`.
 #[inline(always)]
 fn gap_end(source: &[u8], from: usize) -> usize
     requires { from ≤ length source.now }
@@ -95,11 +97,11 @@ fn gap_end(source: &[u8], from: usize) -> usize
 struct Form {
     kind: PgKind,
     value: u32,
-    /// How many bytes it has.
+    /// The number of its bytes.
     count: usize,
 }
 
-/// The form that bytes begin with, which stand at a place of the text and do not begin with white space.
+/// Returns the form that `bytes` begin with, which are at `place` of the text and do not begin with white space.
 #[inline(always)]
 fn first_form(bytes: &[u8], place: usize) -> Result<Form, TextFault>
     requires some { 0 < length bytes.now }
@@ -123,7 +125,7 @@ fn first_form(bytes: &[u8], place: usize) -> Result<Form, TextFault>
     }
 }
 
-/// A form of a kind that has no value.
+/// Makes a form of `kind`, which has no value, with `count` bytes.
 #[inline(always)]
 fn plain_form(kind: PgKind, count: usize) -> Form
     ensures kind { result.kind ≡ kind }
@@ -137,7 +139,7 @@ fn plain_form(kind: PgKind, count: usize) -> Form
     }
 }
 
-/// The number that bytes begin with, if it has few digits and another byte ends them. None says nothing.
+/// Returns the number that `bytes` begin with, if it has few digits and another byte ends them. None says nothing.
 #[inline(always)]
 fn plain_number(bytes: &[u8]) -> Option<Form>
     ensures form { IfSome result (λ form. IsFirstForm bytes.now form.kind form.value form.count) }
@@ -166,7 +168,7 @@ fn plain_number(bytes: &[u8]) -> Option<Form>
     })
 }
 
-/// The number that bytes begin with: their whole run of digits is one, or is refused.
+/// Returns the number that `bytes` begin with. Their whole run of digits is one, or is refused.
 #[inline(never)]
 fn first_number(bytes: &[u8], place: usize) -> Result<Form, TextFault>
     requires some { 0 < length bytes.now }
@@ -185,7 +187,7 @@ fn first_number(bytes: &[u8], place: usize) -> Result<Form, TextFault>
     })
 }
 
-/// The word that bytes begin with: the longest one is `parity` or `paritysol`, or is refused.
+/// Returns the word that `bytes` begin with. The longest one is `parity` or `paritysol`, or is refused.
 #[inline(never)]
 fn first_word(bytes: &[u8], place: usize) -> Result<Form, TextFault>
     requires some { 0 < length bytes.now }
@@ -204,7 +206,7 @@ fn first_word(bytes: &[u8], place: usize) -> Result<Form, TextFault>
     }
 }
 
-/// The name that bytes begin with: it ends at the next quote, and only bytes of a name stand between.
+/// Returns the name that `bytes` begin with. It ends at the next quote, with only bytes of a name before that.
 #[inline(never)]
 fn first_name(bytes: &[u8], place: usize) -> Result<Form, TextFault>
     requires some { 0 < length bytes.now }
@@ -220,7 +222,7 @@ fn first_name(bytes: &[u8], place: usize) -> Result<Form, TextFault>
     }
 }
 
-/// The token of a form that bytes begin with, which stand at a place of the text.
+/// Makes the token of `form`, with which `bytes` at `place` of the text begin.
 #[inline(always)]
 fn front_token(bytes: &[u8], place: usize, form: Form) -> Token<'_, PgKind>
     requires within { form.count ≤ length bytes.now }

@@ -32,7 +32,7 @@ pub enum AutomatonFault {
     /// 28: a state is defined twice.
     #[error("a state is defined twice")]
     StateTwice,
-    /// 29: labels stand both on a state and its edges, or on some of its edges alone.
+    /// 29: labels are both on a state and its edges, or on some of its edges alone.
     #[error("labels stand both on a state and its edges, or on some of its edges alone")]
     MixedLabels,
     /// 30: the unlabelled edges of a state are not one for each valuation.

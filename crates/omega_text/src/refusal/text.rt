@@ -11,7 +11,7 @@ pub enum TextFault {
     /// 2: the digits at `at` are not a number of the format.
     #[error("the digits at byte {at} are no number from 0 to 2147483647")]
     Number { at: usize },
-    /// 3: the tokens are not in the grammar; `at` is the length of the text where it ends too early.
+    /// 3: the tokens are not in the grammar; `at` is the length of the text if it ends too early.
     #[error("the text can't go on as it does at byte {at}")]
     Syntax { at: usize },
     /// 4: the text has over 16,777,216 bytes.

@@ -7,7 +7,7 @@ pub returns : goal.returns
 returns c =
     record {
       written = c.left_by-left.result.output.items;
-      told = c.left_by-left.result.errors.items;
+      reported = c.left_by-left.result.errors.items;
       run = c.left_by-left.ensures;
       output_length = search rules;
       errors_length = search rules;

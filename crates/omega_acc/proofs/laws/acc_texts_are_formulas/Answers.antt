@@ -3,11 +3,11 @@ use Rattle.omega_acc.proofs.written.Formulas.{there-formula}
 use Rattle.omega_acc.proofs.laws.acc_texts_are_formulas.Goals as goal
 
 pub returns : goal.returns
-returns c tree source behind from fit apart stands =
+returns c tree source following from fit apart stands =
     there-formula (record {
       join = c.cuts_join.ensures;
       numbers = c.numbers_are_longest.ensures;
       plain = c.numbers_are_plain.ensures;
       words = c.words_are_longest.ensures;
       closed = c.closed_are_longest.ensures;
-    }) tree source behind from fit apart stands
+    }) tree source following from fit apart stands

@@ -1,7 +1,7 @@
 -- The whole text is put after.
 use Rattle.std.proofs.Common.{[], ◌++◌, ap, ◌∙◌}
 use Rattle.omega_acc.specs.Writing.{Text}
-use Rattle.omega_acc.specs.private.layout.Texts.{acc_texts_behind}
+use Rattle.omega_acc.specs.private.layout.Texts.{acc_texts_after}
 use Rattle.omega_acc.proofs.written.TextLemmas.{top_of-formula}
 use Rattle.omega_acc.proofs.writing.write_acc.Goals as goal
 
@@ -10,5 +10,5 @@ returns-clause-ok c =
     c.in_ok-append_to.ensures.ok
     ∙ ap (λ bytes. c.args.out.now.items ++ bytes)
     (c.in_ok-put_formula.ensures.ok
-    ∙ (c.new-text.ensures (acc_texts_behind [] c.nodes.result.now)
+    ∙ (c.new-text.ensures (acc_texts_after [] c.nodes.result.now)
     ∙ ap (λ (text : Text). text.bytes) (top_of-formula c.args.formula.now _ c.nodes.ensures)))

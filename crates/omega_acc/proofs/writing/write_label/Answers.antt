@@ -1,8 +1,8 @@
 -- The whole text is put after.
 use Rattle.std.proofs.Common.{[], ◌++◌, ap, ◌∙◌}
 use Rattle.omega_acc.specs.private.layout.label.Label.{postfix}
-use Rattle.omega_acc.specs.private.layout.Texts.{texts_behind, top_text}
-use Rattle.omega_acc.proofs.written.TextLemmas.{texts_behind-label}
+use Rattle.omega_acc.specs.private.layout.Texts.{texts_after, top_text}
+use Rattle.omega_acc.proofs.written.TextLemmas.{texts_after-label}
 use Rattle.omega_acc.proofs.writing.write_label.Goals as goal
 
 pub returns-clause-ok : goal.returns-clause-ok
@@ -10,5 +10,5 @@ returns-clause-ok c =
     c.in_ok-append_to.ensures.ok
     ∙ ap (λ bytes. c.args.out.now.items ++ bytes)
     (c.in_ok-put_label.ensures.ok
-    ∙ (c.new-text.ensures (texts_behind [] (postfix c.args.label.now))
-    ∙ ap (λ texts. (top_text texts).bytes) (texts_behind-label c.args.label.now)))
+    ∙ (c.new-text.ensures (texts_after [] (postfix c.args.label.now))
+    ∙ ap (λ texts. (top_text texts).bytes) (texts_after-label c.args.label.now)))

@@ -6,4 +6,4 @@ use Rattle.std.proofs.Common.{append_assoc, ap, ◌∙◌}
 pub regrouped : {A : Type 0} (left right : List A) (operator : A) (rest : List A)
     → (left ++ (right ++ operator ∷ [])) ++ rest ≡ left ++ (right ++ operator ∷ rest)
 regrouped left right operator rest =
-    append_assoc left (right ++ operator ∷ []) rest ∙ ap (λ behind. left ++ behind) (append_assoc right (operator ∷ []) rest)
+    append_assoc left (right ++ operator ∷ []) rest ∙ ap (λ following. left ++ following) (append_assoc right (operator ∷ []) rest)

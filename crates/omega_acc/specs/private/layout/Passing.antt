@@ -5,13 +5,13 @@ use Rattle.omega_text.specs.Lexeme.{Lexeme}
 use Rattle.omega_text.specs.declared.hoa.kind.HoaKind.{HoaKind}
 use Rattle.omega_text.specs.declared.hoa.kind.HoaKind.TheVariants as kind
 
--- a part of this case may stand after `!` or `&`
+-- a part of this case may follow `!` or `&`
 abbrev pub FitsTight : Rank → Type 0
 FitsTight unary = Unit {0}
 FitsTight conjunctive = ⊥
 FitsTight disjunctive = ⊥
 
--- a part of this case may stand after `|`
+-- a part of this case may follow `|`
 abbrev pub FitsOr : Rank → Type 0
 FitsOr unary = Unit {0}
 FitsOr conjunctive = Unit {0}

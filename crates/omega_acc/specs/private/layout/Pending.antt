@@ -1,4 +1,4 @@
--- What waits for a part, as signs and the depths of operators beside them.
+-- Pending prefixes, parentheses and operators, as signs and the depths of operators beside them.
 use Rattle.std.specs.Prelude.{ℕ, List, [], ◌∷◌}
 use Rattle.omega_acc.specs.declared.pending.Pending.{Pending}
 use Rattle.omega_acc.specs.declared.pending.Pending.TheVariants as pending
@@ -6,7 +6,7 @@ use Rattle.omega_acc.specs.declared.signs.Sign.{Sign}
 use Rattle.omega_acc.specs.declared.signs.Sign.TheVariants.{And, Not, Open, Or}
 use Rattle.omega_acc.specs.private.layout.formula.Plain.{depths_below, top_depth}
 
--- what waits, by its signs and the depths of its operators, the last first
+-- what is pending, by its signs and the depths of its operators, the last first
 abbrev pub pending_in : List Sign → List ℕ → List Pending
 pending_in [] depths = []
 pending_in (Open ∷ signs) depths = pending.Open ∷ pending_in signs depths

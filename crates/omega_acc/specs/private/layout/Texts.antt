@@ -10,7 +10,7 @@ use Rattle.omega_acc.specs.declared.signs.Sign.{Sign}
 use Rattle.omega_acc.specs.declared.signs.Sign.TheVariants.{Open}
 use Rattle.omega_acc.specs.declared.signs.Sign.TheVariants as sign
 
--- the text on top, empty where there is none
+-- the text on top, or the empty text if there is none
 abbrev pub top_text : List Text → Text
 top_text [] = atom_text []
 top_text (text ∷ texts) = text
@@ -32,7 +32,7 @@ sign_byte sign.Or = 124
 abbrev pub top_bytes : ℕ → List Text → List ℕ
 top_bytes rank texts = bracketed (nat_lt (top_text texts).rank (min rank 3)) (top_text texts).bytes
 
--- what stands before a part that is written, where these signs wait and these texts are the parts before it
+-- the text before a part that is written, if these signs are pending and these texts are the parts before it
 abbrev pub before_text : List Sign → List Text → List ℕ
 before_text [] texts = []
 before_text (Open ∷ signs) texts = before_text signs texts ++ 40 ∷ []
@@ -40,35 +40,35 @@ before_text (sign.Not ∷ signs) texts = before_text signs texts ++ 33 ∷ []
 before_text (sign.And ∷ signs) texts = before_text signs (texts_below texts) ++ (top_bytes 2 texts ++ 38 ∷ [])
 before_text (sign.Or ∷ signs) texts = before_text signs (texts_below texts) ++ (top_bytes 1 texts ++ 124 ∷ [])
 
--- what is still to be written, where a part that binds so tightly is wanted, or none
+-- what is still to be written, if a part that binds as tightly as this is wanted, or none
 abbrev pub left_text : Option ℕ → List Sign → List Text → List ℕ
 left_text None signs texts = before_text signs []
 left_text (Some rank) signs texts = before_text signs (texts_below texts) ++ top_bytes rank texts
 
--- the whole text, where these texts are the parts that come
+-- the whole text, if these texts are the parts that come
 abbrev pub whole_text : Backward → List Text → List ℕ
 whole_text backward texts = left_text backward.wanted backward.waiting texts ++ backward.bytes
 
 -- the texts that a label's nodes leave of those before them
-abbrev pub texts_behind : List Text → List LabelNode → List Text
-texts_behind stack [] = stack
-texts_behind stack (Constant value ∷ nodes) = texts_behind (atom_text (truth_text value) ∷ stack) nodes
-texts_behind stack (Proposition number ∷ nodes) = texts_behind (atom_text (decimal number) ∷ stack) nodes
-texts_behind stack (Not ∷ nodes) = texts_behind (negated_text (top_text stack) ∷ texts_below stack) nodes
-texts_behind stack (And ∷ nodes) =
-    texts_behind (joined_text 2 38 (top_text (texts_below stack)) (top_text stack) ∷ texts_below (texts_below stack)) nodes
-texts_behind stack (Or ∷ nodes) =
-    texts_behind (joined_text 1 124 (top_text (texts_below stack)) (top_text stack) ∷ texts_below (texts_below stack)) nodes
-texts_behind stack (Alias count ∷ nodes) = texts_behind stack nodes
-texts_behind stack (Group ∷ nodes) = texts_behind stack nodes
+abbrev pub texts_after : List Text → List LabelNode → List Text
+texts_after stack [] = stack
+texts_after stack (Constant value ∷ nodes) = texts_after (atom_text (truth_text value) ∷ stack) nodes
+texts_after stack (Proposition number ∷ nodes) = texts_after (atom_text (decimal number) ∷ stack) nodes
+texts_after stack (Not ∷ nodes) = texts_after (negated_text (top_text stack) ∷ texts_below stack) nodes
+texts_after stack (And ∷ nodes) =
+    texts_after (joined_text 2 38 (top_text (texts_below stack)) (top_text stack) ∷ texts_below (texts_below stack)) nodes
+texts_after stack (Or ∷ nodes) =
+    texts_after (joined_text 1 124 (top_text (texts_below stack)) (top_text stack) ∷ texts_below (texts_below stack)) nodes
+texts_after stack (Alias count ∷ nodes) = texts_after stack nodes
+texts_after stack (Group ∷ nodes) = texts_after stack nodes
 
 -- the texts that a formula's nodes leave of those before them
-abbrev pub acc_texts_behind : List Text → List AccNode → List Text
-acc_texts_behind stack [] = stack
-acc_texts_behind stack (acc.Constant value ∷ nodes) = acc_texts_behind (atom_text (truth_text value) ∷ stack) nodes
-acc_texts_behind stack (acc.Inf negated set ∷ nodes) = acc_texts_behind (atom_text (codes "Inf" ++ set_text negated set) ∷ stack) nodes
-acc_texts_behind stack (acc.Fin negated set ∷ nodes) = acc_texts_behind (atom_text (codes "Fin" ++ set_text negated set) ∷ stack) nodes
-acc_texts_behind stack (acc.And ∷ nodes) =
-    acc_texts_behind (joined_text 2 38 (top_text (texts_below stack)) (top_text stack) ∷ texts_below (texts_below stack)) nodes
-acc_texts_behind stack (acc.Or ∷ nodes) =
-    acc_texts_behind (joined_text 1 124 (top_text (texts_below stack)) (top_text stack) ∷ texts_below (texts_below stack)) nodes
+abbrev pub acc_texts_after : List Text → List AccNode → List Text
+acc_texts_after stack [] = stack
+acc_texts_after stack (acc.Constant value ∷ nodes) = acc_texts_after (atom_text (truth_text value) ∷ stack) nodes
+acc_texts_after stack (acc.Inf negated set ∷ nodes) = acc_texts_after (atom_text (codes "Inf" ++ set_text negated set) ∷ stack) nodes
+acc_texts_after stack (acc.Fin negated set ∷ nodes) = acc_texts_after (atom_text (codes "Fin" ++ set_text negated set) ∷ stack) nodes
+acc_texts_after stack (acc.And ∷ nodes) =
+    acc_texts_after (joined_text 2 38 (top_text (texts_below stack)) (top_text stack) ∷ texts_below (texts_below stack)) nodes
+acc_texts_after stack (acc.Or ∷ nodes) =
+    acc_texts_after (joined_text 1 124 (top_text (texts_below stack)) (top_text stack) ∷ texts_below (texts_below stack)) nodes

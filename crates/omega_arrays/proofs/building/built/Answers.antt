@@ -12,18 +12,18 @@ use Rattle.omega_arrays.proofs.building.built.Goals as goal
 pub returns-clause-game : goal.returns-clause-game
 returns-clause-game c =
     let a = c.args.arrays.now in
-    IfOk-weaker c.finish_arena.result _ _
+    IfOk-weaker c.finish_forward.result _ _
     (λ game made. c.specifications_have_one_game.ensures (specs_below a (node_count a)) game (nodes_in a)
     (subst (λ (specs : List NodeSpec). IsGameOf specs game) c.in_ok-nodes.ensures.specified made) (game_of_specs a c.requires))
-    c.finish_arena.ensures.game
+    c.finish_forward.ensures.game
 
 pub returns-clause-count : goal.returns-clause-count
 returns-clause-count c =
     let a = c.args.arrays.now in
-    IfOk-weaker c.finish_arena.result _ _
+    IfOk-weaker c.finish_forward.result _ _
     (λ game made. ap length (c.specifications_have_one_game.ensures (specs_below a (node_count a)) game (nodes_in a)
     (subst (λ (specs : List NodeSpec). IsGameOf specs game) c.in_ok-nodes.ensures.specified made) (game_of_specs a c.requires)) ∙ count_is a)
-    c.finish_arena.ensures.game
+    c.finish_forward.ensures.game
 
 pub returns-clause-refused : goal.returns-clause-refused
 returns-clause-refused c =
@@ -32,5 +32,5 @@ returns-clause-refused c =
     let edges : length a.successors ≤ most_successors = omega (arith, c.if-successors-gt-MOST_SUCCESSORS.false, ap length c.successors.ensures) in
     let none : game_fault_of (specs_below a (node_count a)) ≡ None =
     c.games_have_no_fault.ensures (specs_below a (node_count a)) (nodes_in a) (game_of_specs a c.requires) (limits_of_shape a c.requires nodes edges) in
-    IfErr-weaker c.finish_arena.result _ _
-    (λ refusal. only_memory c.in_ok-nodes.nodes a refusal (ap game_fault_of c.in_ok-nodes.ensures.specified ∙ none)) c.finish_arena.ensures.refused
+    IfErr-weaker c.finish_forward.result _ _
+    (λ refusal. only_memory c.in_ok-nodes.nodes a refusal (ap game_fault_of c.in_ok-nodes.ensures.specified ∙ none)) c.finish_forward.ensures.refused

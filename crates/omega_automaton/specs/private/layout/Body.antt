@@ -1,5 +1,4 @@
--- What is found of the body of an automaton that is written, in one walk over its states and their edges: which of the
--- faults that need no memory apply to it.
+-- The faults of a written automaton's body that are found without memory, in one walk over its states and their edges.
 use Rattle.std.specs.Prelude.{◌≡◌, List, nat_le, not}
 use Rattle.std.specs.List.{list_any}
 use Rattle.omega_raw.specs.declared.raw_automaton.RawAutomaton.{RawAutomaton}

@@ -1,5 +1,5 @@
--- The draft of an automaton: what is said of it before its aliases are asked for, what is written and has no fault, its
--- items gathered, and the value that is made of it.
+-- The draft of an automaton: its outline before its aliases are looked up, a written one without a fault, its items
+-- gathered, and the value made of it.
 use Rattle.std.specs.Prelude.{◌≡◌, ℕ, List, [], Option, None, MatchOption, nat_lt, unwrap_or}
 use Rattle.std.specs.List.{list_any}
 use Rattle.omega_acc.specs.formula.Acceptance.{AccTree}
@@ -17,7 +17,7 @@ use Rattle.omega_automaton.specs.declared.state.State.{State}
 use Rattle.omega_automaton.specs.private.layout.Gathered.{HasGathered}
 use Rattle.omega_automaton.specs.private.layout.Order.{early_fault, late_fault}
 
--- what is said of an automaton that is written, where none of the faults before that of aliases applies
+-- the outline of an automaton that is written, if no fault before that of aliases applies
 pub record IsOutlineOf (raw : RawAutomaton) (outline : HeaderOutline) : Type 0 where
   pub early : early_fault raw ≡ None
   pub late : outline.late ≡ late_fault raw

@@ -1,4 +1,4 @@
--- How the edges of a state lie in memory: in short where all of them are short.
+-- How the edges of a state lie in memory: in short if all of them are short.
 use Rattle.std.specs.Prelude.{List, [], ◌∷◌, None, map, option_map, unwrap_or}
 use Rattle.std.specs.Option.{option_copied}
 use Rattle.omega_raw.specs.declared.short_edge.ShortEdge.{ShortEdge}

@@ -1,4 +1,4 @@
--- What is found of labels with their aliases replaced: which faults they would have, and how large they are together.
+-- The faults of labels with their aliases replaced, and the size of all together.
 use Rattle.std.specs.Prelude.{◌≡◌, ℕ, ◌+◌, ◌≤◌, Bool, false, ◌||◌, List, Option, is_none, is_some, min}
 use Rattle.std.specs.List.{list_any}
 use Rattle.omega_acc.specs.label.Expanding.{Defined, Meaning, expansion, fault_of_meaning}
@@ -19,8 +19,8 @@ labels_pass test definitions states = list_any (is_labelled (λ label. test (exp
 abbrev pub capped : ℕ → ℕ
 capped size = min size (most_total_size + 1)
 
--- what is found of labels, by which tests what some of them means passes, and by how large they are together, which is
--- counted where none has a fault
+-- the findings of labels: the tests that the meaning of one of them passes, and the size of all together, counted if no
+-- label has a fault
 pub record AreFound (some : (Option Meaning → Bool) → Bool) (size : ℕ) (found : Findings) : Type 0 where
   pub undefined : found.undefined ≡ some is_none
   pub deep : found.deep ≡ some is_deep

@@ -17,7 +17,7 @@ pub record HasTaken (old : Gathered) (item : RawItem) (new : Gathered) : Type 0 
   pub properties : new.properties.items ≡ old.properties.items ++ properties_in item
   pub unknown : new.unknown.items ≡ old.unknown.items ++ option_to_list (unknown_in item)
 
--- all items were taken: what may not repeat is that of the first item, and all else stands in the order written
+-- all items were taken: what may not repeat is that of the first item, and all else is in the order written
 pub record HasGathered (items : List RawItem) (all : Gathered) : Type 0 where
   pub tool : all.tool ≡ first_said tool_in items
   pub name : all.name ≡ first_said name_in items

@@ -1,5 +1,5 @@
--- The faults in the order in which they are asked for: those before aliases, those between aliases and deep
--- expressions, and the others.
+-- The faults in the order in which they are tested: those before aliases, those between aliases and deep expressions,
+-- and the others.
 use Rattle.std.specs.Prelude.{◌≡◌, Bool, ◌||◌, List, [], ◌∷◌, Option, None, Some, find, if◌then◌else◌, is_none, nat_lt, sum_by}
 use Rattle.std.specs.Option.{option_or}
 use Rattle.omega_text.specs.Cases.{never, or_automaton, or_memory}
@@ -33,8 +33,8 @@ is_any_large definitions states =
     (definitions.large || labels_pass is_large definitions.aliases states)
     || nat_lt most_total_size (sum_by (label_total definitions.aliases) states)
 
--- the least fault from that of aliases on, where no definition has it: by the labels, the least of those up to depth,
--- and whether an acceptance is too deep
+-- the least fault from that of aliases on, if no definition has it: by the labels, the least of those up to depth, and
+-- whether an acceptance is too deep
 abbrev pub last_fault : Definitions → List RawState → Option AutomatonFault → Bool → Option AutomatonFault
 last_fault definitions states late acceptance =
     if labels_pass is_none definitions.aliases states then Some Alias

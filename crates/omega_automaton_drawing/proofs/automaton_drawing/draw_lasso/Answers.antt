@@ -7,15 +7,15 @@ use Rattle.omega_automaton_drawing.specs.AutomatonDrawing.{front, start_text}
 use Rattle.omega_dot.specs.Numbered.{numbered}
 use Rattle.omega_automaton_drawing.specs.Roles.{role_of}
 use Rattle.omega_automaton_drawing.proofs.Bodies.{roles_drawn}
-use Rattle.omega_automaton_drawing.proofs.Lines.{behind}
+use Rattle.omega_automaton_drawing.proofs.Lines.{following}
 use Rattle.omega_automaton_drawing.proofs.automaton_drawing.draw_lasso.Goals as goal
 
 pub returns-clause-text : goal.returns-clause-text
 returns-clause-text c =
-    behind [] (front c.args.automaton.now) _ (c.in_ok-write_front.ensures.ok ∙ ap (λ list. list ++ front c.args.automaton.now) c.in_ok-out.ensures.items)
-    (behind c.write_front.new.out.items (numbered start_text 0 c.args.automaton.now.starts) _ c.in_ok-write_starts.ensures.ok
-    (behind c.write_starts.new.out.items (flat_map (drawn_state c.args.automaton.now.propositions) c.args.automaton.now.defined) _ c.in_ok-write_states.ensures.ok
-    (behind c.write_states.new.out.items (edges_text c.args.automaton.now.propositions (role_of c.args.stem.now c.args.cycle.now) 0 c.args.automaton.now.defined) (codes "}\n")
+    following [] (front c.args.automaton.now) _ (c.in_ok-write_front.ensures.ok ∙ ap (λ list. list ++ front c.args.automaton.now) c.in_ok-out.ensures.items)
+    (following c.write_front.new.out.items (numbered start_text 0 c.args.automaton.now.starts) _ c.in_ok-write_starts.ensures.ok
+    (following c.write_starts.new.out.items (flat_map (drawn_state c.args.automaton.now.propositions) c.args.automaton.now.defined) _ c.in_ok-write_states.ensures.ok
+    (following c.write_states.new.out.items (edges_text c.args.automaton.now.propositions (role_of c.args.stem.now c.args.cycle.now) 0 c.args.automaton.now.defined) (codes "}\n")
     (c.in_ok-write_edges.ensures.ok
     ∙ ap (λ list. c.write_states.new.out.items ++ list)
     (roles_drawn c.args.automaton.now c.args.stem.now c.args.cycle.now c.edge_count.result c.in_ok-roles.roles.items c.as_slice.result.now c.in_ok-roles.ensures.roles

@@ -1,11 +1,11 @@
 -- `write_branch_point`: its parts are the line.
 use Rattle.std.proofs.Common.{codes}
 use Rattle.omega_automaton_drawing.specs.Arrows.{branch_name}
-use Rattle.omega_automaton_drawing.proofs.Lines.{behind}
+use Rattle.omega_automaton_drawing.proofs.Lines.{following}
 use Rattle.omega_automaton_drawing.proofs.branches.write_branch_point.Goals as goal
 
 pub returns-clause-ok : goal.returns-clause-ok
 returns-clause-ok c =
-    behind c.args.out.now.items (codes "  ") _ c.in_ok-extend_from_slice.ensures.items
-    (behind c.extend_from_slice.new.self.items (branch_name c.args.number) (codes " [shape=point];\n") c.in_ok-write_branch_name.ensures.ok
+    following c.args.out.now.items (codes "  ") _ c.in_ok-extend_from_slice.ensures.items
+    (following c.extend_from_slice.new.self.items (branch_name c.args.number) (codes " [shape=point];\n") c.in_ok-write_branch_name.ensures.ok
     c.in_ok-extend_from_slice-2.ensures.items)

@@ -5,7 +5,7 @@ use Rattle.omega_automaton_drawing.specs.Arrows.{Drawn, arrow_line, shared_lines
 use Rattle.omega_automaton_drawing.specs.declared.role.Role.TheVariants.{Plain}
 use Rattle.omega_automaton_drawing.specs.private.layout.Drawing.{drawn_all}
 use Rattle.omega_automaton_drawing.proofs.Drawn.{first_is, same_index}
-use Rattle.omega_automaton_drawing.proofs.Lines.{behind}
+use Rattle.omega_automaton_drawing.proofs.Lines.{following}
 use Rattle.omega_automaton_drawing.proofs.shared_arrows.write_shared_arrow.Goals as goal
 
 pub write_shared_lines-requires-clause-first : goal.write_shared_lines-requires-clause-first
@@ -29,11 +29,11 @@ returns-clause-ok c =
     let lines : List ℕ = shared_lines c.args.target drawn in
     let arrow : List ℕ = arrow_line Plain c.args.edges.now.state.now.number c.args.target lines in
     let first : c.is_first.result ≡ true = search rules in
-    behind c.args.out.now.items tail _ c.in_ok-write_tail.ensures.ok
-    (behind c.write_tail.new.out.items (decimal c.args.target) _
+    following c.args.out.now.items tail _ c.in_ok-write_tail.ensures.ok
+    (following c.write_tail.new.out.items (decimal c.args.target) _
     (c.in_ok-write_number.ensures.ok ∙ ap (λ (n : ℕ). c.write_tail.new.out.items ++ decimal n) c.from.ensures)
-    (behind c.write_number.new.out.items (codes " [label=\"") _ c.in_ok-extend_from_slice.ensures.items
-    (behind c.extend_from_slice.new.self.items lines (codes "\"];\n") c.in_ok-write_shared_lines.ensures.ok c.in_ok-extend_from_slice-2.ensures.items)))
+    (following c.write_number.new.out.items (codes " [label=\"") _ c.in_ok-extend_from_slice.ensures.items
+    (following c.extend_from_slice.new.self.items lines (codes "\"];\n") c.in_ok-write_shared_lines.ensures.ok c.in_ok-extend_from_slice-2.ensures.items)))
     ∙ ap (λ (list : List ℕ). c.args.out.now.items ++ (tail ++ (decimal c.args.target ++ list)))
     (sym (append_assoc (codes " [label=\"") (lines ++ codes "\"") (codes "];\n")
     ∙ ap (λ (list : List ℕ). codes " [label=\"" ++ list) (append_assoc lines (codes "\"") (codes "];\n"))))

@@ -2,14 +2,14 @@
 use Rattle.std.proofs.Common.{◌++◌, ap, codes, ◌∙◌}
 use Rattle.omega_acc.specs.Writing.{acc_text}
 use Rattle.omega_dot.specs.Labels.{name_label_line}
-use Rattle.omega_automaton_drawing.proofs.Lines.{behind}
+use Rattle.omega_automaton_drawing.proofs.Lines.{following}
 use Rattle.omega_automaton_drawing.proofs.states.write_front.Goals as goal
 
 pub returns-clause-ok : goal.returns-clause-ok
 returns-clause-ok c =
-    behind c.args.out.now.items (codes "digraph automaton {\n  rankdir=LR;\n  labelloc=t;\n  label=\"") _ c.in_ok-extend_from_slice.ensures.items
-    (behind c.extend_from_slice.new.self.items (name_label_line c.args.automaton.now.name) _
+    following c.args.out.now.items (codes "digraph automaton {\n  rankdir=LR;\n  labelloc=t;\n  label=\"") _ c.in_ok-extend_from_slice.ensures.items
+    (following c.extend_from_slice.new.self.items (name_label_line c.args.automaton.now.name) _
     (c.in_ok-write_name_line.ensures.ok ∙ ap (λ name. c.extend_from_slice.new.self.items ++ name_label_line name) c.name.ensures)
-    (behind c.write_name_line.new.out.items (acc_text c.args.automaton.now.acceptance).bytes (codes "\\n\";\n")
+    (following c.write_name_line.new.out.items (acc_text c.args.automaton.now.acceptance).bytes (codes "\\n\";\n")
     (c.in_ok-write_acc.ensures.ok ∙ ap (λ formula. c.write_name_line.new.out.items ++ (acc_text formula).bytes) c.acceptance.ensures)
     c.in_ok-extend_from_slice-2.ensures.items))

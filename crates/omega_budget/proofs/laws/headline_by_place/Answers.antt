@@ -1,4 +1,4 @@
--- What is dealt out in the other game is dealt out in the game itself, of which the headline holds.
+-- Budgets dealt out in the reordered game are dealt out in the original game, of which the headline holds.
 use Rattle.omega_budget.proofs.Dealing.{by_place}
 use Rattle.omega_budget.proofs.laws.headline_by_place.Goals as goal
 

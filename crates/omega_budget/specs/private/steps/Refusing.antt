@@ -12,6 +12,6 @@ use Rattle.omega_budget.specs.Within.{GoesOnAfter}
 abbrev pub IsBudgetFault : List Node → Player → ℕ → TaskFault → Type 0
 IsBudgetFault nodes player budget fault = (fault ≡ Budget) × GoesOnAfter nodes player budget
 
--- the refusal of solving within a budget where the table fits: it is used up, or memory
+-- the refusal of solving within a budget if the table fits: the budget is used up, or memory
 abbrev pub IsBudgetRefusal : List Node → Player → ℕ → Refusal → Type 0
 IsBudgetRefusal nodes player budget = or_task (IsBudgetFault nodes player budget) (or_memory never)

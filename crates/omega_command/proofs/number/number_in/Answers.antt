@@ -5,13 +5,13 @@ use Rattle.std.specs.Str.Parse.{error_kind}
 use Rattle.omega_command.specs.Reason.{BeginsWithSign, IsNumberReason}
 use Rattle.omega_command.specs.declared.mistake.Reason.{Reason}
 use Rattle.omega_command.specs.private.Numbers.{is_decimal, reason_for}
-use Rattle.omega_command.proofs.Numbers.{told_behind}
+use Rattle.omega_command.proofs.Numbers.{reported_after}
 use Rattle.omega_command.proofs.number.number_in.Goals as goal
 
 pub returns-in-Err-clause-reason : goal.returns-in-Err-clause-reason
 returns-in-Err-clause-reason c =
     let text = c.args.text.now in
     let unsigned : BeginsWithSign text → ⊥ = search rules in
-    let told : c.reason_of.result ≡ reason_for (list_all is_decimal text) (error_kind c.in-Err.error) = search rules in
-    subst (λ (reason : Reason). IsNumberReason c.args.most text reason) (sym told)
-    (told_behind c.args.most text (error_kind c.in-Err.error) unsigned c.in-Err.ensures.value.1 c.in-Err.ensures.value.0)
+    let reported : c.reason_of.result ≡ reason_for (list_all is_decimal text) (error_kind c.in-Err.error) = search rules in
+    subst (λ (reason : Reason). IsNumberReason c.args.most text reason) (sym reported)
+    (reported_after c.args.most text (error_kind c.in-Err.error) unsigned c.in-Err.ensures.value.1 c.in-Err.ensures.value.0)

@@ -7,15 +7,15 @@ use Rattle.omega_acc.specs.formula.Raw.{atom, disjunction, raw_acc_depth}
 use Rattle.omega_complement.specs.Dual.{dual}
 use Rattle.omega_complement.specs.Written.{complement_acceptance}
 use Rattle.omega_complement.proofs.Depths.{atom_joins, with_atom}
-use Rattle.omega_complement.proofs.RoomTests.{fits}
-use Rattle.omega_written.proofs.Refusals.{not_deeper}
+use Rattle.omega_complement.proofs.LimitTests.{fits}
+use Rattle.omega_edge_labels.proofs.Refusals.{not_deeper}
 use Rattle.omega_complement.proofs.forming.acceptance_of.Goals as goal
 
 pub returns-clause-err : goal.returns-clause-err
 returns-clause-err c =
     IfErr-weaker c.or.result _ _
     (not_deeper _ (atom_joins _ _ (ap raw_acc_depth c.in_ok-atom.ensures.ok)
-    (subst (λ n. n < most_depth) (sym (ap raw_acc_depth c.requires.dual)) (fits c.args.automaton.now c.requires.room).depth)))
+    (subst (λ n. n < most_depth) (sym (ap raw_acc_depth c.requires.dual)) (fits c.args.automaton.now c.requires.limits).depth)))
     c.or.ensures.err
 
 pub returns-clause-acceptance : goal.returns-clause-acceptance

@@ -8,7 +8,7 @@ use Rattle.omega_acc.specs.label.Shape.{FitsALabel, label_tree_of_shape}
 use Rattle.omega_complement.specs.Labels.{is_full, labels_of}
 use Rattle.omega_complement.proofs.Faults.{unfit_refused}
 use Rattle.omega_complement.proofs.Rows.{each_grown, each_there}
-use Rattle.omega_written.specs.Labels.{label_at}
+use Rattle.omega_edge_labels.specs.Labels.{label_at}
 use Rattle.omega_complement.proofs.labels.labels_of.Goals as goal
 
 pub returns-in_err-fitting_label-clause-err : goal.returns-in_err-fitting_label-clause-err

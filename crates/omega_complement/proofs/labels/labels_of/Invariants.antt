@@ -3,7 +3,7 @@ use Rattle.std.proofs.Common.{◌≡◌, take}
 use Rattle.std.specs.List.{All}
 use Rattle.omega_acc.specs.label.Shape.{FitsALabel}
 use Rattle.omega_complement.specs.Labels.{each_by_index}
-use Rattle.omega_written.specs.Labels.{label_at}
+use Rattle.omega_edge_labels.specs.Labels.{label_at}
 use Rattle.omega_complement.proofs.labels.labels_of.Given as goal
 
 abbrev pub invariant-loop-at : goal.invariant-loop-at

@@ -5,8 +5,8 @@ use Rattle.omega_acc.specs.label.Shape.{FitsALabel, label_tree_of_shape}
 use Rattle.omega_complement.specs.Letters.{LacksLetter}
 use Rattle.omega_complement.proofs.Faults.{deep_refused, unjudged_refused}
 use Rattle.omega_complement.proofs.Rests.{lacks_rest, rest_lacks, rest_one}
-use Rattle.omega_written.specs.Fitting.{FitsAText}
-use Rattle.omega_written.proofs.Refusals.{passed_on}
+use Rattle.omega_edge_labels.specs.Fitting.{FitsAText}
+use Rattle.omega_edge_labels.proofs.Refusals.{passed_on}
 use Rattle.omega_complement.proofs.rest.missing.Goals as goal
 
 pub returns-in_err-can_hold-clause-err : goal.returns-in_err-can_hold-clause-err

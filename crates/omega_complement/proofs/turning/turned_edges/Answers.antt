@@ -11,9 +11,9 @@ use Rattle.omega_complement.specs.Labels.{each_by_index, is_full}
 use Rattle.omega_complement.specs.Written.{turned_edge}
 use Rattle.omega_complement.proofs.Faults.{unwritten_refused}
 use Rattle.omega_complement.proofs.Rows.{each_grown, each_length, each_read, take_all}
-use Rattle.omega_written.specs.Fitting.{FitsAText}
-use Rattle.omega_written.specs.Labels.{label_at}
-use Rattle.omega_written.proofs.Refusals.{passed_on}
+use Rattle.omega_edge_labels.specs.Fitting.{FitsAText}
+use Rattle.omega_edge_labels.specs.Labels.{label_at}
+use Rattle.omega_edge_labels.proofs.Refusals.{passed_on}
 use Rattle.omega_complement.proofs.turning.turned_edges.Goals as goal
 
 pub edge-edge-requires : goal.edge-edge-requires

@@ -3,7 +3,7 @@ use Rattle.std.proofs.Common.{◌≡◌, take}
 use Rattle.std.specs.List.{All}
 use Rattle.omega_complement.specs.Labels.{each_by_index}
 use Rattle.omega_complement.specs.Written.{turned_edge}
-use Rattle.omega_written.specs.Fitting.{FitsAText}
+use Rattle.omega_edge_labels.specs.Fitting.{FitsAText}
 use Rattle.omega_complement.proofs.turning.turned_edges.Given as goal
 
 abbrev pub invariant-loop-at : goal.invariant-loop-at

@@ -7,7 +7,7 @@ use Rattle.omega_complement.specs.Judged.{IsJudgedLabel}
 use Rattle.omega_complement.specs.Labels.{is_full, labels_of}
 use Rattle.omega_complement.specs.Letters.{IsRestLabel, LacksLetter}
 use Rattle.omega_complement.proofs.Judged.{all_fitting}
-use Rattle.omega_written.specs.Fitting.{FitsAText}
+use Rattle.omega_edge_labels.specs.Fitting.{FitsAText}
 use Rattle.omega_complement.proofs.turning.turned_state.Goals as goal
 
 pub returns-clause-fitting : goal.returns-clause-fitting

@@ -4,7 +4,7 @@ use Rattle.std.proofs.lemmas.Result.{IfErr-weaker}
 use Rattle.omega_game.specs.declared.player.Player.TheVariants.{Zero}
 use Rattle.omega_text.specs.declared.refusal.Refusal.TheVariants.{Memory}
 use Rattle.omega_budget.specs.Within.{IsSolvingRefusal}
-use Rattle.omega_budget.proofs.Watched.{none_watched, one_made, one_solved, spares, watched_alike}
+use Rattle.omega_budget.proofs.Observed.{none_observed, one_made, one_solved, spares, observed_alike}
 use Rattle.omega_empty.proofs.walking.Refused.{found_solved}
 use Rattle.omega_empty.proofs.deciding.found_in.Goals as goal
 
@@ -18,12 +18,12 @@ returns-clause-refused g c =
     (λ refusal h. subst (λ game. IsSolvingRefusal game Zero c.args.budget refusal) c.in_ok-reordered.ensures.given h)
     c.solve.ensures.refused
 
-pub returns-in_err-reordered-clause-told : goal.returns-in_err-reordered-clause-told
-returns-in_err-reordered-clause-told g c =
-    watched_alike _ _ _ _ c.from_residual.result _ c.in_err-reordered.field-0.0 _ _ c.from_residual.ensures.1 (λ e same. same)
-    (none_watched _ _ _ _ _ _ (spares (λ refusal. refusal ≡ Memory) _ c.in_err-reordered.ensures.memory (λ e. cc)))
+pub returns-in_err-reordered-clause-reported : goal.returns-in_err-reordered-clause-reported
+returns-in_err-reordered-clause-reported g c =
+    observed_alike _ _ _ _ c.from_residual.result _ c.in_err-reordered.field-0.0 _ _ c.from_residual.ensures.1 (λ e same. same)
+    (none_observed _ _ _ _ _ _ (spares (λ refusal. refusal ≡ Memory) _ c.in_err-reordered.ensures.memory (λ e. cc)))
 
-pub returns-clause-told : goal.returns-clause-told
-returns-clause-told g c =
+pub returns-clause-reported : goal.returns-clause-reported
+returns-clause-reported g c =
     one_solved _ _ _ c.in_ok-reordered.reordered.given Zero c.args.budget c.solve.result _ _ (c.in_ok-reordered.ensures.given, one_made Zero _)
-    c.solve.ensures.told
+    c.solve.ensures.reported

@@ -1,11 +1,11 @@
--- the choices are followed, and where a place comes again is a knot
+-- the choices are followed, and where a place comes again the loop starts
 use Rattle.std.proofs.Common.{◌≡◌, ◌+◌, ◌%◌, ◌-◌, ℕ, Option, Some, length, refl, ◌∙◌, arith, rules}
 use Rattle.std.specs.Option.{IsSome}
 use Rattle.omega_game.specs.Game.{identifier_at}
 use Rattle.omega_game.specs.Winning.{Chooses}
 use Rattle.omega_empty.specs.EmptinessGame.{span}
 use Rattle.omega_empty.specs.GameLaws.{within_counter}
-use Rattle.omega_empty.proofs.walking.Choices.{begun, behind_states, between_below, first_chosen, first_read, followed_next, knotted_at, none_cloned, second_chosen, second_read}
+use Rattle.omega_empty.proofs.walking.Choices.{begun, after_states, between_below, first_chosen, first_read, followed_next, looped_at, none_cloned, second_chosen, second_read}
 use Rattle.omega_empty.proofs.following.follow_choices.Goals as goal
 
 -- what is some number is something
@@ -37,12 +37,12 @@ id-requires c =
 
 pub overflow_sub-number : goal.overflow_sub-number
 overflow_sub-number c =
-    let behind = behind_states c.args.automaton.now c.args.game.now c.args.found.now.won.items c.args.found.now.choice.items c.args.start c.loop-edges.at c.loop-edges.edges.items
+    let following = after_states c.args.automaton.now c.args.game.now c.args.found.now.won.items c.args.found.now.choice.items c.args.start c.loop-edges.at c.loop-edges.edges.items
     c.loop-edges.met.items c.loop-edges.invariant c.unwrap-passed.result
     (first_chosen c.args.automaton.now c.args.game.now c.args.found.now.won.items c.args.found.now.choice.items c.args.start c.loop-edges.at c.loop-edges.edges.items
     c.loop-edges.met.items c.loop-edges.invariant c.unwrap-passed.result c.index-in-loop-edges.result.now c.index-in-loop-edges.ensures c.unwrap-passed.ensures) in
     let identified : c.from-in-loop-edges.result ≡ identifier_at c.args.game.now c.unwrap-passed.result = c.from-in-loop-edges.ensures ∙ c.id.ensures in
-    rw (identified, c.from-states.ensures, c.from.ensures, c.state_count.ensures, c.edge_count.ensures) behind
+    rw (identified, c.from-states.ensures, c.from.ensures, c.state_count.ensures, c.edge_count.ensures) following
 
 pub index-requires-in-loop-edges-2 : goal.index-requires-in-loop-edges-2
 index-requires-in-loop-edges-2 c =
@@ -85,8 +85,8 @@ loop-edges-preserved c =
     c.loop-edges.met.items c.loop-edges.invariant c.unwrap-passed.result choice
     c.unwrap-at.result number c.len-in-loop-edges.result c.push.new.self.items again is_number counted c.in_ok-push.ensures.items
 
-pub returns-clause-knotted : goal.returns-clause-knotted
-returns-clause-knotted c =
-    knotted_at c.args.automaton.now c.args.game.now c.args.found.now.won.items c.args.found.now.choice.items c.args.start c.loop-edges.at c.loop-edges.edges.items
+pub returns-clause-looped : goal.returns-clause-looped
+returns-clause-looped c =
+    looped_at c.args.automaton.now c.args.game.now c.args.found.now.won.items c.args.found.now.choice.items c.args.start c.loop-edges.at c.loop-edges.edges.items
     c.loop-edges.met.items c.loop-edges.invariant c.won_walks_accept.ensures c.requires.start
-    c.unwrap-knot.result c.index-2.result.now c.index-2.ensures c.unwrap-knot.ensures
+    c.unwrap-loop_start.result c.index-2.result.now c.index-2.ensures c.unwrap-loop_start.ensures

@@ -21,7 +21,7 @@ returns-clause-game c =
     let made : c.add_node.new.self ≡ table judged.kind judged.automaton.now judged.usable.items =
     table_made judged.kind judged.automaton.now judged.usable.items c.loop-counter.counter c.sink-sink.result c.loop-counter.builder c.add_node.new.self
     c.loop-counter.invariant all c.sink-sink.ensures c.in_ok-add_node.ensures.ok in
-    subst (λ (specs : List NodeSpec). IfOk c.finish_arena.result (IsGameOf specs)) made c.finish_arena.ensures.game
+    subst (λ (specs : List NodeSpec). IfOk c.finish_forward.result (IsGameOf specs)) made c.finish_forward.ensures.game
 
 pub returns-clause-memory : goal.returns-clause-memory
 returns-clause-memory c =
@@ -30,6 +30,6 @@ returns-clause-memory c =
     let made : c.add_node.new.self ≡ table judged.kind judged.automaton.now judged.usable.items =
     table_made judged.kind judged.automaton.now judged.usable.items c.loop-counter.counter c.sink-sink.result c.loop-counter.builder c.add_node.new.self
     c.loop-counter.invariant all c.sink-sink.ensures c.in_ok-add_node.ensures.ok in
-    memory_refused c.finish_arena.result c.add_node.new.self
+    memory_refused c.finish_forward.result c.add_node.new.self
     (table_faultless judged.kind judged.automaton.now judged.usable.items c.add_node.new.self made c.requires.automaton c.requires.plain c.requires.fits)
-    c.finish_arena.ensures.refused
+    c.finish_forward.ensures.refused

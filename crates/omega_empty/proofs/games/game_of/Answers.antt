@@ -1,12 +1,12 @@
 -- all that was judged is ready
 use Rattle.std.proofs.Common.{◌≡◌, false}
-use Rattle.omega_automaton.specs.Branching.{has_branch}
+use Rattle.omega_automaton.specs.Branching.{has_universal_branching}
 use Rattle.omega_empty.proofs.making.Plain.{few_identifiers, small_kind}
 use Rattle.omega_empty.proofs.games.game_of.Goals as goal
 
 pub built-requires : goal.built-requires
 built-requires c =
-    let plain : has_branch c.args.automaton.now ≡ false = cc in
+    let plain : has_universal_branching c.args.automaton.now ≡ false = cc in
     record {
       automaton = c.keeps_limits.ensures;
       kind_is = c.requires.kind;

@@ -2,7 +2,7 @@
 use Rattle.std.specs.Prelude.{◌≡◌, ◌<◌, ◌≤◌, Bool, true, List, ℕ, Some, drop, length, slice_get, take}
 use Rattle.omega_automaton.specs.Automaton.{Description}
 use Rattle.omega_game.specs.Game.{Node, identifier_at}
-use Rattle.omega_empty.specs.Lasso.{IsAcceptingLasso, IsStart}
+use Rattle.omega_runs.specs.Lasso.{IsAcceptingLasso, IsStart}
 
 -- the node with an identifier stands at a place, which is among those won
 pub record IsWonAt (game : List Node) (won : List Bool) (identifier v : ℕ) : Type 0 where
@@ -20,7 +20,7 @@ pub record IsWonStart (a : Description) (game : List Node) (won : List Bool) (v 
 abbrev pub HasNoWonStart : Description → List Node → List Bool → Type 0
 HasNoWonStart a game won = (start v : ℕ) → IsStart a start → ¬ IsWonAt game won start v
 
--- the edges before the knot are the stem of an accepting lasso, and those from there on its cycle
-pub record IsKnotted (a : Description) (edges : List ℕ) (knot : ℕ) : Type 0 where
-  pub within : knot ≤ length edges
-  pub accepting : IsAcceptingLasso a (take knot edges) (drop knot edges)
+-- the edges before the loop are the stem of an accepting lasso, and those from there on its cycle
+pub record IsLooped (a : Description) (edges : List ℕ) (loop_start : ℕ) : Type 0 where
+  pub within : loop_start ≤ length edges
+  pub accepting : IsAcceptingLasso a (take loop_start edges) (drop loop_start edges)

@@ -7,8 +7,9 @@ use Rattle.omega_automaton.specs.declared.state.State.{State}
 use Rattle.omega_game.specs.Limits.{most_nodes}
 use Rattle.omega_empty.specs.Counters.{counters}
 use Rattle.omega_automaton.specs.AcceptanceKind.{HasKind}
-use Rattle.omega_automaton.specs.Branching.{has_branch}
-use Rattle.omega_empty.specs.EmptinessGame.{AreUsable, span}
+use Rattle.omega_automaton.specs.Branching.{has_universal_branching}
+use Rattle.omega_runs.specs.Judging.{AreUsable}
+use Rattle.omega_empty.specs.EmptinessGame.{span}
 use Rattle.omega_empty.specs.declared.edge_ranges.EdgeRange.{EdgeRange}
 use Rattle.omega_empty.specs.private.layout.Marks.{AreMarksBelow, IsSmall}
 use Rattle.omega_empty.specs.private.layout.Ranges.{AreRanges}
@@ -20,7 +21,7 @@ pub record IsReady (a : Description) (kind : AccKind) (usable : List Bool) (rang
   pub small : IsSmall kind
   pub fits : counters kind * span a + 1 ≤ most_nodes
   pub few : span a + 1 ≤ most_nodes
-  pub plain : has_branch a ≡ false
+  pub plain : has_universal_branching a ≡ false
   pub usable_are : AreUsable a usable
   pub ranges_are : AreRanges a ranges
 

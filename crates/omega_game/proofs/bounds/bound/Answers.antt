@@ -1,5 +1,5 @@
 -- `bound`: the most lifts of a run for the player (Jurdziński 2000): the number of nodes times the product,
--- over the priorities that are borne and lose for the player, of one more than the number of nodes that bear it.
+-- over the priorities in use that lose for the player, of one more than the number of nodes that have it.
 use Rattle.std.proofs.Common.{◌≡◌, ◌≤◌, ◌*◌, ◌^◌, ℕ, map, MatchOption, ap, ap₂, sym, subst, ◌∙◌}
 use Rattle.std.proofs.lemmas.List.{length-map}
 use Rattle.omega_game.specs.Bound.{bound_of, product}

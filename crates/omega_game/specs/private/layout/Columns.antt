@@ -71,7 +71,7 @@ columns_of listed ranks owners lists quoted = record {
   quoted = quoted;
 }
 
--- what an arena keeps: even columns of a game within the limits, with its priorities counted
+-- what a forward game keeps: even columns of a game within the limits, with its priorities counted
 pub record IsLaidOut (columns : Columns) (counts : List PriorityCount) : Type 0 where
   pub even : AreEven columns
   pub game : IsGame (nodes_of columns)

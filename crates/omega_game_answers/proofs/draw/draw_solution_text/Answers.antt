@@ -22,6 +22,6 @@ returns-in-Ok-clause-refused c =
     IfErr-weaker c.draw_with.result _ _
     (λ refused is.
     about_as _ _ _ _ _ refused.text refused.refusal
-    (unknown_refused c.args.text.items c.in-Ok.game c.args.from refused.refusal c.in-Ok.ensures.game)
-    (solution_refused c.args.text.items c.in-Ok.game c.args.from c.args.depth c.args.solution.now refused.refusal c.in-Ok.ensures.game) is)
+    (solution_refused c.args.text.items c.in-Ok.game c.args.from c.args.depth c.args.solution.now refused.refusal c.in-Ok.ensures.game)
+    (unknown_refused c.args.text.items c.in-Ok.game c.args.from refused.refusal c.in-Ok.ensures.game) is)
     c.draw_with.ensures.refused

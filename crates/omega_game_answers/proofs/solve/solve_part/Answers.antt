@@ -4,7 +4,7 @@ use Rattle.std.proofs.lemmas.Result.{IfErr-weaker, IfOk-weaker}
 use Rattle.omega_game_answers.specs.private.steps.SolveGameRefusal.{IsSolveGameRefusal}
 use Rattle.omega_game_answers.proofs.Solving.{refused-part, refused-unknown}
 use Rattle.omega_game_answers.specs.private.steps.PartRefusal.{IsPartRefusal}
-use Rattle.omega_budget.proofs.Watched.{none_watched, spares, watched_alike, watched_as}
+use Rattle.omega_budget.proofs.Observed.{none_observed, spares, observed_alike, observed_as}
 use Rattle.omega_game_answers.proofs.solve.solve_part.Goals as goal
 
 pub returns-in_err-part-clause-refused : goal.returns-in_err-part-clause-refused
@@ -36,15 +36,15 @@ returns-clause-refused g c =
     (λ refusal h. refused-part c.args.game c.args.asked c.args.identifier c.args.budget c.in_ok-part.part refusal c.in_ok-part.ensures.part h)
     c.solve_whole.ensures.refused
 
-pub returns-in_err-part-clause-told : goal.returns-in_err-part-clause-told
-returns-in_err-part-clause-told g c =
-    watched_alike _ _ _ _ c.from_residual.result _ c.in_err-part.field-0.0 _ _ c.from_residual.ensures.1 (λ e same. same)
-    (none_watched _ _ _ _ _ _ (spares (IsPartRefusal c.args.game c.args.identifier) _ c.in_err-part.ensures.refused (λ no. (let e = no.0 in cc))))
+pub returns-in_err-part-clause-reported : goal.returns-in_err-part-clause-reported
+returns-in_err-part-clause-reported g c =
+    observed_alike _ _ _ _ c.from_residual.result _ c.in_err-part.field-0.0 _ _ c.from_residual.ensures.1 (λ e same. same)
+    (none_observed _ _ _ _ _ _ (spares (IsPartRefusal c.args.game c.args.identifier) _ c.in_err-part.ensures.refused (λ no. (let e = no.0 in cc))))
 
-pub returns-clause-told : goal.returns-clause-told
-returns-clause-told g c =
+pub returns-clause-reported : goal.returns-clause-reported
+returns-clause-reported g c =
     let part_of = c.in_ok-part.ensures.part in
-    watched_as _ _ _ _ _ _ _ _ (λ nodes players lifted. (rw lifted.0 part_of, lifted.1)) c.solve_whole.ensures.told
+    observed_as _ _ _ _ _ _ _ _ (λ nodes players lifted. (rw lifted.0 part_of, lifted.1)) c.solve_whole.ensures.reported
 
 pub returns-clause-counted : goal.returns-clause-counted
 returns-clause-counted g c =

@@ -1,15 +1,15 @@
--- `solve_whole`: what is told is told of what is asked, and the answer for one player counts it.
+-- `solve_whole`: the reports are of the runs that `asked` says, and the answer for one player counts their lifts.
 use Rattle.std.proofs.lemmas.Result.{IfOk-weaker}
 use Rattle.omega_game_answers.proofs.solve.solve_whole.Goals as goal
 
-pub returns-in-Both-clause-told : goal.returns-in-Both-clause-told
-returns-in-Both-clause-told g c = rw c.in-Both.is c.solve_both.ensures.told
+pub returns-in-Both-clause-reported : goal.returns-in-Both-clause-reported
+returns-in-Both-clause-reported g c = rw c.in-Both.is c.solve_both.ensures.reported
 
-pub returns-in-Search-clause-told : goal.returns-in-Search-clause-told
-returns-in-Search-clause-told g c = rw c.in-Search.is c.solve_by_judged_search.ensures.told
+pub returns-in-Search-clause-reported : goal.returns-in-Search-clause-reported
+returns-in-Search-clause-reported g c = rw c.in-Search.is c.solve_by_judged_search.ensures.reported
 
-pub returns-in-Player-clause-told : goal.returns-in-Player-clause-told
-returns-in-Player-clause-told g c = rw c.in-Player.is c.solve_one.ensures.told
+pub returns-in-Player-clause-reported : goal.returns-in-Player-clause-reported
+returns-in-Player-clause-reported g c = rw c.in-Player.is c.solve_one.ensures.reported
 
 pub returns-in-Player-clause-answer : goal.returns-in-Player-clause-answer
 returns-in-Player-clause-answer g c =

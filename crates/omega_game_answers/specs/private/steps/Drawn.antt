@@ -1,4 +1,4 @@
--- What is drawn of a game that was read, and what that may be refused for.
+-- The drawing of a game that was read, and its refusals.
 use Rattle.std.specs.Prelude.{◌≡◌, Bool, List, Option, None, Some, ℕ}
 use Rattle.omega_text.specs.declared.refusal.Refusal.{Refusal}
 use Rattle.omega_text.specs.declared.refusal.Refusal.TheVariants.{Task}
@@ -17,19 +17,19 @@ abbrev pub IsUnknownFrom : List Node → Option ℕ → Refusal → Type 0
 IsUnknownFrom game None refusal = ⊥
 IsUnknownFrom game (Some identifier) refusal = (refusal ≡ Task UnknownNode) × IsUnknownIdentifier game identifier
 
--- the text stands for a solution of the game, and the drawing of what is to be drawn of the game with it is written
+-- the text stands for a solution of the game, and the drawing of the extent of the game with it is written
 pub record IsSolutionDrawn (game : List Node) (extent : Extent) (text : List ℕ) (legend : Bool) (output : List ℕ) : Type 0 where
   pub solution : Solution
   pub read : IsSolutionText game text solution
   pub drawn : IsSolutionDrawing game extent solution legend output
 
--- the same of what an identifier and a depth ask for
+-- the same of the extent that an identifier and a depth give
 pub record IsSolvedDrawn (game : List Node) (from depth : Option ℕ) (text : List ℕ) (legend : Bool) (output : List ℕ) : Type 0 where
   pub extent : Extent
   pub asked : IsExtent game from depth extent
   pub drawn : IsSolutionDrawn game extent text legend output
 
--- something is to be drawn of the game, and the text is refused as a solution of it
+-- the game has the extent, and the text is refused as a solution of it
 pub record IsDrawnRefusal (game : List Node) (from depth : Option ℕ) (text : List ℕ) (refusal : Refusal) : Type 0 where
   pub extent : Extent
   pub asked : IsExtent game from depth extent

@@ -1,11 +1,11 @@
--- For whom `solve` lifts a whole game or a part of one.
+-- The players for whom `solve` lifts a whole game or a part of one.
 use Rattle.std.specs.Prelude.{◌≡◌, ℕ, List, Option}
 use Rattle.omega_text.specs.declared.refusal.Refusal.{Refusal}
 use Rattle.omega_game.specs.declared.player.Player.{Player}
 use Rattle.omega_game.specs.Game.{Node}
 use Rattle.omega_game_answers.specs.Part.{IsPartFrom}
 use Rattle.omega_game_answers.specs.declared.solve.asked.Asked.{Asked}
-use Rattle.omega_game_answers.specs.Watching.{AreRuns}
+use Rattle.omega_game_answers.specs.Observing.{AreRuns}
 
 -- a whole game is lifted
 abbrev pub LiftsWholeGame : List Node → Asked → Option Refusal → List Node → List Player → Type 0

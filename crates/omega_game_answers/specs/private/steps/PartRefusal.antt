@@ -1,4 +1,4 @@
--- What taking the part of a game that was read may be refused for.
+-- The refusals of taking a part of a game that was read.
 use Rattle.std.specs.Prelude.{◌≡◌, List, ℕ}
 use Rattle.omega_text.specs.Cases.{never, or_memory, or_task}
 use Rattle.omega_text.specs.declared.refusal.Refusal.{Refusal}
@@ -6,6 +6,6 @@ use Rattle.omega_text.specs.declared.refusal.task.TaskFault.TheVariants.{Unknown
 use Rattle.omega_game.specs.Game.{Node}
 use Rattle.omega_game_answers.specs.Part.{IsUnknownIdentifier}
 
--- no node has the identifier, or memory is wanting
+-- no node has the identifier, or memory
 abbrev pub IsPartRefusal : List Node → ℕ → Refusal → Type 0
 IsPartRefusal game identifier = or_task (λ fault. (fault ≡ UnknownNode) × IsUnknownIdentifier game identifier) (or_memory never)

@@ -1,4 +1,4 @@
--- What is answered of a game that was read and of the text of a solution of it.
+-- The answer for a game that was read and the text of a solution of it.
 use Rattle.std.specs.Prelude.{Bool, List, ℕ}
 use Rattle.omega_game.specs.Game.{Node}
 use Rattle.omega_io.specs.declared.exit.Exit.{Exit}

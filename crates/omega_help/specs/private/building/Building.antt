@@ -2,7 +2,7 @@
 use Rattle.std.specs.Prelude.{List, [], ◌∷◌, true, codes}
 use Rattle.clap.specs.Simple.{new_shape}
 use Rattle.clap.specs.Words.{App, Rule, Shape, Text, with_rule, with_subcommand}
-use Rattle.omega_help.specs.Program.{canon, check, complement, draw, empty, flag, game, meet, operand, optional, required, show, solve, verify}
+use Rattle.omega_help.specs.Program.{canon, check, complement, draw, empty, flag, game, lettered, meet, operand, optional, required, show, solve, verify}
 use Rattle.omega_help.specs.declared.options.OptionHelp.{OptionHelp}
 use Rattle.omega_help.specs.declared.options.Value.{Value}
 use Rattle.omega_help.specs.declared.options.Value.TheVariants as value
@@ -12,6 +12,7 @@ use Rattle.omega_help.specs.declared.program.Subcommand.TheVariants as subcomman
 -- the option of this name, by what stands after the name
 abbrev pub rule_by : Value → Text → Rule
 rule_by value.None name = flag name
+rule_by (value.Letter letter) name = lettered letter name
 rule_by (value.Optional shown) name = optional name
 rule_by (value.Required shown) name = required name
 rule_by (value.Operand shown) name = operand name

@@ -4,7 +4,7 @@ use Rattle.omega_text.specs.hoa.Pieces.{lexemes_in}
 use Rattle.omega_hoa.specs.Feeding.{IsDivided}
 use Rattle.omega_hoa.specs.private.dividing.Next.{IsRefusedNow}
 use Rattle.omega_hoa.proofs.Results.{error_then, more_says, then_more}
-use Rattle.omega_hoa.proofs.Settling.{both_divided, fault_next, first_next, refused_behind, second_next}
+use Rattle.omega_hoa.proofs.Settling.{both_divided, fault_next, first_next, refused_after, second_next}
 use Rattle.omega_hoa.proofs.division.take_all.Goals as goal
 
 pub take_settled-requires : goal.take_settled-requires
@@ -16,7 +16,7 @@ pub returns-in_err-middle-clause-refused : goal.returns-in_err-middle-clause-ref
 returns-in_err-middle-clause-refused c =
     error_then c.from_residual.result _ _ c.from_residual.ensures.1
     (λ error is seen lexemes items next.
-    refused_behind seen c.args.out.now.items c.args.out.now.items c.take_settled.new.out.items items [] error (sym (append-nil c.args.out.now.items)) c.in_err-middle.ensures.err
+    refused_after seen c.args.out.now.items c.args.out.now.items c.take_settled.new.out.items items [] error (sym (append-nil c.args.out.now.items)) c.in_err-middle.ensures.err
     (subst (λ all. IsRefusedNow seen all error) (sym (append-nil items))
     (subst (IsRefusedNow seen items) (sym is)
     (c.in_err-middle.ensures.refused seen lexemes items (first_next c.args.bytes.now c.args.first c.args.division c.args.settled seen lexemes items next)))))
@@ -36,7 +36,7 @@ returns-in_err-after-clause-refused c =
     error_then c.from_residual-in_err-after.result _ _ c.from_residual-in_err-after.ensures.1
     (λ error is seen lexemes items next.
     let first = c.in_ok-middle.ensures.taken seen lexemes items (first_next c.args.bytes.now c.args.first c.args.division c.args.settled seen lexemes items next) in
-    refused_behind seen c.args.out.now.items c.take_settled.new.out.items c.take_settled-2.new.out.items items first.added error first.is c.in_err-after.ensures.err
+    refused_after seen c.args.out.now.items c.take_settled.new.out.items c.take_settled-2.new.out.items items first.added error first.is c.in_err-after.ensures.err
     (subst (IsRefusedNow seen (items ++ first.added)) (sym is)
     (c.in_err-after.ensures.refused seen (lexemes ++ lexemes_in seen c.args.settled.first) (items ++ first.added)
     (second_next c.args.bytes.now c.args.first c.args.division c.args.settled seen lexemes items next c.in_ok-middle.middle (items ++ first.added) first.holds c.in_ok-middle.ensures.forward))))

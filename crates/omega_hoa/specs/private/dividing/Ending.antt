@@ -18,7 +18,7 @@ pub record IsAtEnd (settled : Settled) (inside : Bool) (seen : List ℕ) (lexeme
   pub divided : IsDivided seen lexemes items begins inside
   pub finished : IsCutUpToFault settled.fault seen (lexemes ++ settled_lexemes seen settled)
 
--- the tokens of a text are those of a stream with these items
+-- the tokens of a text make a stream with these items
 pub record IsWholeStream (seen : List ℕ) (items : List Item) : Type 0 where
   pub lexemes : List (Lexeme HoaKind)
   pub cut : IsCut hoa_format seen lexemes
@@ -29,10 +29,10 @@ pub record IsLast (settled : Settled) : Type 0 where
   pub second : settled.second ≡ None
   pub unclosed : IfSome settled.first (λ token. is_closed token.kind ≡ false)
 
--- the text is that of a stream where it ends so
+-- the text is a stream if it ends so
 abbrev pub EndsWhole : Settled → Bool → Type 0
 EndsWhole settled inside = (seen : List ℕ) (lexemes : List (Lexeme HoaKind)) (items : List Item) (begins : ℕ) → IsAtEnd settled inside seen lexemes items begins → IsWholeStream seen items
 
--- the text is refused where it ends so
+-- the text is refused if it ends so
 abbrev pub EndsRefused : Settled → Bool → Refusal → Type 0
 EndsRefused settled inside refusal = (seen : List ℕ) (lexemes : List (Lexeme HoaKind)) (items : List Item) (begins : ℕ) → IsAtEnd settled inside seen lexemes items begins → IsStreamFault seen items refusal

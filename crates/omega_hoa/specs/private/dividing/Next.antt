@@ -1,4 +1,4 @@
--- The next tokens of a stream, and the bytes of which they are read.
+-- The next tokens of a stream, and the bytes that they are read from.
 use Rattle.std.specs.Prelude.{◌≡◌, ℕ, ◌+◌, ◌≤◌, ◌⊎◌, Option, None, List, ◌++◌, length, take, drop}
 use Rattle.omega_text.specs.Cut.{Cuts}
 use Rattle.omega_text.specs.Lexeme.{Lexeme}
@@ -19,11 +19,11 @@ use Rattle.omega_hoa.specs.declared.progress.ReadProgress.{ReadProgress}
 
 -- the bytes are those of a text from a place on, as far as it was seen and perhaps further
 pub record IsWindow (bytes : List ℕ) (first : ℕ) (seen : List ℕ) : Type 0 where
-  pub behind : List ℕ
-  pub is : bytes ≡ drop first (seen ++ behind)
+  pub following : List ℕ
+  pub is : bytes ≡ drop first (seen ++ following)
   pub within : length seen ≤ first + length bytes
 
--- after divided tokens stands this one, if it is some, in a text of which the bytes are a window
+-- after divided tokens comes this one, if it is some, in a text; the bytes are a window of it
 pub record IsNextDivision (bytes : List ℕ) (first : ℕ) (division : Division) (token : Option PlacedToken) (seen : List ℕ) (lexemes : List (Lexeme HoaKind)) (items : List Item) : Type 0 where
   pub divided : IsDivided seen lexemes items division.begins division.inside
   pub cuts : (more : List ℕ) → (end : ℕ) × Cuts hoa_format (seen ++ more) 0 (lexemes ++ lexemes_in seen token) end
@@ -58,7 +58,7 @@ pub record IsNothing (settled : Settled) : Type 0 where
   pub second : settled.second ≡ None
   pub fault : settled.fault ≡ None
 
--- after divided tokens stand those that a byte settles
+-- after divided tokens come those that a byte settles
 pub record IsNextSettled (bytes : List ℕ) (first : ℕ) (division : Division) (settled : Settled) (seen : List ℕ) (lexemes : List (Lexeme HoaKind)) (items : List Item) : Type 0 where
   pub divided : IsDivided seen lexemes items division.begins division.inside
   pub settles : IsSettled settled.fault seen (lexemes ++ settled_lexemes seen settled)

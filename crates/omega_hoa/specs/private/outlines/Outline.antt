@@ -1,4 +1,4 @@
--- What the tokens of a text are that is to hold one segment, seen from outside.
+-- The tokens of a text that is to hold one segment, without the inside of the segment.
 use Rattle.std.specs.Prelude.{◌≡◌, ℕ, List, [], ◌∷◌, ◌++◌}
 use Rattle.omega_text.specs.Lexeme.{Lexeme}
 use Rattle.omega_text.specs.hoa.Format.{hoa_format}
@@ -17,7 +17,7 @@ pub record BeginsStray (lexemes : List (Lexeme HoaKind)) (at : ℕ) : Type 0 whe
   pub other : Opens first → ⊥
   pub there : at ≡ first.span.start
 
--- a segment that `--ABORT--` ends, which stands at a place, and other tokens
+-- a segment that `--ABORT--` at this place ends, and other tokens
 pub record BeginsAborted (lexemes : List (Lexeme HoaKind)) (at : ℕ) : Type 0 where
   pub inside : List (Lexeme HoaKind)
   pub last : Lexeme HoaKind

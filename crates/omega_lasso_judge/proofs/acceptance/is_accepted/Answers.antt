@@ -4,7 +4,7 @@ use Rattle.std.proofs.lemmas.List.{length-map}
 use Rattle.indexmap.specs.IndexMap.{get}
 use Rattle.omega_acc.specs.formula.Acceptance.{AccTree, accepts}
 use Rattle.omega_acc.specs.formula.Shape.{acc_tree_of_shape}
-use Rattle.omega_empty.specs.Lasso.{marks_at}
+use Rattle.omega_runs.specs.Lasso.{marks_at}
 use Rattle.omega_lasso_judge.specs.private.Runs.{holds_by}
 use Rattle.omega_lasso_judge.proofs.Marking.{holds_are}
 use Rattle.omega_lasso_judge.proofs.acceptance.is_accepted.Goals as goal

@@ -2,7 +2,7 @@
 use Rattle.std.proofs.Common.{◌≡◌, ◌++◌, ◌∷◌, [], ◌<◌, ℕ, List, length, map, nat_eq, take, ap, subst, ◌∙◌, arith}
 use Rattle.std.proofs.lemmas.List.{length-map, length-take-le}
 use Rattle.indexmap.specs.IndexMap.{get}
-use Rattle.omega_empty.specs.Lasso.{marks_at}
+use Rattle.omega_runs.specs.Lasso.{marks_at}
 use Rattle.omega_lasso_judge.specs.private.Runs.{AreRuns}
 use Rattle.omega_lasso_judge.proofs.Marking.{rows_more, runs_begun}
 use Rattle.omega_lasso_judge.proofs.runs.runs.Goals as goal

@@ -1,7 +1,7 @@
 -- how far the marks of the edges before go on
 use Rattle.std.proofs.Common.{map, nat_eq, take}
 use Rattle.indexmap.specs.IndexMap.{get}
-use Rattle.omega_empty.specs.Lasso.{marks_at}
+use Rattle.omega_runs.specs.Lasso.{marks_at}
 use Rattle.omega_lasso_judge.specs.private.Runs.{AreRuns}
 use Rattle.omega_lasso_judge.proofs.runs.runs.Given as goal
 

@@ -11,11 +11,11 @@ use Rattle.omega_measure.proofs.cells.fits.Goals as goal
 
 pub returns : goal.returns
 returns c =
-    let borne = priorities c.args.game.now in
-    let nodes : c.len.result ≡ length borne = c.len.ensures.count ∙ sym (length-map c.args.game.now (λ node. node.priority)) in
-    let entries : c.losing_among.result ≡ length (losing_priorities c.args.player borne) =
-    c.losing_among.ensures ∙ ap (count_by (λ count. loses c.args.player count.priority)) c.priority_counts.ensures ∙ losing-counted c.args.player borne in
+    let setting = priorities c.args.game.now in
+    let nodes : c.len.result ≡ length setting = c.len.ensures.count ∙ sym (length-map c.args.game.now (λ node. node.priority)) in
+    let entries : c.losing_among.result ≡ length (losing_priorities c.args.player setting) =
+    c.losing_among.ensures ∙ ap (count_by (λ count. loses c.args.player count.priority)) c.priority_counts.ensures ∙ losing-counted c.args.player setting in
     ap not
     (c.is_too_wide.ensures.wide
     ∙ ap (λ (n : ℕ). nat_lt most_cells (n * c.losing_among.result)) nodes
-    ∙ ap (λ (n : ℕ). nat_lt most_cells (length borne * n)) entries)
+    ∙ ap (λ (n : ℕ). nat_lt most_cells (length setting * n)) entries)

@@ -14,7 +14,7 @@ returns-then-bits-before-clause-follows c =
       few = omega arith;
       within = omega arith;
       room = omega arith;
-      behind = omega arith;
+      following = omega arith;
     }
 
 pub returns-else-bits-before-clause-follows : goal.returns-else-bits-before-clause-follows
@@ -27,5 +27,5 @@ returns-else-bits-before-clause-follows c =
       few = omega arith;
       within = omega (arith, bits.0);
       room = omega (arith, bits.0);
-      behind = omega (arith, bits.0);
+      following = omega (arith, bits.0);
     }

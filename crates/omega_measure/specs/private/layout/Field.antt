@@ -3,15 +3,15 @@ use Rattle.std.specs.Prelude.{◌≡◌, ◌≢◌, ℕ, zero, suc, ◌+◌, ◌
 use Rattle.std.specs.declared.cmp.Ordering.{Ordering}
 use Rattle.std.specs.Ordering.{nat_cmp, ordering_then}
 use Rattle.std.specs.Cmp.Lexicographic.{slice_cmp}
-use Rattle.omega_lift.specs.Measure.{Measure}
+use Rattle.omega_lift_laws.specs.Measure.{Measure}
 use Rattle.omega_measure.specs.declared.field.Field.{Field}
 
 -- the field of the flag for top: the first bit of a row
 abbrev pub top_field : Field
 top_field = record { word = 0; shift = 63; bits = 1; limit = 1 }
 
--- a field after another, for an entry up to a limit: as many bits as the limit needs, all in one word,
--- none of them taken
+-- the next field after `before`, for an entry up to a limit: as many bits as the limit needs, all in one word, and none
+-- of them in use
 pub record FollowsField (before : Field) (limit : ℕ) (field : Field) : Type 0 where
   pub greatest : field.limit ≡ limit
   pub wide : limit < 2 ^ field.bits
@@ -19,7 +19,7 @@ pub record FollowsField (before : Field) (limit : ℕ) (field : Field) : Type 0 
   pub few : field.bits ≤ 32
   pub within : field.shift + field.bits ≤ 64
   pub room : field.shift < 64
-  pub behind : 64 * before.word + field.shift + field.bits ≤ 64 * field.word + before.shift
+  pub following : 64 * before.word + field.shift + field.bits ≤ 64 * field.word + before.shift
 
 -- fields one after another, for entries up to these limits
 abbrev pub AreChained : Field → List ℕ → List Field → Type 0
@@ -28,12 +28,12 @@ AreChained before [] (field ∷ fields) = ⊥
 AreChained before (limit ∷ limits) [] = ⊥
 AreChained before (limit ∷ limits) (field ∷ fields) = FollowsField before limit field × AreChained field limits fields
 
--- the fields of a row: that of the flag for top, and after it those of the entries up to these limits
+-- the fields of a row: the flag for top, and then the entries up to these limits
 abbrev pub ArePacked : List ℕ → List Field → Type 0
 ArePacked limits [] = ⊥
 ArePacked limits (field ∷ fields) = (field ≡ top_field) × AreChained field limits fields
 
--- the last of a field and those after it
+-- the last of the fields
 abbrev pub last_of : Field → List Field → Field
 last_of before [] = before
 last_of before (field ∷ fields) = last_of field fields
@@ -51,16 +51,16 @@ limits_in fields = map (λ field. field.limit) fields
 abbrev pub entry_limits : List Field → List ℕ
 entry_limits fields = drop 1 (limits_in fields)
 
--- fields of rows of n words
+-- the fields fit in a row of n words
 pub record AreFields (n : ℕ) (fields : List Field) : Type 0 where
   pub packed : ArePacked (entry_limits fields) fields
   pub room : (last_field fields).word < n
 
--- what stands in a field of a row
+-- the number in a field of a row
 abbrev pub digit_in : List ℕ → Field → ℕ
 digit_in row field = slice_index row field.word / 2 ^ field.shift % 2 ^ field.bits
 
--- what stands in each field of a row
+-- the numbers in all fields of a row
 abbrev pub digits_in : List Field → List ℕ → List ℕ
 digits_in fields row = map (digit_in row) fields
 
@@ -74,24 +74,24 @@ measure_of [] = None
 measure_of (zero ∷ entries) = Some entries
 measure_of (suc top ∷ entries) = None
 
--- the order of two rows on the words before one, and on the bits of that one from a place up
+-- the order of two rows on the words before `word`, and on the bits of that word from `shift` up
 abbrev pub front_order : ℕ → ℕ → List ℕ → List ℕ → Ordering
 front_order word shift a b =
     ordering_then (slice_cmp nat_cmp (take word a) (take word b))
     (nat_cmp (slice_index a word / 2 ^ shift) (slice_index b word / 2 ^ shift))
 
--- digits that stand at these places of one number
+-- the number with these digits at these bit positions
 abbrev pub value : List ℕ → List ℕ → ℕ
 value [] digits = 0
 value (shift ∷ shifts) [] = 0
 value (shift ∷ shifts) (digit ∷ digits) = digit * 2 ^ shift + value shifts digits
 
--- where the words of a row stand in the number that they are
+-- the bit positions of the words of a row in the number that they form
 abbrev pub word_places : ℕ → List ℕ
 word_places zero = []
 word_places (suc n) = 64 * n ∷ word_places n
 
--- where the fields of a row of n words stand in that number
+-- the bit positions of the fields of a row of n words in that number
 abbrev pub field_places : ℕ → List Field → List ℕ
 field_places n fields = map (λ field. 64 * (n - 1 - field.word) + field.shift) fields
 
@@ -109,8 +109,8 @@ AreAtMost [] (x ∷ xs) = ⊥
 AreAtMost (limit ∷ limits) [] = ⊥
 AreAtMost (limit ∷ limits) (x ∷ xs) = (x ≤ limit) × AreAtMost limits xs
 
--- a row of words that holds digits in its fields and nothing else: each at most its limit,
--- and where the flag for top is set all others 0
+-- a row of words that holds digits in its fields and nothing else: each at most its limit, and all others 0 if the flag
+-- for top is set
 pub record IsPackedRow (fields : List Field) (row : List ℕ) : Type 0 where
   pub small : (j : ℕ) → j < length row → slice_index row j < 2 ^ 64
   pub whole : value (word_places (length row)) row ≡ value (field_places (length row) fields) (digits_in fields row)

@@ -3,15 +3,15 @@ use Rattle.std.specs.Prelude.{◌≡◌, ◌≢◌, ℕ, ◌+◌, ◌*◌, ◌<�
 use Rattle.std.specs.List.{range_with_len}
 use Rattle.std.specs.declared.cmp.Ordering.{Ordering}
 use Rattle.omega_game.specs.declared.player.Player.{Player}
-use Rattle.omega_lift.specs.Least.{cleared_after, raised}
-use Rattle.omega_lift.specs.Measure.{Measure, IsMeasure, compare}
+use Rattle.omega_lift_laws.specs.Least.{cleared_after, raised}
+use Rattle.omega_lift_laws.specs.Measure.{Measure, IsMeasure, compare}
 use Rattle.omega_measure.specs.private.layout.Shape.{width_of}
 
--- the row of a place, where rows of one width stand side by side
+-- the row of a place, if rows of one width lie side by side
 abbrev pub row_of : {X : Type 0} → ℕ → List X → ℕ → List X
 row_of width entries v = take width (drop (v * width) entries)
 
--- the measure of a place: top where its flag is set, else its row
+-- the measure of a place: top if its flag is set, else its row
 abbrev pub measure_in : ℕ → List Bool → List ℕ → ℕ → Measure
 measure_in width tops entries v = if slice_index_or tops v true then None else Some (row_of width entries v)
 
@@ -25,11 +25,11 @@ pub record AreRows (player : Player) (priorities : List ℕ) (tops : List Bool) 
   pub cells : length entries ≡ length priorities * width_of player priorities
   pub measures : (v : ℕ) → v < length priorities → IsMeasure player priorities (measure_in (width_of player priorities) tops entries v)
 
--- two measures compared on their first entries
+-- two measures compared on their first `kept` entries
 abbrev pub compare_kept : ℕ → Measure → Measure → Ordering
 compare_kept kept x y = compare (option_map (take kept) x) (option_map (take kept) y)
 
--- the entries from one place up to another are at their limits
+-- the entries from `low` up to `high` are at their limits
 abbrev pub AreAtLimits : List ℕ → List ℕ → ℕ → ℕ → Type 0
 AreAtLimits entries limits low high = (k : ℕ) → low ≤ k → k < high → slice_index limits k ≤ slice_index entries k
 
@@ -37,24 +37,25 @@ AreAtLimits entries limits low high = (k : ℕ) → low ≤ k → k < high → s
 pub record IsLastBelow (entries limits : List ℕ) (kept at : ℕ) : Type 0 where
   pub within : at < kept
   pub below : slice_index entries at < slice_index limits at
-  pub behind : AreAtLimits entries limits (at + 1) kept
+  pub following : AreAtLimits entries limits (at + 1) kept
 
--- entries raised at the last of the first `kept` that is below its limit, or with all after the first `kept` cleared
+-- the entries of an allowance: raised at the last of the first `kept` that is below its limit, or with all after the
+-- first `kept` cleared
 abbrev pub allowed : Bool → ℕ → List ℕ → List ℕ → Option (List ℕ)
 allowed strict kept limits entries = if strict then raised kept limits entries else Some (cleared_after kept entries)
 
--- the least measure that suffices towards a measure
+-- the allowance of a measure: the least measure that suffices towards it
 abbrev pub allowance_of : Bool → ℕ → List ℕ → Measure → Measure
 allowance_of strict kept limits None = None
 allowance_of strict kept limits (Some entries) = allowed strict kept limits entries
 
--- rows as they were, but for that of v, which is now `row`
+-- the row of v is now `row`, and all other rows are as they were
 pub record WritesRow {X : Type 0} (width : ℕ) (old new : List X) (v : ℕ) (row : List X) : Type 0 where
   pub count : length new ≡ length old
   pub written : row_of width new v ≡ row
   pub others : (u : ℕ) → u ≢ v → u * width + width ≤ length old → row_of width new u ≡ row_of width old u
 
--- v has a new measure, and all others theirs
+-- v has a new measure, and all others keep theirs
 pub record WritesMeasure (width : ℕ) (tops : List Bool) (entries : List ℕ) (new_tops : List Bool) (new_entries : List ℕ) (v : ℕ) (x : Measure) : Type 0 where
   pub flags : length new_tops ≡ length tops
   pub cells : length new_entries ≡ length entries

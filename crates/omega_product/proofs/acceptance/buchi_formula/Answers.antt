@@ -4,7 +4,7 @@ use Rattle.omega_acc.specs.WritingLaws.{acc_written}
 use Rattle.omega_acc.specs.formula.Kind.{buchi_formula}
 use Rattle.omega_acc.specs.formula.Raw.{raw_acc_depth}
 use Rattle.omega_product.proofs.BuchiKinds.{buchi_depth}
-use Rattle.omega_written.proofs.Refusals.{not_deeper, passed_on}
+use Rattle.omega_edge_labels.proofs.Refusals.{not_deeper, passed_on}
 use Rattle.omega_product.proofs.acceptance.buchi_formula.Goals as goal
 
 pub returns-in_err-formula-2-clause-err : goal.returns-in_err-formula-2-clause-err

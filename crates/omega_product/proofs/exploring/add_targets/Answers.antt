@@ -1,5 +1,5 @@
 use Rattle.omega_product.specs.declared.transition.Transition.{Transition}
-use Rattle.omega_written.proofs.Refusals.{passed_on}
+use Rattle.omega_edge_labels.proofs.Refusals.{passed_on}
 use Rattle.omega_product.proofs.Unmet.{edge_unmet, listed_at}
 use Rattle.omega_product.proofs.exploring.add_targets.Goals as goal
 

@@ -1,7 +1,7 @@
 use Rattle.std.proofs.Common.{◌≡◌, true, false, sym, ◌∙◌}
 use Rattle.omega_product.specs.Pairs.{can_meet}
 use Rattle.omega_product.specs.declared.transition.Transition.{Transition}
-use Rattle.omega_written.proofs.Refusals.{passed_on}
+use Rattle.omega_edge_labels.proofs.Refusals.{passed_on}
 use Rattle.omega_product.proofs.Unmet.{listed_at, partner_unmet}
 use Rattle.omega_product.proofs.Steps.{insert_dropped, insert_kept}
 use Rattle.omega_product.proofs.exploring.add_targets_with.Goals as goal

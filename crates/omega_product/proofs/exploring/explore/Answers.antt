@@ -1,9 +1,9 @@
 use Rattle.std.proofs.Common.{◌<◌, ◌≤◌, length, arith}
-use Rattle.omega_written.specs.Limits.{most_states}
+use Rattle.omega_edge_labels.specs.Limits.{most_states}
 use Rattle.omega_product.specs.Pairs.{Pair}
 use Rattle.omega_product.specs.Refusing.{many_pairs}
 use Rattle.omega_product.proofs.Reaching.{found_so_far, gone_on}
-use Rattle.omega_written.proofs.Refusals.{passed_on}
+use Rattle.omega_edge_labels.proofs.Refusals.{passed_on}
 use Rattle.omega_product.proofs.Unmet.{join_refused, listed_at}
 use Rattle.omega_product.proofs.exploring.explore.Goals as goal
 

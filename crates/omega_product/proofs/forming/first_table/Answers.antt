@@ -2,7 +2,7 @@ use Rattle.std.proofs.Common.{◌≡◌, ap₂, subst, ◌∙◌}
 use Rattle.std.specs.Prelude.{IfErr, IfOk}
 use Rattle.omega_product.specs.Joining.{joined_names, places_among}
 use Rattle.omega_product.specs.Refusing.{HasUnfitLabel}
-use Rattle.omega_written.specs.Fitting.{IsLarge}
+use Rattle.omega_edge_labels.specs.Fitting.{IsLarge}
 use Rattle.omega_product.specs.Transitions.{Standing}
 use Rattle.omega_product.specs.private.Tables.{AreRows}
 use Rattle.omega_product.specs.declared.table.Table.{Table}

@@ -8,14 +8,14 @@ use Rattle.omega_acc.specs.formula.Raw.{raw_acc_depth}
 use Rattle.omega_raw.specs.declared.raw_automaton.RawAutomaton.{RawAutomaton}
 use Rattle.omega_raw.specs.declared.raw_state.RawState.{RawState}
 use Rattle.omega_text.specs.Limits.{most_number}
-use Rattle.omega_product.specs.Acceptance.{moved_behind}
-use Rattle.omega_written.specs.Limits.{most_edges}
+use Rattle.omega_product.specs.Acceptance.{moved_after}
+use Rattle.omega_edge_labels.specs.Limits.{most_edges}
 use Rattle.omega_product.specs.Pairs.{first_standing, second_standing}
 use Rattle.omega_product.specs.Refusing.{HasUnfitLabel, IsJoinFault, deep_acceptance, many_sets, unfit_first, unfit_second}
 use Rattle.omega_product.specs.Written.{raw_of, raw_state_of}
 use Rattle.omega_product.proofs.Formulas.{items_are}
 use Rattle.omega_product.proofs.Refused.{large_join}
-use Rattle.omega_written.proofs.Refusals.{memory_task, passed_on}
+use Rattle.omega_edge_labels.proofs.Refusals.{memory_task, passed_on}
 use Rattle.omega_product.proofs.forming.written_product.Goals as goal
 
 pub returns-in_err-sets-clause-refused : goal.returns-in_err-sets-clause-refused
@@ -37,7 +37,7 @@ pub returns-in_err-acceptance-clause-refused : goal.returns-in_err-acceptance-cl
 returns-in_err-acceptance-clause-refused c =
     passed_on c.from_residual-in_err-acceptance.result _ _ c.from_residual-in_err-acceptance.ensures.1
     (large_join c.args.one.now c.args.other.now
-    (most_depth < raw_acc_depth (acc_written (conjunction c.args.one.now.acceptance (moved_behind c.args.one.now.sets c.args.other.now.acceptance))))
+    (most_depth < raw_acc_depth (acc_written (conjunction c.args.one.now.acceptance (moved_after c.args.one.now.sets c.args.other.now.acceptance))))
     deep_acceptance _ c.in_err-acceptance.ensures.err)
 
 pub returns-clause-written : goal.returns-clause-written

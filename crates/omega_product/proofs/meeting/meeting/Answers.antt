@@ -1,7 +1,7 @@
 use Rattle.std.proofs.Common.{◌≡◌, sym, ◌∙◌}
 use Rattle.omega_product.specs.Pairs.{can_meet}
 use Rattle.omega_product.proofs.Holding.{meets_as_judged}
-use Rattle.omega_written.proofs.Refusals.{passed_on}
+use Rattle.omega_edge_labels.proofs.Refusals.{passed_on}
 use Rattle.omega_product.proofs.Unmet.{unfit_unmet, wide_unmet}
 use Rattle.omega_product.proofs.meeting.meeting.Goals as goal
 

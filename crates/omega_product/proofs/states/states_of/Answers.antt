@@ -1,11 +1,11 @@
 -- one state more
 use Rattle.std.proofs.Common.{◌+◌, ◌<◌, ◌≤◌, length, arith}
-use Rattle.omega_written.specs.Limits.{most_edges}
+use Rattle.omega_edge_labels.specs.Limits.{most_edges}
 use Rattle.omega_product.specs.Pairs.{Pair}
 use Rattle.omega_product.proofs.Counting.{edges_all, edges_many, states_all, states_more}
 use Rattle.omega_product.proofs.Reaching.{found_all}
 use Rattle.omega_product.proofs.Refused.{large_join}
-use Rattle.omega_written.proofs.Refusals.{passed_on}
+use Rattle.omega_edge_labels.proofs.Refusals.{passed_on}
 use Rattle.omega_product.proofs.Unmet.{join_refused, listed_at}
 use Rattle.omega_product.proofs.states.states_of.Goals as goal
 

@@ -4,7 +4,7 @@ use Rattle.omega_product.specs.Refusing.{HasUnfitEdge}
 use Rattle.omega_product.specs.Transitions.{Standing, transition_of}
 use Rattle.omega_product.specs.private.Tables.{row_of, standing_at}
 use Rattle.omega_product.specs.declared.transition.Transition.{Transition}
-use Rattle.omega_written.proofs.Refusals.{large_weaker, passed_on}
+use Rattle.omega_edge_labels.proofs.Refusals.{large_weaker, passed_on}
 use Rattle.omega_product.proofs.Rows.{row_contains, transitions_more}
 use Rattle.omega_product.proofs.transitions.transitions_of.Goals as goal
 

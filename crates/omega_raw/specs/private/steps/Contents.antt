@@ -11,11 +11,11 @@ use Rattle.omega_raw.specs.declared.header.name.HeaderKind.TheVariants as named
 use Rattle.omega_raw.specs.declared.raw_item.RawItem.{RawItem}
 use Rattle.omega_text.specs.declared.refusal.Refusal.{Refusal}
 
--- an item that can be written, of which this holds, was read
+-- an item that can be written was read, and this holds of it
 abbrev pub GivesWhere : (RawItem → Type 0) → (old new : Tokens) → Result RawItem Refusal → Type 0
 GivesWhere Is old new result = IfOk result (Given (λ it. Is it × IsRawItem it) content_row old new)
 
--- an item of which this holds is read where it was written
+-- an item that this holds of is read if it was written
 abbrev pub FindsWhere : (RawItem → Type 0) → (old new : Tokens) → Result RawItem Refusal → Type 0
 FindsWhere Is old new result =
     (it : RawItem) (others : List AutomatonSymbol) (rest : Tokens) → Is it → IsRawItem it → FirstIs EndsItem others → ReadsSymbols old (content_row it others) rest
@@ -25,7 +25,7 @@ FindsWhere Is old new result =
 abbrev pub GivesContent : HeaderKind → (old new : Tokens) → Result RawItem Refusal → Type 0
 GivesContent header = GivesWhere (λ it. item_header it ≡ header)
 
--- where one is written it is found
+-- if one is written, it is found
 abbrev pub FindsContent : HeaderKind → (old new : Tokens) → Result RawItem Refusal → Type 0
 FindsContent header = FindsWhere (λ it. item_header it ≡ header)
 
@@ -38,7 +38,7 @@ pub record IsUnknownItem (name : List ℕ) (it : RawItem) : Type 0 where
 abbrev pub GivesUnknown : List ℕ → (old new : Tokens) → Result RawItem Refusal → Type 0
 GivesUnknown name = GivesWhere (IsUnknownItem name)
 
--- where one is written it is found
+-- if one is written, it is found
 abbrev pub FindsUnknown : List ℕ → (old new : Tokens) → Result RawItem Refusal → Type 0
 FindsUnknown name = FindsWhere (IsUnknownItem name)
 
@@ -46,6 +46,6 @@ FindsUnknown name = FindsWhere (IsUnknownItem name)
 abbrev pub GivesNamed : List ℕ → (old new : Tokens) → Result RawItem Refusal → Type 0
 GivesNamed name = GivesWhere (λ it. item_name it ≡ name)
 
--- where one is written it is found
+-- if one is written, it is found
 abbrev pub FindsNamed : List ℕ → (old new : Tokens) → Result RawItem Refusal → Type 0
 FindsNamed name = FindsWhere (λ it. item_name it ≡ name)

@@ -1,5 +1,4 @@
--- What a call reads of tokens: it finds what they are written as,
--- wherever others follow with which that does not go on.
+-- What a call reads of tokens: it finds what they are written as, if the tokens that follow do not go on with it.
 use Rattle.std.specs.Prelude.{◌≡◌, Bool, false, List, [], ◌∷◌, Result, Ok, Err, IfOk}
 use Rattle.omega_text.specs.Cases.{IsMemory}
 use Rattle.omega_acc.specs.Symbols.{IsUnread}
@@ -41,7 +40,7 @@ pub record Given {X : Type 0} (Is : X → Type 0) (row : X → List AutomatonSym
 abbrev pub GivesRow : {X : Type 0} → (X → Type 0) → (X → List AutomatonSymbol → List AutomatonSymbol) → (old new : Tokens) → Result X Refusal → Type 0
 GivesRow Is row old new result = IfOk result (Given Is row old new)
 
--- what was written is read, where such symbols follow
+-- what was written is read, if such symbols follow
 abbrev pub Finds : {X : Type 0} → (X → Type 0) → (X → List AutomatonSymbol → List AutomatonSymbol) → (List AutomatonSymbol → Type 0) → (old new : Tokens) → Result X Refusal → Type 0
 Finds {X} Is row Follow old new result =
     (it : X) (others : List AutomatonSymbol) (rest : Tokens) → Is it → Follow others → ReadsSymbols old (row it others) rest
@@ -59,6 +58,6 @@ IsKind kind = Unit {0}
 abbrev pub Anything : List AutomatonSymbol → Type 0
 Anything others = Unit {0}
 
--- nothing is asked of the value
+-- nothing is required of the value
 abbrev pub IsAny : {X : Type 0} → X → Type 0
 IsAny it = Unit {0}

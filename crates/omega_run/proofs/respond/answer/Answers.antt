@@ -1,103 +1,54 @@
--- `answer`: a command that solves or decides tells of runs in games of the text, and no other tells of any;
--- what `solve` answers for one player counts the lifts of its run.
-use Rattle.std.proofs.Common.{refl}
-use Rattle.std.proofs.lemmas.Result.{IfOk-weaker}
-use Rattle.omega_budget.proofs.Watched.{watched_as}
-use Rattle.omega_run.proofs.Counted.{of_all}
-use Rattle.omega_run.proofs.Lifted.{nothing_lifted}
+-- `answer`: where nothing is lifted nothing is told, and else what the answer to the text that was read tells.
+use Rattle.omega_io.specs.Failures.{IsTransferRefusal}
+use Rattle.omega_budget.proofs.Observed.{none_observed, spares, observed_alike}
+use Rattle.omega_run.proofs.Counted.{stream_counted, text_counted}
+use Rattle.omega_run.proofs.Lifted.{stream_observed, text_observed}
 use Rattle.omega_run.proofs.respond.answer.Goals as goal
 
-pub returns-in-Show-clause-told : goal.returns-in-Show-clause-told
-returns-in-Show-clause-told g c = rw c.in-Show.is (λ before after read. nothing_lifted _ _ _ _ _ _ refl)
+pub returns-in_err-show_stream-in-Stream-Show-clause-reported : goal.returns-in_err-show_stream-in-Stream-Show-clause-reported
+returns-in_err-show_stream-in-Stream-Show-clause-reported g c = stream_observed _ _ _ _ _ _ _ _ _ _ c.kind_of.ensures c.in-Stream-Show.is
 
-pub returns-in-Check-clause-told : goal.returns-in-Check-clause-told
-returns-in-Check-clause-told g c = rw c.in-Check.is (λ before after read. nothing_lifted _ _ _ _ _ _ refl)
+pub returns-in_ok-show_stream-in-Stream-Show-clause-reported : goal.returns-in_ok-show_stream-in-Stream-Show-clause-reported
+returns-in_ok-show_stream-in-Stream-Show-clause-reported g c = stream_observed _ _ _ _ _ _ _ _ _ _ c.kind_of.ensures c.in-Stream-Show.is
 
-pub returns-in-Canon-clause-told : goal.returns-in-Canon-clause-told
-returns-in-Canon-clause-told g c = rw c.in-Canon.is (λ before after read. nothing_lifted _ _ _ _ _ _ refl)
+pub returns-in_err-check_stream-in-Stream-Check-clause-reported : goal.returns-in_err-check_stream-in-Stream-Check-clause-reported
+returns-in_err-check_stream-in-Stream-Check-clause-reported g c = stream_observed _ _ _ _ _ _ _ _ _ _ c.kind_of.ensures c.in-Stream-Check.is
 
-pub returns-in-CanonPart-clause-told : goal.returns-in-CanonPart-clause-told
-returns-in-CanonPart-clause-told g c = rw c.in-CanonPart.is (λ before after read. nothing_lifted _ _ _ _ _ _ refl)
+pub returns-in_ok-check_stream-in-Stream-Check-clause-reported : goal.returns-in_ok-check_stream-in-Stream-Check-clause-reported
+returns-in_ok-check_stream-in-Stream-Check-clause-reported g c = stream_observed _ _ _ _ _ _ _ _ _ _ c.kind_of.ensures c.in-Stream-Check.is
 
-pub returns-in-EmptySearch-clause-told : goal.returns-in-EmptySearch-clause-told
-returns-in-EmptySearch-clause-told g c = rw c.in-EmptySearch.is (λ before after read. nothing_lifted _ _ _ _ _ _ refl)
+pub returns-in_err-canon_stream-in-Stream-Canon-clause-reported : goal.returns-in_err-canon_stream-in-Stream-Canon-clause-reported
+returns-in_err-canon_stream-in-Stream-Canon-clause-reported g c = stream_observed _ _ _ _ _ _ _ _ _ _ c.kind_of.ensures c.in-Stream-Canon.is
 
-pub returns-in-Complement-clause-told : goal.returns-in-Complement-clause-told
-returns-in-Complement-clause-told g c = rw c.in-Complement.is (λ before after read. nothing_lifted _ _ _ _ _ _ refl)
+pub returns-in_ok-canon_stream-in-Stream-Canon-clause-reported : goal.returns-in_ok-canon_stream-in-Stream-Canon-clause-reported
+returns-in_ok-canon_stream-in-Stream-Canon-clause-reported g c = stream_observed _ _ _ _ _ _ _ _ _ _ c.kind_of.ensures c.in-Stream-Canon.is
 
-pub returns-in-Game-clause-told : goal.returns-in-Game-clause-told
-returns-in-Game-clause-told g c = rw c.in-Game.is (λ before after read. nothing_lifted _ _ _ _ _ _ refl)
+pub returns-in_err-text-in-Text-clause-reported : goal.returns-in_err-text-in-Text-clause-reported
+returns-in_err-text-in-Text-clause-reported g c =
+    observed_alike _ _ _ _ c.from_residual-in_err-text-in-Text.result _ c.in_err-text-in-Text.field-0.0 _ _ c.from_residual-in_err-text-in-Text.ensures.1 (λ e same. same)
+    (none_observed _ _ _ _ _ _ (spares IsTransferRefusal _ c.in_err-text-in-Text.ensures.refused (λ no. no)))
 
-pub returns-in-DrawGame-clause-told : goal.returns-in-DrawGame-clause-told
-returns-in-DrawGame-clause-told g c = rw c.in-DrawGame.is (λ before after read. nothing_lifted _ _ _ _ _ _ refl)
+pub returns-in_err-made-in-Text-clause-reported : goal.returns-in_err-made-in-Text-clause-reported
+returns-in_err-made-in-Text-clause-reported g c =
+    observed_alike _ _ _ _ c.from_residual-in_err-made-in-Text.result _ c.in_err-made-in-Text.field-0.0 _ _ c.from_residual-in_err-made-in-Text.ensures.1 (λ e same. same)
+    (text_observed _ _ _ _ _ _ _ _ _ _ _ c.kind_of.ensures c.in-Text.is
+    (rw c.in_err-made-in-Text.was at c.answer_text.ensures.reported _ _ c.in_ok-text-in-Text.ensures.read))
 
-pub returns-in-DrawPart-clause-told : goal.returns-in-DrawPart-clause-told
-returns-in-DrawPart-clause-told g c = rw c.in-DrawPart.is (λ before after read. nothing_lifted _ _ _ _ _ _ refl)
+pub returns-in_ok-made-in-Text-clause-reported : goal.returns-in_ok-made-in-Text-clause-reported
+returns-in_ok-made-in-Text-clause-reported g c =
+    text_observed _ _ _ _ _ _ _ _ _ _ _ c.kind_of.ensures c.in-Text.is
+    (rw c.in_ok-made-in-Text.was at c.answer_text.ensures.reported _ _ c.in_ok-text-in-Text.ensures.read)
 
-pub returns-in-DrawAutomaton-clause-told : goal.returns-in-DrawAutomaton-clause-told
-returns-in-DrawAutomaton-clause-told g c = rw c.in-DrawAutomaton.is (λ before after read. nothing_lifted _ _ _ _ _ _ refl)
+pub returns-in_ok-show_stream-in-Stream-Show-clause-printed : goal.returns-in_ok-show_stream-in-Stream-Show-clause-printed
+returns-in_ok-show_stream-in-Stream-Show-clause-printed g c = stream_counted _ _ _ _ _ _ _ _ _ _ c.kind_of.ensures _ c.in-Stream-Show.is
 
-pub returns-in-DrawLasso-clause-told : goal.returns-in-DrawLasso-clause-told
-returns-in-DrawLasso-clause-told g c = rw c.in-DrawLasso.is (λ before after read. nothing_lifted _ _ _ _ _ _ refl)
+pub returns-in_ok-check_stream-in-Stream-Check-clause-printed : goal.returns-in_ok-check_stream-in-Stream-Check-clause-printed
+returns-in_ok-check_stream-in-Stream-Check-clause-printed g c = stream_counted _ _ _ _ _ _ _ _ _ _ c.kind_of.ensures _ c.in-Stream-Check.is
 
-pub returns-in-Solve-clause-told : goal.returns-in-Solve-clause-told
-returns-in-Solve-clause-told g c =
-    rw c.in-Solve.is (λ before after read. watched_as _ _ _ _ _ _ _ _
-    (λ nodes players lifted. record { text = c.args.text.items; read = read; holds = rw c.asked_for-asked.ensures at lifted }) c.solve_game.ensures.told)
+pub returns-in_ok-canon_stream-in-Stream-Canon-clause-printed : goal.returns-in_ok-canon_stream-in-Stream-Canon-clause-printed
+returns-in_ok-canon_stream-in-Stream-Canon-clause-printed g c = stream_counted _ _ _ _ _ _ _ _ _ _ c.kind_of.ensures _ c.in-Stream-Canon.is
 
-pub returns-in-Search-clause-told : goal.returns-in-Search-clause-told
-returns-in-Search-clause-told g c =
-    rw c.in-Search.is (λ before after read. watched_as _ _ _ _ _ _ _ _
-    (λ nodes players lifted. record { text = c.args.text.items; read = read; holds = lifted }) c.solve_game-in-Search.ensures.told)
-
-pub returns-in-Empty-clause-told : goal.returns-in-Empty-clause-told
-returns-in-Empty-clause-told g c =
-    rw c.in-Empty.is (λ before after read. watched_as _ _ _ _ _ _ _ _
-    (λ nodes players lifted. record { text = c.args.text.items; read = read; holds = lifted }) c.decide_emptiness.ensures.told)
-
-pub returns-in-Show-clause-printed : goal.returns-in-Show-clause-printed
-returns-in-Show-clause-printed g c = rw c.in-Show.is (λ before after read. of_all c.show_game.result _ (λ output. tt))
-
-pub returns-in-Check-clause-printed : goal.returns-in-Check-clause-printed
-returns-in-Check-clause-printed g c = rw c.in-Check.is (λ before after read. of_all c.check_game.result _ (λ output. tt))
-
-pub returns-in-Canon-clause-printed : goal.returns-in-Canon-clause-printed
-returns-in-Canon-clause-printed g c = rw c.in-Canon.is (λ before after read. of_all c.canon_game.result _ (λ output. tt))
-
-pub returns-in-CanonPart-clause-printed : goal.returns-in-CanonPart-clause-printed
-returns-in-CanonPart-clause-printed g c = rw c.in-CanonPart.is (λ before after read. of_all c.canon_part.result _ (λ output. tt))
-
-pub returns-in-Search-clause-printed : goal.returns-in-Search-clause-printed
-returns-in-Search-clause-printed g c = rw c.in-Search.is (λ before after read. of_all c.solve_game-in-Search.result _ (λ output. tt))
-
-pub returns-in-Empty-clause-printed : goal.returns-in-Empty-clause-printed
-returns-in-Empty-clause-printed g c = rw c.in-Empty.is (λ before after read. of_all c.decide_emptiness.result _ (λ output. tt))
-
-pub returns-in-EmptySearch-clause-printed : goal.returns-in-EmptySearch-clause-printed
-returns-in-EmptySearch-clause-printed g c = rw c.in-EmptySearch.is (λ before after read. of_all c.search_emptiness.result _ (λ output. tt))
-
-pub returns-in-Complement-clause-refused : goal.returns-in-Complement-clause-refused
-returns-in-Complement-clause-refused g c = rw c.in-Complement.is (rw c.as_slice.ensures.value at c.complement_text.ensures.refused)
-
-pub returns-in-Complement-clause-printed : goal.returns-in-Complement-clause-printed
-returns-in-Complement-clause-printed g c = rw c.in-Complement.is (λ before after read. of_all c.complement_text.result _ (λ output. tt))
-
-pub returns-in-Game-clause-printed : goal.returns-in-Game-clause-printed
-returns-in-Game-clause-printed g c = rw c.in-Game.is (λ before after read. of_all c.write_emptiness_game.result _ (λ output. tt))
-
-pub returns-in-DrawGame-clause-printed : goal.returns-in-DrawGame-clause-printed
-returns-in-DrawGame-clause-printed g c = rw c.in-DrawGame.is (λ before after read. of_all c.draw_game_text.result _ (λ output. tt))
-
-pub returns-in-DrawPart-clause-printed : goal.returns-in-DrawPart-clause-printed
-returns-in-DrawPart-clause-printed g c = rw c.in-DrawPart.is (λ before after read. of_all c.draw_game_text-in-DrawPart.result _ (λ output. tt))
-
-pub returns-in-DrawAutomaton-clause-printed : goal.returns-in-DrawAutomaton-clause-printed
-returns-in-DrawAutomaton-clause-printed g c = rw c.in-DrawAutomaton.is (λ before after read. of_all c.draw_automaton_text.result _ (λ output. tt))
-
-pub returns-in-DrawLasso-clause-printed : goal.returns-in-DrawLasso-clause-printed
-returns-in-DrawLasso-clause-printed g c = rw c.in-DrawLasso.is (λ before after read. of_all c.draw_lasso_text.result _ (λ output. tt))
-
-pub returns-in-Solve-clause-printed : goal.returns-in-Solve-clause-printed
-returns-in-Solve-clause-printed g c =
-    rw c.in-Solve.is (λ before after read. IfOk-weaker c.solve_game.result _ _
-    (λ output counted. record { text = c.args.text.items; read = read; holds = rw c.asked_for-asked.ensures at counted }) c.solve_game.ensures.counted)
+pub returns-in_ok-made-in-Text-clause-printed : goal.returns-in_ok-made-in-Text-clause-printed
+returns-in_ok-made-in-Text-clause-printed g c =
+    text_counted _ _ _ _ _ _ _ _ _ _ c.kind_of.ensures _ c.in-Text.is
+    (rw c.in_ok-made-in-Text.was at c.answer_text.ensures.printed _ _ c.in_ok-text-in-Text.ensures.read)

@@ -1,8 +1,8 @@
 -- How a run of a command of two texts ended, and what it was refused for.
 use Rattle.std.specs.Prelude.{Option, None, Result, Ok, Err}
 use Rattle.omega_text.specs.declared.refusal.Refusal.{Refusal}
-use Rattle.omega_refused.specs.declared.refused.Refused.{Refused}
-use Rattle.omega_refused.specs.declared.refused.Which.{Which}
+use Rattle.omega_io.specs.declared.refused.Refused.{Refused}
+use Rattle.omega_io.specs.declared.refused.Which.{Which}
 
 -- the same outcome, where it is left open which text a refusal is about
 abbrev pub plain : {T : Type 0} → Result T Refused → Result T Refusal

@@ -1,11 +1,9 @@
--- Which command is of which kind: of a stream, of one text, or of a text beside that of a file.
+-- Which command is of which kind: of a stream, or of one text.
 use Rattle.omega_command.specs.declared.command.Command.{Command}
 use Rattle.omega_command.specs.declared.command.Command.TheVariants as command
 use Rattle.omega_command.specs.declared.command.Format.TheVariants.{Hoa, Pg}
 use Rattle.omega_run.specs.declared.kinds.Kind.{Kind}
 use Rattle.omega_run.specs.declared.kinds.Kind.TheVariants as kind
-use Rattle.omega_run.specs.declared.kinds.OfFile.{OfFile}
-use Rattle.omega_run.specs.declared.kinds.OfFile.TheVariants as file
 use Rattle.omega_run.specs.declared.kinds.OfStream.{OfStream}
 use Rattle.omega_run.specs.declared.kinds.OfStream.TheVariants as stream
 use Rattle.omega_run.specs.declared.kinds.OfText.{OfText}
@@ -34,15 +32,7 @@ of_text (text.DrawPart from depth) = command.DrawPart from depth
 of_text text.DrawAutomaton = command.Draw Hoa
 of_text text.DrawLasso = command.DrawLasso
 
--- the command of a text beside that of a file
-abbrev pub of_file : OfFile → Command
-of_file (file.Verify game from explain) = command.Verify game from explain
-of_file (file.VerifyLasso automaton explain) = command.VerifyLasso automaton explain
-of_file (file.Meet other) = command.Meet other
-of_file (file.DrawSolution solution from depth legend) = command.DrawSolution solution from depth legend
-
--- the command of one of the three kinds
+-- the command of one of the two kinds
 abbrev pub of_kind : Kind → Command
 of_kind (kind.Stream one) = of_stream one
 of_kind (kind.Text one) = of_text one
-of_kind (kind.File one) = of_file one

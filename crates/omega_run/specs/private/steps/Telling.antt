@@ -6,10 +6,10 @@ use Rattle.omega_io.specs.Writing.{Tells}
 -- a failed write breaks it off
 pub record TellsOn (sound : ℕ) (before after : Option (List ℕ)) (failed_before failed_after : ℕ) (text : List ℕ) : Type 0 where
   pub counted : failed_before ≤ failed_after
-  pub told : failed_before ≡ sound → sound < 2 ^ 64 - 1 → Tells before after failed_before failed_after text
+  pub reported : failed_before ≡ sound → sound < 2 ^ 64 - 1 → Tells before after failed_before failed_after text
   pub silent : sound < failed_before → (after ≡ before) × (failed_after ≡ failed_before)
 
 -- the same of the last that is told
 pub record TellsLast (sound : ℕ) (before after : Option (List ℕ)) (failed_before failed_after : ℕ) (text : List ℕ) : Type 0 where
-  pub told : failed_before ≡ sound → Tells before after failed_before failed_after text
+  pub reported : failed_before ≡ sound → Tells before after failed_before failed_after text
   pub silent : sound < failed_before → (after ≡ before) × (failed_after ≡ failed_before)

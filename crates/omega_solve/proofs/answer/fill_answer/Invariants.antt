@@ -1,6 +1,6 @@
 -- The places so far have their flags and choices.
 use Rattle.std.proofs.Common.{◌≡◌, ℕ, ◌<◌, take, slice_get, Some, Option}
-use Rattle.omega_lift.specs.Answer.{won_in}
+use Rattle.omega_lift_laws.specs.Answer.{won_in}
 use Rattle.omega_solve.specs.private.solving.Successor.{IsChoiceAt}
 use Rattle.omega_solve.proofs.answer.fill_answer.Given as goal
 

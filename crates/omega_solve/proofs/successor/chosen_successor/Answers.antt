@@ -1,7 +1,7 @@
 -- The first least successor is the first of least allowance.
 use Rattle.std.proofs.Common.{refl}
 use Rattle.std.proofs.lemmas.Bool.{false≢true}
-use Rattle.omega_lift.specs.Allowance.{measure_at}
+use Rattle.omega_lift_laws.specs.Allowance.{measure_at}
 use Rattle.omega_solve.proofs.lifting.Due.{first_least, some_from, table_entries}
 use Rattle.omega_solve.proofs.successor.chosen_successor.Goals as goal
 

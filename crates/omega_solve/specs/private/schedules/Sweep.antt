@@ -1,9 +1,9 @@
--- What a sweep keeps.
+-- The facts that a sweep keeps.
 use Rattle.std.specs.Prelude.{◌≡◌, ℕ, ◌<◌, ◌^◌, length}
 use Rattle.omega_solve.specs.Schedule.{IsPending, Pending}
 use Rattle.omega_solve.specs.private.schedules.Waits.{waits}
 
--- what a sweep keeps: how many places are pending, and that it stands at one of them if there is one
+-- the number of pending places is right, and if there is one, the place to look at is pending
 pub record IsSweep (pending : Pending) (place count : ℕ) : Type 0 where
   pub small : length pending.flags < 2 ^ 32
   pub counted : count ≡ waits pending

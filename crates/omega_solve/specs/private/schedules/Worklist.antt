@@ -1,4 +1,4 @@
--- A queue in a ring, and what a worklist keeps.
+-- A queue in a ring, and the facts that a worklist keeps.
 use Rattle.std.specs.Prelude.{◌≡◌, ◌≢◌, ℕ, ◌+◌, ◌-◌, ◌<◌, ◌≤◌, ◌^◌, List, length, slice_index, nat_lt, if◌then◌else◌}
 use Rattle.omega_solve.specs.Schedule.{IsPending, Pending}
 use Rattle.omega_solve.specs.private.schedules.Waits.{waits}
@@ -11,7 +11,7 @@ slot_of n first k = if nat_lt k (n - first) then first + k else k - (n - first)
 abbrev pub queued : List ℕ → ℕ → ℕ → ℕ
 queued ring first k = slice_index ring (slot_of (length ring) first k)
 
--- what a worklist keeps: the queue has each pending place once, and no other
+-- the queue of a worklist has each pending place once, and no other
 pub record IsWorklist (pending : Pending) (ring : List ℕ) (first count : ℕ) : Type 0 where
   pub small : length ring < 2 ^ 32
   pub slots : length ring ≡ length pending.flags
@@ -21,7 +21,7 @@ pub record IsWorklist (pending : Pending) (ring : List ℕ) (first count : ℕ) 
   pub apart : (j k : ℕ) → j < k → k < count → queued ring first j ≢ queued ring first k
   pub all : (v : ℕ) → IsPending pending v → (k : ℕ) × (k < count) × (queued ring first k ≡ v)
 
--- the places before k come one later, in place of the one that was there, and those after it stay
+-- the places before k come one later, in place of the k-th, and those after it stay
 pub record ClosesGap (old : List ℕ) (first k : ℕ) (new : List ℕ) : Type 0 where
   pub entries : length new ≡ length old
   pub later : (j : ℕ) → j < k → queued new first (j + 1) ≡ queued old first j

@@ -1,20 +1,21 @@
--- What a solver keeps from its start on.
+-- The facts that a solver keeps from its start on.
 use Rattle.std.specs.Prelude.{◌≡◌, ℕ, ◌+◌, ◌<◌, ◌≤◌, Bool, true, Option, List, length, sum_by}
 use Rattle.omega_game.specs.Game.{Node, IsGame, IsWithinLimits, predecessors_of, priorities}
-use Rattle.omega_lift.specs.Answer.{AreChoices, won_in}
-use Rattle.omega_lift.specs.Run.{IsDue, IsLiftingRun, zero_table}
+use Rattle.omega_lift_laws.specs.Answer.{AreChoices, won_in}
+use Rattle.omega_lift_laws.specs.Run.{IsDue, IsLiftingRun, zero_table}
 use Rattle.omega_solve.specs.Limits.{most_lifts}
 use Rattle.omega_solve.specs.Schedule.{IsIdle, IsPending}
 use Rattle.omega_solve.specs.private.schedules.Waits.{waits}
 use Rattle.omega_solve.specs.Solver.{LiftsWithin, SolverState}
 use Rattle.omega_solve.specs.private.solving.Successor.{IsTableOf}
 
--- how many edges lead into a place
+-- the number of edges that lead into a place
 abbrev pub in_degree : List Node → ℕ → ℕ
 in_degree nodes v = length (predecessors_of nodes v)
 
--- what each solver keeps: the places lifted so far; each place where a lift is due is pending; takes and pending places
--- together are as many as the places, and at most one more for each edge into a place with each of its lifts
+-- the invariant of a solver: a lifting run led to its table, and each place where a lift is due is pending. Takes and
+-- pending places together are as many as the places, and at most one more for each edge into a place with each of its
+-- lifts
 pub record IsSolving (state : SolverState) : Type 0 where
   pub game : IsGame state.nodes
   pub limits : IsWithinLimits state.nodes
@@ -37,7 +38,7 @@ pub record IsAnswered (state : SolverState) (won : List Bool) (choices : List (O
   pub places_won : state.done ≡ true → won ≡ won_in state.table.measures
   pub chosen : state.done ≡ true → AreChoices state.nodes state.player state.table.measures choices
 
--- at least one lift was made, and at most so many
+-- at least one lift was made, and at most `most`
 pub record IsLifted (old : SolverState) (most made : ℕ) (new : SolverState) : Type 0 where
   pub lifted : LiftsWithin old made new
   pub some : 0 < made
@@ -48,7 +49,7 @@ pub record IsLifted (old : SolverState) (most made : ℕ) (new : SolverState) : 
   pub same_done : new.done ≡ old.done
   pub room : waits new.pending ≤ length new.nodes
 
--- what each solver keeps of its state and its buffers
+-- the invariant of a solver with its buffers
 pub record IsSolver (state : SolverState) (won : List Bool) (choices : List (Option ℕ)) : Type 0 where
   pub solving : IsSolving state
   pub answered : IsAnswered state won choices

@@ -2,12 +2,12 @@
 use Rattle.std.specs.Prelude.{◌≡◌, ℕ, ◌+◌, ◌<◌, List, replicate}
 use Rattle.omega_game.specs.declared.player.Player.{Player}
 use Rattle.omega_game.specs.Game.{Node, HasEdge}
-use Rattle.omega_lift.specs.Run.{IsLiftingRun}
+use Rattle.omega_lift_laws.specs.Run.{IsLiftingRun}
 use Rattle.omega_measure.specs.Table.{Content}
 use Rattle.omega_solve.specs.Schedule.{Pending}
 use Rattle.omega_solve.specs.private.solving.Successor.{IsTableOf}
 
--- v, which leads to itself if it is lifted at all, is lifted so many times in a row. Each is counted as a take, and the
+-- v is lifted `count` times in a row, and leads to itself if `count` is not 0. Each lift is counted as a take, and the
 -- same places are pending
 pub record LiftsAgain (nodes : List Node) (player : Player) (v count : ℕ) (old new : Content) (before after : Pending) : Type 0 where
   pub lifted : IsLiftingRun nodes player old.measures (replicate count v) new.measures

@@ -4,10 +4,10 @@ use Rattle.std.specs.declared.cmp.Ordering.{Ordering}
 use Rattle.std.specs.declared.cmp.Ordering.TheVariants.{Less}
 use Rattle.omega_game.specs.declared.player.Player.{Player}
 use Rattle.omega_game.specs.Game.{Node, HasEdge, owner_at, priorities, priority_at, successors_at}
-use Rattle.omega_lift.specs.Measure.{Measure, compare_from}
-use Rattle.omega_lift.specs.Allowance.{IsAllowanceOf, measure_at}
-use Rattle.omega_lift.specs.Answer.{IsFirstLeast}
-use Rattle.omega_lift.specs.Run.{IsTable, Lifts}
+use Rattle.omega_lift_laws.specs.Measure.{Measure, compare_from}
+use Rattle.omega_lift_laws.specs.Allowance.{IsAllowanceOf, measure_at}
+use Rattle.omega_lift_laws.specs.Answer.{IsFirstLeast}
+use Rattle.omega_lift_laws.specs.Run.{IsTable, Lifts}
 use Rattle.omega_measure.specs.Table.{Content, Exceeds}
 
 -- the table is one of the game for the player
@@ -21,8 +21,8 @@ abbrev pub order_from : Content → ℕ → ℕ → ℕ → Ordering
 order_from content p v w =
     compare_from content.player content.priorities p (measure_at content.measures v) (measure_at content.measures w)
 
--- x is the first best of the first `count` elements: none of them compares to it as wanted,
--- and it compares so to each before it
+-- x is the first best of the first `count` elements: no element compares to it as wanted, and it compares so to each
+-- before it
 pub record IsFirstBest (order : ℕ → ℕ → Ordering) (wanted : Ordering) (xs : List ℕ) (count : ℕ) (x : ℕ) : Type 0 where
   pub index : ℕ
   pub inside : index < count
@@ -34,7 +34,7 @@ pub record IsFirstBest (order : ℕ → ℕ → Ordering) (wanted : Ordering) (x
 abbrev pub ExceedsToAll : List Node → Content → ℕ → Type 0
 ExceedsToAll nodes content v = (w : ℕ) → HasEdge nodes v w → Exceeds content v w
 
--- there is a successor of v, the allowance towards which does not exceed its measure
+-- v has a successor, the allowance towards which does not exceed its measure
 abbrev pub KeepsToSome : List Node → Content → ℕ → Type 0
 KeepsToSome nodes content v = (w : ℕ) × HasEdge nodes v w × ¬ Exceeds content v w
 
@@ -50,7 +50,7 @@ pub record IsDueTowards (nodes : List Node) (player : Player) (table : List Meas
   pub allowance : IsAllowanceOf nodes player table v w value
   pub lifts : Lifts nodes player table v value
 
--- the choice of an answer at v: the first successor of least allowance where v is won and the player owns it, else none
+-- the choice of an answer at v: if v is won and the player owns it, the first successor of least allowance, else none
 abbrev pub IsChoiceAt : List Node → Player → List Measure → ℕ → Option ℕ → Type 0
 IsChoiceAt nodes player table v (Some w) =
     (owner_at nodes v ≡ player) × IsSome (measure_at table v) × IsFirstLeast nodes player table v w

@@ -1,12 +1,12 @@
 -- Waking the predecessors of a place that was lifted.
 use Rattle.std.specs.Prelude.{◌≡◌, ℕ, ◌+◌, ◌<◌, ◌≤◌, IsSome, List, length, slice_index}
-use Rattle.omega_lift.specs.Measure.{Measure}
-use Rattle.omega_lift.specs.Allowance.{measure_at}
+use Rattle.omega_lift_laws.specs.Measure.{Measure}
+use Rattle.omega_lift_laws.specs.Allowance.{measure_at}
 use Rattle.omega_solve.specs.Schedule.{IsPending, Pending}
 use Rattle.omega_solve.specs.private.schedules.Waits.{waits}
 
--- the first `count` of the places are pending if they are below top, what was pending still is,
--- and no more were added than that
+-- the first `count` of the places are pending if they are below top, each place that was pending still is, and at most
+-- `count` were added
 pub record Wakes (table : List Measure) (places : List ℕ) (count : ℕ) (old new : Pending) : Type 0 where
   pub taken : new.taken ≡ old.taken
   pub entries : length new.flags ≡ length old.flags

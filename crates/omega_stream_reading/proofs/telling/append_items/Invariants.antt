@@ -1,4 +1,4 @@
--- `append_items`: what stands before this item is told of.
+-- `append_items`: the texts of the items before this one are written.
 use Rattle.std.proofs.Common.{◌≡◌, ◌+◌, ◌++◌, drop}
 use Rattle.omega_stream_reading.specs.Telling.{texts_from}
 use Rattle.omega_stream_reading.proofs.telling.append_items.Given as goal

@@ -11,6 +11,6 @@ returns-in_err-finish-clause-refused g c =
     (λ error is seen short follows. subst (IsStreamRefusal seen) (sym is)
     (let kept = c.args.telling.stream in
     let refusal = c.in_err-finish.field-0.0 in
-    ends_refused g.T.ItemText.text seen kept c.args.telling.count c.args.telling.told.items follows refusal short
+    ends_refused g.T.ItemText.text seen kept c.args.telling.count c.args.telling.reported.items follows refusal short
     (λ none items fed. c.in_err-finish.ensures.refused none seen items fed)
     (same_as_before kept.refused refusal _ (λ before says. says) c.in_err-finish.ensures.refused_before)))

@@ -1,4 +1,4 @@
--- `take_piece`: the items of the piece are told of, or its refusal is kept.
+-- `take_piece`: the texts of the items of the piece are written, or its refusal is kept.
 use Rattle.std.proofs.Common.{◌≡◌, ◌+◌, ◌≤◌, None, length, ◌∙◌, ap, arith}
 use Rattle.omega_text.specs.Limits.{most_text}
 use Rattle.omega_text.specs.declared.refusal.Refusal.TheVariants.{Memory}
@@ -13,7 +13,7 @@ append_items-requires g c =
     let none : kept.refused ≡ None = unrefused kept.refused c.in-Ok.field-0 _ (λ refusal says. says.0) said.refused_before in
     let given = c.feed.new.out.items in
     let within : c.args.telling.now.count + length given ≤ most_text =
-    count_within g.T.ItemText.text c.requires.0 kept c.args.telling.now.count c.args.telling.now.told.items c.requires.1 c.args.piece.now
+    count_within g.T.ItemText.text c.requires.0 kept c.args.telling.now.count c.args.telling.now.reported.items c.requires.1 c.args.piece.now
     c.clear.new.self.items given c.feed.new.self c.clear.ensures.items c.goes_on_one_way.ensures none said.ok
     (said.taken (ok_no_error c.in-Ok.field-0 Memory)) in
     omega (arith, within, ap length c.as_slice.ensures.value)
@@ -25,7 +25,7 @@ overflow_add-telling g c =
     let none : kept.refused ≡ None = unrefused kept.refused c.in-Ok.field-0 _ (λ refusal says. says.0) said.refused_before in
     let given = c.feed.new.out.items in
     let within : c.args.telling.now.count + length given ≤ most_text =
-    count_within g.T.ItemText.text c.requires.0 kept c.args.telling.now.count c.args.telling.now.told.items c.requires.1 c.args.piece.now
+    count_within g.T.ItemText.text c.requires.0 kept c.args.telling.now.count c.args.telling.now.reported.items c.requires.1 c.args.piece.now
     c.clear.new.self.items given c.feed.new.self c.clear.ensures.items c.goes_on_one_way.ensures none said.ok
     (said.taken (ok_no_error c.in-Ok.field-0 Memory)) in
     let count : c.len.result ≡ length given = c.len.ensures ∙ c.feed.new.out.ok.0 in
@@ -38,9 +38,9 @@ returns-in_ok-append_items-in-Ok-clause-follows g c = λ seen short follows.
     let none : kept.refused ≡ None = unrefused kept.refused c.in-Ok.field-0 _ (λ refusal says. says.0) said.refused_before in
     let given = c.feed.new.out.items in
     let count : c.len.result ≡ length given = c.len.ensures ∙ c.feed.new.out.ok.0 in
-    let more = c.in_ok-append_items-in-Ok.ensures.told in
+    let more = c.in_ok-append_items-in-Ok.ensures.reported in
     rw count
-    (follows_taken g.T.ItemText.text seen kept c.args.telling.now.count c.args.telling.now.told.items follows c.args.piece.now
+    (follows_taken g.T.ItemText.text seen kept c.args.telling.now.count c.args.telling.now.reported.items follows c.args.piece.now
     c.clear.new.self.items given c.feed.new.self c.clear.ensures.items c.append_items.new.out.items none said.ok
     (said.taken (ok_no_error c.in-Ok.field-0 Memory))
     (rw (← c.as_slice.ensures.value) more))
@@ -51,10 +51,10 @@ returns-in_default g c = record {
       let kept : Kept = c.args.telling.now.stream in
       let said = c.in-Err.ensures in
       let refusal = c.in-Err.refusal in
-      follows_refused g.T.ItemText.text seen kept c.args.telling.now.count c.args.telling.now.told.items follows c.args.piece.now
-      c.clear.new.self.items c.feed.new.out.items c.feed.new.self c.clear.ensures.items c.args.telling.now.count c.args.telling.now.told.items refusal
+      follows_refused g.T.ItemText.text seen kept c.args.telling.now.count c.args.telling.now.reported.items follows c.args.piece.now
+      c.clear.new.self.items c.feed.new.out.items c.feed.new.self c.clear.ensures.items c.args.telling.now.count c.args.telling.now.reported.items refusal
       (kept_refusal c.feed.new.self.refused refusal c.in_default.not-Memory said.kept) c.in_default.not-Memory
-      (λ none items fed. said.refused none (piece_fits g.T.ItemText.text seen kept c.args.telling.now.count c.args.telling.now.told.items follows none (length c.args.piece.now) short) seen items fed)
+      (λ none items fed. said.refused none (piece_fits g.T.ItemText.text seen kept c.args.telling.now.count c.args.telling.now.reported.items follows none (length c.args.piece.now) short) seen items fed)
       (same_as_before kept.refused refusal _ (λ before says. says.0) said.refused_before);
   memory = tt;
 }

@@ -1,4 +1,4 @@
--- What was told of the bytes of a stream that were taken so far.
+-- The texts written for the bytes of a stream that were taken so far.
 use Rattle.std.specs.Prelude.{◌≡◌, ℕ, List, ◌++◌, length, MatchOption}
 use Rattle.omega_text.specs.declared.refusal.Refusal.{Refusal}
 use Rattle.omega_hoa.specs.Feeding.{IsFed}
@@ -8,21 +8,21 @@ use Rattle.omega_hoa.specs.declared.item.Item.{Item}
 use Rattle.omega_stream_reading.specs.Telling.{texts_from}
 use Rattle.omega_stream_reading.specs.declared.telling.Telling.{Telling}
 
--- a stream took the bytes, and the items of their whole segments, so many, were told of
-pub record TellsItems (text : ℕ → Item → List ℕ) (seen : List ℕ) (kept : Kept) (count : ℕ) (told : List ℕ) : Type 0 where
+-- the stream took the bytes, and `reported` has the texts of the `count` items of their whole segments
+pub record TellsItems (text : ℕ → Item → List ℕ) (seen : List ℕ) (kept : Kept) (count : ℕ) (reported : List ℕ) : Type 0 where
   pub items : List Item
   pub fed : IsFed seen items kept
   pub counted : count ≡ length items
-  pub all : told ≡ texts_from text 0 items
+  pub all : reported ≡ texts_from text 0 items
 
 -- the bytes are refused however they go on
 abbrev pub AreRefusedBy : List ℕ → Refusal → Type 0
 AreRefusedBy seen refusal = (more : List ℕ) → (items : List Item) × IsStreamFault (seen ++ more) items refusal
 
--- the bytes were taken and told of, or they are refused by what the stream keeps
+-- the bytes were taken and their texts written, or what the stream keeps refuses them
 abbrev pub FollowsTelling : (ℕ → Item → List ℕ) → List ℕ → Telling → Type 0
-FollowsTelling text seen telling = MatchOption telling.stream.refused (TellsItems text seen telling.stream telling.count telling.told.items) (AreRefusedBy seen)
+FollowsTelling text seen telling = MatchOption telling.stream.refused (TellsItems text seen telling.stream telling.count telling.reported.items) (AreRefusedBy seen)
 
--- some bytes were
+-- this holds of some bytes
 abbrev pub FollowsSome : (ℕ → Item → List ℕ) → Telling → Type 0
 FollowsSome text telling = (seen : List ℕ) × FollowsTelling text seen telling

@@ -1,6 +1,6 @@
 -- One token more, which is taken with the run after it, or is the first wrong one.
 use Rattle.std.proofs.Common.{rules}
-use Rattle.omega_text.proofs.syntaxes.Taking.{fault_behind, fault_here, read_faulty, read_refused, read_run, read_taken}
+use Rattle.omega_text.proofs.syntaxes.Taking.{fault_after, fault_here, read_faulty, read_refused, read_run, read_taken}
 use Rattle.omega_text.proofs.token_reader.read_tokens.Goals as goal
 
 pub loop-reader-preserved : goal.loop-reader-preserved
@@ -21,7 +21,7 @@ returns-in_err-token-clause-refused g c =
 pub returns-in_err-check_from-clause-refused : goal.returns-in_err-check_from-clause-refused
 returns-in_err-check_from-clause-refused g c =
     let follows = rw c.in-Some.is at c.in_ok-token.ensures.token in
-    let fault = read_faulty _ _ _ _ c.loop-reader.invariant.read g.R.TokenReader.begins c.in_err-check_from.field-0.0 c.in_err-check_from.ensures.lexical (fault_behind _ _ _ _ _ follows c.in_err-check_from.ensures.fault) in
+    let fault = read_faulty _ _ _ _ c.loop-reader.invariant.read g.R.TokenReader.begins c.in_err-check_from.field-0.0 c.in_err-check_from.ensures.lexical (fault_after _ _ _ _ _ follows c.in_err-check_from.ensures.fault) in
     search rules
 
 pub returns-then-not-branch-clause-refused : goal.returns-then-not-branch-clause-refused

@@ -21,7 +21,7 @@ pub record IsReadWhole {Kind : Type 0} (format : TextFormat Kind) (taken : List 
   pub cut : IsCut format source lexemes
   pub all_taken : taken lexemes
 
--- the whole text can be cut, and the first wrong token stands at this place
+-- the whole text can be cut, and the first wrong token is at this place
 pub record HasWrongAt {Kind : Type 0} (format : TextFormat Kind) (begins : List (Lexeme Kind) → Type 0) (source : List ℕ) (place : ℕ) : Type 0 where
   pub lexemes : List (Lexeme Kind)
   pub cut : IsCut format source lexemes

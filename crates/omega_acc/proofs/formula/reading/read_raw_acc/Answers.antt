@@ -8,13 +8,13 @@ use Rattle.omega_acc.proofs.formula.reading.read_raw_acc.Goals as goal
 
 pub of_nodes-requires : goal.of_nodes-requires
 of_nodes-requires g c =
-    let read = rw c.if-branch.false at (c.in_ok-goes_on.ensures.more (g.S.TokenSource.left c.args.source.now) c.loop-unfinished.invariant.has) in
+    let read = rw c.if-branch.false at (c.in_ok-read_infix.ensures.more (g.S.TokenSource.left c.args.source.now) c.loop-unfinished.invariant.has) in
     IsRawAcc-of read.tree _ _ _ (record { flat = read.flat; named = read.named }) read.deep
 
 pub returns-clause-ok : goal.returns-clause-ok
 returns-clause-ok g c =
-    let read = rw c.if-branch.false at (c.in_ok-goes_on.ensures.more (g.S.TokenSource.left c.args.source.now) c.loop-unfinished.invariant.has) in
-    subst (λ formula. ReadsAcc (g.S.TokenSource.left c.args.source.now) formula (g.S.TokenSource.left c.goes_on.new.source))
+    let read = rw c.if-branch.false at (c.in_ok-read_infix.ensures.more (g.S.TokenSource.left c.args.source.now) c.loop-unfinished.invariant.has) in
+    subst (λ formula. ReadsAcc (g.S.TokenSource.left c.args.source.now) formula (g.S.TokenSource.left c.read_infix.new.source))
     (sym (c.of_nodes.ensures ∙ raw_acc_tree-is read.tree _ _ (record { flat = read.flat; named = read.named }))) read.reads
 
 pub returns-in_err-operand-clause-err : goal.returns-in_err-operand-clause-err
@@ -23,8 +23,8 @@ returns-in_err-operand-clause-err g c =
     (λ e is. subst (IsUnread (ReadsNoAcc (g.S.TokenSource.left c.args.source.now))) (sym is)
     (c.in_err-operand.ensures.err (g.S.TokenSource.left c.args.source.now) (c.new-unfinished.ensures (g.S.TokenSource.left c.args.source.now))))
 
-pub returns-in_err-goes_on-clause-err : goal.returns-in_err-goes_on-clause-err
-returns-in_err-goes_on-clause-err g c =
-    error_then c.from_residual-in_err-goes_on.result _ _ c.from_residual-in_err-goes_on.ensures.1
+pub returns-in_err-read_infix-clause-err : goal.returns-in_err-read_infix-clause-err
+returns-in_err-read_infix-clause-err g c =
+    error_then c.from_residual-in_err-read_infix.result _ _ c.from_residual-in_err-read_infix.ensures.1
     (λ e is. subst (IsUnread (ReadsNoAcc (g.S.TokenSource.left c.args.source.now))) (sym is)
-    (c.in_err-goes_on.ensures.err (g.S.TokenSource.left c.args.source.now) c.loop-unfinished.invariant.has))
+    (c.in_err-read_infix.ensures.err (g.S.TokenSource.left c.args.source.now) c.loop-unfinished.invariant.has))

@@ -4,12 +4,12 @@ use Rattle.omega_acc.specs.formula.Kind.{formula_of, parity_formula, sets_left}
 use Rattle.omega_acc.specs.private.layout.formula.Acceptance.{acc_postfix}
 use Rattle.omega_acc.proofs.formula.recognition.is_parity_formula.Given as goal
 
-abbrev pub invariant-loop-behind : goal.invariant-loop-behind
-invariant-loop-behind l = record {
-  within : l.behind < l.kind.count;
+abbrev pub invariant-loop-following : goal.invariant-loop-following
+invariant-loop-following l = record {
+  within : l.following < l.kind.count;
   same : (l.nodes ≡ acc_postfix (parity_formula l.kind))
-      ↔ (l.rest ≡ acc_postfix (formula_of l.kind.order l.kind.parity (sets_left l.kind.order l.kind.count (suc l.behind))));
+      ↔ (l.rest ≡ acc_postfix (formula_of l.kind.order l.kind.parity (sets_left l.kind.order l.kind.count (suc l.following))));
 }
 
-abbrev pub decreases-loop-behind : goal.decreases-loop-behind
-decreases-loop-behind l = l.behind
+abbrev pub decreases-loop-following : goal.decreases-loop-following
+decreases-loop-following l = l.following

@@ -75,7 +75,7 @@ loop-node-preserved t c =
           let body = subst (λ place. IsBodyAt c.args.aliases.now place w.body-body.result.now) w.place-place.ensures w.body-body.ensures in
           let lower : place_among c.args.aliases.now w.front.result.now < c.args.before = omega (arith, w.place-place.ensures, w.if-place-before.true) in
           let means = stands_for-at w.front.result.now [] c.args.aliases.now c.args.before w.body-body.result.now body lower in
-          let moved = ap (λ n. n.now) w.names-is ∙ w.behind-names.ensures in
+          let moved = ap (λ n. n.now) w.names-is ∙ w.following-names.ensures in
           let kept = rw w.in-Some.is at w.kept.ensures in
           let put = ap (λ v. v.items) w.out-is ∙ w.in_ok-extend_from_slice-in-Alias.ensures.items in
           record {
@@ -90,7 +90,7 @@ loop-node-preserved t c =
           let body = subst (λ place. IsBodyAt c.args.aliases.now place w.body-body.result.now) w.place-place.ensures w.body-body.ensures in
           let lower : place_among c.args.aliases.now w.front.result.now < c.args.before = omega (arith, w.place-place.ensures, w.if-place-before.true) in
           let means = stands_for-at w.front.result.now [] c.args.aliases.now c.args.before w.body-body.result.now body lower in
-          let moved = ap (λ n. n.now) w.names-is ∙ w.behind-names.ensures in
+          let moved = ap (λ n. n.now) w.names-is ∙ w.following-names.ensures in
           let before_last : c.loop-node.last.place < c.args.before = omega (arith, w.if-place-last.true, w.if-place-before.true) in
           let there = subst (λ place. IsBodyAt c.args.aliases.now place w.body-body.result.now) w.if-place-last.true w.body-body.ensures in
           let put = ap (λ v. v.items) w.out-is ∙ w.in_ok-repeat-in-Alias.ensures.ok in
@@ -106,7 +106,7 @@ loop-node-preserved t c =
           let body = subst (λ place. IsBodyAt c.args.aliases.now place w.body-body.result.now) w.place-place.ensures w.body-body.ensures in
           let lower : place_among c.args.aliases.now w.front.result.now < c.args.before = omega (arith, w.place-place.ensures, w.if-place-before.true) in
           let means = stands_for-at w.front.result.now [] c.args.aliases.now c.args.before w.body-body.result.now body lower in
-          let moved = ap (λ n. n.now) w.names-is ∙ w.behind-names.ensures in
+          let moved = ap (λ n. n.now) w.names-is ∙ w.following-names.ensures in
           let put = ap (λ v. v.items) w.out-is ∙ w.in_ok-emit-in-Alias.ensures.ok in
           record {
             rest = emitted-alias entries _ _ c.nodes-nodes.result.now _ _ _ _ _ _ _ c.loop-node-test.true w.in-Alias.is (ap (stands_for entries) (sym w.front.ensures) ∙ means) c.loop-node.invariant.rest

@@ -5,7 +5,7 @@ use Rattle.omega_acc.specs.Symbols.{IsUnread}
 use Rattle.omega_acc.proofs.expressions.PassingLemmas.{error_then}
 use Rattle.omega_acc.proofs.label.reading.operand.Goals as goal
 
-pub returns-in_err-is_prefix-clause-err : goal.returns-in_err-is_prefix-clause-err
-returns-in_err-is_prefix-clause-err g c =
+pub returns-in_err-read_prefix-clause-err : goal.returns-in_err-read_prefix-clause-err
+returns-in_err-read_prefix-clause-err g c =
     error_then c.from_residual.result _ _ c.from_residual.ensures.1
-    (λ e is whole wants. subst (IsUnread (ReadsNoLabel whole)) (sym is) (c.in_err-is_prefix.ensures.err whole (c.loop.invariant.wants whole wants)))
+    (λ e is whole wants. subst (IsUnread (ReadsNoLabel whole)) (sym is) (c.in_err-read_prefix.ensures.err whole (c.loop.invariant.wants whole wants)))

@@ -17,7 +17,7 @@ acc_postfix (fin negated set) = Fin negated set ∷ []
 acc_postfix (conjunction left right) = acc_postfix left ++ (acc_postfix right ++ And ∷ [])
 acc_postfix (disjunction left right) = acc_postfix left ++ (acc_postfix right ++ Or ∷ [])
 
--- the tree on top, or a constant where there is none
+-- the tree on top, or a constant if there is none
 abbrev pub acc_top : List AccTree → AccTree
 acc_top [] = constant false
 acc_top (tree ∷ trees) = tree

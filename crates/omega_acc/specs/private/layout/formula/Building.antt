@@ -1,4 +1,4 @@
--- How an acceptance formula is built from its tokens: what is still open before the part that stands last.
+-- How an acceptance formula is built from its tokens: what is still open before the last part.
 use Rattle.std.specs.Prelude.{◌≡◌, ℕ, List, [], ◌∷◌, ◌++◌}
 use Rattle.omega_acc.specs.Depth.{counted}
 use Rattle.omega_acc.specs.formula.Raw.{RawAccTree, raw_acc_depth}
@@ -14,7 +14,7 @@ use Rattle.omega_text.specs.Lexeme.{Lexeme}
 use Rattle.omega_text.specs.declared.hoa.kind.HoaKind.{HoaKind}
 use Rattle.omega_text.specs.declared.hoa.kind.HoaKind.TheVariants as kind
 
--- what stands before a part: open parentheses, and left parts with their operators
+-- what is pending before a part: open parentheses, and left parts with their operators
 pub data Before : Type 0 where
   start : Before
   opened : Before → Before
@@ -53,19 +53,19 @@ before_pending (opened before) = Open ∷ before_pending before
 before_pending (anded before left) = And (capped left) ∷ before_pending before
 before_pending (ored before left) = Or (capped left) ∷ before_pending before
 
--- a part of this case may stand after it
-abbrev pub FitsBehind : Rank → Before → Type 0
-FitsBehind rank start = Unit {0}
-FitsBehind rank (opened before) = Unit {0}
-FitsBehind rank (anded before left) = FitsTight rank
-FitsBehind rank (ored before left) = FitsOr rank
+-- a part of this case may follow it
+abbrev pub FitsAfter : Rank → Before → Type 0
+FitsAfter rank start = Unit {0}
+FitsAfter rank (opened before) = Unit {0}
+FitsAfter rank (anded before left) = FitsTight rank
+FitsAfter rank (ored before left) = FitsOr rank
 
 -- its left parts are of the cases that their operators take
 abbrev pub IsOpenBefore : Before → Type 0
 IsOpenBefore start = Unit {0}
 IsOpenBefore (opened before) = IsOpenBefore before
-IsOpenBefore (anded before left) = IsAccOf conjunctive left × (FitsBehind conjunctive before × IsOpenBefore before)
-IsOpenBefore (ored before left) = IsAccOf disjunctive left × (FitsBehind disjunctive before × IsOpenBefore before)
+IsOpenBefore (anded before left) = IsAccOf conjunctive left × (FitsAfter conjunctive before × IsOpenBefore before)
+IsOpenBefore (ored before left) = IsAccOf disjunctive left × (FitsAfter disjunctive before × IsOpenBefore before)
 
 -- a part is wanted, after what these hold
 pub record Wants (whole left : List (Lexeme HoaKind)) (nodes : List RawAccNode) (names : List ℕ) (pending : List Pending) : Type 0 where
@@ -76,12 +76,12 @@ pub record Wants (whole left : List (Lexeme HoaKind)) (nodes : List RawAccNode) 
   pub pends : pending ≡ before_pending before
   pub passed : Passed whole (before_symbols before) left
 
--- a part of this case and depth stands last in what these hold
+-- the last part of what these hold is of this case and depth
 pub record Has (rank : Rank) (whole left : List (Lexeme HoaKind)) (depth : ℕ) (nodes : List RawAccNode) (names : List ℕ) (pending : List Pending) : Type 0 where
   pub before : Before
   pub part : RawAccTree
   pub is : IsAccOf rank part
-  pub fits : FitsBehind rank before
+  pub fits : FitsAfter rank before
   pub sound : IsOpenBefore before
   pub deep : depth ≡ capped part
   pub flat : nodes ≡ before_nodes before ++ raw_acc_postfix part
@@ -93,7 +93,7 @@ pub record Has (rank : Rank) (whole left : List (Lexeme HoaKind)) (depth : ℕ) 
 abbrev pub WantsIn : (whole left : List (Lexeme HoaKind)) → UnfinishedAcc → Type 0
 WantsIn whole left unfinished = Wants whole left unfinished.nodes.items unfinished.names.items unfinished.pending
 
--- a part of this case stands last in an unfinished formula
+-- a part of this case is last in an unfinished formula
 abbrev pub HasIn : Rank → (whole left : List (Lexeme HoaKind)) → UnfinishedAcc → Type 0
 HasIn rank whole left unfinished = Has rank whole left unfinished.depth unfinished.nodes.items unfinished.names.items unfinished.pending
 

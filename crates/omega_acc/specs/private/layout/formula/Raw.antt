@@ -27,7 +27,7 @@ atom_names (conjunction left right) = atom_names left ++ atom_names right
 atom_names (disjunction left right) = atom_names left ++ atom_names right
 atom_names (group part) = atom_names part
 
--- the tree on top, or a constant where there is none
+-- the tree on top, or a constant if there is none
 abbrev pub raw_acc_top : List RawAccTree → RawAccTree
 raw_acc_top [] = constant false
 raw_acc_top (tree ∷ trees) = tree
@@ -37,7 +37,7 @@ abbrev pub raw_acc_below : List RawAccTree → List RawAccTree
 raw_acc_below [] = []
 raw_acc_below (tree ∷ trees) = trees
 
--- the trees that nodes leave of those before them, where these names are left
+-- the trees that nodes leave of those before them, if these names are left
 abbrev pub raw_acc_trees_of : List RawAccTree → List ℕ → List RawAccNode → List RawAccTree
 raw_acc_trees_of trees names [] = trees
 raw_acc_trees_of trees names (Constant value ∷ nodes) = raw_acc_trees_of (constant value ∷ trees) names nodes

@@ -7,8 +7,8 @@ use Rattle.omega_text.specs.Lexeme.{Lexeme}
 use Rattle.omega_text.specs.declared.hoa.kind.HoaKind.{HoaKind}
 use Rattle.omega_text.specs.declared.hoa.kind.HoaKind.TheVariants as kind
 
--- with this many parentheses open: a part is wanted, the name of an atom stands there,
--- then its `(`, `!` and set, or a part stands there; or all has been gone through, or it cannot be
+-- with this many parentheses open: a part is wanted, or the name of an atom was passed, then its `(`, `!` and set, or a
+-- part was passed; or all has been gone through, or it cannot be
 pub data NameState : Type 0 where
   wanted : ℕ → NameState
   named : ℕ → NameState

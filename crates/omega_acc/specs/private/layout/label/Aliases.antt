@@ -1,5 +1,5 @@
--- How aliases lie in memory: their names as a set, and each definition with its extent,
--- and its nodes where they are kept.
+-- The layout of aliases in memory: their names as a set, and each definition with its extent, and its nodes if they are
+-- kept.
 use Rattle.std.specs.Prelude.{◌≡◌, ℕ, List, [], map, option_map}
 use Rattle.std.specs.Coded.{Coded, code_by, coded_list, coded×, coded_ℕ}
 use Rattle.omega_acc.specs.label.Expanding.{Defined, entries_of}

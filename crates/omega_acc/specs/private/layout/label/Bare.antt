@@ -1,4 +1,4 @@
--- Labels without aliases: what is left of them where parentheses are left out.
+-- Labels without aliases, with their parentheses dropped.
 use Rattle.std.specs.Prelude.{Bool, false, true}
 use Rattle.omega_acc.specs.label.Label.{LabelTree}
 use Rattle.omega_acc.specs.label.Label as label
@@ -16,7 +16,7 @@ abbrev pub is_bare : LabelNode → Bool
 is_bare Group = false
 is_bare other = true
 
--- a label without its parentheses; of an alias nothing is asked
+-- a label without its parentheses; nothing is required of an alias
 abbrev pub bare : RawLabelTree → LabelTree
 bare (constant value) = label.constant value
 bare (proposition number) = label.proposition number

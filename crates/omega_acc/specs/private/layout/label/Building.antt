@@ -1,4 +1,4 @@
--- How a label is built from its tokens: what is still open before the part that stands last.
+-- How a label is built from its tokens: what is still open before the last part.
 use Rattle.std.specs.Prelude.{◌≡◌, ℕ, Bool, true, false, List, [], ◌∷◌, ◌++◌}
 use Rattle.omega_acc.specs.Depth.{counted}
 use Rattle.omega_acc.specs.label.Raw.{RawLabelTree, raw_depth}
@@ -16,7 +16,7 @@ use Rattle.omega_text.specs.Lexeme.{Lexeme}
 use Rattle.omega_text.specs.declared.hoa.kind.HoaKind.{HoaKind}
 use Rattle.omega_text.specs.declared.hoa.kind.HoaKind.TheVariants as kind
 
--- what stands before a part: open parentheses, `!`, and left parts with their operators
+-- what is pending before a part: open parentheses, `!`, and left parts with their operators
 pub data Before : Type 0 where
   start : Before
   opened : Before → Before
@@ -60,21 +60,21 @@ before_pending (denied before) = Not ∷ before_pending before
 before_pending (anded before left) = And (capped left) ∷ before_pending before
 before_pending (ored before left) = Or (capped left) ∷ before_pending before
 
--- a part of this case may stand after it
-abbrev pub FitsBehind : Rank → Before → Type 0
-FitsBehind rank start = Unit {0}
-FitsBehind rank (opened before) = Unit {0}
-FitsBehind rank (denied before) = FitsTight rank
-FitsBehind rank (anded before left) = FitsTight rank
-FitsBehind rank (ored before left) = FitsOr rank
+-- a part of this case may follow it
+abbrev pub FitsAfter : Rank → Before → Type 0
+FitsAfter rank start = Unit {0}
+FitsAfter rank (opened before) = Unit {0}
+FitsAfter rank (denied before) = FitsTight rank
+FitsAfter rank (anded before left) = FitsTight rank
+FitsAfter rank (ored before left) = FitsOr rank
 
 -- its left parts are of the cases that their operators take
 abbrev pub IsOpenBefore : Before → Type 0
 IsOpenBefore start = Unit {0}
 IsOpenBefore (opened before) = IsOpenBefore before
 IsOpenBefore (denied before) = IsOpenBefore before
-IsOpenBefore (anded before left) = IsOf conjunctive left × (FitsBehind conjunctive before × IsOpenBefore before)
-IsOpenBefore (ored before left) = IsOf disjunctive left × (FitsBehind disjunctive before × IsOpenBefore before)
+IsOpenBefore (anded before left) = IsOf conjunctive left × (FitsAfter conjunctive before × IsOpenBefore before)
+IsOpenBefore (ored before left) = IsOf disjunctive left × (FitsAfter disjunctive before × IsOpenBefore before)
 
 -- a part is wanted, after what these hold
 pub record Wants (whole left : List (Lexeme HoaKind)) (nodes : List LabelNode) (names : List ℕ) (pending : List Pending) : Type 0 where
@@ -85,12 +85,12 @@ pub record Wants (whole left : List (Lexeme HoaKind)) (nodes : List LabelNode) (
   pub pends : pending ≡ before_pending before
   pub passed : Passed whole (before_symbols before) left
 
--- a part of this case and depth stands last in what these hold
+-- the last part of what these hold is of this case and depth
 pub record Has (rank : Rank) (whole left : List (Lexeme HoaKind)) (depth : ℕ) (nodes : List LabelNode) (names : List ℕ) (pending : List Pending) : Type 0 where
   pub before : Before
   pub part : RawLabelTree
   pub is : IsOf rank part
-  pub fits : FitsBehind rank before
+  pub fits : FitsAfter rank before
   pub sound : IsOpenBefore before
   pub deep : depth ≡ capped part
   pub flat : nodes ≡ before_nodes before ++ raw_postfix part
@@ -102,7 +102,7 @@ pub record Has (rank : Rank) (whole left : List (Lexeme HoaKind)) (depth : ℕ) 
 abbrev pub WantsIn : (whole left : List (Lexeme HoaKind)) → Unfinished → Type 0
 WantsIn whole left unfinished = Wants whole left unfinished.nodes.items unfinished.names.items unfinished.pending
 
--- a part of this case stands last in an unfinished label
+-- a part of this case is last in an unfinished label
 abbrev pub HasIn : Rank → (whole left : List (Lexeme HoaKind)) → Unfinished → Type 0
 HasIn rank whole left unfinished = Has rank whole left unfinished.depth unfinished.nodes.items unfinished.names.items unfinished.pending
 

@@ -5,12 +5,12 @@ use Rattle.omega_acc.specs.declared.label.notation.Notation.{Notation}
 use Rattle.omega_acc.specs.declared.label.compact.Held.{Held}
 use Rattle.omega_acc.specs.declared.label.compact.Held.TheVariants.{Long, Short}
 
--- the notation, wherever it stands
+-- the notation, wherever it is kept
 abbrev pub notation_in : Held → Notation
 notation_in (Short count depth codes) = record { nodes = map node_of (take count codes); names = []; depth = depth }
 notation_in (Long notation) = notation.value
 
--- there is room in place for so many nodes
+-- there is room in place for this number of nodes
 abbrev pub fits_in_place : Held → Type 0
 fits_in_place (Short count depth codes) = count ≤ 21
 fits_in_place (Long notation) = Unit {0}

@@ -6,12 +6,12 @@ use Rattle.omega_acc.specs.private.layout.label.Label.{postfix}
 use Rattle.omega_acc.specs.declared.label.LabelNode.{LabelNode}
 use Rattle.omega_acc.specs.declared.label.LabelNode.TheVariants.{Alias, And, Constant, Group, Not, Or, Proposition}
 
--- the nodes of what a name stands for
+-- the nodes of the definition of a name
 abbrev pub nodes_of : Option Meaning → List LabelNode
 nodes_of None = []
 nodes_of (Some meaning) = postfix meaning.tree
 
--- the nodes with aliases replaced and parentheses gone, where these names are left
+-- the nodes with aliases replaced and parentheses gone, if these names are left
 abbrev pub emitted : List Entry → List ℕ → List LabelNode → List LabelNode
 emitted entries names [] = []
 emitted entries names (Constant value ∷ nodes) = Constant value ∷ emitted entries names nodes
@@ -22,7 +22,7 @@ emitted entries names (And ∷ nodes) = And ∷ emitted entries names nodes
 emitted entries names (Or ∷ nodes) = Or ∷ emitted entries names nodes
 emitted entries names (Group ∷ nodes) = emitted entries names nodes
 
--- each alias of the nodes stands for something
+-- each alias of the nodes has a definition
 abbrev pub AllStand : List Entry → List ℕ → List LabelNode → Type 0
 AllStand entries names [] = Unit {0}
 AllStand entries names (Constant value ∷ nodes) = AllStand entries names nodes
@@ -55,7 +55,8 @@ abbrev pub IsKeptAt : List Defined → ℕ → List LabelNode → Type 0
 IsKeptAt definitions place nodes =
     (body : RawLabelTree) → IsBodyAt definitions place body → nodes ≡ nodes_of (replaced (take place (entries_of [] definitions)) body)
 
--- what the definition at a place means stands from one place to another, if that definition comes before the limit
+-- the meaning of the definition at a place is written from one place to another, if that definition comes before the
+-- limit
 pub record IsReplacedAt (definitions : List Defined) (limit : ℕ) (out : List LabelNode) (place start stop : ℕ) : Type 0 where
   pub forward : start ≤ stop
   pub within : stop ≤ length out

@@ -1,4 +1,4 @@
--- How deep and large meanings are, counted no further than just past the limits.
+-- The depth and size of meanings, counted no further than just past the limits.
 use Rattle.std.specs.Prelude.{ℕ, ◌+◌, List, [], ◌∷◌, Option, Some, None, option_map, max, min, take, drop}
 use Rattle.omega_acc.specs.label.Expanding.{Entry, Meaning, stands_for}
 use Rattle.omega_acc.specs.label.Label.{label_size}
@@ -22,14 +22,14 @@ deeper_extent part = record { depth = min (part.depth + 1) 257; size = part.size
 abbrev pub negated_extent : Extent → Extent
 negated_extent part = record { depth = min (part.depth + 1) 257; size = min (part.size + 1) 65537 }
 
--- the extent of two parts and their operator, where there are both
+-- the extent of two parts and their operator, if there are both
 abbrev pub both_extents : Option Extent → Option Extent → Option Extent
 both_extents None right = None
 both_extents (Some left) None = None
 both_extents (Some left) (Some right) =
     Some (record { depth = min (max left.depth right.depth + 1) 257; size = min (left.size + right.size + 1) 65537 })
 
--- the extent on top, none where there is none
+-- the extent on top, or none if there is none
 abbrev pub top_extent : List (Option Extent) → Option Extent
 top_extent [] = None
 top_extent (extent ∷ extents) = extent
@@ -39,21 +39,21 @@ abbrev pub extents_below : List (Option Extent) → List (Option Extent)
 extents_below [] = []
 extents_below (extent ∷ extents) = extents
 
--- the extents that nodes leave of those before them, where these names are left and names have these extents
-abbrev pub extents_behind : (List ℕ → Option Extent) → List (Option Extent) → List ℕ → List LabelNode → List (Option Extent)
-extents_behind named stack names [] = stack
-extents_behind named stack names (Constant value ∷ nodes) = extents_behind named (atom_extent ∷ stack) names nodes
-extents_behind named stack names (Proposition number ∷ nodes) = extents_behind named (atom_extent ∷ stack) names nodes
-extents_behind named stack names (Alias count ∷ nodes) =
-    extents_behind named (option_map deeper_extent (named (take count names)) ∷ stack) (drop count names) nodes
-extents_behind named stack names (Not ∷ nodes) =
-    extents_behind named (option_map negated_extent (top_extent stack) ∷ extents_below stack) names nodes
-extents_behind named stack names (And ∷ nodes) =
-    extents_behind named (both_extents (top_extent (extents_below stack)) (top_extent stack) ∷ extents_below (extents_below stack)) names nodes
-extents_behind named stack names (Or ∷ nodes) =
-    extents_behind named (both_extents (top_extent (extents_below stack)) (top_extent stack) ∷ extents_below (extents_below stack)) names nodes
-extents_behind named stack names (Group ∷ nodes) =
-    extents_behind named (option_map deeper_extent (top_extent stack) ∷ extents_below stack) names nodes
+-- the extents that nodes leave of those before them, if these names are left and names have these extents
+abbrev pub extents_after : (List ℕ → Option Extent) → List (Option Extent) → List ℕ → List LabelNode → List (Option Extent)
+extents_after named stack names [] = stack
+extents_after named stack names (Constant value ∷ nodes) = extents_after named (atom_extent ∷ stack) names nodes
+extents_after named stack names (Proposition number ∷ nodes) = extents_after named (atom_extent ∷ stack) names nodes
+extents_after named stack names (Alias count ∷ nodes) =
+    extents_after named (option_map deeper_extent (named (take count names)) ∷ stack) (drop count names) nodes
+extents_after named stack names (Not ∷ nodes) =
+    extents_after named (option_map negated_extent (top_extent stack) ∷ extents_below stack) names nodes
+extents_after named stack names (And ∷ nodes) =
+    extents_after named (both_extents (top_extent (extents_below stack)) (top_extent stack) ∷ extents_below (extents_below stack)) names nodes
+extents_after named stack names (Or ∷ nodes) =
+    extents_after named (both_extents (top_extent (extents_below stack)) (top_extent stack) ∷ extents_below (extents_below stack)) names nodes
+extents_after named stack names (Group ∷ nodes) =
+    extents_after named (option_map deeper_extent (top_extent stack) ∷ extents_below stack) names nodes
 
 -- the extent of a name among entries
 abbrev pub extent_named : List Entry → List ℕ → Option Extent

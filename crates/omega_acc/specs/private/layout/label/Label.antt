@@ -17,7 +17,7 @@ postfix (negation part) = postfix part ++ Not ∷ []
 postfix (conjunction left right) = postfix left ++ (postfix right ++ And ∷ [])
 postfix (disjunction left right) = postfix left ++ (postfix right ++ Or ∷ [])
 
--- the tree on top, or a constant where there is none
+-- the tree on top, or a constant if there is none
 abbrev pub top : List LabelTree → LabelTree
 top [] = constant false
 top (tree ∷ trees) = tree

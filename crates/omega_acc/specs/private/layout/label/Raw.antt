@@ -30,7 +30,7 @@ alias_names (conjunction left right) = alias_names left ++ alias_names right
 alias_names (disjunction left right) = alias_names left ++ alias_names right
 alias_names (group part) = alias_names part
 
--- the tree on top, or a constant where there is none
+-- the tree on top, or a constant if there is none
 abbrev pub raw_top : List RawLabelTree → RawLabelTree
 raw_top [] = constant false
 raw_top (tree ∷ trees) = tree
@@ -40,7 +40,7 @@ abbrev pub raw_below : List RawLabelTree → List RawLabelTree
 raw_below [] = []
 raw_below (tree ∷ trees) = trees
 
--- the trees that nodes leave of those before them, where these names are left
+-- the trees that nodes leave of those before them, if these names are left
 abbrev pub raw_trees_of : List RawLabelTree → List ℕ → List LabelNode → List RawLabelTree
 raw_trees_of trees names [] = trees
 raw_trees_of trees names (Constant value ∷ nodes) = raw_trees_of (constant value ∷ trees) names nodes

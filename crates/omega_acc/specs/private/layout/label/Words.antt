@@ -24,7 +24,7 @@ propositions_of (Or ∷ nodes) = propositions_of nodes
 propositions_of (Alias count ∷ nodes) = propositions_of nodes
 propositions_of (Group ∷ nodes) = propositions_of nodes
 
--- the word of a label, where each proposition has a word
+-- the word of a label, if each proposition has a word
 abbrev pub word_of : (ℕ → ℕ) → LabelTree → ℕ
 word_of words (constant value) = word_of_truth value
 word_of words (proposition number) = words number
@@ -32,7 +32,7 @@ word_of words (negation part) = bit_xor (word_of words part) ones
 word_of words (conjunction left right) = bit_and (word_of words left) (word_of words right)
 word_of words (disjunction left right) = bit_or (word_of words left) (word_of words right)
 
--- the word on top, 0 where there is none
+-- the word on top, or 0 if there is none
 abbrev pub top_word : List ℕ → ℕ
 top_word [] = 0
 top_word (word ∷ words) = word
@@ -53,11 +53,11 @@ words_with words stack (Alias count) = stack
 words_with words stack Group = stack
 
 -- the words that nodes leave of those before them
-abbrev pub words_behind : (ℕ → ℕ) → List ℕ → List LabelNode → List ℕ
-words_behind words stack [] = stack
-words_behind words stack (next ∷ nodes) = words_behind words (words_with words stack next) nodes
+abbrev pub words_after : (ℕ → ℕ) → List ℕ → List LabelNode → List ℕ
+words_after words stack [] = stack
+words_after words stack (next ∷ nodes) = words_after words (words_with words stack next) nodes
 
--- how many words stand after a node
+-- the number of words on the stack after a node
 abbrev pub height_with : ℕ → LabelNode → ℕ
 height_with height (Constant value) = height + 1
 height_with height (Proposition number) = height + 1
@@ -67,7 +67,7 @@ height_with height Or = height - 1 - 1 + 1
 height_with height (Alias count) = height
 height_with height Group = height
 
--- the most words that stand at once
+-- the greatest number of words on the stack at once
 abbrev pub peak : ℕ → List LabelNode → ℕ
 peak height [] = height
 peak height (next ∷ nodes) = max height (peak (height_with height next) nodes)
@@ -83,7 +83,7 @@ mask place =
 abbrev pub pattern : ℕ → ℕ → ℕ
 pattern block place = if nat_lt place 6 then mask place else word_of_truth (bit_at block (place - 6) == 1)
 
--- the word of a proposition among some, the first of which has this place; 0 if it is not among them
+-- the word of a proposition among some, if the first has this place; 0 if it is not among them
 abbrev pub word_among : ℕ → ℕ → List ℕ → ℕ → ℕ
 word_among block place [] number = 0
 word_among block place (next ∷ rest) number = if next == number then pattern block place else word_among block (suc place) rest number

@@ -1,7 +1,7 @@
 -- `Search::walk_to`: the edges on the walk along which a state was met.
 use Rattle.std.proofs.Common.{◌≡◌, inl, inr, ℕ, ◌-◌, ◌<◌, List, [], ◌∷◌, ◌++◌, length, get_or, reverse, sym, ◌∙◌, ap, subst, arith}
 use Rattle.std.proofs.lemmas.List.{get_or_default}
-use Rattle.omega_walk.specs.Walks.{IsEdgeWalk}
+use Rattle.omega_walk_laws.specs.Walks.{IsEdgeWalk}
 use Rattle.omega_components.specs.declared.met.Met.{Met}
 use Rattle.omega_components.specs.Graph.{listed}
 use Rattle.omega_components.specs.Reaching.{IsWalkFrom}

@@ -1,6 +1,6 @@
 -- What holds in the loop of `Search::walk_to`: the edges so far, turned round, lead to the state at the index.
 use Rattle.std.proofs.Common.{ℕ, ◌<◌, List, length, reverse}
-use Rattle.omega_walk.specs.Walks.{MarkedGraph, IsEdgeWalk}
+use Rattle.omega_walk_laws.specs.Walks.{MarkedGraph, IsEdgeWalk}
 use Rattle.omega_components.specs.Graph.{listed}
 use Rattle.omega_components.specs.private.Ends.{AreEnds}
 use Rattle.omega_components.specs.private.Searching.{IsMet, met_at}

@@ -74,8 +74,8 @@ returns-clause-game c =
     let columns : columns_of c.in_ok-listed.listed.keys c.self.inside.priorities.items c.self.inside.owners.items c.resolve.new.self c.self.inside.quoted ≡ collected c.self.inside.ids.items c.self.inside.priorities.items c.self.inside.owners.items c.resolve.new.self c.self.inside.quoted =
     columns_same c.self.inside.ids.items c.in_ok-listed.listed.keys c.self.inside.priorities.items c.self.inside.owners.items c.resolve.new.self c.self.inside.quoted c.self.invariant.even.priorities_even
     (ids_known c.self.inside.ids.items c.as_slice.result.now c.in_ok-listed.listed.keys (length c.self.inside.ids.items) refl c.as_slice.ensures.value c.in_ok-listed.ensures) in
-    let nodes : c.in_ok-arena.arena ≡ nodes_of (collected c.self.inside.ids.items c.self.inside.priorities.items c.self.inside.owners.items c.resolve.new.self c.self.inside.quoted) = c.in_ok-arena.ensures ∙ ap nodes_of columns in
-    subst (λ (specs : List NodeSpec). IsGameOf specs c.in_ok-arena.arena) c.self.view_is
+    let nodes : c.in_ok-forward.forward ≡ nodes_of (collected c.self.inside.ids.items c.self.inside.priorities.items c.self.inside.owners.items c.resolve.new.self c.self.inside.quoted) = c.in_ok-forward.ensures ∙ ap nodes_of columns in
+    subst (λ (specs : List NodeSpec). IsGameOf specs c.in_ok-forward.forward) c.self.view_is
     (subst (λ (game : List Node). IsGameOf (specs_of (collected c.self.inside.ids.items c.self.inside.priorities.items c.self.inside.owners.items c.self.inside.successors c.self.inside.quoted)) game) (sym nodes)
     (IsGameOf-columns c.self.inside.ids.items c.self.inside.priorities.items c.self.inside.owners.items c.self.inside.successors c.self.inside.quoted c.resolve.new.self c.self.invariant resolved (some (collected c.self.inside.ids.items c.self.inside.priorities.items c.self.inside.owners.items c.self.inside.successors c.self.inside.quoted) c.args.self c.self.view_is c.requires.some) (rises (collected c.self.inside.ids.items c.self.inside.priorities.items c.self.inside.owners.items c.self.inside.successors c.self.inside.quoted) c.args.self c.self.view_is c.requires.rising)))
 

@@ -8,4 +8,4 @@ pub list-requires : goal.list-requires
 list-requires c = omega (arith, ap length c.self.view_is, ap length c.self.invariant, length-map-range_with_len {X = List ℕ}, c.requires)
 
 pub returns : goal.returns
-returns c = predecessors_at c.self.inside.arena c.args.self.now c.self.inside.predecessors c.args.place _ c.self.view_is c.requires c.self.invariant c.list.ensures
+returns c = predecessors_at c.self.inside.forward c.args.self.now c.self.inside.predecessors c.args.place _ c.self.view_is c.requires c.self.invariant c.list.ensures

@@ -5,9 +5,9 @@ use Rattle.omega_text.specs.declared.refusal.Refusal.TheVariants.{Memory}
 use Rattle.omega_game_answers.specs.declared.solve.asked.Asked.TheVariants.{Both}
 use Rattle.omega_game_answers.specs.private.steps.SolveGameRefusal.{IsSolveGameRefusal}
 use Rattle.omega_game_answers.specs.solve.Winners.{winners_of}
-use Rattle.omega_game_answers.proofs.Solving.{found_for, refused-solving, solving_for, told_for}
+use Rattle.omega_game_answers.proofs.Solving.{found_for, refused-solving, solving_for, reported_for}
 use Rattle.omega_game_answers.proofs.Solutions.{right_solution}
-use Rattle.omega_budget.proofs.Watched.{first_made, one_solved, run_refused, spares, two_made, two_solved, two_watched, watched_alike}
+use Rattle.omega_budget.proofs.Observed.{first_made, one_solved, run_refused, spares, two_made, two_solved, two_observed, observed_alike}
 use Rattle.omega_game_answers.proofs.solve.both.lifted_solution.Goals as goal
 
 pub returns-in_err-zero-clause-refused : goal.returns-in_err-zero-clause-refused
@@ -17,11 +17,11 @@ returns-in_err-zero-clause-refused g c =
     (solving_for _ _ c.requires.given Zero c.args.budget _ c.in_err-zero.ensures.refused) in
     search rules
 
-pub returns-in_err-zero-clause-told : goal.returns-in_err-zero-clause-told
-returns-in_err-zero-clause-told g c =
-    watched_alike _ _ _ _ c.from_residual.result _ c.in_err-zero.field-0.0 _ _ c.from_residual.ensures.1 (λ e same. same)
+pub returns-in_err-zero-clause-reported : goal.returns-in_err-zero-clause-reported
+returns-in_err-zero-clause-reported g c =
+    observed_alike _ _ _ _ c.from_residual.result _ c.in_err-zero.field-0.0 _ _ c.from_residual.ensures.1 (λ e same. same)
     (one_solved _ _ _ c.args.game.now Zero c.args.budget (Err c.in_err-zero.field-0.0) _ _ (refl, first_made Zero One _)
-    (told_for _ _ c.requires.given Zero _ _ _ (Err c.in_err-zero.field-0.0) _ _ (rw c.in_err-zero.was at c.solve.ensures.told)))
+    (reported_for _ _ c.requires.given Zero _ _ _ (Err c.in_err-zero.field-0.0) _ _ (rw c.in_err-zero.was at c.solve.ensures.reported)))
 
 pub returns-in_err-one-clause-refused : goal.returns-in_err-one-clause-refused
 returns-in_err-one-clause-refused g c =
@@ -30,21 +30,21 @@ returns-in_err-one-clause-refused g c =
     (solving_for _ _ c.requires.given One c.args.budget _ c.in_err-one.ensures.refused) in
     search rules
 
-pub returns-in_err-one-clause-told : goal.returns-in_err-one-clause-told
-returns-in_err-one-clause-told g c =
-    watched_alike _ _ _ _ c.from_residual-in_err-one.result _ c.in_err-one.field-0.0 _ _ c.from_residual-in_err-one.ensures.1 (λ e same. same)
+pub returns-in_err-one-clause-reported : goal.returns-in_err-one-clause-reported
+returns-in_err-one-clause-reported g c =
+    observed_alike _ _ _ _ c.from_residual-in_err-one.result _ c.in_err-one.field-0.0 _ _ c.from_residual-in_err-one.ensures.1 (λ e same. same)
     (two_solved _ _ _ c.args.game.now Zero One c.args.budget _ (Err c.in_err-one.field-0.0) _ _ _ (refl, two_made Zero One _) (refl, first_made Zero One _)
-    (told_for _ _ c.requires.given Zero _ _ _ (Ok c.in_ok-zero.zero) _ _ (rw c.in_ok-zero.was at c.solve.ensures.told))
-    (told_for _ _ c.requires.given One _ _ _ (Err c.in_err-one.field-0.0) _ _ (rw c.in_err-one.was at c.solve-2.ensures.told)))
+    (reported_for _ _ c.requires.given Zero _ _ _ (Ok c.in_ok-zero.zero) _ _ (rw c.in_ok-zero.was at c.solve.ensures.reported))
+    (reported_for _ _ c.requires.given One _ _ _ (Err c.in_err-one.field-0.0) _ _ (rw c.in_err-one.was at c.solve-2.ensures.reported)))
 
-pub returns-in_err-winners-clause-told : goal.returns-in_err-winners-clause-told
-returns-in_err-winners-clause-told g c =
-    watched_alike _ _ _ _ c.from_residual-in_err-winners.result _ c.in_err-winners.field-0.0 _ _ c.from_residual-in_err-winners.ensures.1
+pub returns-in_err-winners-clause-reported : goal.returns-in_err-winners-clause-reported
+returns-in_err-winners-clause-reported g c =
+    observed_alike _ _ _ _ c.from_residual-in_err-winners.result _ c.in_err-winners.field-0.0 _ _ c.from_residual-in_err-winners.ensures.1
     (λ e same. same)
-    (two_watched _ _ _ c.args.game.now Zero One c.args.budget _ _ _ _ _ _ (refl, two_made Zero One _)
-    (told_for _ _ c.requires.given Zero _ _ _ (Ok c.in_ok-zero.zero) _ _ (rw c.in_ok-zero.was at c.solve.ensures.told))
+    (two_observed _ _ _ c.args.game.now Zero One c.args.budget _ _ _ _ _ _ (refl, two_made Zero One _)
+    (reported_for _ _ c.requires.given Zero _ _ _ (Ok c.in_ok-zero.zero) _ _ (rw c.in_ok-zero.was at c.solve.ensures.reported))
     (run_refused _ _ _ _ _ _ _ _ _ (spares (λ refusal. refusal ≡ Memory) _ c.in_err-winners.ensures.memory (λ e. cc))
-    (told_for _ _ c.requires.given One _ _ _ (Ok c.in_ok-one.one) _ _ (rw c.in_ok-one.was at c.solve-2.ensures.told))))
+    (reported_for _ _ c.requires.given One _ _ _ (Ok c.in_ok-one.one) _ _ (rw c.in_ok-one.was at c.solve-2.ensures.reported))))
 
 pub returns-clause-right : goal.returns-clause-right
 returns-clause-right g c =
@@ -55,8 +55,8 @@ returns-clause-right g c =
     (c.from_vec.ensures ∙ c.in_ok-winners.ensures.winners ∙ ap winners_of c.as_slice.ensures.value) c.from_vec-2.ensures
     c.from_vec-3.ensures c.regions_are_apart.ensures c.regions_cover.ensures
 
-pub returns-clause-told : goal.returns-clause-told
-returns-clause-told g c =
-    two_watched _ _ _ c.args.game.now Zero One c.args.budget _ _ _ _ _ _ (refl, two_made Zero One None)
-    (told_for _ _ c.requires.given Zero _ _ _ (Ok c.in_ok-zero.zero) _ _ (rw c.in_ok-zero.was at c.solve.ensures.told))
-    (told_for _ _ c.requires.given One _ _ _ (Ok c.in_ok-one.one) _ _ (rw c.in_ok-one.was at c.solve-2.ensures.told))
+pub returns-clause-reported : goal.returns-clause-reported
+returns-clause-reported g c =
+    two_observed _ _ _ c.args.game.now Zero One c.args.budget _ _ _ _ _ _ (refl, two_made Zero One None)
+    (reported_for _ _ c.requires.given Zero _ _ _ (Ok c.in_ok-zero.zero) _ _ (rw c.in_ok-zero.was at c.solve.ensures.reported))
+    (reported_for _ _ c.requires.given One _ _ _ (Ok c.in_ok-one.one) _ _ (rw c.in_ok-one.was at c.solve-2.ensures.reported))

@@ -1,14 +1,14 @@
--- `solve_one`: what was found for the player is a right answer, which counts the lifts of the run that was told of, and
--- what was refused is a fault of the game.
+-- `solve_one`: what was found for the player is a right answer, which counts the lifts of the run that was reported,
+-- and a refusal is a fault of the game.
 use Rattle.std.proofs.Common.{◌≡◌, None, Some, Ok, Err, List, Bool, refl, rules, subst, true}
 use Rattle.std.specs.List.{slice_get}
 use Rattle.std.proofs.lemmas.Result.{IfOk-weaker}
 use Rattle.omega_game_answers.specs.declared.solve.asked.Asked.TheVariants as way
 use Rattle.omega_game_answers.specs.private.steps.SolveGameRefusal.{IsSolveGameRefusal}
-use Rattle.omega_game_answers.proofs.Solving.{found_for, narrow_for, refused-solving, right_answer, solving_for, told_for, won_within}
-use Rattle.omega_game_answers.proofs.Watching.{game_refused}
+use Rattle.omega_game_answers.proofs.Solving.{found_for, narrow_for, refused-solving, right_answer, solving_for, reported_for, won_within}
+use Rattle.omega_game_answers.proofs.Observing.{game_refused}
 use Rattle.omega_text.specs.declared.refusal.Refusal.TheVariants.{Memory}
-use Rattle.omega_budget.proofs.Watched.{none_watched, one_made, one_solved, spares, watched_alike, watched_behind}
+use Rattle.omega_budget.proofs.Observed.{none_observed, one_made, one_solved, spares, observed_alike, observed_after}
 use Rattle.omega_game_answers.proofs.solve.one.solve_one.Goals as goal
 
 pub write_answer-requires-clause-places : goal.write_answer-requires-clause-places
@@ -27,7 +27,7 @@ returns-clause-answer g c =
           (narrow_for _ _ same c.args.player (c.in_ok-found.ensures.fits (refl {a = true})))
           (found_for _ _ same c.args.player c.args.budget c.in_ok-found.found c.in_ok-found.ensures.found)
           (rw (← c.as_slice.ensures.value, ← c.as_slice-2.ensures.value) written),
-      told_for _ _ same c.args.player _ _ _ (Ok c.in_ok-found.found) _ _ (rw c.in_ok-found.was at c.solve.ensures.told),
+      reported_for _ _ same c.args.player _ _ _ (Ok c.in_ok-found.found) _ _ (rw c.in_ok-found.was at c.solve.ensures.reported),
     ))
     c.write_answer.ensures.text
 
@@ -38,20 +38,20 @@ returns-in_err-found-clause-refused g c =
     (solving_for _ _ c.in_ok-reordered.ensures.given c.args.player c.args.budget _ c.in_err-found.ensures.refused) in
     search rules
 
-pub returns-in_err-reordered-clause-told : goal.returns-in_err-reordered-clause-told
-returns-in_err-reordered-clause-told g c =
-    watched_alike _ _ _ _ c.from_residual.result _ c.in_err-reordered.field-0.0 _ _ c.from_residual.ensures.1 (λ e same. same)
-    (none_watched _ _ _ _ _ _ (spares (λ refusal. refusal ≡ Memory) _ c.in_err-reordered.ensures.memory (λ e. cc)))
+pub returns-in_err-reordered-clause-reported : goal.returns-in_err-reordered-clause-reported
+returns-in_err-reordered-clause-reported g c =
+    observed_alike _ _ _ _ c.from_residual.result _ c.in_err-reordered.field-0.0 _ _ c.from_residual.ensures.1 (λ e same. same)
+    (none_observed _ _ _ _ _ _ (spares (λ refusal. refusal ≡ Memory) _ c.in_err-reordered.ensures.memory (λ e. cc)))
 
-pub returns-in_err-found-clause-told : goal.returns-in_err-found-clause-told
-returns-in_err-found-clause-told g c =
-    watched_alike _ _ _ _ c.from_residual-in_err-found.result _ c.in_err-found.field-0.0 _ _ c.from_residual-in_err-found.ensures.1 (λ e same. same)
+pub returns-in_err-found-clause-reported : goal.returns-in_err-found-clause-reported
+returns-in_err-found-clause-reported g c =
+    observed_alike _ _ _ _ c.from_residual-in_err-found.result _ c.in_err-found.field-0.0 _ _ c.from_residual-in_err-found.ensures.1 (λ e same. same)
     (one_solved _ _ _ c.args.game.now c.args.player c.args.budget (Err c.in_err-found.field-0.0) _ _ (refl, one_made c.args.player _)
-    (told_for _ _ c.in_ok-reordered.ensures.given c.args.player _ _ _ (Err c.in_err-found.field-0.0) _ _ (rw c.in_err-found.was at c.solve.ensures.told)))
+    (reported_for _ _ c.in_ok-reordered.ensures.given c.args.player _ _ _ (Err c.in_err-found.field-0.0) _ _ (rw c.in_err-found.was at c.solve.ensures.reported)))
 
-pub returns-clause-told : goal.returns-clause-told
-returns-clause-told g c =
-    watched_behind _ _ _ _ c.write_answer.result (λ refusal. refusal ≡ Memory) _ _ c.write_answer.ensures.memory (λ e. cc)
+pub returns-clause-reported : goal.returns-clause-reported
+returns-clause-reported g c =
+    observed_after _ _ _ _ c.write_answer.result (λ refusal. refusal ≡ Memory) _ _ c.write_answer.ensures.memory (λ e. cc)
     (λ refusal other. game_refused c.args.game.now (way.Player c.args.player) refusal other)
     (one_solved _ _ _ c.args.game.now c.args.player c.args.budget (Ok c.in_ok-found.found) _ _ (refl, one_made c.args.player None)
-    (told_for _ _ c.in_ok-reordered.ensures.given c.args.player _ _ _ (Ok c.in_ok-found.found) _ _ (rw c.in_ok-found.was at c.solve.ensures.told)))
+    (reported_for _ _ c.in_ok-reordered.ensures.given c.args.player _ _ _ (Ok c.in_ok-found.found) _ _ (rw c.in_ok-found.was at c.solve.ensures.reported)))

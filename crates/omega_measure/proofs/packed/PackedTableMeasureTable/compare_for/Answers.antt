@@ -1,8 +1,8 @@
 -- The order of the front of the words is that of the measures, on the entries that count at a place.
 use Rattle.std.proofs.Common.{◌≡◌, length, get_or, ap, sym, subst, ◌∙◌, arith}
 use Rattle.std.specs.Prelude.{slice_index}
-use Rattle.omega_lift.specs.Allowance.{measure_at}
-use Rattle.omega_lift.specs.Measure.{compare_from}
+use Rattle.omega_lift_laws.specs.Allowance.{measure_at}
+use Rattle.omega_lift_laws.specs.Measure.{compare_from}
 use Rattle.omega_measure.specs.private.layout.Field.{IsInside, front_order}
 use Rattle.omega_measure.specs.private.layout.Rows.{row_of}
 use Rattle.omega_measure.proofs.PackedCalls.{in_packed, inside_by, kept_within, packed_compare_is, packed_fits}

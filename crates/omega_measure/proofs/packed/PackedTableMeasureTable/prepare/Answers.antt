@@ -16,4 +16,4 @@ returns-clause-zero c =
     let size = c.row_size-size.ensures ∙ ap (λ fields. (last_field fields).word + 1) c.deref.ensures.value in
     let zeros = c.in_ok-words.ensures.items_if_clones_equal (λ y e. e) ∙ ap (λ n. replicate (n * c.row_size-size.result) 0) c.len.ensures.count in
     packed_content-zero c.in_ok-shape.shape c.in_ok-fields.fields.items c.row_size-size.result c.in_ok-words.words.items c.limits.result.now c.in_ok-fields.ensures.packed c.limits.ensures.limits size zeros
-    ∙ ap (λ borne. zero_content borne.player borne.priorities) c.in_ok-shape.ensures.shape
+    ∙ ap (λ setting. zero_content setting.player setting.priorities) c.in_ok-shape.ensures.shape

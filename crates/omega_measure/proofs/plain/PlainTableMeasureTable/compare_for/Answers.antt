@@ -1,8 +1,8 @@
 -- The order of the rows is that of the measures, on the entries that count at a place.
 use Rattle.std.proofs.Common.{◌≡◌, length, subst, get_or, ap, arith}
 use Rattle.std.specs.Prelude.{slice_index}
-use Rattle.omega_lift.specs.Allowance.{measure_at}
-use Rattle.omega_lift.specs.Measure.{compare_from}
+use Rattle.omega_lift_laws.specs.Allowance.{measure_at}
+use Rattle.omega_lift_laws.specs.Measure.{compare_from}
 use Rattle.omega_measure.proofs.PlainCalls.{compare_is, in_table}
 use Rattle.omega_measure.proofs.plain.PlainTableMeasureTable.compare_for.Goals as goal
 

@@ -21,4 +21,4 @@ returns-clause-zero c =
     c.in_ok-entries.ensures.items_if_clones_equal (λ y e. e)
     ∙ ap (λ n. replicate (n * c.width.result) 0) c.len.ensures.count ∙ ap (λ n. replicate (length shape.priorities * n) 0) c.width.ensures.width in
     content-zero shape c.in_ok-tops.tops.items c.in_ok-entries.entries.items flags zeros
-    ∙ ap (λ borne. zero_content borne.player borne.priorities) c.in_ok-shape.ensures.shape
+    ∙ ap (λ setting. zero_content setting.player setting.priorities) c.in_ok-shape.ensures.shape

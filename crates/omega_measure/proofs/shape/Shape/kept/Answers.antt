@@ -1,6 +1,6 @@
 -- What is kept for a place is its count.
 use Rattle.std.proofs.Common.{◌≡◌, ◌<◌, length, get_or, sym, subst}
-use Rattle.omega_lift.specs.Measure.{entries_from}
+use Rattle.omega_lift_laws.specs.Measure.{entries_from}
 use Rattle.omega_measure.proofs.Shapes.{kept_at}
 use Rattle.omega_measure.proofs.shape.Shape.kept.Goals as goal
 

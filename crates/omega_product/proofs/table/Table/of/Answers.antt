@@ -2,7 +2,7 @@ use Rattle.std.proofs.Common.{◌≡◌, ◌<◌, length, ap, arith, get_or}
 use Rattle.omega_automaton.specs.declared.state.State.{State}
 use Rattle.omega_product.specs.Refusing.{HasUnfitEdge, HasUnfitLabel}
 use Rattle.omega_product.specs.private.Tables.{row_of, standing_at}
-use Rattle.omega_written.proofs.Refusals.{large_weaker, passed_on}
+use Rattle.omega_edge_labels.proofs.Refusals.{large_weaker, passed_on}
 use Rattle.omega_product.proofs.Unmet.{listed_at}
 use Rattle.omega_product.proofs.table.Table.of.Goals as goal
 

@@ -6,9 +6,9 @@ use Rattle.omega_solve.proofs.nested.Nested.along.Goals as goal
 
 pub returns-clause-all : goal.returns-clause-all
 returns-clause-all c =
-    let ranking = c.args.ranking in
+    let permutation = c.args.permutation in
     let start : List Bool → Pending = λ flags. record { flags = flags; taken = 0 } in
     ap start
-    (flags_at_start ranking.ranks ranking.places c.in_ok-all_ranks.field-0.items _ c.len-n.ensures.inverse
+    (flags_at_start permutation.positions permutation.places c.in_ok-all_positions.field-0.items _ c.len-n.ensures.inverse
     refl (sym c.len-n.ensures.even ∙ c.len-n.ensures.count)
-    (c.in_ok-all_ranks.ensures ∙ ap (λ (n : ℕ). replicate (n / 64 + 1) (2 ^ 64 - 1)) c.len-n.ensures.count))
+    (c.in_ok-all_positions.ensures ∙ ap (λ (n : ℕ). replicate (n / 64 + 1) (2 ^ 64 - 1)) c.len-n.ensures.count))

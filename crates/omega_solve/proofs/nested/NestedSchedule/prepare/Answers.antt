@@ -7,4 +7,4 @@ use Rattle.omega_solve.proofs.nested.NestedSchedule.prepare.Goals as goal
 pub returns-clause-all : goal.returns-clause-all
 returns-clause-all c =
     subst (λ (m : ℕ). IfOk c.along.result (λ schedule. schedule ≡ all_pending m))
-    (ap (λ (ranks : List ℕ). length ranks) c.rising.ensures.ranks ∙ length-range_with_len 0 c.args.n) c.along.ensures.all
+    (ap (λ (positions : List ℕ). length positions) c.rising.ensures.positions ∙ length-range_with_len 0 c.args.n) c.along.ensures.all

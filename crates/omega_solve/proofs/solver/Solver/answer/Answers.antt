@@ -1,6 +1,6 @@
 -- The buffers of a solver that is done hold an exact answer.
 use Rattle.std.proofs.Common.{◌≡◌, ◌∙◌, List, Bool, Option, ℕ, ap, subst, sym, true}
-use Rattle.omega_lift.specs.Laws.{ChoicesAreAStrategy, ChoicesWin, RegionsStayBelowTop}
+use Rattle.omega_lift_laws.specs.Laws.{ChoicesAreAStrategy, ChoicesWin, RegionsStayBelowTop}
 use Rattle.omega_solve.specs.Headline.{IsExact}
 use Rattle.omega_solve.specs.Solver.{SolverState}
 use Rattle.omega_solve.specs.private.solving.Progress.{IsSolver}

@@ -1,4 +1,4 @@
--- No lift is due where the answer is told.
+-- No lift is due when the answer is filled in.
 use Rattle.std.proofs.Common.{sym, subst}
 use Rattle.omega_solve.specs.Solver.{SolverState}
 use Rattle.omega_solve.specs.Solver.{IsFinished}

@@ -14,8 +14,8 @@ returns-then-self-clause-ran g c =
     let done : c.args.self.now.done ≡ true = sym (ap (λ (s : SolverState). s.done) c.self.view_is) ∙ c.if-self.true in
     call_over c.args.self.now c.args.budget done (finished_idle c.args.self.now kept.solving (kept.answered.idle done))
 
-pub returns-then-self-clause-told : goal.returns-then-self-clause-told
-returns-then-self-clause-told g c = (λ _. refl, λ _. sym (ap (λ (s : SolverState). s.done) c.self.view_is) ∙ c.if-self.true)
+pub returns-then-self-clause-reported : goal.returns-then-self-clause-reported
+returns-then-self-clause-reported g c = (λ _. refl, λ _. sym (ap (λ (s : SolverState). s.done) c.self.view_is) ∙ c.if-self.true)
 
 pub loop-place-smaller-in-None : goal.loop-place-smaller-in-None
 loop-place-smaller-in-None g c =
@@ -57,8 +57,8 @@ returns-clause-ran g c =
     call_done c.args.self.now c.loop-place.self c.finish.new.self c.loop-place.made c.args.budget
     kept.same_nodes kept.same_player kept.lifted kept.within c.in_default.ensures.finished c.finish.ensures
 
-pub returns-clause-told : goal.returns-clause-told
-returns-clause-told g c = (λ _. refl, λ _. ap (λ (s : SolverState). s.done) c.finish.ensures)
+pub returns-clause-reported : goal.returns-clause-reported
+returns-clause-reported g c = (λ _. refl, λ _. ap (λ (s : SolverState). s.done) c.finish.ensures)
 
 pub returns-clause-reached : goal.returns-clause-reached
 returns-clause-reached g c =

@@ -2,7 +2,7 @@
 use Rattle.std.proofs.Common.{◌<◌, arith, inl, inr, length, subst, sym}
 use Rattle.std.proofs.lemmas.Bool.{cases_lt}
 use Rattle.omega_solve.specs.Schedule.{Pending}
-use Rattle.omega_solve.proofs.schedules.Flags.{added_pending, not_pending, pending_added, waits_room}
+use Rattle.omega_solve.proofs.schedules.Flags.{added_pending, not_pending, pending_added, waits_below}
 use Rattle.omega_solve.proofs.schedules.Sweeping.{sweep_added}
 use Rattle.omega_solve.proofs.sweep.SweepSchedule.add.Goals as goal
 
@@ -11,7 +11,7 @@ overflow_add-self c =
     let pending : Pending = record { flags = c.self.inside.pending.items; taken = c.self.inside.taken } in
     let inside = subst (λ (p : Pending). c.args.place < length p.flags) (sym c.self.view_is) c.requires in
     let idle = not_pending c.self.inside.pending.items c.args.place c.index.result.now inside c.index.ensures c.if-index.false in
-    omega (arith, waits_room pending c.args.place idle, c.self.invariant.counted, c.self.invariant.small)
+    omega (arith, waits_below pending c.args.place idle, c.self.invariant.counted, c.self.invariant.small)
 
 pub invariant_of-self-then-self-eq1 : goal.invariant_of-self-then-self-eq1
 invariant_of-self-then-self-eq1 c =

@@ -2,7 +2,7 @@
 use Rattle.std.proofs.Common.{◌≡◌, ◌+◌, ◌<◌, ◌∙◌, ℕ, arith, ap, length, subst, sym, slice_set}
 use Rattle.omega_solve.specs.Schedule.{Pending, with_added}
 use Rattle.omega_solve.specs.private.schedules.Worklist.{IsWorklist, slot_of}
-use Rattle.omega_solve.proofs.schedules.Flags.{not_pending, waits_room}
+use Rattle.omega_solve.proofs.schedules.Flags.{not_pending, waits_below}
 use Rattle.omega_solve.proofs.schedules.Queueing.{slot_inside, worklist_added}
 use Rattle.omega_solve.proofs.worklist.WorklistSchedule.add.Goals as goal
 
@@ -14,7 +14,7 @@ index_mut-requires c =
     let ring = c.self.inside.ring in
     let n : c.len.result ≡ length ring.items = c.len.ensures ∙ ring.ok.0 in
     let room : c.self.inside.count < length ring.items =
-    omega (arith, waits_room pending c.args.place idle, c.self.invariant.counted, c.self.invariant.slots) in
+    omega (arith, waits_below pending c.args.place idle, c.self.invariant.counted, c.self.invariant.slots) in
     let last : c.slot-last.result ≡ slot_of (length ring.items) c.self.inside.first c.self.inside.count =
     c.slot-last.ensures ∙ ap (λ (m : ℕ). slot_of m c.self.inside.first c.self.inside.count) n in
     omega (arith, slot_inside (length ring.items) c.self.inside.first c.self.inside.count c.self.invariant.begins room, last, ring.ok.0)

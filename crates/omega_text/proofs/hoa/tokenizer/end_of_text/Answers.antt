@@ -3,7 +3,7 @@ use Rattle.std.proofs.Common.{◌≡◌, false, IfSome, None, Some, sym, subst, 
 use Rattle.omega_text.specs.Cut.{IsCut}
 use Rattle.omega_text.specs.hoa.Format.{hoa_format}
 use Rattle.omega_text.specs.hoa.Laws.{is_closed}
-use Rattle.omega_text.specs.hoa.Pieces.{FaultsBehind, IsCutUpToFault}
+use Rattle.omega_text.specs.hoa.Pieces.{FaultsAfter, IsCutUpToFault}
 use Rattle.omega_text.specs.private.hoa.scanning.Unfinished.{IsTokenIn}
 use Rattle.omega_text.proofs.hoa_texts.Last.{last_unclosed}
 use Rattle.omega_text.proofs.hoa_texts.Pieces.{ends_in_fault, ends_in_gap, ends_in_token, settled_as}
@@ -23,7 +23,7 @@ returns-in-Ok-clause-finishes c = λ seen lexemes place at.
 pub returns-in-Err-clause-finishes : goal.returns-in-Err-clause-finishes
 returns-in-Err-clause-finishes c = λ seen lexemes place at.
     settled_as (λ fault. IsCutUpToFault fault seen) seen lexemes c.settled-in-Err.result None None (Some c.in-Err.fault) c.settled-in-Err.ensures.first c.settled-in-Err.ensures.second c.settled-in-Err.ensures.fault
-    (subst (λ ls. FaultsBehind seen ls c.in-Err.fault) (sym (append-nil lexemes)) (ends_in_fault seen lexemes c.args.pending at c.in-Err.fault (λ start. c.in_default.not-Start (c.get.ensures ∙ start)) c.in-Err.ensures.fault))
+    (subst (λ ls. FaultsAfter seen ls c.in-Err.fault) (sym (append-nil lexemes)) (ends_in_fault seen lexemes c.args.pending at c.in-Err.fault (λ start. c.in_default.not-Start (c.get.ensures ∙ start)) c.in-Err.ensures.fault))
 
 pub returns-in-Ok-clause-unclosed : goal.returns-in-Ok-clause-unclosed
 returns-in-Ok-clause-unclosed c = λ seen lexemes at.

@@ -1,7 +1,7 @@
 -- After the gap stands the number.
-use Rattle.omega_text.proofs.pg_texts.Tokens.{form_behind}
+use Rattle.omega_text.proofs.pg_texts.Tokens.{form_after}
 use Rattle.omega_text.proofs.pg.token.next_pg_number.Goals as goal
 
 pub returns-clause-token : goal.returns-clause-token
 returns-clause-token c =
-    form_behind _ _ _ _ _ _ _ _ c.blank_end-start.ensures c.tail-bytes.ensures c.in_ok-front.ensures.form c.front_token.ensures
+    form_after _ _ _ _ _ _ _ _ c.blank_end-start.ensures c.tail-bytes.ensures c.in_ok-front.ensures.form c.front_token.ensures

@@ -3,7 +3,7 @@ use Rattle.std.proofs.Common.{Some, drop, ap, refl, ◌∙◌, sym}
 use Rattle.std.proofs.Math.Logic.{∥∥₁_map}
 use Rattle.omega_text.specs.private.Left.{Left}
 use Rattle.omega_text.specs.Lexeme.{lexeme_of}
-use Rattle.omega_text.proofs.formats.Lefts.{left_known, parts_behind, parts_none, parts_within, place_some}
+use Rattle.omega_text.proofs.formats.Lefts.{left_known, parts_after, parts_none, parts_within, place_some}
 use Rattle.omega_text.proofs.text_cursor.TextCursor.skip.Goals as goal
 
 pub returns-in_default-clause-left : goal.returns-in_default-clause-left
@@ -18,7 +18,7 @@ pub invariant_of-self-inside : goal.invariant_of-self-inside
 invariant_of-self-inside g c =
     let left : Left g.K.TokenKind.format c.self.inside.source.now (Some (lexeme_of c.in-Some-plain_left.token)) = record {
       lexemes = drop 1 c.self.inside.left.lexemes;
-      all_left = ∥∥₁_map (parts_behind _ _ g.row.K.coded _ _ _ _ c.self.inside.left _ c.in-Some.is) (λ rest. c.in-Some-plain_left.ensures _ rest);
+      all_left = ∥∥₁_map (parts_after _ _ g.row.K.coded _ _ _ _ c.self.inside.left _ c.in-Some.is) (λ rest. c.in-Some-plain_left.ensures _ rest);
     } in
     (left, (place_some _ _ g.row.K.coded _ left _ _ refl, tt))
 
@@ -26,4 +26,4 @@ pub returns-in-Some-plain_left-clause-left : goal.returns-in-Some-plain_left-cla
 returns-in-Some-plain_left-clause-left g c =
     rw (← c.self.view_is)
     (left_known _ _ g.row.K.coded _ c.self-in-Some-plain_left-2-1.given.0 (drop 1 c.self.inside.left.lexemes)
-    (∥∥₁_map (parts_behind _ _ g.row.K.coded _ _ _ _ c.self.inside.left _ c.in-Some.is) (λ rest. (c.in-Some-plain_left.ensures _ rest).are_left)))
+    (∥∥₁_map (parts_after _ _ g.row.K.coded _ _ _ _ c.self.inside.left _ c.in-Some.is) (λ rest. (c.in-Some-plain_left.ensures _ rest).are_left)))

@@ -3,7 +3,7 @@ use Rattle.std.proofs.Common.{None, Some, drop, ap, refl, ◌∙◌, sym}
 use Rattle.std.proofs.Math.Logic.{∥∥₁_map}
 use Rattle.omega_text.specs.private.Left.{Left}
 use Rattle.omega_text.specs.Lexeme.{lexeme_of}
-use Rattle.omega_text.proofs.formats.Lefts.{left_known, parts_behind, parts_none, parts_within, place_none, place_some}
+use Rattle.omega_text.proofs.formats.Lefts.{left_known, parts_after, parts_none, parts_within, place_none, place_some}
 use Rattle.omega_text.proofs.text_cursor.TextCursor.skip_to_any.Goals as goal
 
 pub returns-in_default-clause-left : goal.returns-in_default-clause-left
@@ -16,13 +16,13 @@ next_left-requires-clause-within g c = parts_within _ _ g.row.K.coded _ _ _ _ c.
 
 pub next_left-requires-clause-cut : goal.next_left-requires-clause-cut
 next_left-requires-clause-cut g c =
-    ∥∥₁_map (parts_behind _ _ g.row.K.coded _ _ _ _ c.self.inside.left _ c.in-Some.is) (λ rest. (drop 1 c.self.inside.left.lexemes, rest))
+    ∥∥₁_map (parts_after _ _ g.row.K.coded _ _ _ _ c.self.inside.left _ c.in-Some.is) (λ rest. (drop 1 c.self.inside.left.lexemes, rest))
 
 pub invariant_of-self-inside : goal.invariant_of-self-inside
 invariant_of-self-inside g c =
     let left : Left g.K.TokenKind.format c.self.inside.source.now (Some (lexeme_of c.in-Some-next_left.token)) = record {
       lexemes = drop 1 c.self.inside.left.lexemes;
-      all_left = ∥∥₁_map (parts_behind _ _ g.row.K.coded _ _ _ _ c.self.inside.left _ c.in-Some.is) (λ rest. c.in-Some-next_left.ensures _ rest);
+      all_left = ∥∥₁_map (parts_after _ _ g.row.K.coded _ _ _ _ c.self.inside.left _ c.in-Some.is) (λ rest. c.in-Some-next_left.ensures _ rest);
     } in
     (left, (place_some _ _ g.row.K.coded _ left _ _ refl, tt))
 
@@ -30,7 +30,7 @@ pub invariant_of-self-inside-in-None : goal.invariant_of-self-inside-in-None
 invariant_of-self-inside-in-None g c =
     let left : Left g.K.TokenKind.format c.self.inside.source.now None = record {
       lexemes = drop 1 c.self.inside.left.lexemes;
-      all_left = ∥∥₁_map (parts_behind _ _ g.row.K.coded _ _ _ _ c.self.inside.left _ c.in-Some.is) (λ rest. c.in-None.ensures _ rest);
+      all_left = ∥∥₁_map (parts_after _ _ g.row.K.coded _ _ _ _ c.self.inside.left _ c.in-Some.is) (λ rest. c.in-None.ensures _ rest);
     } in
     (left, (c.end_of-self-inside.ensures.start ∙ place_none _ _ g.row.K.coded _ left _ refl, tt))
 
@@ -38,10 +38,10 @@ pub returns-in-Some-next_left-clause-left : goal.returns-in-Some-next_left-claus
 returns-in-Some-next_left-clause-left g c =
     rw (← c.self.view_is)
     (left_known _ _ g.row.K.coded _ c.self-in-Some-next_left-2-1.given.0 (drop 1 c.self.inside.left.lexemes)
-    (∥∥₁_map (parts_behind _ _ g.row.K.coded _ _ _ _ c.self.inside.left _ c.in-Some.is) (λ rest. (c.in-Some-next_left.ensures _ rest).are_left)))
+    (∥∥₁_map (parts_after _ _ g.row.K.coded _ _ _ _ c.self.inside.left _ c.in-Some.is) (λ rest. (c.in-Some-next_left.ensures _ rest).are_left)))
 
 pub returns-in-None-clause-left : goal.returns-in-None-clause-left
 returns-in-None-clause-left g c =
     rw (← c.self.view_is)
     (left_known _ _ g.row.K.coded _ c.self-in-None-1.given.0 (drop 1 c.self.inside.left.lexemes)
-    (∥∥₁_map (parts_behind _ _ g.row.K.coded _ _ _ _ c.self.inside.left _ c.in-Some.is) (λ rest. (c.in-None.ensures _ rest).are_left)))
+    (∥∥₁_map (parts_after _ _ g.row.K.coded _ _ _ _ c.self.inside.left _ c.in-Some.is) (λ rest. (c.in-None.ensures _ rest).are_left)))

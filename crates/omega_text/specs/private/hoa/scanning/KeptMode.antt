@@ -8,7 +8,7 @@ use Rattle.omega_text.specs.declared.hoa.kind.HoaKind.TheVariants.{Identifier}
 use Rattle.omega_text.specs.declared.hoa.mode.Mode.{Mode}
 use Rattle.omega_text.specs.declared.hoa.mode.Mode.TheVariants.{Start, Word, At, Alias, Digits, Quoted, Escaped, Slash, Comment, Star, Slashed, Dash, Dashes, Mark, Whole, Blank}
 
--- the mode at a stage, of this kind and count where it has them
+-- the mode at a stage, of this kind and count if it has them
 abbrev pub mode_at : Stage → HoaKind → ℕ → Mode
 mode_at stage.Start kind count = Start
 mode_at stage.Word kind count = Word kind
@@ -31,7 +31,7 @@ mode_at stage.Blank kind count = Blank
 abbrev pub mode_of : Inside → Mode
 mode_of parts = mode_at parts.stage parts.kind parts.count
 
--- the parts of a mode: where it has no kind or no count, always the same
+-- the parts of a mode; a missing kind or count is always the same
 abbrev pub parts_of : Mode → Inside
 parts_of Start = record { stage = stage.Start; kind = Identifier; count = 0 }
 parts_of (Word kind) = record { stage = stage.Word; kind = kind; count = 0 }

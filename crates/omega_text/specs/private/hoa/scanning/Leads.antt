@@ -1,4 +1,4 @@
--- What the first byte of a unit tells of it.
+-- What the first byte of a unit says of it.
 use Rattle.std.specs.Prelude.{ℕ, Option, Some, None, if◌then◌else◌, ◌==◌}
 use Rattle.omega_text.specs.Bytes.{is_digit, is_letter, is_white}
 use Rattle.omega_text.specs.declared.hoa.kind.HoaKind.{HoaKind}
@@ -11,7 +11,7 @@ abbrev pub sign_lead : Option HoaKind → Lead
 sign_lead None = Other
 sign_lead (Some kind) = Sign kind
 
--- what a byte tells of the unit that it begins
+-- what a byte says of the unit that it begins
 abbrev pub lead_of : ℕ → Lead
 lead_of byte = if is_white byte then White
     else (if is_letter byte then Letter

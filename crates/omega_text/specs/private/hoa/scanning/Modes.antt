@@ -51,7 +51,7 @@ dashes_mode byte = if byte == 66 then Some (Mark Body 3)
     else (if byte == 69 then Some (Mark End 3)
     else (if byte == 65 then Some (Mark Abort 3) else None))
 
--- a mark of which so many bytes were read
+-- a mark with this number of bytes read
 abbrev pub mode_in_mark : HoaKind → ℕ → Mode
 mode_in_mark kind count = if count == length (spelling kind) then Whole kind else Mark kind count
 
@@ -80,7 +80,7 @@ quoted_mode byte = if byte == 34 then Whole String else (if byte == 92 then Esca
 abbrev pub slash_mode : ℕ → Option Mode
 slash_mode byte = if byte == 42 then Some (Comment 0) else None
 
--- in a comment inside so many others
+-- in a comment inside this number of others
 abbrev pub comment_mode : ℕ → ℕ → Mode
 comment_mode around byte = if byte == 42 then Star around else (if byte == 47 then Slashed around else Comment around)
 
@@ -124,7 +124,7 @@ unit_of (Whole kind) = Some (Some kind)
 unit_of Blank = Some None
 unit_of mode = None
 
--- one more byte, where a unit may have been left
+-- one more byte, if a unit may have been left
 abbrev pub step : Option Mode → ℕ → Option Mode
 step None byte = None
 step (Some mode) byte = next_mode mode byte
@@ -134,7 +134,7 @@ abbrev pub run : Option Mode → List ℕ → Option Mode
 run state [] = state
 run state (byte ∷ rest) = run (step state byte) rest
 
--- none of the bytes that follow goes on in this mode
+-- no byte that follows goes on in this mode
 abbrev pub IsStuck : Mode → List ℕ → Type 0
 IsStuck mode [] = Unit {0}
 IsStuck mode (byte ∷ rest) = next_mode mode byte ≡ None
@@ -147,7 +147,7 @@ IsWithin bytes (Slashed around) = around < bytes
 IsWithin bytes (Mark kind count) = count < length (spelling kind)
 IsWithin bytes mode = Unit {0}
 
--- bytes were read up to where no unit goes on
+-- bytes were read up to one with which no unit goes on
 pub record IsScanned (bytes : List ℕ) (count : ℕ) (mode : Mode) : Type 0 where
   pub within : count ≤ length bytes
   pub reached : run (Some Start) (take count bytes) ≡ Some mode

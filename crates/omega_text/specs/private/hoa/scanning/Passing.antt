@@ -24,11 +24,11 @@ pub record Passed (seen : List ℕ) (lexemes : List (Lexeme HoaKind)) (bytes : L
   pub at : IsAt Any (seen ++ bytes) (lexemes ++ added) after
   pub plain : NoneMarks added
 
--- the same in whatever text the unit before is, where so many bytes were read
+-- the same in whatever text the unit before is, if this number of bytes was read
 abbrev pub PassesAs : ℕ → List ℕ → (before after : Pending) → Type 0
 PassesAs start bytes before after = (seen : List ℕ) (lexemes : List (Lexeme HoaKind)) → start ≡ length seen → IsAt Any seen lexemes before → Passed seen lexemes bytes after
 
--- in whatever text the unit is, where so many bytes were read, the next byte settles a mark or a fault
+-- in whatever text the unit is, if this number of bytes was read, the next byte settles a mark or a fault
 abbrev pub IsStop : ℕ → ℕ → Pending → Type 0
 IsStop start byte before = (seen : List ℕ) (lexemes : List (Lexeme HoaKind)) → start ≡ length seen → IsAt Any seen lexemes before → StopsBefore seen lexemes byte
 
@@ -52,15 +52,15 @@ IsEndedBy byte before = (seen : List ℕ) (lexemes : List (Lexeme HoaKind)) → 
 abbrev pub EndsWord : ℕ → Type 0
 EndsWord byte = (before : Pending) (kind : HoaKind) → before.mode ≡ Word kind → IsEndedBy byte before
 
--- a byte stands for itself in a string: neither a quote nor a backslash
+-- a byte means itself in a string: neither a quote nor a backslash
 abbrev pub is_quoted : ℕ → Bool
 is_quoted byte = not (byte == 34) && not (byte == 92)
 
--- units were read after a place: up to another where none has been begun, or with one that has
+-- units were read after a place: up to another at which none has been begun, or with one that has
 abbrev pub IsSimple : ℕ → List ℕ → ℕ → Simple → Type 0
 IsSimple start bytes place (Ended end) = (place < end) × Passes start bytes place end (fresh start) (fresh (start + (end - place)))
 IsSimple start bytes place (Begun pending end) = Passes start bytes place end (fresh start) pending
 
--- a unit is being read at a place, and places can be counted further by so many
+-- a unit is being read at a place, and places can be counted further by this number
 abbrev pub IsOnWayFor : ℕ → Pending → ℕ → Type 0
 IsOnWayFor count pending place = (seen : List ℕ) × (lexemes : List (Lexeme HoaKind)) × (place ≡ length seen) × IsAt Any seen lexemes pending × (place + count < 2 ^ 64)

@@ -16,7 +16,7 @@ use Rattle.omega_text.specs.Limits.{most_number}
 use Rattle.omega_text.specs.declared.hoa.kind.HoaKind.TheVariants.{Int}
 use Rattle.omega_text.specs.hoa.Forms.{Spells}
 
--- the value of digits, or a number above the greatest where they are no number
+-- the value of digits, or a number above the greatest if they are no number
 pub record IsValueOf (value : ℕ) (text : List ℕ) : Type 0 where
   pub number : value ≤ most_number → Spells Int value text
   pub none : most_number < value → (number : ℕ) → Spells Int number text → ⊥
@@ -29,7 +29,7 @@ IsUnfinishedUnit Start value begun = begun ≡ []
 IsUnfinishedUnit Digits value begun = IsValueOf value begun
 IsUnfinishedUnit mode value begun = Unit {0}
 
--- after these tokens stands a gap and then a unit that has been read so far, if the text goes on as it may
+-- after these tokens comes a gap and then a unit that has been read so far, if the text goes on as it may
 pub record IsAt (may : List ℕ → Type 0) (seen : List ℕ) (lexemes : List (Lexeme HoaKind)) (pending : Pending) : Type 0 where
   pub end : ℕ
   pub gap : List ℕ
@@ -48,7 +48,7 @@ Any rest = Unit {0}
 
 -- the text goes on with this byte
 abbrev pub With : ℕ → List ℕ → Type 0
-With byte rest = (behind : List ℕ) × (rest ≡ byte ∷ behind)
+With byte rest = (following : List ℕ) × (rest ≡ byte ∷ following)
 
 -- what a tokenizer keeps, by its fault
 abbrev pub IsKept : Option TextFault → List ℕ → List (Lexeme HoaKind) → Pending → Type 0

@@ -42,14 +42,14 @@ IsGrown before byte end Blank after token = (after ≡ fresh end) × (token ≡ 
 IsGrown before byte end Digits after token = Continues before Digits after token × ValueGrows before byte end after.value
 IsGrown before byte end next after token = Continues before next after token
 
--- the token that a unit is, where it ends
+-- the token that a unit is if it ends here
 abbrev pub IsTokenIn : Mode → ℕ → ℕ → ℕ → PlacedToken → Type 0
 IsTokenIn (Word kind) value start end token = IsPlaced token kind 0 start end
 IsTokenIn Alias value start end token = IsPlaced token AliasName 0 start end
 IsTokenIn Digits value start end token = (value ≤ most_number) × IsPlaced token Int value start end
 IsTokenIn mode value start end token = ⊥
 
--- the fault of a unit that is no token, where it ends
+-- the fault of a unit that is no token if it ends here
 abbrev pub IsFaultIn : Mode → ℕ → ℕ → TextFault → Type 0
 IsFaultIn (Word kind) value start fault = ⊥
 IsFaultIn Alias value start fault = ⊥

@@ -4,7 +4,7 @@ use Rattle.omega_acc.specs.formula.Meaning.{IsMeant, IsUnmeant}
 use Rattle.omega_acc.specs.Depth.{counted}
 use Rattle.omega_acc.specs.Limits.{most_depth}
 use Rattle.omega_acc.specs.formula.Raw.{raw_acc_depth}
-use Rattle.omega_acc.specs.private.layout.formula.Plain.{depths_behind, top_depth}
+use Rattle.omega_acc.specs.private.layout.formula.Plain.{depths_after, top_depth}
 use Rattle.omega_acc.proofs.expressions.PassingLemmas.{error_then}
 use Rattle.omega_acc.proofs.formulas.PlainLemmas.{IsAcc-plain, IsMeant-plain, atom-unmeant, too-deep}
 use Rattle.omega_acc.proofs.formula.raw.RawAcc.formula.Goals as goal
@@ -25,7 +25,7 @@ of_nodes-requires c =
     let seen = ap (λ tree. counted (raw_acc_depth tree)) c.self.view_is in
     let shallow : raw_acc_depth c.args.self.now ≤ most_depth = omega (arith, seen, c.self.invariant.depth_is, c.if-self-gt-MOST_DEPTH.false) in
     IsAcc-plain c.args.self.now _ _ c.in_ok-nodes.ensures.ok
-    (c.in_ok-depth.ensures.ok ∙ ap (λ all. top_depth (depths_behind [] all)) c.as_slice.ensures.value) shallow
+    (c.in_ok-depth.ensures.ok ∙ ap (λ all. top_depth (depths_after [] all)) c.as_slice.ensures.value) shallow
 
 pub returns-clause-ok : goal.returns-clause-ok
 returns-clause-ok c =

@@ -1,11 +1,11 @@
 -- The extents so far and the nodes that are left make the extent.
 use Rattle.std.proofs.Common.{◌≡◌, [], drop}
 use Rattle.omega_acc.specs.label.Expanding.{entries_of}
-use Rattle.omega_acc.specs.private.layout.label.Extents.{extent_named, extents_behind}
+use Rattle.omega_acc.specs.private.layout.label.Extents.{extent_named, extents_after}
 use Rattle.omega_acc.specs.private.layout.label.Raw.{alias_names, raw_postfix}
 use Rattle.omega_acc.proofs.label.aliases.Aliases.measure_nodes.Given as goal
 
 abbrev pub invariant-loop-node : goal.invariant-loop-node
 invariant-loop-node l =
-    extents_behind (extent_named (entries_of [] l.self)) l.stack l.names (drop l.node-index l.nodes)
-    ≡ extents_behind (extent_named (entries_of [] l.self)) [] (alias_names l.raw) (raw_postfix l.raw)
+    extents_after (extent_named (entries_of [] l.self)) l.stack l.names (drop l.node-index l.nodes)
+    ≡ extents_after (extent_named (entries_of [] l.self)) [] (alias_names l.raw) (raw_postfix l.raw)

@@ -1,3 +1,0 @@
--- A search for closed walks that accept: what public contracts cite.
-pub mod Rows
-pub mod private

@@ -1,4 +1,0 @@
--- What only private contracts cite.
-pub mod Formulas
-pub mod Walks
-pub mod Weights

@@ -1,0 +1,73 @@
+//! Edges that carry a set of marks, or lack it.
+ghost use Rattle.std.specs.Prelude.{◌≡◌, ◌<◌, true, false, not, length, All, Contains, IfNone, IfOk, IfSome, IsOkUnless, filter};
+ghost use Rattle.omega_acc.specs.formula.Acceptance.{holds, occurs};
+ghost use Rattle.omega_walk_laws.specs.Marks.{meets};
+ghost use Rattle.omega_walk_laws.specs.Walks.{marks_on};
+ghost use Rattle.omega_components.specs.Graph.{marked};
+ghost use Rattle.omega_accepting_walk.specs.Rows.{row_at};
+
+use crate::search::Search;
+use omega_text::{Numbers, Refusal};
+use std::alloc::Global;
+
+/// Whether `marks` has `set`, or lacks it if `negated`.
+pub(crate) fn meets(marks: &Numbers, negated: bool, set: u32) -> bool
+    ensures { result ≡ meets negated set marks.now }
+{
+    let held = holds(marks.as_slice(), set);
+    if negated { !held } else { held }
+}
+
+/// Whether `set` is among `marks`.
+fn holds(marks: &[u32], set: u32) -> bool
+    ensures { result ≡ holds set marks.now }
+{
+    marks.iter().any(|mark| *mark == set)
+}
+
+/// Returns the first of `edges` that meets `set`, or none. Linear in the marks of the edges up to it.
+pub(crate) fn meeting(search: &Search<'_>, edges: &[u32], negated: bool, set: u32) -> Option<u32>
+    requires edges { All (λ edge. edge < length search.now.marks.now) edges.now }
+    ensures none { IfNone result (occurs (marks_on (marked search.now.graph.now (row_at search.now.marks.now)) edges.now) negated set ≡ false) }
+    ensures among { IfSome result (Contains edges.now) }
+    ensures meets { IfSome result (λ edge. meets negated set (row_at search.now.marks.now edge) ≡ true) }
+{
+    for edge in edges {
+        if meets(&search.marks[*edge as usize], negated, set) {
+            return Some(*edge);
+        }
+    }
+    None
+}
+
+/// Whether one of `edges` meets `set`. Linear in the marks of the edges up to the first that does.
+pub(crate) fn occurs(search: &Search<'_>, edges: &[u32], negated: bool, set: u32) -> bool
+    requires edges { All (λ edge. edge < length search.now.marks.now) edges.now }
+    ensures { result ≡ occurs (marks_on (marked search.now.graph.now (row_at search.now.marks.now)) edges.now) negated set }
+{
+    match meeting(search, edges, negated, set) {
+        Some(_edge) => true,
+        None => false,
+    }
+}
+
+/// Returns those `edges` that do not meet `set`.
+pub(crate) fn without(
+    alloc: Global,
+    search: &Search<'_>,
+    edges: &[u32],
+    negated: bool,
+    set: u32,
+) -> Result<Vec<u32>, Refusal>
+    requires edges { All (λ edge. edge < length search.now.marks.now) edges.now }
+    ensures left { IfOk result (λ left. left.items ≡ filter (λ edge. not (meets negated set (row_at search.now.marks.now edge))) edges.now) }
+    ensures memory { IsOkUnless result Refusal.Memory }
+{
+    let mut left = Vec::new(alloc);
+    for edge in edges {
+        if !meets(&search.marks[*edge as usize], negated, set) {
+            left.push(*edge)?;
+        }
+    }
+    Ok(left)
+}

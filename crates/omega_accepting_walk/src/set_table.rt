@@ -1,0 +1,78 @@
+//! A table of the sets that a list of edges carries, made once for all atoms.
+ghost use Rattle.std.specs.Prelude.{◌≡◌, ◌<◌, ◌||◌, ℕ, false, length, All, IfOk, IsOkUnless, slice_index_or};
+ghost use Rattle.omega_acc.specs.formula.Acceptance.{holds, occurs};
+ghost use Rattle.omega_walk_laws.specs.Walks.{marks_on};
+ghost use Rattle.omega_components.specs.Graph.{marked};
+ghost use Rattle.omega_accepting_walk.specs.Rows.{row_at};
+ghost use Rattle.omega_accepting_walk.specs.private.Walks.{AreSetsOn};
+
+use crate::meeting::occurs;
+use crate::node::Node;
+use crate::search::Search;
+use omega_text::Refusal;
+use std::alloc::Global;
+
+/// The least bound on the length of the table, however few edges there are.
+const FEW_SETS: usize = 64;
+
+/// Returns for each set of the formula, from 0 on, whether one of `edges` is in it. The table has at most as many
+/// entries as there are edges, or 64 if these are fewer; sets past it are not in it. Makes one pass over the marks of
+/// the edges.
+pub(crate) fn set_table(
+    alloc: Global,
+    search: &Search<'_>,
+    edges: &[u32],
+) -> Result<Vec<bool>, Refusal>
+    requires edges { All (λ edge. edge < length search.now.marks.now) edges.now }
+    ensures sets { IfOk result (λ sets. AreSetsOn (marked search.now.graph.now (row_at search.now.marks.now)) edges.now sets.items) }
+    ensures memory { IsOkUnless result Refusal.Memory }
+{
+    let count = set_count(search.nodes).min(edges.len().max(FEW_SETS));
+    let mut sets = vec![in alloc; false; count]?;
+    for edge in edges {
+        add_marks(&mut sets, search.marks[*edge as usize].as_slice());
+    }
+    Ok(sets)
+}
+
+/// Sets the flag of each set that is in `marks`, as far as `sets` goes.
+fn add_marks(sets: &mut Vec<bool>, marks: &[u32])
+    ensures count { length sets.new.items ≡ length sets.old.items }
+    ensures sets { (set : ℕ) → set < length sets.old.items → slice_index_or sets.new.items set false ≡ (slice_index_or sets.old.items set false || holds set marks.now) }
+{
+    for mark in marks {
+        if (*mark as usize) < sets.len() {
+            sets[*mark as usize] = true;
+        }
+    }
+}
+
+/// Returns one more than the greatest set of the atoms among `nodes`, or 0 if there is no atom.
+fn set_count(nodes: &[Node]) -> usize {
+    let mut count = 0;
+    for node in nodes {
+        if let Node::Inf(_, set) | Node::Fin(_, set) = *node {
+            count = count.max(set as usize + 1);
+        }
+    }
+    count
+}
+
+/// Whether one of `edges` meets `set`, read from the table `sets` if that has the answer.
+pub(crate) fn occurs_by(
+    search: &Search<'_>,
+    edges: &[u32],
+    sets: &[bool],
+    negated: bool,
+    set: u32,
+) -> bool
+    requires edges { All (λ edge. edge < length search.now.marks.now) edges.now }
+    requires sets { AreSetsOn (marked search.now.graph.now (row_at search.now.marks.now)) edges.now sets.now }
+    ensures { result ≡ occurs (marks_on (marked search.now.graph.now (row_at search.now.marks.now)) edges.now) negated set }
+{
+    if !negated && (set as usize) < sets.len() {
+        sets[set as usize]
+    } else {
+        occurs(search, edges, negated, set)
+    }
+}

@@ -1,5 +1,0 @@
--- Lemmas by theme.
-pub mod Emptiness
-pub mod Refused
-pub mod Told
-pub mod Watching

@@ -1,2 +1,0 @@
--- What `empty` answers: `empty`, or the text of an accepting lasso, and refusals.
-pub mod Answer

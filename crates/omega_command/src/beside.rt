@@ -1,0 +1,27 @@
+/// What is done with two texts: that of a file and that of the input.
+#[derive(Clone, Copy, Debug)]
+pub enum Beside {
+    /// Checks the solution that the input has, of the game of the file or of the part of it that one node reaches.
+    Verify {
+        /// The identifier of the node whose part is meant.
+        from: Option<u32>,
+        /// Whether it is explained where the solution is not right.
+        explain: bool,
+    },
+    /// Checks whether the lasso that the input has is an accepting one of the automaton of the file.
+    VerifyLasso {
+        /// Whether it is explained where it is none.
+        explain: bool,
+    },
+    /// Writes an automaton that accepts the words that both accept, the one of the input and the one of the file.
+    Meet,
+    /// Draws the game that the input has with the solution of it in the file; whole, or the part that one node reaches.
+    DrawSolution {
+        /// The identifier of the node whose part is drawn.
+        from: Option<u32>,
+        /// How many steps from that node the part goes, if that is said.
+        depth: Option<u32>,
+        /// Whether the drawing says what its colours mean.
+        legend: bool,
+    },
+}

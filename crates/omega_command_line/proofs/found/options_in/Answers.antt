@@ -1,0 +1,26 @@
+-- `options_in`: the first value of an id is that of its row.
+use Rattle.std.proofs.Common.{◌∙◌}
+use Rattle.clap.proofs.WalkLemmas.{first_value-rows}
+use Rattle.clap.specs.Words.{found_of}
+use Rattle.omega_command_line.specs.Found.{id_of}
+use Rattle.omega_command.specs.declared.options.OptionName.TheVariants.{Automaton, Budget, Depth, Explain, File, Format, From, Game, Lasso, Legend, Player, Progress, Search, Solution, Verbose, With, Word}
+use Rattle.omega_command_line.proofs.found.options_in.Goals as goal
+
+pub returns : goal.returns
+returns c Format = c.get_str.ensures ∙ first_value-rows (found_of c.args.found.now) (id_of Format)
+returns c Player = c.get_str-2.ensures ∙ first_value-rows (found_of c.args.found.now) (id_of Player)
+returns c From = c.get_str-3.ensures ∙ first_value-rows (found_of c.args.found.now) (id_of From)
+returns c Budget = c.get_str-4.ensures ∙ first_value-rows (found_of c.args.found.now) (id_of Budget)
+returns c Search = c.get_str-5.ensures ∙ first_value-rows (found_of c.args.found.now) (id_of Search)
+returns c Game = c.get_str-6.ensures ∙ first_value-rows (found_of c.args.found.now) (id_of Game)
+returns c Automaton = c.get_str-7.ensures ∙ first_value-rows (found_of c.args.found.now) (id_of Automaton)
+returns c Explain = c.get_str-8.ensures ∙ first_value-rows (found_of c.args.found.now) (id_of Explain)
+returns c Word = c.get_str-9.ensures ∙ first_value-rows (found_of c.args.found.now) (id_of Word)
+returns c With = c.get_str-10.ensures ∙ first_value-rows (found_of c.args.found.now) (id_of With)
+returns c Solution = c.get_str-11.ensures ∙ first_value-rows (found_of c.args.found.now) (id_of Solution)
+returns c Legend = c.get_str-12.ensures ∙ first_value-rows (found_of c.args.found.now) (id_of Legend)
+returns c Lasso = c.get_str-13.ensures ∙ first_value-rows (found_of c.args.found.now) (id_of Lasso)
+returns c Depth = c.get_str-14.ensures ∙ first_value-rows (found_of c.args.found.now) (id_of Depth)
+returns c Progress = c.get_str-15.ensures ∙ first_value-rows (found_of c.args.found.now) (id_of Progress)
+returns c Verbose = c.get_str-16.ensures ∙ first_value-rows (found_of c.args.found.now) (id_of Verbose)
+returns c File = c.get_str-17.ensures ∙ first_value-rows (found_of c.args.found.now) (id_of File)

@@ -1,0 +1,60 @@
+-- The line that is made of what `clap` found in the words.
+use Rattle.std.specs.Prelude.{◌≡◌, ◌≢◌, ◌⊎◌, List, Option, Some, None, ℕ, codes}
+use Rattle.clap.specs.Words.{Row, first_of}
+use Rattle.clap.specs.declared.error.kind.ErrorKind.{ErrorKind}
+use Rattle.clap.specs.declared.error.kind.ErrorKind.TheVariants.{DisplayHelp, DisplayVersion}
+use Rattle.omega_command.specs.CommandLine.{Asks, IsMistake, text_of}
+use Rattle.omega_command.specs.Line.{IsFaultLine}
+use Rattle.omega_command.specs.declared.line.Line.{Line}
+use Rattle.omega_command.specs.declared.line.Line.TheVariants as line
+use Rattle.omega_command.specs.declared.mistake.Mistake.{Mistake}
+use Rattle.omega_command.specs.declared.mistake.Mistake.TheVariants as mistake
+use Rattle.omega_command.specs.declared.options.OptionName.{OptionName}
+use Rattle.omega_command.specs.declared.options.OptionName.TheVariants as name
+use Rattle.omega_command.specs.declared.options.Options.{Options}
+
+-- how `clap` knows an option, or the operand
+abbrev pub id_of : OptionName → List ℕ
+id_of name.Format = codes "format"
+id_of name.Player = codes "player"
+id_of name.From = codes "from"
+id_of name.Budget = codes "budget"
+id_of name.Search = codes "search"
+id_of name.Game = codes "game"
+id_of name.Automaton = codes "automaton"
+id_of name.Explain = codes "explain"
+id_of name.Word = codes "word"
+id_of name.With = codes "with"
+id_of name.Solution = codes "solution"
+id_of name.Legend = codes "legend"
+id_of name.Lasso = codes "lasso"
+id_of name.Depth = codes "depth"
+id_of name.Progress = codes "progress"
+id_of name.Verbose = codes "verbose"
+id_of name.File = codes "file"
+
+-- the line is the fault that tells of the mistake; want of memory is told by no line
+abbrev pub IsFaultLineOf : Mistake → Line → Type 0
+IsFaultLineOf found line = IsFaultLine line × (found ≢ mistake.Memory)
+
+-- the line for the subcommand of this name with these options: what it asks for,
+-- or the fault that tells what is wrong with it
+abbrev pub IsLineOf : List ℕ → Options → Line → Type 0
+IsLineOf subcommand options line =
+    Asks subcommand options line ⊎ ((found : Mistake) × IsMistake subcommand options found × IsFaultLineOf found line)
+
+-- the line for the subcommand of this name, where the options are those that `clap` found after it
+abbrev pub IsLineFor : List ℕ → List Row → Line → Type 0
+IsLineFor subcommand rows line =
+    (options : Options) × ((name : OptionName) → text_of name options ≡ first_of (id_of name) rows) × IsLineOf subcommand options line
+
+-- the line for the subcommand that `clap` found; a fault where it found none
+abbrev pub IsLineFound : Option (List ℕ × List Row) → Line → Type 0
+IsLineFound None line = IsFaultLine line
+IsLineFound (Some (subcommand, rows)) line = IsLineFor subcommand rows line
+
+-- the line for an error of `clap`: help where the user asked for a text, else a fault
+abbrev pub IsPrinted : ErrorKind → Line → Type 0
+IsPrinted kind (line.Help text) = (kind ≡ DisplayHelp) ⊎ (kind ≡ DisplayVersion)
+IsPrinted kind (line.Fault text) = (kind ≢ DisplayHelp) × (kind ≢ DisplayVersion)
+IsPrinted kind (line.Do task source verbose) = ⊥

@@ -1,0 +1,33 @@
+ghost use Rattle.std.specs.Prelude.{◌≡◌};
+ghost use Rattle.clap.specs.Words.{first_of, found_of, rows_of};
+ghost use Rattle.omega_command_line.specs.Found.{id_of};
+ghost use Rattle.omega_command.specs.declared.options.OptionName.{OptionName};
+ghost use Rattle.omega_command.specs.CommandLine.{text_of};
+
+use clap::ArgMatches;
+use omega_command::Options;
+
+/// The texts of the options and of the operand that `clap` found after a subcommand.
+pub fn options_in<'a>(found: &ArgMatches<'a>) -> Options<'a>
+    ensures { (name : OptionName) → text_of name result ≡ first_of (id_of name) (rows_of (found_of found.now)) }
+{
+    Options {
+        format: found.get_str("format"),
+        player: found.get_str("player"),
+        from: found.get_str("from"),
+        budget: found.get_str("budget"),
+        search: found.get_str("search"),
+        game: found.get_str("game"),
+        automaton: found.get_str("automaton"),
+        explain: found.get_str("explain"),
+        word: found.get_str("word"),
+        with: found.get_str("with"),
+        solution: found.get_str("solution"),
+        legend: found.get_str("legend"),
+        lasso: found.get_str("lasso"),
+        depth: found.get_str("depth"),
+        progress: found.get_str("progress"),
+        verbose: found.get_str("verbose"),
+        file: found.get_str("file"),
+    }
+}

@@ -1,0 +1,11 @@
+//! The command line: what its words ask the program for.
+#![tactic(auto)]
+
+mod found;
+mod words;
+
+pub use omega_command::{
+    Beside, Command, Format, Line, Mistake, OptionName, Options, Player, Reason, Refusal, Source,
+    Task, line_for,
+};
+pub use words::read_words;

@@ -1,0 +1,81 @@
+ghost use Rattle.std.specs.Prelude.{◌≢◌, IfOk, IsOkUnless, map, string_bytes};
+ghost use Rattle.clap.specs.Words.{found_of, kind_of, rows_of, subcommand_rows_of};
+ghost use Rattle.clap.specs.declared.error.kind.ErrorKind.TheVariants.{OutOfMemory};
+ghost use Rattle.omega_text.specs.declared.refusal.Refusal.TheVariants.{Memory};
+ghost use Rattle.omega_command_line.specs.Found.{IsFaultLineOf, IsLineFor, IsLineFound, IsPrinted};
+ghost use Rattle.omega_command_line.specs.Words.{IsLineAsked};
+ghost use Rattle.omega_command.specs.Line.{IsRunnable};
+
+use crate::found::options_in;
+use clap::error::ErrorKind;
+use clap::{ArgMatches, Error};
+use omega_command::{Line, Mistake, line_for};
+use omega_help::{fault_text, matches_of};
+use omega_text::Refusal;
+use std::alloc::Global;
+
+/// What the words of a command line ask for, of which the first is the program's name. 60 alone.
+pub fn read_words<'a>(alloc: Global, words: &'a [String]) -> Result<Line, Refusal>
+    ensures asked { IfOk result (IsLineAsked (map string_bytes words.now)) }
+    ensures runnable { IfOk result IsRunnable }
+    ensures memory { IsOkUnless result Memory }
+{
+    match matches_of(alloc, words) {
+        Ok(found) => asked_for(alloc, &found),
+        Err(error) => printed(alloc, &error),
+    }
+}
+
+/// What the subcommand that `clap` found asks for. `clap` has refused a command line without one.
+fn asked_for(alloc: Global, found: &ArgMatches<'_>) -> Result<Line, Refusal>
+    ensures line { IfOk result (IsLineFound (subcommand_rows_of found.now)) }
+    ensures runnable { IfOk result IsRunnable }
+    ensures memory { IsOkUnless result Memory }
+{
+    match found.subcommand() {
+        Some((subcommand, matches)) => answered(alloc, subcommand, matches),
+        None => mistaken(alloc, "", &Mistake::Unknown),
+    }
+}
+
+/// The line for a subcommand with the options that `clap` found after it.
+fn answered(alloc: Global, subcommand: &str, matches: &ArgMatches<'_>) -> Result<Line, Refusal>
+    ensures line { IfOk result (IsLineFor subcommand.now (rows_of (found_of matches.now))) }
+    ensures runnable { IfOk result IsRunnable }
+    ensures memory { IsOkUnless result Memory }
+{
+    match line_for(alloc, subcommand, &options_in(matches)) {
+        Ok(line) => Ok(line),
+        Err(mistake) => mistaken(alloc, subcommand, &mistake),
+    }
+}
+
+/// The line that tells of a mistake in the options of a subcommand.
+fn mistaken(alloc: Global, subcommand: &str, mistake: &Mistake<'_>) -> Result<Line, Refusal>
+    ensures fault { IfOk result (IsFaultLineOf mistake.now) }
+    ensures memory { IsOkUnless result Memory }
+{
+    if mistake.has_usage() {
+        let message = mistake.message(alloc)?;
+        let text = fault_text(alloc, subcommand, message.as_str())?;
+        return Ok(Line::Fault(text));
+    }
+    Ok(Line::Fault(mistake.text(alloc)?))
+}
+
+/// The text that was asked for, or that says what is wrong.
+fn printed(alloc: Global, error: &Error) -> Result<Line, Refusal>
+    ensures printed { IfOk result (IsPrinted (kind_of error.now)) }
+    ensures with_memory { IfOk result (λ _. kind_of error.now ≢ OutOfMemory) }
+    ensures memory { IsOkUnless result Memory }
+{
+    if error.kind() == ErrorKind::OutOfMemory {
+        return Err(Refusal::Memory);
+    }
+    let text = error.to_string(alloc)?;
+    if error.use_stderr() {
+        Ok(Line::Fault(text))
+    } else {
+        Ok(Line::Help(text))
+    }
+}

@@ -1,4 +1,0 @@
--- What `complement` answers: what public contracts cite.
-pub use Rattle.omega_text.specs.Cases
-pub use Rattle.omega_text.specs.Refusal
-pub mod Answer

@@ -1,2 +1,0 @@
--- The laws of complements.
-pub mod Laws

@@ -1,2 +1,0 @@
--- That the canonical texts of complements are read back: what public contracts cite.
-pub mod Laws

@@ -1,8 +1,0 @@
--- `Groups::new`: no group, which takes no memory.
-use Rattle.std.proofs.Common.{refl}
-use Rattle.omega_components.specs.private.Lists.{lists_of}
-use Rattle.omega_components.proofs.groups.Groups.new.Goals as goal
-
-pub returns : goal.returns
-unfolding lists_of
-returns c = rw c.new.ensures.items refl

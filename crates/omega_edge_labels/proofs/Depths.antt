@@ -1,0 +1,50 @@
+-- Depths and sizes of labels, as they are and as they are written.
+use Rattle.std.proofs.Common.{ℕ, ◌+◌, ◌<◌, ◌≤◌, max, Bool, true, false, nat_le, nat_lt, arith}
+use Rattle.omega_acc.specs.Limits.{most_depth}
+use Rattle.omega_acc.specs.Writing.{label_text}
+use Rattle.omega_acc.specs.WritingLaws.{grouped, label_written}
+use Rattle.omega_acc.specs.label.Label.{LabelTree, conjunction, constant, disjunction, label_depth, negation, proposition}
+use Rattle.omega_acc.specs.label.Raw.{RawLabelTree, raw_depth}
+use Rattle.omega_acc.specs.label.Shape.{FitsALabel}
+use Rattle.omega_edge_labels.specs.Fitting.{FitsAText}
+
+-- parentheses add no less than nothing
+grouped_deeper : (within : Bool) (raw : RawLabelTree) → raw_depth raw ≤ raw_depth (grouped within raw)
+grouped_deeper true raw = omega arith
+grouped_deeper false raw = omega arith
+
+-- a label as it is written is as deep as the label, or deeper
+pub written_deeper : (tree : LabelTree) → label_depth tree ≤ raw_depth (label_written tree)
+written_deeper (constant value) = omega arith
+written_deeper (proposition number) = omega arith
+written_deeper (negation part) =
+    let more = grouped_deeper (nat_lt (label_text part).rank 3) (label_written part) in
+    omega (arith, written_deeper part, more)
+written_deeper (conjunction left right) =
+    more (label_depth left) (label_depth right) (raw_depth (label_written left)) (raw_depth (label_written right))
+    (raw_depth (grouped (nat_lt (label_text left).rank 2) (label_written left))) (raw_depth (grouped (nat_le (label_text right).rank 2) (label_written right)))
+    (written_deeper left) (written_deeper right) (grouped_deeper (nat_lt (label_text left).rank 2) (label_written left))
+    (grouped_deeper (nat_le (label_text right).rank 2) (label_written right))
+  where
+    more : (a b c d e f : ℕ) → a ≤ c → b ≤ d → c ≤ e → d ≤ f → max a b + 1 ≤ max e f + 1
+    more a b c d e f ac bd ce df = omega arith
+written_deeper (disjunction left right) =
+    more (label_depth left) (label_depth right) (raw_depth (label_written left)) (raw_depth (label_written right))
+    (raw_depth (grouped (nat_lt (label_text left).rank 1) (label_written left))) (raw_depth (grouped (nat_le (label_text right).rank 1) (label_written right)))
+    (written_deeper left) (written_deeper right) (grouped_deeper (nat_lt (label_text left).rank 1) (label_written left))
+    (grouped_deeper (nat_le (label_text right).rank 1) (label_written right))
+  where
+    more : (a b c d e f : ℕ) → a ≤ c → b ≤ d → c ≤ e → d ≤ f → max a b + 1 ≤ max e f + 1
+    more a b c d e f ac bd ce df = omega arith
+
+-- a label that a text can have is a label
+pub text_fits : (tree : LabelTree) → FitsAText tree → FitsALabel tree
+text_fits tree fits =
+    let deeper = written_deeper tree in record { shallow = omega (arith, deeper, fits.shallow); small = fits.small }
+
+-- what is no label is none in a text
+pub unfit_text : (tree : LabelTree) → (FitsALabel tree → ⊥) → FitsAText tree → ⊥
+unfit_text tree unfit fits = unfit (text_fits tree fits)
+
+pub deep_text : (tree : LabelTree) → most_depth < raw_depth (label_written tree) → FitsAText tree → ⊥
+deep_text tree deep fits = omega (arith, deep, fits.shallow)

@@ -1,0 +1,20 @@
+//! The common parts of texts of automata and of automata that are made of others: labels of edges, also of edges
+//! written without one, names without quotes, and limits. Also labels and acceptance formulas as a text writes them,
+//! with parentheses only if an operator needs them.
+//!
+//! docs/formats.md says when each refusal comes.
+#![tactic(auto)]
+
+mod edge_labels;
+mod fitting;
+mod formula_writing;
+mod label_writing;
+mod limits;
+mod names;
+
+pub use edge_labels::{has_bit, label_at};
+pub use fitting::fitting_label;
+pub use formula_writing::written_formula;
+pub use label_writing::written_label;
+pub use limits::{MOST_EDGES, MOST_STATES, written_limits_are_stated};
+pub use names::is_identifier;

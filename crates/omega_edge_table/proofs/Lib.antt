@@ -1,3 +1,0 @@
--- Lemmas of edges by their numbers.
-pub mod Placed
-pub mod Standing

@@ -1,0 +1,4 @@
+-- Lemmas by theme.
+pub mod Emptiness
+pub mod Refused
+pub mod Observing

@@ -1,0 +1,13 @@
+//! What `empty`, `game` and `draw` answer to the text of one automaton.
+//!
+//! Numbers of refusals are those of `Refusal`; docs/formats.md says when each comes.
+#![tactic(auto)]
+
+mod automaton_text;
+mod draw;
+mod empty;
+mod game;
+
+pub use draw::{draw_automaton_text, draw_lasso_text};
+pub use empty::{decide_emptiness, search_emptiness};
+pub use game::write_emptiness_game;

@@ -1,0 +1,2 @@
+-- What private contracts of the judge alone cite.
+pub mod Judging

@@ -1,0 +1,3 @@
+-- Which text a refusal is about.
+pub mod About
+pub mod Refusals

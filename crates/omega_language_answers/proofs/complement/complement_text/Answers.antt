@@ -1,0 +1,19 @@
+-- what is written is the canonical text of the complement of the automaton that was read
+use Rattle.std.proofs.lemmas.Result.{IfErr-weaker, IfOk-weaker}
+use Rattle.omega_language_answers.proofs.complement.complement_text.Goals as goal
+
+pub returns-clause-answer : goal.returns-clause-answer
+returns-clause-answer c =
+    IfOk-weaker c.canonical.result _ _
+    (λ output written. record {
+      automaton = c.in_ok-automaton.automaton;
+      read = c.in_ok-automaton.ensures.automaton;
+      given = c.in_ok-turned.ensures.given;
+      complement = c.in_ok-turned.turned;
+      right = c.in_ok-turned.ensures.complement;
+      written = written;
+    })
+    c.canonical.ensures.text
+
+pub returns-clause-refused : goal.returns-clause-refused
+returns-clause-refused c = IfErr-weaker c.canonical.result _ _ (λ refusal e. rw e tt) c.canonical.ensures.memory

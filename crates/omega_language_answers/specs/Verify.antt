@@ -1,0 +1,59 @@
+-- What `verify` answers for the text of an automaton, which a file has, and that of a lasso, which the input has.
+use Rattle.std.specs.Prelude.{◌≡◌, ◌⊎◌, ◌++◌, ℕ, Bool, true, false, List, codes}
+use Rattle.omega_text.specs.declared.refusal.Refusal.{Refusal}
+use Rattle.omega_automaton.specs.Automaton.{Description}
+use Rattle.omega_runs.specs.Lasso.{IsAcceptingLasso}
+use Rattle.omega_hoa.specs.Alone.{IsAutomatonRefusal, IsAutomatonText}
+use Rattle.omega_io.specs.declared.exit.Exit.{Exit}
+use Rattle.omega_io.specs.declared.exit.Exit.TheVariants.{Done, No}
+use Rattle.omega_lasso_judge.specs.Fault.{IsLassoFault}
+use Rattle.omega_lasso_judge.specs.FaultText.{fault_text}
+use Rattle.omega_lasso_judge.specs.Refusing.{RefusesToJudge}
+use Rattle.omega_lasso_judge.specs.declared.fault.LassoFault.{LassoFault}
+use Rattle.omega_lasso_text.specs.Refusing.{IsLassoRefusal}
+use Rattle.omega_lasso_text.specs.Text.{IsLassoText}
+use Rattle.omega_lasso_text.specs.declared.lasso.LassoText.{LassoText}
+
+-- `no`, and where that is asked for, a line that says the fault
+abbrev pub no_text : Bool → LassoFault → List ℕ
+no_text false fault = codes "no\n"
+no_text true fault = codes "no\n" ++ (fault_text fault ++ codes "\n")
+
+-- `yes` where the lasso is an accepting one of the automaton, else `no`, with an exit of its own; this is explained by
+-- its first fault where that is asked for
+abbrev pub IsLassoVerdict : Description → LassoText → Bool → Exit → List ℕ → Type 0
+IsLassoVerdict automaton lasso explain Done output =
+    IsAcceptingLasso automaton lasso.stem lasso.cycle × (output ≡ codes "yes\n")
+IsLassoVerdict automaton lasso explain No output =
+    (¬ IsAcceptingLasso automaton lasso.stem lasso.cycle)
+    × ((fault : LassoFault) × IsLassoFault automaton lasso.stem lasso.cycle fault × (output ≡ no_text explain fault))
+
+-- what `verify` answers: the texts stand for an automaton and for a lasso, and the verdict is written
+pub record IsLassoAnswer (file input : List ℕ) (explain : Bool) (exit : Exit) (output : List ℕ) : Type 0 where
+  pub automaton : Description
+  pub automaton_read : IsAutomatonText file automaton
+  pub lasso : LassoText
+  pub read : IsLassoText input lasso
+  pub verdict : IsLassoVerdict automaton lasso explain exit output
+
+-- the texts stand for an automaton and a lasso, and the automaton is refused by the referee
+pub record RefusesJudging (file input : List ℕ) (refusal : Refusal) : Type 0 where
+  pub automaton : Description
+  pub automaton_read : IsAutomatonText file automaton
+  pub lasso : LassoText
+  pub read : IsLassoText input lasso
+  pub refused : RefusesToJudge automaton lasso.stem lasso.cycle refusal
+
+-- the automaton's text is refused, or its automaton as that of a lasso that is to be judged
+abbrev pub RefusesAutomaton : (file input : List ℕ) → Refusal → Type 0
+RefusesAutomaton file input refusal = IsAutomatonRefusal file refusal ⊎ RefusesJudging file input refusal
+
+-- the file's text stands for an automaton, and the input's is refused as that of a lasso
+pub record RefusesLasso (file input : List ℕ) (refusal : Refusal) : Type 0 where
+  pub automaton : Description
+  pub automaton_read : IsAutomatonText file automaton
+  pub refused : IsLassoRefusal input refusal
+
+-- the refusal of `verify`: that of the automaton, or else that of the lasso's text
+abbrev pub IsLassoAnswerRefusal : (file input : List ℕ) → Refusal → Type 0
+IsLassoAnswerRefusal file input refusal = RefusesAutomaton file input refusal ⊎ RefusesLasso file input refusal

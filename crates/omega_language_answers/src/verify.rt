@@ -1,0 +1,96 @@
+ghost use Rattle.std.specs.Prelude.{◌≡◌, ◌++◌, IfErr, IfOk, IsOkUnless, OnOk};
+ghost use Rattle.omega_text.specs.Cases.{or_memory};
+ghost use Rattle.omega_hoa.specs.Alone.{IsAutomatonRefusal, IsAutomatonText};
+ghost use Rattle.omega_lasso_judge.specs.Refusing.{IsJudgeRefusal};
+ghost use Rattle.omega_lasso_text.specs.Refusing.{IsReadLassoRefusal};
+ghost use Rattle.omega_lasso_text.specs.Text.{IsLassoText};
+ghost use Rattle.omega_io.specs.Refused.{IsRefusedOf};
+ghost use Rattle.omega_language_answers.specs.Verify.{IsLassoAnswer, IsLassoVerdict, no_text};
+ghost use Rattle.omega_language_answers.specs.Verify.{RefusesAutomaton, RefusesLasso};
+
+use omega_automaton::{Automaton, Refusal};
+use omega_hoa::read_one;
+use omega_io::{Exit, Refused, Which};
+use omega_lasso_judge::{LassoFault, judge_lasso, write_lasso_fault};
+use omega_lasso_text::{LassoText, read_lasso};
+use std::alloc::Global;
+
+/// Says whether the lasso that `input` stands for, by the numbers of its edges, is an accepting lasso of the automaton
+/// of `file`, without a search for one; if it is not, also why, if `explain` asks for that. Both texts are dropped once
+/// they are read.
+///
+/// It is refused for the text of `file`, or else for that of `input`, or else, with 41 or 42, for the automaton, which
+/// is about `file` too: 1 to 4, 20 to 33, 41, 42 or 60.
+pub fn verify_lasso(
+    alloc: Global,
+    file: Vec<u8>,
+    input: Vec<u8>,
+    explain: bool,
+) -> Result<(Exit, Vec<u8>), Refused>
+    ensures answer { IfOk result (λ made. IsLassoAnswer file.items input.items explain made.0 made.1.items) }
+    ensures refused { IfErr result
+        (IsRefusedOf (RefusesAutomaton file.items input.items) (RefusesLasso file.items input.items)) }
+{
+    let automaton = match automaton_in(alloc, file) {
+        Ok(automaton) => automaton,
+        Err(refusal) => return Err(Refused::of(Which::File, refusal)),
+    };
+    let lasso = match lasso_in(alloc, input) {
+        Ok(lasso) => lasso,
+        Err(refusal) => return Err(Refused::of(Which::Input, refusal)),
+    };
+    match verdict_on(alloc, &automaton, &lasso, explain) {
+        Ok(made) => Ok(made),
+        Err(refusal) => Err(Refused::of(Which::File, refusal)),
+    }
+}
+
+/// The automaton of a text, which is dropped.
+fn automaton_in(alloc: Global, text: Vec<u8>) -> Result<Automaton, Refusal>
+    ensures automaton { IfOk result (IsAutomatonText text.items) }
+    ensures refused { IfErr result (or_memory (IsAutomatonRefusal text.items)) }
+{
+    read_one(alloc, text.as_slice())
+}
+
+/// The lasso of a text, which is dropped.
+fn lasso_in(alloc: Global, text: Vec<u8>) -> Result<LassoText, Refusal>
+    ensures lasso { IfOk result (IsLassoText text.items) }
+    ensures refused { IfErr result (IsReadLassoRefusal text.items) }
+{
+    read_lasso(alloc, text.as_slice())
+}
+
+/// The verdict on a lasso of an automaton. 41, 42 or 60.
+fn verdict_on(
+    alloc: Global,
+    automaton: &Automaton,
+    lasso: &LassoText,
+    explain: bool,
+) -> Result<(Exit, Vec<u8>), Refusal>
+    ensures verdict { IfOk result (λ made. IsLassoVerdict automaton.now lasso.now explain made.0 made.1.items) }
+    ensures refused { IfErr result (IsJudgeRefusal automaton.now lasso.now.stem lasso.now.cycle) }
+{
+    match judge_lasso(
+        alloc,
+        automaton,
+        lasso.stem.as_slice(),
+        lasso.cycle.as_slice(),
+    )? {
+        None => Ok((Exit::Done, Vec::from_slice(alloc, b"yes\n")?)),
+        Some(fault) => Ok((Exit::No, no_text(alloc, fault, explain)?)),
+    }
+}
+
+/// `no`, with the fault on a line of its own, if that is asked for. 60 alone.
+fn no_text(alloc: Global, fault: LassoFault, explain: bool) -> Result<Vec<u8>, Refusal>
+    ensures text { IfOk result (λ text. text.items ≡ no_text explain fault) }
+    ensures memory { IsOkUnless result Refusal.Memory }
+{
+    let mut out = Vec::from_slice(alloc, b"no\n")?;
+    if explain {
+        write_lasso_fault(fault, &mut out)?;
+        out.extend_from_slice(b"\n")?;
+    }
+    Ok(out)
+}

@@ -1,0 +1,8 @@
+-- That a product accepts the words that both automata accept.
+pub mod Buchi
+pub mod Found
+pub mod Labels
+pub mod Lists
+pub mod Marks
+pub mod Meeting
+pub mod Transitions

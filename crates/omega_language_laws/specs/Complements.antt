@@ -1,0 +1,39 @@
+-- That a deterministic automaton and its complement part the words: each word is accepted by one of them, and by one
+-- alone (HOA v1, acceptance).
+use Rattle.std.specs.Prelude.{◌≡◌, ◌⊎◌, ℕ, ◌≤◌, Bool, false, IsTrue, Some}
+use Rattle.omega_text.specs.declared.refusal.automaton.AutomatonFault.{AutomatonFault}
+use Rattle.omega_text.specs.declared.refusal.automaton.AutomatonFault.TheVariants.{Expansion, TooDeep}
+use Rattle.omega_automaton.specs.Automaton.{Description, IsAutomaton}
+use Rattle.omega_automaton.specs.Faults.{automaton_fault_of}
+use Rattle.omega_runs.specs.Words.{IsAccepted}
+use Rattle.omega_raw.specs.declared.raw_automaton.RawAutomaton.{RawAutomaton}
+use Rattle.omega_complement.specs.Complement.{IsComplement, IsDeterministic}
+use Rattle.omega_complement.specs.Written.{IsWrittenComplement}
+
+-- no word is accepted by a deterministic automaton and by its complement
+abbrev pub ComplementsAreApart : Type 0
+ComplementsAreApart =
+    (a complement : Description) (word : ℕ → ℕ → Bool) → IsAutomaton a → IsDeterministic a → IsComplement a complement
+    → IsAccepted a word → IsAccepted complement word → ⊥
+
+-- a test passes for ever, or at last no more
+abbrev pub RecursOrCeases : (ℕ → Bool) → Type 0
+RecursOrCeases test = ((i : ℕ) → (j : ℕ) × (i ≤ j) × IsTrue (test j)) ⊎ ((from : ℕ) × ((j : ℕ) → from ≤ j → test j ≡ false))
+
+-- where each test is settled, as it is by the excluded middle, each word is accepted by a deterministic automaton or by
+-- its complement
+abbrev pub ComplementsCover : Type 0
+ComplementsCover =
+    ((test : ℕ → Bool) → RecursOrCeases test)
+    → (a complement : Description) (word : ℕ → ℕ → Bool) → IsAutomaton a → IsDeterministic a → IsComplement a complement
+    → IsAccepted a word ⊎ IsAccepted complement word
+
+-- what is written of the complement of an automaton within the limits has no fault but 32 and 33
+abbrev pub ComplementsAreWritable : Type 0
+ComplementsAreWritable =
+    (a : Description) (raw : RawAutomaton) (fault : AutomatonFault) → IsAutomaton a → IsDeterministic a → IsWrittenComplement a raw
+    → automaton_fault_of raw ≡ Some fault → (fault ≡ TooDeep) ⊎ (fault ≡ Expansion)
+
+-- an automaton has one complement
+abbrev pub ComplementsAreOne : Type 0
+ComplementsAreOne = (a one other : Description) → IsComplement a one → IsComplement a other → one ≡ other

@@ -1,2 +1,0 @@
--- Lemmas of `verify`.
-pub mod Refusals

@@ -1,0 +1,29 @@
+-- Which refusal of the search for a lasso applies: the least by number of 41 and 42, or want of memory.
+use Rattle.std.specs.Prelude.{◌≡◌, true, false}
+use Rattle.omega_text.specs.Cases.{never, or_memory, or_task}
+use Rattle.omega_text.specs.declared.refusal.Refusal.{Refusal}
+use Rattle.omega_text.specs.declared.refusal.task.TaskFault.{TaskFault}
+use Rattle.omega_text.specs.declared.refusal.task.TaskFault.TheVariants.{BadSolution, Budget, NotDeterministic, NotParity, TooLarge, TooManyPropositions, TooWide, UniversalBranch, UnknownNode}
+use Rattle.omega_automaton.specs.Automaton.{Description}
+use Rattle.omega_automaton.specs.Branching.{has_universal_branching}
+use Rattle.omega_runs.specs.Judging.{HasWideLabel}
+
+-- 41 does not apply: each start and each edge lists one state
+abbrev pub IsSearchable : Description → Type 0
+IsSearchable a = has_universal_branching a ≡ false
+
+-- 41 or 42: it applies, and no fault of a lesser number does; 42 only where a label mentions too many propositions
+abbrev pub IsSearchFault : Description → TaskFault → Type 0
+IsSearchFault a NotParity = ⊥
+IsSearchFault a UniversalBranch = has_universal_branching a ≡ true
+IsSearchFault a TooManyPropositions = (has_universal_branching a ≡ false) × HasWideLabel a
+IsSearchFault a TooWide = ⊥
+IsSearchFault a Budget = ⊥
+IsSearchFault a BadSolution = ⊥
+IsSearchFault a UnknownNode = ⊥
+IsSearchFault a TooLarge = ⊥
+IsSearchFault a (NotDeterministic state) = ⊥
+
+-- the refusal of the search
+abbrev pub IsSearchRefusal : Description → Refusal → Type 0
+IsSearchRefusal a = or_task (IsSearchFault a) (or_memory never)

@@ -1,0 +1,40 @@
+//! A lasso whose stem is no longer than its cycle asks for.
+ghost use Rattle.std.specs.Prelude.{◌≡◌, ◌-◌, ◌≤◌, ℕ, IfOk, IsOkUnless, drop, length};
+ghost use Rattle.omega_automaton.specs.Automaton.{Description};
+ghost use Rattle.omega_runs.specs.Lasso.{IsAcceptingLasso};
+ghost use Rattle.omega_runs.specs.Verdict.{IsVerdict};
+
+use omega_automaton::{Refusal, Seq};
+use omega_runs::Verdict;
+use std::alloc::Global;
+
+/// The lasso that enters its cycle where the stem first comes to it: the last edges that stem and cycle share are taken
+/// out of the stem, and the cycle begins with them. 60 alone. Linear.
+pub(crate) fn turned(alloc: Global, stem: &[u32], cycle: &[u32]) -> Result<Verdict, Refusal>
+    ensures verdict { (a : Description) → IsAcceptingLasso a stem.now cycle.now → IfOk result (IsVerdict a) }
+    ensures memory { IsOkUnless result Refusal.Memory }
+{
+    let shared = shared_end(stem, cycle);
+    let entry = cycle.len() - shared;
+    let mut around = Vec::from_slice(alloc, &cycle[entry..])?;
+    around.extend_from_slice(&cycle[..entry])?;
+    let before = Vec::from_slice(alloc, &stem[..stem.len() - shared])?;
+    Ok(Verdict::Lasso {
+        stem: Seq::from_vec(before),
+        cycle: Seq::from_vec(around),
+    })
+}
+
+/// With how many same numbers two lists end.
+fn shared_end(stem: &[u32], cycle: &[u32]) -> usize
+    ensures stem { result ≤ length stem.now }
+    ensures cycle { result ≤ length cycle.now }
+    ensures same { drop (length stem.now - result) stem.now ≡ drop (length cycle.now - result) cycle.now }
+{
+    let most = stem.len().min(cycle.len());
+    let mut shared = 0;
+    while shared < most && stem[stem.len() - shared - 1] == cycle[cycle.len() - shared - 1] {
+        shared += 1;
+    }
+    shared
+}

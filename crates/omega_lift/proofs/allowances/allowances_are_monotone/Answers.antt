@@ -1,6 +1,0 @@
--- Allowances grow with what they are towards.
-use Rattle.omega_lift.proofs.LeastMeasure.{allowance_is_monotone}
-use Rattle.omega_lift.proofs.allowances.allowances_are_monotone.Goals as goal
-
-pub returns : goal.returns
-returns c = allowance_is_monotone

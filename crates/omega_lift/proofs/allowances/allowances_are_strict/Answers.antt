@@ -1,6 +1,0 @@
--- Allowances grow strictly below top.
-use Rattle.omega_lift.proofs.LeastMeasure.{allowance_is_strict}
-use Rattle.omega_lift.proofs.allowances.allowances_are_strict.Goals as goal
-
-pub returns : goal.returns
-returns c = allowance_is_strict

@@ -1,6 +1,0 @@
--- A measure suffices, or the allowance exceeds it.
-use Rattle.omega_lift.proofs.LeastMeasure.{allowance_exceeds}
-use Rattle.omega_lift.proofs.allowances.allowances_exceed.Goals as goal
-
-pub returns : goal.returns
-returns c = allowance_exceeds

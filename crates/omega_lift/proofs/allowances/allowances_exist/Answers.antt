@@ -1,6 +1,0 @@
--- There is an allowance.
-use Rattle.omega_lift.proofs.LeastMeasure.{least_sufficient_is}
-use Rattle.omega_lift.proofs.allowances.allowances_exist.Goals as goal
-
-pub returns : goal.returns
-returns c = λ player priorities p y m. (_, least_sufficient_is player priorities p y m)

@@ -1,6 +1,0 @@
--- The choices are a strategy.
-use Rattle.omega_lift.proofs.Choosing.{choices_strategy}
-use Rattle.omega_lift.proofs.answers.choices_are_a_strategy.Goals as goal
-
-pub returns : goal.returns
-returns c = choices_strategy

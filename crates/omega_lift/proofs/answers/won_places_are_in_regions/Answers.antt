@@ -1,6 +1,0 @@
--- A place below top is in the region.
-use Rattle.omega_lift.proofs.Won.{won_in_region}
-use Rattle.omega_lift.proofs.answers.won_places_are_in_regions.Goals as goal
-
-pub returns : goal.returns
-returns c = won_in_region

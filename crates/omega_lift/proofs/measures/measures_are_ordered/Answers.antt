@@ -1,6 +1,0 @@
--- The order of measures is total.
-use Rattle.omega_lift.proofs.Order.{compare_total}
-use Rattle.omega_lift.proofs.measures.measures_are_ordered.Goals as goal
-
-pub returns : goal.returns
-returns c = compare_total

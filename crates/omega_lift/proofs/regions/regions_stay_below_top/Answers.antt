@@ -1,6 +1,0 @@
--- Regions stay below top.
-use Rattle.omega_lift.proofs.Witness.{region_stays_below_top}
-use Rattle.omega_lift.proofs.regions.regions_stay_below_top.Goals as goal
-
-pub returns : goal.returns
-returns c = region_stays_below_top

@@ -1,2 +1,0 @@
--- What holds of automata together: what public contracts cite.
-pub mod Laws

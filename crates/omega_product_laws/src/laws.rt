@@ -1,9 +1,0 @@
-//! Laws of products: each call does nothing and states one law.
-
-ghost use Rattle.omega_product_laws.specs.Laws.{ProductsMeet};
-
-/// The product of two automata without universal branching accepts a word over the names of both exactly if each
-/// accepts its part of the word.
-pub fn products_meet()
-    ensures { ProductsMeet }
-{}

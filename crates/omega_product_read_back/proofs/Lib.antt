@@ -1,2 +1,0 @@
-pub mod Quotable
-pub mod ReadBack

@@ -1,3 +1,0 @@
--- Canonical texts of streams: the tokens of each automaton before those of the next.
-pub mod Behind
-pub mod ReadBack

@@ -1,0 +1,49 @@
+ghost use Rattle.std.specs.Prelude.{◌≡◌, ◌<◌, None, Some, length, IfNone, IfSome, slice_index_or};
+ghost use Rattle.omega_automaton.specs.Automaton.{edge_at};
+ghost use Rattle.omega_automaton.specs.declared.edge.Edge.{Edge};
+ghost use Rattle.omega_runs.specs.Words.{index_in};
+ghost use Rattle.omega_runs.specs.Places.{ArePlaces};
+
+use crate::place::EdgePlace;
+use omega_automaton::{Automaton, State};
+
+/// An edge by its state and its place there.
+#[derive(Clone, Copy)]
+pub struct FoundEdge<'a> {
+    /// The state that it leaves.
+    pub state: &'a State,
+    /// Its place among the edges of the state, from 0.
+    pub index: usize,
+}
+
+/// The edge of a number, if there is one, by the places of all edges.
+pub fn edge_of<'a>(
+    automaton: &'a Automaton,
+    places: &[EdgePlace],
+    number: u32,
+) -> Option<FoundEdge<'a>>
+    requires { ArePlaces automaton.now places.now }
+    ensures index { IfSome result (λ found. found.index ≡ index_in automaton.now.defined number) }
+    ensures within { IfSome result (λ found. found.index < length found.state.now.edges) }
+    ensures edge { IfSome result (λ found. (d : Edge) → edge_at automaton.now number ≡ Some (record { source = found.state.now; edge = slice_index_or found.state.now.edges found.index d })) }
+    ensures none { IfNone result (edge_at automaton.now number ≡ None) }
+{
+    let at = number as usize;
+    if at >= places.len() {
+        return None;
+    }
+    let place = places[at];
+    let state = state_at(automaton.defined(), place.state);
+    Some(FoundEdge {
+        state,
+        index: place.index,
+    })
+}
+
+/// The state at a place.
+fn state_at(states: &[State], at: usize) -> &State
+    requires { at < length states.now }
+    ensures { result.now ≡ slice_index_or states.now at result.now }
+{
+    &states[at]
+}

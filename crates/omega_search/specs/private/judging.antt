@@ -1,2 +1,0 @@
--- What only the private contracts of the judge cite.
-pub mod Judging

@@ -1,0 +1,24 @@
+-- `append_sizes`: its parts stand one after the other.
+use Rattle.std.proofs.Common.{◌++◌, ap, codes, length, ◌∙◌}
+use Rattle.omega_acc.specs.Writing.{acc_text}
+use Rattle.omega_canon.proofs.Lines.{following}
+use Rattle.omega_stream_answers.specs.Show.{count_text}
+use Rattle.omega_stream_answers.proofs.show.append_sizes.Goals as goal
+
+pub returns-clause-text : goal.returns-clause-text
+returns-clause-text c =
+    let a = c.args.automaton.now in
+    let before = c.args.out.now.items in
+    let first = c.append_count.new.out.items in
+    let second = c.append_count-2.new.out.items in
+    let third = c.append_count-3.new.out.items in
+    let fourth = c.append_count-4.new.out.items in
+    following before (count_text (codes "automaton states ") a.states) _
+    (c.in_ok-append_count.ensures.text ∙ ap (λ count. before ++ count_text (codes "automaton states ") count) c.state_count.ensures)
+    (following first (count_text (codes " edges ") _) _
+    (c.in_ok-append_count-2.ensures.text ∙ ap (λ count. first ++ count_text (codes " edges ") count) c.edge_count.ensures)
+    (following second (count_text (codes " propositions ") (length a.propositions)) _
+    (c.in_ok-append_count-3.ensures.text ∙ ap (λ names. second ++ count_text (codes " propositions ") (length names)) c.propositions.ensures)
+    (following third (count_text (codes " sets ") a.sets) (codes " acceptance " ++ (acc_text a.acceptance).bytes)
+    (c.in_ok-append_count-4.ensures.text ∙ ap (λ count. third ++ count_text (codes " sets ") count) c.set_count.ensures)
+    (c.in_ok-append_acceptance.ensures.text ∙ ap (λ formula. fourth ++ (codes " acceptance " ++ (acc_text formula).bytes)) c.acceptance.ensures))))

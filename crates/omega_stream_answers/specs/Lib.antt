@@ -1,0 +1,4 @@
+-- What `check`, `show` and `canon` answer to streams of automata.
+pub mod Canon
+pub mod Check
+pub mod Show

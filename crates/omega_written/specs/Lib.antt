@@ -1,7 +1,0 @@
--- What automata that are made of others share: what contracts cite.
-pub use Rattle.omega_text.specs.Cases
-pub use Rattle.omega_text.specs.Refusal
-pub mod Labels
-pub mod Names
-pub mod Fitting
-pub mod Limits
