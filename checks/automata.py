@@ -5,7 +5,9 @@ Nothing here is quick, and nothing is shared with the program.
 """
 import re
 import sys
+from collections.abc import Callable
 from dataclasses import dataclass, field
+from typing import Any
 
 from games import MOST_NUMBER, WHITE, Refused
 
@@ -24,11 +26,11 @@ class Token:
     text: bytes
     place: int
 
-    def number(self):
+    def number(self) -> int:
         return int(self.text)
 
 
-def comment_end(text, place):
+def comment_end(text: bytes, place: int) -> int | None:
     """The place after the comment that begins at a place, none where it has no end."""
     depth = 0
     while place < len(text):
@@ -44,7 +46,7 @@ def comment_end(text, place):
     return None
 
 
-def next_place(text, place):
+def next_place(text: bytes, place: int) -> int:
     """Where white space and comments from a place on end; refused 1 at a comment without end."""
     while place < len(text):
         if text[place] in WHITE:
@@ -59,7 +61,7 @@ def next_place(text, place):
     return place
 
 
-def token_at(text, place):
+def token_at(text: bytes, place: int) -> Token:
     """The longest token at a place; refused 1 or 2 where there is none."""
     word = WORD.match(text, place)
     if word:
@@ -78,7 +80,7 @@ def token_at(text, place):
     return Token(kind, found, place)
 
 
-def tokens_of(text):
+def tokens_of(text: bytes) -> tuple[list[Token], Refused | None]:
     """The tokens of a text before its first fault of tokens, and that fault or none."""
     found, place = [], 0
     try:
@@ -92,50 +94,57 @@ def tokens_of(text):
 
 # Expressions are tuples: ("t",), ("f",), ("number", n), ("alias", name), ("atom", word, negated, set), ("!", x),
 # ("&", x, y), ("|", x, y), ("()", x).
+Tree = tuple[Any, ...]
+# What reads an atom, given what reads a whole operand.
+Atom = Callable[[Callable[[], Tree]], Tree]
+# Depth, tree nodes and tree of an expression.
+Measured = tuple[int, int, Tree]
+
 
 class Reader:
     """Goes over the tokens of one segment; refused 3 at the first that can't stand where it stands."""
 
-    def __init__(self, tokens):
+    def __init__(self, tokens: list[Token]) -> None:
         self.tokens, self.next = tokens, 0
 
-    def look(self):
+    def look(self) -> Token:
         return self.tokens[self.next]
 
-    def sees(self, *kinds):
+    def sees(self, *kinds: str) -> bool:
         return self.look().kind in kinds
 
-    def sees_text(self, *texts):
+    def sees_text(self, *texts: bytes) -> bool:
         return self.look().text in texts
 
-    def take(self, *kinds):
+    def take(self, *kinds: str) -> Token:
         if not self.sees(*kinds):
             raise Refused(f"3 Syntax at {self.look().place}")
         self.next += 1
         return self.tokens[self.next - 1]
 
-    def take_text(self, *texts):
+    def take_text(self, *texts: bytes) -> Token:
         if not self.sees_text(*texts):
             raise Refused(f"3 Syntax at {self.look().place}")
         self.next += 1
         return self.tokens[self.next - 1]
 
-    def many(self, *kinds):
+    def many(self, *kinds: str) -> list[Token]:
         found = []
         while self.sees(*kinds):
             found.append(self.take(*kinds))
         return found
 
-    def joined(self, operator, part):
+    def joined(self, operator: bytes, part: Callable[[], Tree]) -> Tree:
         found = part()
         while self.sees_text(operator):
             self.take_text(operator)
             found = (operator.decode(), found, part())
         return found
 
-    def expression(self, atom):
-        """An expression; the depth of parentheses is that of Python's stack, so hostile texts have checks of their own."""
-        def unary():
+    def expression(self, atom: Atom) -> Tree:
+        """An expression; the depth of parentheses is that of Python's stack, so hostile texts have checks of their
+        own."""
+        def unary() -> Tree:
             if self.sees_text(b"("):
                 self.take_text(b"(")
                 inner = self.expression(atom)
@@ -144,8 +153,8 @@ class Reader:
             return atom(unary)
         return self.joined(b"|", lambda: self.joined(b"&", unary))
 
-    def label(self):
-        def atom(unary):
+    def label(self) -> Tree:
+        def atom(unary: Callable[[], Tree]) -> Tree:
             if self.sees_text(b"!"):
                 self.take_text(b"!")
                 return ("!", unary())
@@ -155,8 +164,8 @@ class Reader:
             return ("number", token.number()) if token.kind == "number" else ("alias", token.text)
         return self.expression(atom)
 
-    def acceptance(self):
-        def atom(_unary):
+    def acceptance(self) -> Tree:
+        def atom(_unary: Callable[[], Tree]) -> Tree:
             token = self.take("boolean", "identifier")
             if token.kind == "boolean":
                 return (token.text.decode(),)
@@ -169,14 +178,14 @@ class Reader:
             return ("atom", token.text, negated, number)
         return self.expression(atom)
 
-    def states(self):
+    def states(self) -> list[int]:
         found = [self.take("number").number()]
         while self.sees_text(b"&"):
             self.take_text(b"&")
             found.append(self.take("number").number())
         return found
 
-    def bracketed(self):
+    def bracketed(self) -> Tree | None:
         if not self.sees_text(b"["):
             return None
         self.take_text(b"[")
@@ -184,7 +193,7 @@ class Reader:
         self.take_text(b"]")
         return found
 
-    def braced(self):
+    def braced(self) -> list[int]:
         if not self.sees_text(b"{"):
             return []
         self.take_text(b"{")
@@ -195,35 +204,35 @@ class Reader:
 
 @dataclass
 class Edge:
-    label: tuple
-    targets: list
-    marks: list
+    label: Tree | None
+    targets: list[int]
+    marks: list[int]
 
 
 @dataclass
 class State:
-    label: tuple
+    label: Tree | None
     number: int
-    name: bytes
-    marks: list
-    edges: list
+    name: bytes | None
+    marks: list[int]
+    edges: list[Edge]
 
 
 @dataclass
 class Automaton:
     """An automaton as it is written, and what it means where it has no fault."""
     version: bytes
-    items: list = field(default_factory=list)
-    states: list = field(default_factory=list)
+    items: list[tuple[bytes, Any]] = field(default_factory=list)
+    states: list[State] = field(default_factory=list)
 
-    def said(self, name):
+    def said(self, name: bytes) -> list[Any]:
         return [value for header, value in self.items if header == name]
 
-    def first(self, name, other):
+    def first(self, name: bytes, other: Any) -> Any:
         return (self.said(name) + [other])[0]
 
 
-def read_item(reader):
+def read_item(reader: Reader) -> tuple[bytes, Any]:
     name = reader.take("header").text
     if name in (b"HOA:", b"State:"):
         raise Refused(f"3 Syntax at {reader.tokens[reader.next - 1].place}")
@@ -241,8 +250,8 @@ def read_item(reader):
         first = reader.take("identifier")
         return name, [token.text for token in [first, *reader.many("boolean", "number", "identifier")]]
     if name == b"tool:":
-        first = reader.take("string").text
-        return name, [first] + [reader.take("string").text for _ in range(reader.sees("string"))]
+        tool = reader.take("string").text
+        return name, [tool] + [reader.take("string").text for _ in range(reader.sees("string"))]
     if name == b"name:":
         return name, [reader.take("string").text]
     if name == b"properties:":
@@ -250,7 +259,7 @@ def read_item(reader):
     return b"unknown", (name, [token.text for token in reader.many("boolean", "number", "string", "identifier")])
 
 
-def read_state(reader):
+def read_state(reader: Reader) -> State:
     reader.take_text(b"State:")
     label, number = reader.bracketed(), reader.take("number").number()
     name = reader.take("string").text if reader.sees("string") else None
@@ -260,7 +269,7 @@ def read_state(reader):
     return State(label, number, name, marks, edges)
 
 
-def read_segment(tokens):
+def read_segment(tokens: list[Token]) -> Automaton:
     """The automaton that the tokens from `HOA:` to `--END--` write; refused 3."""
     reader = Reader(tokens)
     reader.take_text(b"HOA:")
@@ -274,7 +283,7 @@ def read_segment(tokens):
     return automaton
 
 
-def leaves(expression):
+def leaves(expression: Tree) -> list[Tree]:
     if expression[0] in ("()", "!", "&", "|"):
         return [leaf for part in expression[1:] for leaf in leaves(part)]
     return [expression]
@@ -283,28 +292,36 @@ def leaves(expression):
 class Aliases:
     """What each alias means: depth, tree nodes and tree, or none where one before it is missing."""
 
-    def __init__(self, definitions):
-        self.known, self.wrong, self.measures = {}, False, []
+    def __init__(self, definitions: list[tuple[bytes, Tree]]) -> None:
+        self.known: dict[bytes, Measured | None] = {}
+        self.wrong, self.measures = False, list[Measured | None]()
         for name, body in definitions:
             measured = self.measure(body)
             self.wrong = self.wrong or name in self.known or measured is None
             self.measures.append(measured)
             self.known.setdefault(name, measured)
 
-    def measure(self, expression):
+    def measure(self, expression: Tree) -> Measured | None:
         if expression[0] == "alias":
             meant = self.known.get(expression[1])
             return meant and (meant[0] + 1, meant[1], meant[2])
-        parts = [self.measure(part) for part in expression[1:]] if expression[0] in ("()", "!", "&", "|") else []
-        if None in parts:
+        measured = [self.measure(part) for part in expression[1:]] if expression[0] in ("()", "!", "&", "|") else []
+        parts = [part for part in measured if part]
+        if len(parts) < len(measured):
             return None
         depth, size = 1 + max([part[0] for part in parts], default=0), sum(part[1] for part in parts)
         if expression[0] == "()":
             return depth, size, parts[0][2]
         return depth, size + 1, (expression[0], *[part[2] for part in parts]) if parts else expression
 
+    def tree_of(self, expression: Tree) -> Tree:
+        """The tree of an expression of an automaton without fault."""
+        measured = self.measure(expression)
+        assert measured, "an alias is missing"
+        return measured[2]
 
-def count_of_states(automaton):
+
+def count_of_states(automaton: Automaton) -> tuple[int, list[int]]:
     mentioned = [state for states in automaton.said(b"Start:") for state in states]
     for state in automaton.states:
         mentioned += [state.number] + [target for edge in state.edges for target in edge.targets]
@@ -312,18 +329,19 @@ def count_of_states(automaton):
     return counted, mentioned
 
 
-def labels_of(automaton):
+def labels_of(automaton: Automaton) -> list[Tree]:
     written = [label for state in automaton.states for label in [state.label, *[edge.label for edge in state.edges]]]
     return [label for label in written if label is not None]
 
 
-def faults_of(automaton):
+def faults_of(automaton: Automaton) -> list[tuple[str, bool]]:
     """Each meaning fault with whether it applies, by its number."""
     once = (b"States:", b"AP:", b"Acceptance:", b"acc-name:", b"tool:", b"name:")
     states, mentioned = count_of_states(automaton)
     sets, formula = automaton.first(b"Acceptance:", (0, ("t",)))
     stated, names = automaton.first(b"AP:", (0, []))
-    marks = [mark for state in automaton.states for held in [state, *state.edges] for mark in held.marks]
+    marks = [mark for state in automaton.states
+             for marks in [state.marks, *[edge.marks for edge in state.edges]] for mark in marks]
     atoms = [leaf for _, written in automaton.said(b"Acceptance:") for leaf in leaves(written) if leaf[0] == "atom"]
     definitions, labels = automaton.said(b"Alias:"), labels_of(automaton)
     numbers = [leaf[1] for label in [*labels, *[body for _, body in definitions]] for leaf in leaves(label)
@@ -331,6 +349,7 @@ def faults_of(automaton):
     aliases = Aliases(definitions)
     measures = [aliases.measure(label) for label in labels]
     known = [measured for measured in measures + aliases.measures if measured]
+    of_formula = aliases.measure(formula)
     labelled = [[edge.label is not None for edge in state.edges] for state in automaton.states]
     return [
         ("20 Version", automaton.version != b"v1"),
@@ -345,16 +364,16 @@ def faults_of(automaton):
         ("28 StateTwice", len({state.number for state in automaton.states}) < len(automaton.states)),
         ("29 MixedLabels", any(any(has) and (state.label is not None or not all(has))
                                for state, has in zip(automaton.states, labelled))),
-        ("30 ImplicitCount", any(state.label is None and has and not any(has) and len(has) != 2 ** stated
+        ("30 ImplicitCount", any(state.label is None and has != [] and not any(has) and len(has) != 2 ** stated
                                  for state, has in zip(automaton.states, labelled))),
         ("31 AcceptanceAtom", any(atom[1] not in (b"Fin", b"Inf") for atom in atoms)),
-        ("32 TooDeep", any(measured[0] > MOST_DEPTH for measured in known + [aliases.measure(formula)])),
+        ("32 TooDeep", any(measured and measured[0] > MOST_DEPTH for measured in [*known, of_formula])),
         ("33 Expansion", any(measured[1] > MOST_SIZE for measured in known)
          or sum(measured[1] for measured in measures if measured) > MOST_TOTAL_SIZE),
     ]
 
 
-def judged(automaton):
+def judged(automaton: Automaton) -> Automaton:
     """The automaton; refused by its least fault."""
     for fault, applies in faults_of(automaton):
         if applies:
@@ -362,10 +381,11 @@ def judged(automaton):
     return automaton
 
 
-def read_stream(text):
+def read_stream(text: bytes) -> list[Automaton | None]:
     """The items of a stream, none for an aborted one; refused by the first segment or token that is at fault."""
     tokens, fault = tokens_of(text)
-    items, segment = [], None
+    items: list[Automaton | None] = []
+    segment: list[Token] | None = None
     for token in tokens:
         if segment is None:
             if token.text != b"HOA:":
@@ -385,7 +405,7 @@ def read_stream(text):
     return items
 
 
-def read_one(text):
+def read_one(text: bytes) -> Automaton:
     """The automaton of a text that holds one segment and nothing else."""
     tokens, fault = tokens_of(text)
     if fault:
@@ -406,23 +426,23 @@ def read_one(text):
 BINDS = {"|": 1, "&": 2, "!": 3}
 
 
-def binds(expression):
+def binds(expression: Tree) -> int:
     return BINDS.get(expression[0], 4)
 
 
-def bare(expression):
+def bare(expression: Tree) -> Tree:
     """The tree of an expression without its parentheses, where no alias stands in it."""
     if expression[0] == "()":
         return bare(expression[1])
     return (expression[0], *[bare(part) for part in expression[1:]]) if expression[0] in BINDS else expression
 
 
-def part_of(part, least):
+def part_of(part: Tree, least: int) -> bytes:
     """A part of an operator, in parentheses where it binds less tightly than is needed."""
     return written(part) if binds(part) >= least else b"(" + written(part) + b")"
 
 
-def written(tree):
+def written(tree: Tree) -> bytes:
     """The canonical text of a tree."""
     if tree[0] == "number":
         return b"%d" % tree[1]
@@ -435,17 +455,17 @@ def written(tree):
     return part_of(tree[1], binds(tree)) + tree[0].encode() + part_of(tree[2], binds(tree) + 1)
 
 
-def canonical(automaton):
+def canonical(automaton: Automaton) -> bytes:
     """The canonical text of an automaton without fault."""
     aliases = Aliases(automaton.said(b"Alias:"))
 
-    def labelled(label):
-        return [] if label is None else [b"[" + written(aliases.measure(label)[2]) + b"]"]
+    def labelled(label: Tree | None) -> list[bytes]:
+        return [] if label is None else [b"[" + written(aliases.tree_of(label)) + b"]"]
 
-    def marked(marks):
+    def marked(marks: list[int]) -> list[bytes]:
         return [b"{" + b" ".join(b"%d" % mark for mark in sorted(set(marks))) + b"}"] if marks else []
 
-    def joined(states):
+    def joined(states: list[int]) -> bytes:
         return b"&".join(b"%d" % state for state in states)
 
     sets, formula = automaton.first(b"Acceptance:", None)
@@ -469,7 +489,7 @@ def canonical(automaton):
     return b"".join(b" ".join(line) + b"\n" for line in lines)
 
 
-def shown_items(items):
+def shown_items(items: list[Automaton | None]) -> bytes:
     """What `show` writes of the items of a stream."""
     lines = []
     for number, automaton in enumerate(items):
@@ -483,6 +503,6 @@ def shown_items(items):
     return b"".join(lines)
 
 
-def canonical_stream(items):
+def canonical_stream(items: list[Automaton | None]) -> bytes:
     """What `canon` writes of the items of a stream."""
     return b"".join(canonical(automaton) for automaton in items if automaton is not None)

@@ -6,18 +6,22 @@
 
 A promise of a subcommand is the rows of `Answers` (crates/omega_run/specs/Respond.antt) for what the subcommand asks
 for. From the words of these rows the definitions are followed, each to the words of its body, as the
-`use` lines of its file lead. A file stands after the files that it cites.
+`use` lines of its file lead. A file stands after the files that it cites. A line of a specs file that has none of the
+forms below is an error, with its file and number.
 """
 import glob
 import os
 import re
 import sys
+from collections.abc import Callable, Iterable, Iterator
 from dataclasses import dataclass, field
 
-from program import ROOT
+from program import ROOT, Cases
 
 PAGE = os.path.join("docs", "believe.md")
 RESPOND = "omega_run.specs.Respond"
+# What one text is answered, and what the texts of a file and of the input are.
+TABLES = ("Answers", "AnswersBeside")
 HEADLINE = ("omega_solve.specs.Headline", "Headline")
 
 # Each promise, with the beginnings of the rows that are its own.
@@ -41,8 +45,17 @@ COMMANDS = {
     "draw --format hoa": ("Draw Hoa", "DrawLasso"),
 }
 
-USE = re.compile(r"(?:ghost )?use Rattle\.([\w.]+?)(?:\.\{([^}]*)\}| as (\w+));?$")
-FORM = re.compile(r"(?:(?:abbrev|unfoldable|pub|record|data)\s+)*([^\s(:]+)")
+# The forms of the lines that begin at the left edge, beside comments: what is used, by names or by a short name of its
+# module; what a library hands on, and its parts; a declaration; a case of a definition, which begins with its name; and
+# the end of a record. All other lines are indented and belong to the definition above them.
+USE = re.compile(r"(?:ghost )?use (?:Rattle\.|mathlib\.)([\w.]+?)(?:\.\{([^}]*)\}| as (\w+));?$")
+LISTED = re.compile(r"pub use Rattle\.[\w.]+$|pub mod \w+$")
+DECLARED = re.compile(r"(?:(?:abbrev |unfoldable )?pub (?:record |data )?|(?=[^\s(:{]+ :))([^\s(:{]+)"
+                      r"(?: [({].*[)}])?(?: :(?: |$)|$)")
+CASE = re.compile(r"([^\s(:{]+)(?: .*)? =(?: |$)")
+END = "}"
+# A constructor of a definition of data.
+PART = re.compile(r"  (?:pub )?([^\s:(]+)\s*:")
 WORD = re.compile(r"[^\s(){}\[\],;:=λ×→↔¬⊎]+")
 
 
@@ -52,16 +65,18 @@ A proof shows that the code does what the definitions say. It does not show that
 that is for a reader to judge. This page counts what such a reader has to read, promise by promise. It is made from
 the sources by `checks/believing.py`, and `checks/run pages` fails where it is no longer true.
 
-The promise of a subcommand is its rows of the table `Answers` in `crates/omega_run/specs/Respond.antt`: a row says
-what is written, and when nothing is written and which refusal comes. The definitions that these rows cite, and those
+The promise of a subcommand is its rows of the tables `Answers` and `AnswersBeside` in
+`crates/omega_run/specs/Respond.antt`, the second of which has what reads a file beside the input. A row says what is
+written, and when nothing is written and which refusal comes. The definitions that these rows cite, and those
 that they cite in turn, are all that the promise rests on. A line is a line of a definition or of its comment; `use`
 lines are not counted. The promises share most of their definitions: whoever has read one of them has read the greater
 part of the next.
 
 """
 
-BEHIND = """The last row but one is the contract of `read_words`, by which the words of the command line say what is to be done.
-The last is that of `obey`, which is all that the program does once its words are read: it contains every subcommand, the exit statuses, the lines of refusals, progress, and streams that fail.
+BEHIND = """The last row but one is the contract of `read_words`, by which the words of the command line say what is to
+be done. The last is that of `obey`, which is all that the program does once its words are read: it contains every
+subcommand, the exit statuses, the lines of refusals, progress, and streams that fail.
 
 **How to read one.** Each section below lists the files of `crates/CRATE/specs/` in an order in which nothing is cited
 before it was read, and how many lines of each file are needed. `checks/believing.py check --format pg` prints just
@@ -71,7 +86,7 @@ leads from each promise to its clause.
 
 **What lies outside**, and has to be trusted or is tested:
 
-- the toolchain that `omega --version` names: its prover, its compiler, its standard library with the words that
+- the toolchain: its prover, its compiler, its standard library with the words that
   contracts cite (`List`, `Option`, numbers), and the crates `clap`, `indexmap`, `itoa`, `smallvec` and `thiserror`
   with their contracts;
 - that the definitions of `clap` for what it makes of words (`subcommand_of`, `fault_of`) are what one expects of a
@@ -84,45 +99,79 @@ leads from each promise to its clause.
 """
 
 
+# A module and a name of it; and what is cited: a definition of the repository, or a type that the code declares.
+Place = tuple[str, str]
+Rows = tuple[str, ...]
+
+
+class NotUnderstood(ValueError):
+    """A line of a file that has no form that is known here."""
+
+    def __init__(self, file: str, number: int, line: str) -> None:
+        super().__init__(f"{file}:{number}: this line is not understood: {line}")
+
+
 @dataclass
 class Definition:
     """A definition with its comment: where it stands, its lines, and the names that it may cite."""
 
     module: str
     name: str
-    comment: list
-    lines: list
+    # The number of the first line.
+    begins: int
+    comment: list[str]
+    lines: list[str]
     names: "Names"
 
-    def size(self):
+    def not_understood(self, index: int) -> NotUnderstood:
+        return NotUnderstood(file_of(self.module), self.begins + index, self.lines[index])
+
+    def size(self) -> int:
         return sum(1 for line in [*self.comment, *self.lines] if line.strip())
 
-    def words(self, only=None):
+    def words(self, only: Rows | None = None) -> list[str]:
         """The words of its body; where rows are asked for, those of the rows for these arguments."""
         lines = self.lines if only is None else self.rows(only)
         return [word.rstrip(".") for line in lines for word in WORD.findall(line.split(" -- ")[0])]
 
-    def rows(self, arguments):
+    def rows(self, arguments: Rows) -> list[str]:
         """The rows of a definition by cases whose first argument begins so, without their left sides."""
         rows, is_wanted = [], False
-        for line in self.lines:
-            begun = re.match(rf"{re.escape(self.name)} (?:\(([^)]*)\)|(\S+)) .*?=(.*)", line)
+        for index, line in enumerate(self.lines):
+            begun = self.row_at(index)
             if begun:
-                argument = begun.group(1) or begun.group(2)
-                is_wanted = any(f"{argument} ".startswith(f"{one} ") for one in arguments)
+                is_wanted = begins_with_one(begun[0], arguments)
             if is_wanted:
-                rows.append(begun.group(3) if begun else line)
+                rows.append(begun[1] if begun else line)
         return rows
+
+    def row_at(self, index: int) -> tuple[str, str] | None:
+        """The first argument of a row and what stands behind its `=`, or nothing where a line begins no row."""
+        line = self.lines[index]
+        if not line.startswith(f"{self.name} "):
+            return None
+        begun = re.match(r"(?:\(([^()]*)\)|([^\s()]+)) .*?=(.*)", line[len(self.name) + 1:])
+        if not begun:
+            raise self.not_understood(index)
+        return begun.group(1) or begun.group(2), begun.group(3)
+
+
+Believed = Definition | Place
+
+
+def begins_with_one(argument: str, beginnings: Rows) -> bool:
+    """Whether an argument begins with one of these, word by word."""
+    return any(f"{argument} ".startswith(f"{one} ") for one in beginnings)
 
 
 @dataclass
 class Names:
     """What the `use` lines of a file give: a module and a name for each name, and a module for each short name."""
 
-    given: dict = field(default_factory=dict)
-    short: dict = field(default_factory=dict)
+    given: dict[str, Place] = field(default_factory=dict)
+    short: dict[str, str] = field(default_factory=dict)
 
-    def take(self, line):
+    def take(self, line: str) -> None:
         found = USE.match(line.strip())
         if found and found.group(3):
             self.short[found.group(3)] = found.group(1)
@@ -132,7 +181,7 @@ class Names:
                 if theirs:
                     self.given[ours.strip() or theirs] = (found.group(1), theirs)
 
-    def place_of(self, module, word):
+    def place_of(self, module: str, word: str) -> Place:
         """The module and the name that a word stands for."""
         front, _, behind = word.partition(".")
         if behind and front in self.short:
@@ -140,49 +189,52 @@ class Names:
         return self.given.get(word, (module, word))
 
 
-def definitions_in(module, text):
+def definitions_in(module: str, text: str) -> list[Definition]:
     """The definitions of a file, each with the comment above it."""
-    names, held, comment, made = Names(), None, [], []
-    for line in text.split("\n"):
-        names.take(line)
+    names, made = Names(), list[Definition]()
+    held: Definition | None = None
+    comment: list[str] = []
+    for number, line in enumerate(text.split("\n"), 1):
+        declared, case = DECLARED.match(line), CASE.match(line)
         if line.startswith("--"):
             held, comment = None, [*comment, line]
-        elif not line.strip() or line.startswith(("use ", "pub mod ", "infix")):
-            held = held if line.startswith(" ") else None
-            comment = []
-        elif line.startswith((" ", "}")):
-            if held:
-                held.lines.append(line)
-        else:
-            name = FORM.match(line).group(1)
-            if held is None or held.name != name:
-                held = Definition(module, name, comment, [], names)
-                made.append(held)
+        elif not line.strip() or USE.match(line) or LISTED.match(line):
+            names.take(line)
+            held, comment = None, []
+        elif held and (line.startswith(" ") or line == END or case and case.group(1) == held.name):
             held.lines.append(line)
+        elif declared and not line.startswith(" "):
+            held = Definition(module, declared.group(1), number, comment, [line], names)
+            made.append(held)
             comment = []
+        else:
+            raise NotUnderstood(file_of(module), number, line)
     return made
 
 
-def module_of(path):
+def module_of(path: str) -> str:
     return os.path.relpath(path, os.path.join(ROOT, "crates"))[:-len(".antt")].replace(os.sep, ".")
 
 
-def file_of(module):
+def file_of(module: str) -> str:
     return f"crates/{module.replace('.', '/')}.antt"
 
 
 class Sources:
     """All definitions of the repository."""
 
-    def __init__(self):
-        self.held, self.parts = {}, {}
+    def __init__(self) -> None:
+        self.held: dict[Place, Definition] = {}
+        self.parts: dict[Place, Definition] = {}
         for path in sorted(glob.glob(os.path.join(ROOT, "crates", "*", "specs", "**", "*.antt"), recursive=True)):
             with open(path) as file:
                 for one in definitions_in(module_of(path), file.read()):
+                    if (one.module, one.name) in self.held:
+                        raise one.not_understood(0)
                     self.held[one.module, one.name] = one
                     self.parts |= {(one.module, part): one for part in parts_of(one)}
 
-    def cited(self, definition, only=None):
+    def cited(self, definition: Definition, only: Rows | None = None) -> Iterator[Believed]:
         """The definitions and the declared types that a definition cites."""
         for word in definition.words(only):
             place = definition.names.place_of(definition.module, word)
@@ -191,10 +243,13 @@ class Sources:
                 yield found
             elif ".specs.declared." in place[0]:
                 yield type_of(place[0])
+            elif not found and is_of_repository(place[0]) and place[0] != definition.module:
+                raise ValueError(f"{file_of(definition.module)}: {word} is used and is not in {file_of(place[0])}")
 
-    def reached(self, begun):
+    def reached(self, begun: Iterable[Believed]) -> list[Believed]:
         """All that is cited from these on."""
-        found, waiting = {}, list(begun)
+        found: dict[Place, Believed] = {}
+        waiting = list(begun)
         while waiting:
             one = waiting.pop()
             key = (one.module, one.name) if isinstance(one, Definition) else one
@@ -203,33 +258,44 @@ class Sources:
                 waiting += self.cited(one) if isinstance(one, Definition) else []
         return [one for one in found.values()]
 
-    def rows_cite(self, arguments):
-        """What the rows of the table cite for these commands."""
-        cited = list(self.cited(self.held[RESPOND, "Answers"], arguments))
+    def rows_cite(self, arguments: Rows) -> list[Believed]:
+        """What the rows of the two tables cite for these commands."""
+        cited = [one for table in TABLES for one in self.cited(self.held[RESPOND, table], arguments)]
         if not cited:
-            raise ValueError(f"Answers of {RESPOND} has no row for {arguments}")
+            raise ValueError(f"{RESPOND} has no row for {arguments}")
         return cited
 
 
-def parts_of(definition):
+def is_of_repository(module: str) -> bool:
+    """Whether a module is a specs file here: not the toolchain's, nor made by it from the code and its contracts."""
+    is_made = ".specs.declared." in module or ".specs.contracts." in module
+    return os.path.isdir(os.path.join(ROOT, "crates", crate_of(module))) and not is_made
+
+
+def parts_of(definition: Definition) -> Iterator[str]:
     """The constructors of a definition of data: whoever cites one cites the definition."""
-    for line in definition.lines[1:] if re.match(r"(pub )?data ", definition.lines[0]) else ():
-        found = re.match(r"\s+(?:pub )?([^\s:(]+)\s*:", line)
+    if not definition.lines[0].startswith(("pub data ", "data ")):
+        return
+    for index, line in enumerate(definition.lines[1:], 1):
+        found = PART.match(line)
         if found:
             yield found.group(1)
+        elif not line.startswith(("    ", "  -- ")):
+            raise definition.not_understood(index)
 
 
-def type_of(module):
+def type_of(module: str) -> Place:
     """A type that is declared in the code, by its module."""
     path = module.removesuffix(".TheVariants")
     return path, path.rpartition(".")[2]
 
 
-def placed_behind(items, cited):
+def placed_behind(items: set[str], cited: Callable[[str], set[str]]) -> list[str]:
     """The items in an order in which each stands after those that it cites."""
-    ordered, seen = [], set()
+    ordered: list[str] = []
+    seen: set[str] = set()
 
-    def put(item):
+    def put(item: str) -> None:
         if item not in seen:
             seen.add(item)
             for other in sorted(cited(item) & items):
@@ -241,18 +307,18 @@ def placed_behind(items, cited):
     return ordered
 
 
-def in_order(sources, believed):
+def in_order(sources: Sources, believed: list[Believed]) -> list[tuple[str, list[tuple[str, list[Definition]]]]]:
     """The definitions by their crates and files, each crate and each file after those that it cites."""
-    files = {}
+    files: dict[str, list[Definition]] = {}
     for one in believed:
         if isinstance(one, Definition):
             files.setdefault(one.module, []).append(one)
 
-    def below(module):
+    def below(module: str) -> set[str]:
         cited = [one for held in files[module] for one in sources.cited(held) if isinstance(one, Definition)]
         return {one.module for one in cited} - {module}
 
-    def crates_below(crate):
+    def crates_below(crate: str) -> set[str]:
         return {crate_of(other) for module in files if crate_of(module) == crate for other in below(module)} - {crate}
 
     crates = placed_behind({crate_of(module) for module in files}, crates_below)
@@ -260,48 +326,61 @@ def in_order(sources, believed):
     return [(crate, [(module, files[module]) for module in placed if crate_of(module) == crate]) for crate in crates]
 
 
-def crate_of(module):
+def crate_of(module: str) -> str:
     return module.partition(".")[0]
 
 
-def clause_words(path, function):
+def clause_words(path: str, function: str) -> Definition:
     """A definition that stands for the clauses of a function of the code."""
-    names, lines, is_inside = Names(), [], False
+    names, lines, begins = Names(), list[str](), 0
     with open(os.path.join(ROOT, path)) as file:
-        for line in file.read().split("\n"):
+        for number, line in enumerate(file.read().split("\n"), 1):
+            if line.startswith("ghost use ") and not USE.match(line):
+                raise NotUnderstood(path, number, line)
             names.take(line)
-            is_inside = is_inside or bool(re.match(rf"pub fn {function}\b", line))
-            if is_inside and line.startswith("{"):
-                break
-            if is_inside:
+            begins = begins or number * bool(re.match(rf"pub fn {function}\b", line))
+            if begins and line.startswith("{"):
+                return Definition("", function, begins, [], lines, names)
+            if begins:
                 lines.append(line)
-    return Definition("", function, [], lines, names)
+    raise ValueError(f"{path} has no function {function} whose body begins at the left edge")
 
 
-def promises(sources):
+def check_rows(answers: Definition) -> None:
+    """Each row of a table is one of a promise."""
+    known = tuple(one for arguments in COMMANDS.values() for one in arguments)
+    for index in range(len(answers.lines)):
+        row = answers.row_at(index)
+        if row and not begins_with_one(row[0], known):
+            raise answers.not_understood(index)
+
+
+def promises(sources: Sources) -> Iterator[tuple[str, list[Believed]]]:
     """Each promise with all that it rests on."""
+    for table in TABLES:
+        check_rows(sources.held[RESPOND, table])
     yield "the headline, `Headline` of `omega_solve`", sources.reached([sources.held[HEADLINE]])
     for label, arguments in COMMANDS.items():
         yield f"`omega {label}`", sources.reached(sources.rows_cite(arguments))
-    read_words = clause_words("crates/omega_words/src/words.rt", "read_words")
+    read_words = clause_words("crates/omega_command_line/src/words.rt", "read_words")
     yield "the words of the command line, `read_words`", sources.reached(sources.cited(read_words))
     obey = clause_words("crates/omega_run/src/obeying.rt", "obey")
     yield "the whole program, `obey`", sources.reached(sources.cited(obey))
 
 
-def types_in(believed):
+def types_in(believed: list[Believed]) -> list[str]:
     """The names of the types that are declared in the code of the repository."""
     declared = [one for one in believed if not isinstance(one, Definition)]
     return sorted({name for module, name in declared if os.path.exists(os.path.join(ROOT, "crates", crate_of(module)))})
 
 
-def sizes_of(believed):
+def sizes_of(believed: list[Believed]) -> tuple[int, int, int]:
     """How many definitions, lines and files."""
     held = [one for one in believed if isinstance(one, Definition)]
     return len(held), sum(one.size() for one in held), len({one.module for one in held})
 
 
-def section_of(sources, label, believed):
+def section_of(sources: Sources, label: str, believed: list[Believed]) -> Iterator[str]:
     """What is said of a promise: its files crate by crate, each with its lines."""
     definitions, lines, files = sizes_of(believed)
     yield f"## {label[0].upper() + label[1:]}\n\n{definitions} definitions, {lines:,} lines in {files} files:\n\n"
@@ -313,12 +392,12 @@ def section_of(sources, label, believed):
     yield f"\nTypes of the code: {types or 'none'}.\n\n"
 
 
-def unwrapped(text):
+def unwrapped(text: str) -> str:
     """The text with a line for each paragraph and for each item of a list."""
     return re.sub(r"(?<!\n)\n(?! *[-\n#]|\Z) *", " ", text)
 
 
-def page():
+def page() -> Iterator[str]:
     """The page, as it has to be."""
     sources = Sources()
     found = list(promises(sources))
@@ -332,7 +411,7 @@ def page():
         yield from section_of(sources, label, believed)
 
 
-def printed(wanted):
+def printed(wanted: str) -> Iterator[str]:
     """The definitions of a promise themselves, in the order of reading."""
     sources = Sources()
     for label, believed in promises(sources):
@@ -346,21 +425,29 @@ def printed(wanted):
     raise SystemExit(f"no promise has the name {wanted}")
 
 
-def believing_checks():
+def believing_checks() -> Cases:
     """That the page says what is so."""
     with open(os.path.join(ROOT, PAGE)) as file:
         came = file.read()
-    good = came == "".join(page())
+    try:
+        good = came == "".join(page())
+    except ValueError as why:
+        yield PAGE, str(why)
+        return
     yield PAGE, None if good else "the sources say something else: run checks/believing.py, and read what changed"
 
 
-def main():
+def main() -> None:
     if len(sys.argv) > 1:
         print("".join(printed(" ".join(sys.argv[1:]))), end="")
         return
+    made = "".join(page())
     with open(os.path.join(ROOT, PAGE), "w") as file:
-        file.write("".join(page()))
+        file.write(made)
 
 
 if __name__ == "__main__":
-    main()
+    try:
+        main()
+    except ValueError as why:
+        sys.exit(str(why))

@@ -1,5 +1,7 @@
-"""Every budget up to the lifts that are needed: refusal 51 and nothing written, or the whole answer."""
-from program import fault_of, refusal_fault
+"""Every budget up to what is needed, for the worked examples, dense games among them, and both players: refusal 51 and
+nothing written, or the whole answer.
+"""
+from program import Cases, fault_of, refusal_fault
 
 # Games, the solution text of each, and for each player the answer text after its count of lifts and the most that the
 # count may be.
@@ -17,11 +19,11 @@ ROWS = [
 ]
 
 
-def answer(player, lifts, lines):
+def answer(player: int, lifts: int, lines: bytes) -> bytes:
     return b"player %d lifts %d\n" % (player, lifts) + lines
 
 
-def least_budget(game, player, lines, bound):
+def least_budget(game: bytes, player: int, lines: bytes, bound: int) -> int | None:
     """The least budget within which the whole answer is written, with that many lifts; none if there is none."""
     for budget in range(bound + 1):
         words = ["solve", "--player", str(player), "--budget", str(budget)]
@@ -30,18 +32,20 @@ def least_budget(game, player, lines, bound):
     return None
 
 
-def player_checks(game, player, lines, bound):
+def player_checks(game: bytes, player: int, lines: bytes, bound: int) -> Cases:
     least = least_budget(game, player, lines, bound)
     label = f"player {player} of {game.decode()}"
     yield f"{label}: an answer within {bound} lifts", None if least is not None else "there is none"
-    for budget in range(bound + 2) if least is not None else ():
+    if least is None:
+        return
+    for budget in range(bound + 2):
         words = ["solve", "--player", str(player), "--budget", str(budget)]
         fault = (refusal_fault(words, game, "51 Budget", 3) if budget < least
                  else fault_of(words, game, 0, answer(player, least, lines)))
         yield f"{label} with budget {budget}", fault
 
 
-def budget_checks():
+def budget_checks() -> Cases:
     for game, solution, answers in ROWS:
         needed = []
         for player, (lines, bound) in enumerate(answers):

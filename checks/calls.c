@@ -109,7 +109,7 @@ static void run(size_t room) {
 static void version(void) {
     uint8_t *room = held("xxxxxxxx", 8);
     size_t length = omega_version(room, 5);
-    WANT(length == 5 && memcmp(room, "1.4.0xxx", 8) == 0);
+    WANT(length == 5 && memcmp(room, "1.5.0xxx", 8) == 0);
     WANT(omega_version(room, 0) == 5);
 }
 

@@ -1,12 +1,20 @@
-"""Public calls of the libraries, each with every request for memory refused in turn: an answer as with ample memory, or 60.
+"""Single public calls of the libraries, with every request for memory refused as in *memory*: each that may answer 60
+returns what it does with ample memory, or 60. What a call promises to leave as it was is tried after a refused request.
+Calls that are said to request no memory run with none left, and request none.
 
 The program `omega_calls` makes one call a run. It asks some calls a second time where a request was refused, and ends
-with status 61 where they left something changed that they promise to leave as it was."""
+with status 61 where they left something changed that they promise to leave as it was: `write_number`, `write_label` and
+`write_acc` their vector; `Aliases::add`, `GameBuilder::add_node`, `add_successor` and `set_name`, `RawEdges::push` and
+`Numbers::push` what they add to; `Stream::feed` the stream and the items, so that the piece fed again gives the items
+of the whole text. The calls that request no memory are those of `docs/promises.md`, *Safe and total*; those of tables
+and schedules are made by a solver over each of them.
+"""
 import os
 import subprocess
+from functools import partial
 
 from memory import (ABORTED, ALIASES, BUCHI, CARRY, CHOICE, DENSE, GAPS, TWO, TWO_SETS, WRITTEN, Shimmed, shim)
-from program import ROOT, shown
+from program import ROOT, Cases, Fault, Left, shown
 
 CRATE = os.path.join(ROOT, "crates", "omega_calls")
 CALLS = os.path.join(CRATE, "out", "omega_calls")
@@ -23,7 +31,7 @@ STREAM = ABORTED + b" " + BUCHI + WRITTEN
 
 # Calls, the two texts that they are given, and the status and the beginning of the output with ample memory, which are
 # known by hand.
-RUNS = [
+RUNS: list[tuple[str, bytes, bytes, int, bytes]] = [
     ("write_number", b"", b"", 0, b"<340282366920938463463374607431768211455"),
     ("pg_tokens", b"0 12;", b"", 0, b"0 1 2 4 4 5 "),
     ("pg_tokens", b"0 00", b"", 2, b""),
@@ -40,7 +48,7 @@ RUNS = [
     ("expanded_size", b"@b|!@a", b"0|1", 0, b"13 "),
     ("shape of a label", b"!(0 & 2) | (t | !!f) & 2", b"", 0, b"<!(0&2)|(t|!!f)&2"),
     ("shape of a formula", FORMULA, b"", 0, b"<Inf(0)&Fin(!1)|t&(f|Inf(2))"),
-    *(("can_be_true", label, b"", 0, answer) for label, answer in
+    *(("is_satisfiable", label, b"", 0, answer) for label, answer in
       ((b"0&!0|1&2", b"+"), (b"0&!0", b"-"), (MANY, b"+"), (MANY + b"&!7", b"-"))),
     ("components", b"", b"", 0, b""),
     ("reached", b"", b"", 0, b"--+"),
@@ -59,8 +67,9 @@ RUNS = [
     *((call, STREAM, b"", 0, b"aborted\nHOA: v1\n") for call in ("read_stream", "feed")),
     *((call, BUCHI + b"x", b"", 3, b"") for call in ("read_stream", "feed")),
     *((call, text, b"", 0, b"parity ")
-      for call in ("read_game", "read_arena", "with_predecessors", "GameBuilder", "finish_arena", "part") for text in GAMES),
-    *((call, b"0 0 0 1;", b"", 11, b"") for call in ("read_game", "read_arena")),
+      for call in ("read_game", "read_forward_game", "with_predecessors", "GameBuilder", "finish_forward", "part")
+      for text in GAMES),
+    *((call, b"0 0 0 1;", b"", 11, b"") for call in ("read_game", "read_forward_game")),
     ("build", b"", b"", 0, b"parity 7;\n3 2 0 7 \"n\";\n7 1 1 7,3;\n"),
     *((call, text, b"", 0, b"digraph game {\n") for call in ("draw_game", "draw_part") for text in GAMES),
     ("read_solution", CHOICE, b"paritysol 2; 0 0 2; 1 0; 2 0;", 0, b"paritysol 2;\n0 0 2;\n1 0;\n2 0;\n"),
@@ -78,7 +87,7 @@ RUNS = [
     *(("Reordered", text, b"", 0, b"") for text in GAMES),
     *((call, text, b"", 0, b"") for call in ("solve_by_search", "search") for text in GAMES),
     ("order", CHOICE, b"", 0, b""),
-    *((call, text, b"", 0, b"") for call in ("emptiness_game", "emptiness", "emptiness_watched", "lasso", "verdict_of")
+    *((call, text, b"", 0, b"") for call in ("emptiness_game", "emptiness", "emptiness_observed", "lasso", "verdict_of")
       for text in (BUCHI, TWO_SETS, WRITTEN)),
     ("emptiness", b"HOA: v1 Acceptance: 0 t --BODY-- --END--", b"", 40, b""),
     ("read_lasso", b" stem 3\t1 cycle 4 1 5 9 2", b"", 0, b"stem 3 1\ncycle 4 1 5 9 2\n"),
@@ -118,7 +127,7 @@ QUIET = [
 ]
 
 
-def build():
+def build() -> None:
     """Builds the program where it is missing, or older than its sources or a library."""
     sources = [os.path.join(folder, name) for folder, _, names in os.walk(os.path.join(CRATE, "src")) for name in names]
     if os.path.exists(CALLS) and all(os.path.getmtime(file) <= os.path.getmtime(CALLS) for file in sources):
@@ -126,25 +135,30 @@ def build():
     subprocess.run(["rt", "run", "--", "write_number", "0", "0"], cwd=CRATE, stdout=subprocess.DEVNULL, check=True)
 
 
-def fault_in(came, ample):
+def fault_in(came: Left, ample: Left) -> Fault:
     """What is wrong with status and output after a refused request."""
     return None if came in (ample, (60, b"", b"")) else f"status {came[0]}, {shown(came[1])}, {shown(came[2])}"
 
 
-def refused_calls(shimmed, call, text, other, status, beginning):
+def refused_fault(shimmed: Shimmed, words: list[str | bytes], ample: Left, first: int, last: int) -> Fault:
+    """What is wrong with a call whose requests from a first one to a last one are refused, or nothing."""
+    return fault_in(shimmed.run(words, b"", None, first, last)[0], ample)
+
+
+def refused_calls(shimmed: Shimmed, call: str, text: bytes, other: bytes, status: int, beginning: bytes) -> Cases:
     """Each request refused, alone and with all after it."""
-    words = [call, text, other]
+    words: list[str | bytes] = [call, text, other]
     ample, requests = shimmed.run(words, b"", None)
     label = f"{call} of {shown(text)} {shown(other)}"
     wanted = ample[0] == status and ample[1].startswith(beginning) and (status == 0) == (ample[1] != b"")
     yield f"{label}: with ample memory", None if wanted else f"status {ample[0]}, {shown(ample[1])}"
     for n in range(1, requests + 1):
         for to in (n, 2 ** 60):
-            came, _ = shimmed.run(words, b"", None, n, to)
-            yield f"{label}: request {n} of {requests}{'' if to == n else ' and all behind it'}", fault_in(came, ample)
+            refused = partial(refused_fault, shimmed, words, ample, n, to)
+            yield f"{label}: request {n} of {requests}{'' if to == n else ' and all behind it'}", refused
 
 
-def quiet_calls(shimmed, call, text, beginning):
+def quiet_calls(shimmed: Shimmed, call: str, text: bytes, beginning: bytes) -> Cases:
     """The calls make no request, and with each later request refused they give what they give with ample memory."""
     _, before = shimmed.run([call, text, b""], b"", None)
     ample, requests = shimmed.run([call, text, b"run"], b"", None)
@@ -159,22 +173,28 @@ def quiet_calls(shimmed, call, text, beginning):
     yield f"{label}: no memory left", None if came == ample else f"status {came[0]}, {shown(came[1])}"
 
 
-def pieces_again(shimmed):
-    """A stream in pieces gives the items of the whole text, also where a piece was fed once more after a refused request."""
+def pieces_again(shimmed: Shimmed) -> Cases:
+    """A stream in pieces gives the items of the whole text, also where a piece was fed once more after a refused
+    request."""
     whole, _ = shimmed.run(["read_stream", STREAM, b""], b"", None)
     fed, requests = shimmed.run(["feed", STREAM, b""], b"", None)
     yield "a stream in pieces and whole", None if fed == whole else f"{shown(fed[1])} for {shown(whole[1])}"
+    yield "pieces fed once more", partial(fed_again_fault, shimmed, whole, requests)
+
+
+def fed_again_fault(shimmed: Shimmed, whole: Left, requests: int) -> Fault:
+    """Whether most of the runs in which a request is refused give the items of the whole text all the same."""
     again = [shimmed.run(["feed", STREAM, b""], b"", None, n)[0] for n in range(1, requests + 1)]
     most = sum(came == whole for came in again)
-    yield "pieces fed once more", None if most * 2 > requests else f"{most} answers for {requests} refused requests"
+    return None if most * 2 > requests else f"{most} answers for {requests} refused requests"
 
 
-def call_checks():
+def call_checks() -> Cases:
     build()
     with shim() as (folder, path):
         shimmed = Shimmed(folder, path, CALLS)
         for run in RUNS:
             yield from refused_calls(shimmed, *run)
-        for run in QUIET:
-            yield from quiet_calls(shimmed, *run)
+        for quiet in QUIET:
+            yield from quiet_calls(shimmed, *quiet)
         yield from pieces_again(shimmed)

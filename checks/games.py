@@ -1,8 +1,11 @@
-"""Game and solution texts by the rules of docs/formats.md, read as plainly as can be: what the program is compared with.
+"""Games and solutions by the rules of docs/formats.md, read and solved as plainly as can be, and made at random: what
+the program is compared with.
 
 Nothing here is quick, and nothing is shared with the program.
 """
+import random
 import re
+from collections.abc import Callable, Collection, Mapping, Sequence
 from dataclasses import dataclass
 
 MOST_NUMBER = 2_147_483_647
@@ -19,7 +22,7 @@ class Token:
     text: bytes
     place: int
 
-    def number(self):
+    def number(self) -> int | None:
         return int(self.text) if self.text[:1].isdigit() else None
 
 
@@ -27,13 +30,19 @@ class Token:
 class Node:
     priority: int
     owner: int
-    successors: list
-    name: bytes
+    successors: list[int]
+    name: bytes | None = None
 
 
-def tokens_of(text):
+# The nodes by their identifiers; and of each node the winner, with the choice or none.
+Game = dict[int, Node]
+Solution = dict[int, tuple[int, int | None]]
+
+
+def tokens_of(text: bytes) -> list[Token]:
     """The tokens of a text; refused 1 or 2 where they can't be cut."""
-    found, place = [], 0
+    found: list[Token] = []
+    place = 0
     while True:
         while place < len(text) and text[place] in WHITE:
             place += 1
@@ -46,41 +55,41 @@ def tokens_of(text):
         if unit.isdigit() and (unit != b"0" and unit.startswith(b"0") or int(unit) > MOST_NUMBER):
             raise Refused(f"2 Number at {place}")
         found.append(Token(unit, place))
-        place = match.end()
+        place += len(unit)
 
 
 class Reader:
     """Goes over the tokens of a text; refused 3 at the first that can't stand where it stands."""
 
-    def __init__(self, text):
+    def __init__(self, text: bytes) -> None:
         self.tokens = tokens_of(text)
         self.length = len(text)
         self.next = 0
 
-    def sees(self, *texts):
+    def sees(self, *texts: bytes) -> bool:
         return self.next < len(self.tokens) and self.tokens[self.next].text in texts
 
-    def take(self, fits):
+    def take(self, fits: Callable[[Token], bool]) -> Token:
         if self.next == len(self.tokens) or not fits(self.tokens[self.next]):
             place = self.tokens[self.next].place if self.next < len(self.tokens) else self.length
             raise Refused(f"3 Syntax at {place}")
         self.next += 1
         return self.tokens[self.next - 1]
 
-    def word(self, text):
+    def word(self, text: bytes) -> None:
         self.take(lambda token: token.text == text)
 
-    def number(self):
-        return self.take(lambda token: token.number() is not None).number()
+    def number(self) -> int:
+        return int(self.take(lambda token: token.number() is not None).text)
 
-    def player(self):
-        return self.take(lambda token: token.number() in (0, 1)).number()
+    def player(self) -> int:
+        return int(self.take(lambda token: token.number() in (0, 1)).text)
 
-    def at_end(self):
+    def at_end(self) -> bool:
         return self.next == len(self.tokens)
 
 
-def read_specification(reader):
+def read_specification(reader: Reader) -> tuple[int, Node]:
     identifier, priority, owner = reader.number(), reader.number(), reader.player()
     successors = [reader.number()]
     while reader.sees(b","):
@@ -93,7 +102,7 @@ def read_specification(reader):
     return identifier, Node(priority, owner, successors, name)
 
 
-def read_game(text):
+def read_game(text: bytes) -> Game:
     """The nodes of a game text by their identifiers, in rising order."""
     reader = Reader(text)
     header = None
@@ -114,9 +123,9 @@ def read_game(text):
     return nodes
 
 
-def canonical(nodes):
-    """The canonical text of a game."""
-    lines = [b"parity %d;\n" % max(nodes)]
+def text_of(nodes: Game) -> bytes:
+    """A game text without a header, with a line for each node in the order given."""
+    lines = []
     for identifier, node in nodes.items():
         listed = b",".join(b"%d" % successor for successor in node.successors)
         name = b"" if node.name is None else b" " + node.name
@@ -124,7 +133,20 @@ def canonical(nodes):
     return b"".join(lines)
 
 
-def read_solution(nodes, text):
+def canonical(nodes: Game) -> bytes:
+    """The canonical text of a game, whose nodes are given in rising order."""
+    return b"parity %d;\n" % max(nodes) + text_of(nodes)
+
+
+def random_game(maker: random.Random, identifiers: Sequence[int], priorities: int, most_successors: int) -> Game:
+    """A game of nodes with these identifiers in this order, with priorities below a number, and with one successor or
+    more, up to a number."""
+    return {identifier: Node(maker.randrange(priorities), maker.randrange(2),
+                             [maker.choice(identifiers) for _ in range(maker.randint(1, most_successors))])
+            for identifier in identifiers}
+
+
+def read_solution(nodes: Game, text: bytes) -> Solution:
     """The winner and the choice, or none, of each node; refused 53 where the text is no solution of the game."""
     reader = Reader(text)
     reader.word(b"paritysol")
@@ -145,7 +167,7 @@ def read_solution(nodes, text):
     return {identifier: (winner, choice) for identifier, winner, choice in lines}
 
 
-def reached(start, edges, within):
+def reached(start: int, edges: Mapping[int, list[int]], within: Collection[int]) -> set[int]:
     """The nodes that edges lead to from the successors of a start, all within some nodes."""
     found, waiting = set(), [start]
     while waiting:
@@ -156,12 +178,13 @@ def reached(start, edges, within):
     return found
 
 
-def wins(nodes, solution, player):
+def wins(nodes: Game, solution: Solution, player: int) -> bool:
     """Whether the choices printed for a player win from each node printed for that player."""
-    edges = {}
+    edges: dict[int, list[int]] = {}
     for identifier, node in nodes.items():
         winner, choice = solution[identifier]
-        edges[identifier] = [choice] if node.owner == player == winner else node.successors
+        is_chosen = node.owner == player == winner
+        edges[identifier] = [choice] if is_chosen and choice is not None else node.successors
     given = [identifier for identifier, (winner, _) in solution.items() if winner == player]
     seen = set(given).union(*(reached(start, edges, nodes) for start in given)) if given else set()
     for identifier in seen:
@@ -170,3 +193,29 @@ def wins(nodes, solution, player):
         if priority % 2 != player and identifier in reached(identifier, edges, below):
             return False
     return True
+
+
+def attracted(nodes: Game, left: set[int], target: set[int], player: int) -> set[int]:
+    """The nodes left from which a player can force a visit to the target, itself among them."""
+    found = set(target)
+    while True:
+        more = {v for v in left - found
+                if (any if nodes[v].owner == player else all)(w in found for w in nodes[v].successors if w in left)}
+        if not more:
+            return found
+        found |= more
+
+
+def winners(nodes: Game, left: set[int]) -> tuple[set[int], set[int]]:
+    """The nodes that each player wins among the nodes left, which are a game, by recursion (Zielonka 1998)."""
+    if not left:
+        return set(), set()
+    top = max(nodes[v].priority for v in left)
+    player = top % 2
+    near = attracted(nodes, left, {v for v in left if nodes[v].priority == top}, player)
+    others = winners(nodes, left - near)[1 - player]
+    if not others:
+        return (left, set()) if player == 0 else (set(), left)
+    lost = attracted(nodes, left, others, 1 - player)
+    rest = winners(nodes, left - lost)
+    return (rest[0], rest[1] | lost) if player == 0 else (rest[0] | lost, rest[1])

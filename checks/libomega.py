@@ -1,4 +1,10 @@
-"""The library for C and Python: built, called from both, and compared with slow solvers and with the program."""
+"""The library for C and Python, where it is built (`make libomega`) or this family is named. Its examples run as they
+stand in `docs/library.md`. Random games are solved in both ways, and solutions, right and broken in one place, judged,
+against slow solvers. Faults of shapes, the rows of `checks/rows.txt`, and refused memory, which leaves arrays alone,
+are tried.
+
+The games are solved from Python, and each fault of a shape is tried. The rows go through the program as a function.
+"""
 import ctypes
 import os
 import random
@@ -7,10 +13,16 @@ import resource
 import subprocess
 import sys
 import tempfile
+from collections.abc import Callable
+from functools import partial
+from typing import Any
 
 import games
-from program import ROOT, SECONDS, run_of
-from rows import FAULT, ROWS, rows_of
+from program import ROOT, SECONDS, Cases, Fault, run_of
+from rows import FAULT, ROWS, Row, rows_of
+
+# Priorities, owners and successors of each node.
+Arrays = tuple[list[int], list[int], list[list[int]]]
 
 BUILT = os.path.join(ROOT, "out")
 SHARED = os.path.join(BUILT, "libomega.so")
@@ -27,7 +39,7 @@ VALUED, UNREAD = ("--format", "--player", "--from", "--budget"), 5
 NAMED = re.compile(r"--(?:game|solution|automaton|with)[= ](\S*)")
 
 
-def python_of():
+def python_of() -> Any:
     """The package, over the library that was built."""
     os.environ["LIBOMEGA"] = SHARED
     sys.path.insert(0, os.path.join(ROOT, "python"))
@@ -35,50 +47,20 @@ def python_of():
     return omega
 
 
-def random_game(draw):
+def random_arrays(draw: random.Random) -> Arrays:
     """Priorities, owners and lists of successors."""
     count = draw.choice([1, 2, 3, 5, 8, draw.randrange(1, 40), draw.randrange(1, MOST_NODES + 1)])
-    colours = draw.choice([2, 3, 5, count + 1, 2**31 - 1])
-    degree = draw.choice([1, 2, 3, 5])
-    return ([draw.randrange(colours) for _ in range(count)], [draw.randrange(2) for _ in range(count)],
-            [[draw.randrange(count) for _ in range(draw.randrange(1, degree + 1))] for _ in range(count)])
+    priorities = draw.choice([2, 3, 5, count + 1, 2**31 - 1])
+    nodes = games.random_game(draw, range(count), priorities, draw.choice([1, 2, 3, 5])).values()
+    return [it.priority for it in nodes], [it.owner for it in nodes], [it.successors for it in nodes]
 
 
-def attracted(targets, player, owners, successors, inside):
-    """The nodes of a set from which a player can force a visit to some of them."""
-    found = set(targets)
-    while True:
-        more = {v for v in inside - found
-                if (any if owners[v] == player else all)(w in found for w in successors[v] if w in inside)}
-        if not more:
-            return found
-        found |= more
-
-
-def won_by(priorities, owners, successors, inside):
-    """Zielonka's algorithm, as plainly as can be: the nodes that each player wins of a set that is a game."""
-    if not inside:
-        return [set(), set()]
-    greatest = max(priorities[v] for v in inside)
-    player = greatest % 2
-    near = attracted({v for v in inside if priorities[v] == greatest}, player, owners, successors, inside)
-    rest = won_by(priorities, owners, successors, inside - near)
-    won = [set(), set()]
-    if not rest[1 - player]:
-        won[player] = set(inside)
-        return won
-    lost = attracted(rest[1 - player], 1 - player, owners, successors, inside)
-    won = won_by(priorities, owners, successors, inside - lost)
-    won[1 - player] |= lost
-    return won
-
-
-def nodes_of(priorities, owners, successors):
+def nodes_of(priorities: list[int], owners: list[int], successors: list[list[int]]) -> games.Game:
     """The game as checks/games.py knows it."""
-    return {v: games.Node(priorities[v], owners[v], successors[v], None) for v in range(len(priorities))}
+    return {v: games.Node(priorities[v], owners[v], successors[v]) for v in range(len(priorities))}
 
 
-def lasso_fault(game, winner, choice, found):
+def lasso_fault(game: Arrays, winner: list[int], choice: list[int | None], found: Any) -> Fault:
     """What is wrong with a counterexample, or nothing."""
     priorities, owners, successors = game
     walk = [*found.stem, *found.cycle, found.cycle[0]]
@@ -93,7 +75,8 @@ def lasso_fault(game, winner, choice, found):
     return None
 
 
-def broken(draw, game, winner, choice):
+def broken(draw: random.Random, game: Arrays, winner: list[int],
+           choice: list[int | None]) -> tuple[list[int], list[int | None]]:
     """A solution that differs in one place: a winner and the choice with it, or another choice."""
     _, owners, successors = game
     winner, choice, v = list(winner), list(choice), draw.randrange(len(winner))
@@ -106,7 +89,7 @@ def broken(draw, game, winner, choice):
     return winner, choice
 
 
-def judged_fault(omega, game, winner, choice):
+def judged_fault(omega: Any, game: Arrays, winner: list[int], choice: list[int | None]) -> Fault:
     """What is wrong with the verdict on a solution, or nothing."""
     nodes, solution = nodes_of(*game), dict(enumerate(zip(winner, choice)))
     found = omega.verify(*game, winner, choice)
@@ -116,10 +99,10 @@ def judged_fault(omega, game, winner, choice):
     return lasso_fault(game, winner, choice, found) if found else None
 
 
-def game_fault(omega, draw, game):
+def game_fault(omega: Any, draw: random.Random, game: Arrays) -> Fault:
     """What is wrong with the answers on a game, or nothing."""
     count, answers = len(game[0]), []
-    won = won_by(*game, set(range(count)))
+    won = games.winners(nodes_of(*game), set(range(count)))
     bounds = omega.bound(*game)
     for search in (True, False):
         try:
@@ -140,10 +123,10 @@ def game_fault(omega, draw, game):
     return judged_fault(omega, game, *broken(draw, game, answers[0].winner, answers[0].choice))
 
 
-def solved_games(omega):
+def solved_games(omega: Any) -> Cases:
     draw = random.Random(57)
     for number in range(GAMES):
-        game = random_game(draw)
+        game = random_arrays(draw)
         fault = game_fault(omega, draw, game)
         if fault:
             yield f"game {number}", f"{fault}, for {game}"
@@ -152,7 +135,7 @@ def solved_games(omega):
 
 
 SMALL = ([0, 1, 2], [0, 1, 1], ([0, 2, 3, 4], [1, 2, 0, 0]))
-SHAPES = [
+SHAPES: list[tuple[str, Any, str, int]] = [
     ("no node", ([], [], ([0], [])), "priorities", 0),
     ("an owner missing", ([0, 1], [0], ([0, 1, 2], [0, 0])), "owners", 1),
     ("an owner too many", ([0], [0, 0], ([0, 1], [0])), "owners", 1),
@@ -167,7 +150,7 @@ SHAPES = [
     ("a successor that is no place", ([0, 1], [0, 0], ([0, 1, 2], [0, 2])), "successors", 1),
     ("the lengths before the entries", ([2**31, 1], [0, 2, 0], ([0, 1, 2], [0, 9])), "owners", 2),
 ]
-ANSWERS = [
+ANSWERS: list[tuple[str, list[int], list[int | None], tuple[int, str | None, int | None]]] = [
     ("a winner missing", [0, 0], [2, None, None], (57, "winner", 2)),
     ("a choice too many", [0, 0, 0], [2, None, None, None], (57, "choice", 3)),
     ("a winner above 1", [0, 2, 0], [2, None, None], (57, "winner", 1)),
@@ -177,7 +160,7 @@ ANSWERS = [
 ]
 
 
-def refusal_of(omega, call, *words):
+def refusal_of(omega: Any, call: Callable[..., object], *words: Any) -> tuple[int, str | None, int | None] | None:
     """What refuses a call: number, array and place, or nothing."""
     try:
         call(*words)
@@ -186,39 +169,39 @@ def refusal_of(omega, call, *words):
     return None
 
 
-def differs(came, wanted):
+def differs(came: object, wanted: object) -> Fault:
     return None if came == wanted else f"{came} for {wanted}"
 
 
-def shape_faults(omega):
+def shape_faults(omega: Any) -> Cases:
     for label, game, array, place in SHAPES:
         wanted = (57, array, place)
         yield f"solve: {label}", differs(refusal_of(omega, omega.solve, *game), wanted)
         yield f"bound: {label}", differs(refusal_of(omega, omega.bound, *game), wanted)
         count = len(game[0])
         yield f"verify: {label}", differs(refusal_of(omega, omega.verify, *game, [0] * count, [None] * count), wanted)
-        yield f"{label}: nothing is written", unwritten_fault(omega, game, 57)
-    for label, winner, choice, wanted in ANSWERS:
-        yield f"verify: {label}", differs(refusal_of(omega, omega.verify, *SMALL, winner, choice), wanted)
+        yield f"{label}: nothing is written", partial(unwritten_fault, omega, game, 57)
+    for label, winner, choice, refusal in ANSWERS:
+        yield f"verify: {label}", differs(refusal_of(omega, omega.verify, *SMALL, winner, choice), refusal)
     many = 1_048_577
-    game = ([0] * many, [0] * many, (range(many + 1), [0] * many))
-    yield "too many nodes", unwritten_fault(omega, game, 13)
-    edges = ([0], [0], ([0, 8_388_609], bytes(4 * 8_388_609)))
-    edges = ([0], [0], ([0, 8_388_609], memoryview(edges[2][1]).cast("I")))
-    yield "too many successors", unwritten_fault(omega, edges, 14)
+    nodes = ([0] * many, [0] * many, (range(many + 1), [0] * many))
+    yield "too many nodes", partial(unwritten_fault, omega, nodes, 13)
+    edges = ([0], [0], ([0, 8_388_609], memoryview(bytes(4 * 8_388_609)).cast("I")))
+    yield "too many successors", partial(unwritten_fault, omega, edges, 14)
     wide = ([2 * v for v in range(8192)] + [1], [0] * 8193, (range(8194), range(8193)))
-    yield "too wide", unwritten_fault(omega, wide, 50, search=0)
+    yield "too wide", partial(unwritten_fault, omega, wide, 50, search=0)
     yield "the search needs no table", differs(omega.solve(*wide).lifts, (0, 0))
     carry = ([1, 0, 3, 1], [0, 0, 0, 1], [[0], [1], [2], [2, 0]])
-    yield "the budget is used up", unwritten_fault(omega, carry, 51, search=0, budget=0)
+    yield "the budget is used up", partial(unwritten_fault, omega, carry, 51, search=0, budget=0)
 
 
-def unwritten_fault(omega, game, number, search=1, budget=2**40):
+def unwritten_fault(omega: Any, game: Any, number: int, search: int = 1, budget: int = 2**40) -> Fault:
     """What is wrong where `omega_solve` has to refuse a game, with each array as it was, or nothing."""
     arrays = omega._Arrays(*game)
-    winners, choices = (ctypes.c_uint8 * arrays.nodes)(*[7] * arrays.nodes), (ctypes.c_uint32 * arrays.nodes)(*[7] * arrays.nodes)
-    lifts = omega._Lifts(7, 7)
-    outcome = omega._LIBRARY.omega_solve(arrays.game, search, budget, *omega._room(winners), *omega._room(choices), lifts)
+    winners = (ctypes.c_uint8 * arrays.nodes)(*[7] * arrays.nodes)
+    choices = (ctypes.c_uint32 * arrays.nodes)(*[7] * arrays.nodes)
+    lifts, rooms = omega._Lifts(7, 7), [*omega._room(winners), *omega._room(choices)]
+    outcome = omega._LIBRARY.omega_solve(arrays.game, search, budget, *rooms, lifts)
     if outcome.number != number:
         return f"number {outcome.number} for {number}"
     if set(winners) - {7} or set(choices) - {7} or (lifts.zero, lifts.one) != (7, 7):
@@ -226,23 +209,23 @@ def unwritten_fault(omega, game, number, search=1, budget=2**40):
     return None
 
 
-def row_runs(omega):
+def row_runs(omega: Any) -> Cases:
     """Each row of checks/rows.txt through the library, compared with what the row wants."""
     with open(ROWS) as file:
         for row in rows_of(file.read()):
             for command in row.commands:
                 if row.status == FAULT or reads_only_g(row, command):
-                    yield f"line {row.number}: {command}", row_run_fault(omega, row, command)
+                    yield f"line {row.number}: {command}", partial(row_run_fault, omega, row, command)
 
 
-def reads_only_g(row, command):
+def reads_only_g(row: Row, command: str) -> bool:
     """Whether each file that a command line names is the row's: the library has one file, whatever its name."""
     words = command.split()
     operands = [word for before, word in zip(words, words[1:]) if not word.startswith("-") and before not in VALUED]
     return row.status != UNREAD and all(name == "g" for name in [*NAMED.findall(command), *operands])
 
 
-def row_run_fault(omega, row, command):
+def row_run_fault(omega: Any, row: Row, command: str) -> Fault:
     """What the library leaves of a row's text that is not what is wanted, or nothing."""
     text = row.text
     for words in command.split(" | "):
@@ -257,8 +240,9 @@ def row_run_fault(omega, row, command):
     return differs((ran.output, ran.errors), (row.output, row.error))
 
 
-def run_checks(omega):
-    yield "version", differs(f"omega {omega.version()}\n".encode(), run_of(["--version"], b"").stdout[:len(omega.version()) + 7])
+def run_checks(omega: Any) -> Cases:
+    wanted = f"omega {omega.version()}\n".encode()
+    yield "version", differs(wanted, run_of(["--version"], b"").stdout[:len(wanted)])
     long = "".join(f"{v} {v % 7} {v % 2} {(v + 1) % 5000};" for v in range(5000)).encode()
     program = run_of(["solve"], long)
     ran = omega.run(["solve"], long)
@@ -270,18 +254,19 @@ def run_checks(omega):
     yield "words that are not UTF-8", differs((ran.status, bytes(room[:ran.errors])), (FAULT, fault))
 
 
-def buffer_checks(omega):
+def buffer_checks(omega: Any) -> Cases:
     from array import array
     flat = (array("I", [0, 2, 3, 4]), array("I", [1, 2, 0, 0]))
     made = omega.solve(array("I", [0, 1, 2]), b"\x00\x01\x01", flat)
     yield "arrays as buffers", differs((made.winner, made.choice), ([0, 0, 0], [2, None, None]))
     yield "a right solution", differs(omega.verify(*SMALL, made.winner, made.choice), None)
     found = omega.verify(*SMALL, [0, 0, 0], [1, None, None])
-    yield "a wrong solution", lasso_fault((SMALL[0], SMALL[1], [[1, 2], [0], [0]]), [0, 0, 0], [1, None, None], found)
+    yield "a wrong solution", partial(
+        lasso_fault, (SMALL[0], SMALL[1], [[1, 2], [0], [0]]), [0, 0, 0], [1, None, None], found)
     yield "the bounds", differs(omega.bound(*SMALL), omega.Bounds(6, 12))
 
 
-def compiled(folder, name, source, *words):
+def compiled(folder: str, name: str, source: str, *words: str) -> tuple[str, str]:
     """Compiles a program in C over the static library. Its path, and what the compiler said."""
     file, made = os.path.join(folder, name + ".c"), os.path.join(folder, name)
     with open(file, "w") as out:
@@ -290,19 +275,19 @@ def compiled(folder, name, source, *words):
     return made, ran.stderr.decode() if ran.returncode else ""
 
 
-def source_of(name):
+def source_of(name: str) -> str:
     with open(os.path.join(HERE, name)) as file:
         return file.read()
 
 
-def ran_fault(words, wanted=b"", env=None):
+def ran_fault(words: list[str], wanted: bytes = b"", env: dict[str, str] | None = None) -> Fault:
     ran = subprocess.run(words, capture_output=True, timeout=SECONDS, env=env)
     if ran.returncode or ran.stdout != wanted:
         return f"status {ran.returncode}, {ran.stdout!r}, {ran.stderr[-600:]!r}"
     return None
 
 
-def blocks_of(page, language):
+def blocks_of(page: str, language: str) -> list[str]:
     """The blocks of a language in a part of a page of docs/ that ends with the next part."""
     part = page[page.index("## From C and Python"):]
     part = part[:part.find("\n## ", 5)] if "\n## " in part[5:] else part
@@ -312,7 +297,7 @@ def blocks_of(page, language):
     return found
 
 
-def example_checks(folder):
+def example_checks(folder: str) -> Cases:
     """The examples of docs/library.md, as they stand, with what they are said to write."""
     with open(os.path.join(ROOT, "docs", "library.md")) as file:
         page = file.read()
@@ -322,23 +307,25 @@ def example_checks(folder):
         yield f"example {number} in C", said or ran_fault([made], wanted[0])
         shared, said = compiled(folder, f"shared{number}", source, "-L", BUILT, "-lomega", f"-Wl,-rpath,{BUILT}")
         yield f"example {number} in C, over the shared library", said or ran_fault([shared], wanted[0])
-    yield "the header in C++", cplusplus_fault(folder)
+    yield "the header in C++", partial(cplusplus_fault, folder)
     for number, source in enumerate(blocks_of(page, "python")):
         env = {**os.environ, "LIBOMEGA": SHARED, "PYTHONPATH": os.path.join(ROOT, "python")}
-        yield f"example {number} in Python", ran_fault([sys.executable, "-c", source], wanted[1], env)
+        yield f"example {number} in Python", partial(ran_fault, [sys.executable, "-c", source], wanted[1], env)
 
 
-def cplusplus_fault(folder):
+def cplusplus_fault(folder: str) -> Fault:
     """What a compiler of C++ says of the header, or nothing."""
     file = os.path.join(folder, "header.cc")
     with open(file, "w") as out:
-        out.write('#include "omega.h"\nint main() { omega_bounds bounds; (void)bounds; return (int)omega_version(nullptr, 0) * 0; }\n')
-    words = ["cc", "-x", "c++", "-std=c++17", "-fsyntax-only", "-Wall", "-Wextra", "-Werror", "-I", os.path.join(ROOT, "include"), file]
+        out.write('#include "omega.h"\nint main() { omega_bounds bounds; (void)bounds; '
+                  "return (int)omega_version(nullptr, 0) * 0; }\n")
+    words = ["cc", "-x", "c++", "-std=c++17", "-fsyntax-only", "-Wall", "-Wextra", "-Werror",
+             "-I", os.path.join(ROOT, "include"), file]
     ran = subprocess.run(words, capture_output=True, timeout=SECONDS)
     return ran.stderr.decode() if ran.returncode and b"cc1plus" not in ran.stderr else None
 
 
-def sanitized_checks(folder):
+def sanitized_checks(folder: str) -> Cases:
     """The C side of all calls under AddressSanitizer, where the compiler has it."""
     made, said = compiled(folder, "sanitized", source_of("calls.c"), "-g", "-fsanitize=address,undefined", STATIC)
     if "cannot find" in said or "unsupported" in said:
@@ -349,7 +336,7 @@ def sanitized_checks(folder):
     yield "all calls under AddressSanitizer", said or ran_fault([made], env=env)
 
 
-def refused_memory(folder):
+def refused_memory(folder: str) -> Cases:
     """Each request for memory during `omega_solve` and `omega_verify` refused: 60, and every array as it was."""
     shim = os.path.join(folder, "refusing.so")
     subprocess.run(["cc", "-O2", "-shared", "-fPIC", "-o", shim, os.path.join(HERE, "refusing.c"), "-ldl"], check=True)
@@ -357,19 +344,22 @@ def refused_memory(folder):
     yield "the calls in C compile", said or None
     count = os.path.join(folder, "count")
     env = {"LD_PRELOAD": shim, "REFUSE_COUNT": count}
-    yield "all calls in C", ran_fault([made])
-    yield "all calls in C, none refused", ran_fault([made, "refused"], env=env)
+    yield "all calls in C", partial(ran_fault, [made])
+    # This run counts the requests that are refused below.
+    fault = ran_fault([made, "refused"], env=env)
+    yield "all calls in C, none refused", fault
     with open(count) as file:
         requests = int(file.read())
     for number in range(1, requests + 1):
         for to in (number, 2**60):
-            fault = ran_fault([made, "refused"], env={**env, "REFUSE_FROM": str(number), "REFUSE_TO": str(to)})
-            yield f"request {number} of {requests}{'' if to == number else ' and all behind it'}", fault
+            refused = {**env, "REFUSE_FROM": str(number), "REFUSE_TO": str(to)}
+            yield (f"request {number} of {requests}{'' if to == number else ' and all behind it'}",
+                   partial(ran_fault, [made, "refused"], env=refused))
 
 
-def leak_checks(omega):
+def leak_checks(omega: Any) -> Cases:
     """10,000 calls take no more memory than 1,000."""
-    def used():
+    def used() -> int:
         return resource.getrusage(resource.RUSAGE_SELF).ru_maxrss
 
     before = 0
@@ -384,7 +374,7 @@ def leak_checks(omega):
     yield "no leak over 10,000 calls", f"{grown} KiB more" if grown > 2048 else None
 
 
-def libomega_checks():
+def libomega_checks() -> Cases:
     subprocess.run([sys.executable, os.path.join(ROOT, "make", "library.py")], check=True, stdout=subprocess.DEVNULL)
     omega = python_of()
     yield from buffer_checks(omega)

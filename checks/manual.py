@@ -4,28 +4,32 @@ Of the manual's macros only those are read that it uses: sections, subsections, 
 """
 import os
 import re
+from collections.abc import Iterator
+from typing import Any
 
-from program import ROOT, help_of, subcommands
+from program import ROOT, Cases, Fault, help_of, subcommands
 
 # The one refusal that no help names by its number: help says "out of memory".
 UNNUMBERED = {("60", "Memory")}
-ESCAPES = {r"\-": "-", r"\e": "\\", r"\(aq": "'", r"\(dq": '"', r"\&": "", r"\fB": "", r"\fI": "", r"\fR": "", r"\fP": ""}
+ESCAPES = {r"\-": "-", r"\e": "\\", r"\(aq": "'", r"\(dq": '"', r"\&": "",
+           r"\fB": "", r"\fI": "", r"\fR": "", r"\fP": ""}
 
 
-def plain(line):
+def plain(line: str) -> str:
     for escape, meant in ESCAPES.items():
         line = line.replace(escape, meant)
     return line
 
 
-def manual_lines():
+def manual_lines() -> list[str]:
     with open(os.path.join(ROOT, "docs", "omega.1")) as file:
         return [plain(line.rstrip("\n")) for line in file if not line.startswith('.\\"')]
 
 
-def sections(macro, lines):
+def sections(macro: str, lines: list[str]) -> dict[str, list[str]]:
     """The lines below each heading that the macro makes, up to the next heading of any kind."""
-    made, kept = {}, None
+    made: dict[str, list[str]] = {}
+    kept: list[str] | None = None
     for line in lines:
         if line.startswith((".SH", ".SS")):
             kept = made.setdefault(line[4:].strip('"'), []) if line.startswith(macro) else None
@@ -34,26 +38,26 @@ def sections(macro, lines):
     return made
 
 
-def tags(lines):
+def tags(lines: list[str]) -> list[str]:
     """The tags of the paragraphs, without font macros and the quotes of their arguments."""
     heads = [after for line, after in zip(lines, lines[1:]) if line == ".TP"]
     return [" ".join(re.sub(r"^\.(BI|BR|B|I) ", "", head).replace('"', "").split()) for head in heads]
 
 
-def examples_of_manual():
+def examples_of_manual() -> Iterator[list[str]]:
     """The examples, each as the lines of a block."""
-    block = None
+    block: list[str] | None = None
     for line in manual_lines():
         if line == ".EX":
             block = []
-        elif line == ".EE":
+        elif block is not None and line == ".EE":
             yield block
             block = None
         elif block is not None:
             block.append(line)
 
 
-def prose_of_manual():
+def prose_of_manual() -> str:
     text, is_example = [], False
     for line in manual_lines():
         is_example = line == ".EX" or is_example and line != ".EE"
@@ -62,43 +66,44 @@ def prose_of_manual():
     return "\n".join(text)
 
 
-def prose_of(help_text):
+def prose_of(help_text: str) -> str:
     """Help without its examples, which are indented; options are too, and stay."""
-    return "\n".join(line for line in help_text.split("\n") if not line.startswith("  ") or line.lstrip().startswith("-"))
+    return "\n".join(line for line in help_text.split("\n")
+                     if not line.startswith("  ") or line.lstrip().startswith("-"))
 
 
-def numbers_in(text):
+def numbers_in(text: str) -> set[str]:
     """The numbers of two digits and more: limits, and the numbers of refusals."""
     return set(re.findall(r"(?<![\d.^])\d{2,}(?![\d.]\d)", text))
 
 
-def refusals_in(text):
+def refusals_in(text: str) -> set[tuple[str, str]]:
     return set(re.findall(r"\b(\d+) ([A-Z][a-z]+(?:[A-Z][a-z]+)*)\b", text))
 
 
-def refusals_of_formats():
+def refusals_of_formats() -> set[tuple[str, str]]:
     with open(os.path.join(ROOT, "docs", "formats.md")) as file:
         return set(re.findall(r"^\| (\d+) \| (\w+)", file.read(), re.MULTILINE))
 
 
-def options_of(help_text):
+def options_of(help_text: str) -> set[str]:
     """The long options with the names of their values."""
     found = re.findall(r"^ +(?:-\w, )?(--[a-z]+)(?: <(\w+)>)?", help_text, re.MULTILINE)
     return {f"{name} {value}".strip() for name, value in found if name not in ("--help", "--version")}
 
 
-def statuses_of(help_text):
-    listed = re.search(r"^Exit status:\n((?:  .*\n)*)", help_text, re.MULTILINE).group(1)
+def statuses_of(help_text: str) -> dict[str, str]:
+    listed = re.findall(r"^Exit status:\n((?:  .*\n)*)", help_text, re.MULTILINE)[0]
     return dict(re.findall(r"^  (\d+)  (.*)$", listed, re.MULTILINE))
 
 
-def compared(label, ours, theirs):
+def compared(label: str, ours: set[Any], theirs: set[Any]) -> tuple[str, Fault]:
     """What only the manual has, and what only the other has."""
     fault = f"the manual alone has {sorted(ours - theirs)}, the other {sorted(theirs - ours)}"
     return label, None if ours == theirs else fault
 
 
-def manual_checks():
+def manual_checks() -> Cases:
     lines = manual_lines()
     parts, commands = sections(".SH", lines), sections(".SS", lines)
     names = subcommands()

@@ -1,10 +1,15 @@
-"""Requests for memory, refused one by one: each run ends by refusal 60 with nothing written, or as with ample memory."""
+"""Every request for memory refused, one by one and each together with all after it, in some hundred runs. A run ends
+with the line `omega: 60 Memory`, status 4 and no output, or exactly as with ample memory. Runs that differ in nothing
+but their lifts make as many requests: a solver that was made requests none.
+"""
 import contextlib
 import os
 import subprocess
 import tempfile
+from collections.abc import Iterator, Sequence
+from functools import partial
 
-from program import OMEGA, SECONDS, shown
+from program import OMEGA, SECONDS, Cases, Fault, Left, shown
 
 HERE = os.path.dirname(os.path.abspath(__file__))
 REFUSED = (4, b"", b"omega: 60 Memory\n")
@@ -26,11 +31,13 @@ WRITTEN = (b'HOA: v1 States: 1 Start: 0 AP: 1 "a" Alias: @b 0|t Acceptance: 1 In
 TWO_SETS = (b"HOA: v1 States: 2 Start: 0 acc-name: generalized-Buchi 2 Acceptance: 2 Inf(0)&Inf(1) --BODY-- "
             b"State: 0 [t] 0 {0} [t] 1 State: 1 [t] 0 {1} --END--")
 
+NONE: list[str] = []
 # Words, the text on standard input, and the text in the file that is the last word, where there is one.
-RUNS = [
+Run = tuple[list[str], bytes, bytes | None]
+RUNS: list[Run] = [
     *((["solve", *more], text, None)
       for text in (TWO, GAPS, CARRY, CHOICE, DENSE)
-      for more in ([], ["--search"], ["--player", "0"], ["--player", "1"], ["--from", "0"], ["--budget", "3"])),
+      for more in (NONE, ["--search"], ["--player", "0"], ["--player", "1"], ["--from", "0"], ["--budget", "3"])),
     *(([name, "--format", "pg"], text, None) for text in (TWO, GAPS, CHOICE) for name in ("show", "check", "canon")),
     *(([name, "--format", "hoa"], text, None) for text in (BUCHI, ABORTED, ALIASES, WRITTEN, BUCHI * 3)
       for name in ("show", "check", "canon")),
@@ -40,16 +47,19 @@ RUNS = [
     (["check", "--format", "hoa"], b"HOA: v1 --BODY-- --END--", None),
     (["verify", "--game"], b"paritysol 2; 0 0 2; 1 0; 2 0;", CHOICE),
     (["verify", "--game"], b"paritysol 2; 0 0 1; 1 0; 2 0;", CHOICE),
-    (["verify", "--game"], b"paritysol 2; 0 0;", CHOICE),
-    *((["verify", "--explain", "--automaton"], text, TWO_SETS) for text in (b"stem cycle 1 2 0", b"stem 0 cycle 2", b"stem")),
+    *((["verify", *more, "--game"], b"paritysol 2; 0 0;", CHOICE) for more in (NONE, ["-v"])),
+    *((["verify", "--explain", "--automaton"], text, TWO_SETS)
+      for text in (b"stem cycle 1 2 0", b"stem 0 cycle 2", b"stem")),
     *((["meet", "--with"], BUCHI, text) for text in (BUCHI, TWO_SETS, WRITTEN, b"HOA: v1")),
+    (["meet", "-v", "--with"], BUCHI, b"HOA: v1"),
     *((["draw", "--format", "pg"], text, None) for text in (GAPS, CHOICE)),
     (["draw", "--format", "pg", "--from", "1", "--depth", "1"], CHOICE, None),
     (["draw", "--format", "pg", "--from", "9"], CHOICE, None),
     (["draw", "--format", "pg", "--solution"], CHOICE, b"paritysol 2; 0 0 1; 1 0; 2 0;"),
     (["draw", "--format", "pg", "--from", "2", "--legend", "--solution"], CHOICE, b"paritysol 2; 0 0 1; 1 0; 2 0;"),
-    (["draw", "--format", "pg", "--solution"], CHOICE, b"paritysol 2; 0 0;"),
-    *((["draw", "--format", "hoa", *more], text, None) for text in (BUCHI, TWO_SETS, WRITTEN) for more in ([], ["--lasso"])),
+    (["draw", "-v", "--format", "pg", "--solution"], CHOICE, b"paritysol 2; 0 0;"),
+    *((["draw", "--format", "hoa", *more], text, None)
+      for text in (BUCHI, TWO_SETS, WRITTEN) for more in (NONE, ["--lasso"])),
     (["verify", "--from", "1", "--game"], b"paritysol 1; 1 1 1;", PARTED),
     (["verify", "--explain", "--from", "1", "--game"], b"paritysol 1; 1 0;", PARTED),
     (["verify", "--from", "5", "--game"], b"paritysol 1; 1 0;", PARTED),
@@ -61,7 +71,7 @@ RUNS = [
     (["check", "--format", "hoa"], b"", WRITTEN),
     (["empty", "--search"], b"", BUCHI),
     (["check", "--format", "pg", "no such file"], b"", None),
-    (["verify", "--game", "no such file"], b"", None),
+    *((["verify", *more, "--game", "no such file"], b"", None) for more in (NONE, ["-v"])),
     (["--help"], b"", None),
     (["solve", "--help"], b"", None),
     (["solve", "--player", "2"], b"", None),
@@ -70,55 +80,63 @@ RUNS = [
 
 
 @contextlib.contextmanager
-def shim():
+def shim() -> Iterator[tuple[str, str]]:
     """The path of the shim that refuses requests, compiled for these runs, in a folder that is removed after them."""
     with tempfile.TemporaryDirectory() as folder:
         path = os.path.join(folder, "refusing.so")
-        subprocess.run(["cc", "-O2", "-shared", "-fPIC", "-o", path, os.path.join(HERE, "refusing.c"), "-ldl"], check=True)
+        source = os.path.join(HERE, "refusing.c")
+        subprocess.run(["cc", "-O2", "-shared", "-fPIC", "-o", path, source, "-ldl"], check=True)
         yield folder, path
 
 
 class Shimmed:
     """A program under the shim."""
 
-    def __init__(self, folder, path, program=OMEGA):
+    def __init__(self, folder: str, path: str, program: str = OMEGA) -> None:
         self.program = program
         self.count = os.path.join(folder, "count")
         self.held = os.path.join(folder, "game")
         self.path = path
 
-    def run(self, words, text, held, refuse_from=0, refuse_to=0):
+    def run(self, words: Sequence[str | bytes], text: bytes, held: bytes | None, refuse_from: int = 0,
+            refuse_to: int = 0) -> tuple[Left, int]:
         """Status, output and standard error of a run, and how many requests it made."""
         if held is not None:
             with open(self.held, "wb") as file:
                 file.write(held)
-            words = words + [self.held]
+            words = [*words, self.held]
         given = {"LD_PRELOAD": self.path, "REFUSE_COUNT": self.count}
         if refuse_from:
             given |= {"REFUSE_FROM": str(refuse_from), "REFUSE_TO": str(max(refuse_from, refuse_to))}
-        ran = subprocess.run([self.program] + words, input=text, capture_output=True, env=given, timeout=SECONDS)
+        ran = subprocess.run([self.program, *words], input=text, capture_output=True, env=given, timeout=SECONDS)
         with open(self.count) as file:
             return (ran.returncode, ran.stdout, ran.stderr), int(file.read())
 
 
-def fault_in(came, ample):
+def fault_in(came: Left, ample: Left) -> Fault:
     if came in (ample, REFUSED):
         return None
     return f"status {came[0]}, {shown(came[1])}, {shown(came[2])}"
 
 
-def refused_runs(shimmed, words, text, held):
+def refused_fault(shimmed: Shimmed, words: list[str], text: bytes, held: bytes | None, ample: Left, first: int,
+                  last: int) -> Fault:
+    """What is wrong with a run whose requests from a first one to a last one are refused, or nothing."""
+    return fault_in(shimmed.run(words, text, held, first, last)[0], ample)
+
+
+def refused_runs(shimmed: Shimmed, words: list[str], text: bytes, held: bytes | None) -> Cases:
     """Each request refused, alone and with all after it."""
     ample, requests = shimmed.run(words, text, held)
     label = f"{' '.join(words)} on {shown(text)}"
     yield f"{label}: with ample memory", "refused 60" if ample == REFUSED else None
     for n in range(1, requests + 1):
         for to in (n, 2 ** 60):
-            came, _ = shimmed.run(words, text, held, n, to)
-            yield f"{label}: request {n} of {requests}{'' if to == n else ' and all behind it'}", fault_in(came, ample)
+            refused = partial(refused_fault, shimmed, words, text, held, ample, n, to)
+            yield f"{label}: request {n} of {requests}{'' if to == n else ' and all behind it'}", refused
 
 
-def lost_half(nodes, in_chain):
+def lost_half(nodes: int, in_chain: bool) -> bytes:
     """Half of the nodes are lost for player 1, as a chain to one even loop or each by an even loop of its own: the same
     sizes, and few lifts or very many. The other half is won, each node by an odd loop of its own."""
     half = nodes // 2
@@ -127,23 +145,21 @@ def lost_half(nodes, in_chain):
     return "".join(f"{v} {priority} 0 {to};" for v, (priority, to) in enumerate([*lost, *won])).encode()
 
 
-def lifts_without_requests(shimmed):
-    """Runs of one size make one number of requests, whatever the number of lifts: a solver asks for none once it is made."""
+def lifting_fault(shimmed: Shimmed) -> Fault:
+    """Runs of one size make one number of requests, whatever the number of lifts: a solver asks for none once it is
+    made."""
     words = ["solve", "--player", "1"]
     made = [shimmed.run(words, lost_half(2000, in_chain), None) for in_chain in (True, False)]
     lifts = [int(came[1].split()[3]) for came, _ in made]
     requests = [count for _, count in made]
-    fault = None
     if max(lifts) < 100 * min(lifts):
-        fault = f"the numbers of lifts are too near: {lifts}"
-    elif requests[0] != requests[1]:
-        fault = f"{requests} requests for {lifts} lifts"
-    yield "requests of a solver that is made", fault
+        return f"the numbers of lifts are too near: {lifts}"
+    return f"{requests} requests for {lifts} lifts" if requests[0] != requests[1] else None
 
 
-def memory_checks():
+def memory_checks() -> Cases:
     with shim() as (folder, path):
         shimmed = Shimmed(folder, path)
         for words, text, held in RUNS:
             yield from refused_runs(shimmed, words, text, held)
-        yield from lifts_without_requests(shimmed)
+        yield "requests of a solver that is made", partial(lifting_fault, shimmed)

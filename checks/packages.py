@@ -1,4 +1,7 @@
-"""What is packed of the built program: the same bytes each time, and whole once it is unpacked or installed."""
+"""The archive and the Debian package: byte for byte the same when they are made twice, with the right SHA-256 sums. The
+program runs where they are unpacked or installed into an empty root, and nothing is left once the package is removed.
+Completions for bash offer what the help names; zsh and fish read theirs, where installed.
+"""
 import hashlib
 import os
 import shutil
@@ -6,7 +9,7 @@ import subprocess
 import sys
 import tempfile
 
-from program import OMEGA, ROOT
+from program import OMEGA, ROOT, Cases, Fault
 
 PACKAGE = os.path.join(ROOT, "make", "package.py")
 GAME = b"0 1 0 1; 1 2 1 0;"
@@ -22,19 +25,19 @@ OFFERED = [
 ]
 
 
-def made_in(folder):
+def made_in(folder: str) -> list[str]:
     """Packs the program into a folder. The names of the files."""
     subprocess.run([sys.executable, PACKAGE, "dist", "--program", OMEGA, "--into", folder], check=True,
                    stdout=subprocess.DEVNULL, stderr=subprocess.DEVNULL)
     return sorted(os.listdir(folder))
 
 
-def bytes_of(*path):
+def bytes_of(*path: str) -> bytes:
     with open(os.path.join(*path), "rb") as file:
         return file.read()
 
 
-def sums_fault(folder):
+def sums_fault(folder: str) -> Fault:
     """What SHA256SUMS says of the files beside it."""
     for line in bytes_of(folder, "SHA256SUMS").decode().splitlines():
         wanted, name = line.split()
@@ -43,13 +46,13 @@ def sums_fault(folder):
     return None
 
 
-def run_fault(program):
+def run_fault(program: str) -> Fault:
     """What is wrong with an installed program, which solves a game."""
     run = subprocess.run([program, "solve"], input=GAME, capture_output=True, timeout=60)
     return None if (run.returncode, run.stdout) == (0, SOLVED) else f"status {run.returncode}: {run.stdout!r}"
 
 
-def prefix_fault(prefix):
+def prefix_fault(prefix: str) -> Fault:
     """What is wrong below a prefix: the program, its manual and its completions."""
     if bytes_of(prefix, "bin", "omega") != bytes_of(OMEGA):
         return "it is another program"
@@ -59,7 +62,7 @@ def prefix_fault(prefix):
     return run_fault(os.path.join(prefix, "bin", "omega"))
 
 
-def archive_fault(file, room):
+def archive_fault(file: str, room: str) -> Fault:
     subprocess.run(["tar", "-xzf", file, "-C", room], check=True)
     (top,) = os.listdir(room)
     folder = os.path.join(room, top)
@@ -71,7 +74,7 @@ def archive_fault(file, room):
     return prefix_fault(folder)
 
 
-def debian_fault(file, room):
+def debian_fault(file: str, room: str) -> Fault:
     """Installs the package into an empty root, runs the program there, and removes it again."""
     for folder in ("info", "updates", "triggers"):
         os.makedirs(os.path.join(room, "var/lib/dpkg", folder))
@@ -89,7 +92,7 @@ def debian_fault(file, room):
     return fault or (f"it leaves {left}" if left else None)
 
 
-def offered_fault(script, words, wanted):
+def offered_fault(script: str, words: list[str], wanted: str) -> Fault:
     """What bash offers after words, by the completions."""
     listed = " ".join(f"'{word}'" for word in words)
     lines = f"source '{script}'; COMP_WORDS=({listed}); COMP_CWORD={len(words) - 1}; _omega; echo ${{COMPREPLY[@]}}"
@@ -98,7 +101,7 @@ def offered_fault(script, words, wanted):
     return None if came == wanted else f"{came!r} for {wanted!r}: {run.stderr}"
 
 
-def completion_checks(room):
+def completion_checks(room: str) -> Cases:
     """The completions in each shell that is installed."""
     prefix = os.path.join(room, "prefix")
     subprocess.run([sys.executable, PACKAGE, "install", "--program", OMEGA, "--prefix", "/prefix", "--root", room],
@@ -106,17 +109,19 @@ def completion_checks(room):
     yield "install", prefix_fault(prefix)
     for words, wanted in OFFERED:
         yield f"bash: {' '.join(words)}", offered_fault(os.path.join(prefix, COMPLETIONS), words, wanted)
-    for shell, path in (("zsh", "share/zsh/site-functions/_omega"), ("fish", "share/fish/vendor_completions.d/omega.fish")):
+    for shell, path in (("zsh", "share/zsh/site-functions/_omega"),
+                        ("fish", "share/fish/vendor_completions.d/omega.fish")):
         if shutil.which(shell):
             run = subprocess.run([shell, "-n", os.path.join(prefix, path)], capture_output=True, text=True)
             yield f"{shell} reads its completions", run.stderr.strip() or None
     if shutil.which("fish"):
         script = os.path.join(prefix, "share/fish/vendor_completions.d/omega.fish")
-        run = subprocess.run(["fish", "-c", f"source '{script}'; complete -C 'omega so'"], capture_output=True, text=True)
+        words = ["fish", "-c", f"source '{script}'; complete -C 'omega so'"]
+        run = subprocess.run(words, capture_output=True, text=True)
         yield "fish offers solve", None if run.stdout.split()[:1] == ["solve"] else repr(run.stdout)
 
 
-def package_checks():
+def package_checks() -> Cases:
     """A row a check: what it is, and what is wrong."""
     with tempfile.TemporaryDirectory() as room:
         first, again = (os.path.join(room, name) for name in ("first", "again"))

@@ -1,12 +1,18 @@
-"""What the pages say, as far as a program can tell: each command is run as it stands there and must write what stands
-below it, each link leads somewhere, each example of docs/library.md stands in the crate that is proved; and that comments in
-the sources are as narrow as they should be.
+"""What the pages say: each command of the README, CONTRIBUTING.md, `docs/`, the manual and the help writes what stands
+below it. Links lead to files, examples of `docs/library.md` are proved, the version and the toolchain are those named,
+manual and help name the same, `docs/believe.md`, the tables of `docs/map.md` and this list are what the sources make,
+comments have at most 120 columns.
+
+Commands that need `dot` or `parallel` are passed over where these are not installed. The README links every page. The
+examples of docs/library.md stand in the crate that is proved, word for word. Each crate's README.md agrees with
+crates.txt. The manual names the subcommands, options,
+refusals, statuses and numbers that the help names, and no others.
 
 A command stands in an indented block, behind `$ `. It goes on with the next line where it ends with a backslash or a
-pipe, or inside single quotes. Up to the next command stands what it writes, on standard output and standard error together. The
-commands of a block are given to one shell, so that `echo $?` writes the status of the one before; those of a page work
-in one folder, in which `omega`, `docs` and `examples` are those of the repository. The help of the program and the manual are
-pages as well.
+pipe, or inside single quotes. Up to the next command stands what it writes, on standard output and standard error
+together. The commands of a block are given to one shell, so that `echo $?` writes the status of the one before; those
+of a page work in one folder, in which `omega`, `docs` and `examples` are those of the repository. The help of the
+program and the manual are pages as well.
 """
 import glob
 import os
@@ -14,10 +20,13 @@ import re
 import shutil
 import subprocess
 import tempfile
+from collections.abc import Iterable, Iterator
 
 from believing import believing_checks
+from listing import listing_checks
 from manual import examples_of_manual, manual_checks
-from program import OMEGA, ROOT, SECONDS, help_of, output_of, subcommands
+from map import map_checks
+from program import OMEGA, ROOT, SECONDS, Cases, help_of, output_of, subcommands
 from widths import width_checks
 
 MARK = "\x01done\x01"
@@ -28,7 +37,7 @@ PERHAPS = {"dot": r"\bdot -T", "parallel": r"\bparallel -"}
 ELSEWHERE = ("pgsolver ", "oink ")
 
 
-def pages():
+def pages() -> Iterator[tuple[str, str]]:
     """The pages by their paths, with their texts."""
     paths = [os.path.join(ROOT, "README.md"), *sorted(glob.glob(os.path.join(ROOT, "docs", "*.md")))]
     for path in [*paths, os.path.join(ROOT, "CONTRIBUTING.md"), os.path.join(ROOT, "CHANGELOG.md")]:
@@ -36,7 +45,7 @@ def pages():
             yield os.path.relpath(path, ROOT), file.read()
 
 
-def indented_blocks(text, depth):
+def indented_blocks(text: str, depth: int) -> Iterator[list[str]]:
     """The runs of lines that are indented at least so far, without the indentation."""
     block = []
     for line in [*text.split("\n"), ""]:
@@ -47,24 +56,24 @@ def indented_blocks(text, depth):
             block = []
 
 
-def goes_on(command):
+def goes_on(command: str) -> bool:
     return command.endswith(("\\", "|")) or command.count("'") % 2 == 1
 
 
-def commands_of(block):
+def commands_of(block: list[str]) -> list[tuple[str, str]]:
     """The commands of a block with what each writes."""
-    made = []
+    made: list[tuple[list[str], list[str]]] = []
     for line in block:
-        if made and not made[-1][1] and goes_on(made[-1][0]):
-            made[-1][0] += "\n" + line
+        if made and not made[-1][1] and goes_on("\n".join(made[-1][0])):
+            made[-1][0].append(line)
         elif line.startswith("$ "):
-            made.append([line[2:], []])
+            made.append(([line[2:]], []))
         elif made:
             made[-1][1].append(line)
-    return [(command, "".join(line + "\n" for line in lines)) for command, lines in made]
+    return [("\n".join(command), "".join(line + "\n" for line in lines)) for command, lines in made]
 
 
-def prepare(folder):
+def prepare(folder: str) -> None:
     """Lays out a folder as the repository is, as far as commands need it."""
     os.makedirs(os.path.join(folder, "home"))
     built = os.path.join(folder, "crates", "omega_tool", "out")
@@ -75,7 +84,7 @@ def prepare(folder):
         os.symlink(os.path.join(ROOT, name), os.path.join(folder, name))
 
 
-def outputs_of(commands, folder):
+def outputs_of(commands: list[str], folder: str) -> list[str]:
     """What the commands write, given to one shell in a folder."""
     script = "exec 2>&1\n" + "".join(
         f"{command}\nkept=$?; printf '%s' '{MARK}'; (exit $kept)\n" for command in commands)
@@ -86,44 +95,43 @@ def outputs_of(commands, folder):
     return came.stdout.decode(errors="replace").split(MARK)[:-1]
 
 
-def is_passed_over(command):
+def is_passed_over(command: str) -> bool:
     return any(re.search(call, command) and not shutil.which(name) for name, call in PERHAPS.items())
 
 
-def block_checks(label, block, folder):
+def block_checks(label: str, block: list[str], folder: str) -> Cases:
     made = [(command, wanted) for command, wanted in commands_of(block) if not is_passed_over(command)]
     came = outputs_of([command for command, _ in made], folder) if made else []
     for index, (command, wanted) in enumerate(made):
         shown = command if len(command) < 70 else command[:67] + "..."
         if index >= len(came):
-            fault = "it was not run"
+            yield f"{label}: $ {shown}", "it was not run"
         else:
-            fault = None if came[index] == wanted else f"wrote {came[index]!r} for {wanted!r}"
-        yield f"{label}: $ {shown}", fault
+            yield f"{label}: $ {shown}", None if came[index] == wanted else f"wrote {came[index]!r} for {wanted!r}"
 
 
-def command_checks(label, blocks):
+def command_checks(label: str, blocks: Iterable[list[str]]) -> Cases:
     with tempfile.TemporaryDirectory() as folder:
         prepare(folder)
         for block in blocks:
             yield from block_checks(label, block, folder)
 
 
-def unrun_lines(text):
+def unrun_lines(text: str) -> Iterator[str]:
     """Lines of indented blocks that call the program and are no command that is run."""
     for block in indented_blocks(text, 4):
         if not any(line.startswith(("$ ", *ELSEWHERE)) for line in block):
             yield from (line for line in block if re.match(r"(\./)?omega\s|.*\|\s*(\./)?omega\s", line))
 
 
-def link_checks(label, text):
+def link_checks(label: str, text: str) -> Cases:
     for name, target in re.findall(r"\[([^\]]*)\]\(([^)#]+)\)", text):
         if "://" not in target:
             path = os.path.join(ROOT, os.path.dirname(label), target)
             yield f"{label}: the link {name}", None if os.path.exists(path) else f"{target} is not there"
 
 
-def example_checks():
+def example_checks() -> Cases:
     """The examples of the page on the library stand in their crate, word for word."""
     held = ""
     for path in sorted(glob.glob(os.path.join(ROOT, "crates", "omega_examples", "src", "*.rt"))):
@@ -132,23 +140,24 @@ def example_checks():
     with open(os.path.join(ROOT, "docs", "library.md")) as file:
         blocks = re.findall(r"^```rust\n(.*?)^```$", file.read(), re.MULTILINE | re.DOTALL)
     for block in blocks:
-        yield f"docs/library.md: the example {block.splitlines()[0]}", None if block in held else "it is not in omega_examples"
+        fault = None if block in held else "it is not in omega_examples"
+        yield f"docs/library.md: the example {block.splitlines()[0]}", fault
 
 
-def version_checks():
-    """The version that the program writes is that of the newest changes, and the README names its toolchain."""
+def version_checks() -> Cases:
+    """The version that the program writes is that of the newest changes, and the logic below it is the one of TOOLCHAIN.
+    The toolchain in PATH may have another: then `make` has said so."""
     texts, said = dict(pages()), output_of(["--version"], b"").decode()
     lines = said.splitlines()
-    newest = re.search(r"^## (\S+),", texts["CHANGELOG.md"], re.MULTILINE).group(1)
+    newest = re.findall(r"^## (\S+),", texts["CHANGELOG.md"], re.MULTILINE)[0]
     yield "the version", None if lines[:1] == [f"omega {newest}"] else f"it is {said!r} for {newest}"
-    kit = lines[1].removeprefix("proved by ") if len(lines) == 2 and lines[1].startswith("proved by ") else None
-    if shutil.which("rt"):
-        found = subprocess.run(["rt", "version"], capture_output=True, timeout=SECONDS).stdout.decode().strip()
-        yield "the toolchain", None if found == kit else f"rt is {found!r}"
-    yield "the toolchain of the README", None if kit and f"`{kit}`" in texts["README.md"] else f"{said!r} is not there"
+    with open(os.path.join(ROOT, "TOOLCHAIN")) as file:
+        logic = file.read()
+    is_logic = re.fullmatch(r"logic [0-9a-f]+\n", logic)
+    yield "the logic", None if is_logic and lines[1:] == [f"proved in {logic.strip()}"] else f"{said!r} for {logic!r}"
 
 
-def page_checks():
+def page_checks() -> Cases:
     texts = dict(pages())
     for label, text in texts.items():
         yield from command_checks(label, indented_blocks(text, 4))
@@ -166,3 +175,5 @@ def page_checks():
     yield from manual_checks()
     yield from width_checks()
     yield from believing_checks()
+    yield from map_checks()
+    yield from listing_checks()

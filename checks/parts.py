@@ -1,9 +1,13 @@
-"""Parts of games: what `canon --from` writes, and that `verify --from` judges solutions of the part, those of
-`solve --from` and others, as a slow reader in Python does."""
+"""Parts of 45 games, five by hand and others at random: what `canon --from` writes, or the refusal, for each identifier
+and for some that no node has. And `verify --from` says of what `solve --from` wrote, of a solution of the whole game
+and of random solutions what a slow judge says of them for the part.
+"""
 import random
+from functools import partial
 
-from games import Refused, canonical, reached, read_game, read_solution, wins
-from program import fault_of, fault_with_file, output_of, shown
+from games import (Game, Refused, Solution, canonical, random_game, reached, read_game, read_solution, text_of,
+                   wins)
+from program import Cases, Fault, fault_of, fault_with_file, output_of, shown
 
 GAMES = [
     b"0 1 0 1; 1 2 1 0;",
@@ -15,7 +19,7 @@ GAMES = [
 REFUSED = [b"", b"0 0 0 1;", b"0 0 0 0; 0 0 0 0;", b"parity 3; 4 0 0 4;", b"0 0 0 0 $"]
 
 
-def part_of(nodes, start):
+def part_of(nodes: Game, start: int) -> Game:
     """The nodes that a node reaches, itself among them; refused 54 where there is no such node."""
     if start not in nodes:
         raise Refused("54 UnknownNode")
@@ -24,24 +28,19 @@ def part_of(nodes, start):
     return {identifier: node for identifier, node in nodes.items() if identifier in kept}
 
 
-def made_at_random(maker):
-    """A game text of up to seven nodes, whose identifiers have gaps."""
-    identifiers = maker.sample(range(12), maker.randint(1, 7))
-    lines = []
-    for identifier in identifiers:
-        listed = ",".join(str(maker.choice(identifiers)) for _ in range(maker.randint(1, 2)))
-        lines.append(f"{identifier} {maker.randint(0, 5)} {maker.randint(0, 1)} {listed};")
-    return "\n".join(lines).encode()
+def made_at_random(maker: random.Random) -> bytes:
+    """A game text of up to seven nodes, whose identifiers have gaps and come in any order."""
+    return text_of(random_game(maker, maker.sample(range(12), maker.randint(1, 7)), 6, 2))
 
 
-def written(part, solution):
+def written(part: Game, solution: Solution) -> bytes:
     lines = [b"paritysol %d;\n" % max(part)]
     for identifier, (winner, choice) in solution.items():
         lines.append(b"%d %d%s;\n" % (identifier, winner, b"" if choice is None else b" %d" % choice))
     return b"".join(lines)
 
 
-def solution_at_random(maker, part):
+def solution_at_random(maker: random.Random, part: Game) -> Solution:
     """Any winners and choices: sometimes right."""
     made = {}
     for identifier, node in part.items():
@@ -50,9 +49,9 @@ def solution_at_random(maker, part):
     return made
 
 
-def judged(game, start, text):
+def judged(game: bytes, start: int, text: bytes) -> Fault:
     """The fault of `verify --from`, which must say what the slow judge says of the part."""
-    words = ["verify", "--from", str(start), "--game"]
+    words = ["verify", "-v", "--from", str(start), "--game"]
     judged_text = "game"
     try:
         part = part_of(read_game(game), start)
@@ -64,19 +63,20 @@ def judged(game, start, text):
     return fault_with_file(words, game, text, 0 if right else 6, b"yes\n" if right else b"no\n")
 
 
-def refused_checks():
+def refused_checks() -> Cases:
     for game in REFUSED:
         try:
             part_of(read_game(game), 0)
         except Refused as refused:
             wanted = f"omega: {refused}\n".encode()
             words = ["canon", "--format", "pg", "--from", "0"]
-            yield f"canon --from of {shown(game)}", fault_of(words, game, 1, b"", wanted)
-            yield f"verify --from of {shown(game)}", fault_with_file(
-                ["verify", "--from", "0", "--game"], game, b"nonsense", 1, b"", wanted + b"omega: in the game\n")
+            yield f"canon --from of {shown(game)}", partial(fault_of, words, game, 1, b"", wanted)
+            yield f"verify --from of {shown(game)}", partial(
+                fault_with_file,
+                ["verify", "-v", "--from", "0", "--game"], game, b"nonsense", 1, b"", wanted + b"omega: in the game\n")
 
 
-def game_checks(maker, game):
+def game_checks(maker: random.Random, game: bytes) -> Cases:
     nodes = read_game(game)
     for start in sorted({*nodes, 1, 5, 2_147_483_647}):
         label = f"the part of {start} in {shown(game)}"
@@ -84,20 +84,21 @@ def game_checks(maker, game):
         try:
             part = part_of(nodes, start)
         except Refused as refused:
-            yield label, fault_of(words, game, 1, b"", f"omega: {refused}\n".encode())
-            yield f"{label}, verified", judged(game, start, b"paritysol 0;")
+            yield label, partial(fault_of, words, game, 1, b"", f"omega: {refused}\n".encode())
+            yield f"{label}, verified", partial(judged, game, start, b"paritysol 0;")
             continue
-        yield label, fault_of(words, game, 0, canonical(part))
-        for way in ([], ["--search"]):
-            solution = output_of(["solve", "--from", str(start), *way], game)
-            yield f"{label}, solved {way}", judged(game, start, solution) or (
+        yield label, partial(fault_of, words, game, 0, canonical(part))
+        for ways in ("", "--search"):
+            solution = output_of(["solve", "--from", str(start), *ways.split()], game)
+            yield f"{label}, solved {ways}", judged(game, start, solution) or (
                 fault_with_file(["verify", "--game"], canonical(part), solution, 0, b"yes\n"))
-        yield f"{label}, by a solution of the whole", judged(game, start, output_of(["solve"], game))
+        yield f"{label}, by a solution of the whole", partial(judged, game, start, output_of(["solve"], game))
         for _ in range(3):
-            yield f"{label}, by any solution", judged(game, start, written(part, solution_at_random(maker, part)))
+            yield f"{label}, by any solution", partial(
+                judged, game, start, written(part, solution_at_random(maker, part)))
 
 
-def part_checks():
+def part_checks() -> Cases:
     yield from refused_checks()
     maker = random.Random(2026)
     for game in GAMES + [made_at_random(maker) for _ in range(40)]:

@@ -1,12 +1,19 @@
-"""The memory of the program at its peak: at most 8 bytes for each byte of the text, and 12 MB."""
+"""The program's memory at its peak: at most 8 bytes a byte of text, and 12 MB. Tried are the longest texts of one token
+again and again; a million of each sign, of atoms and of comments in or before a label; and bodies of some megabytes,
+with labels, with marks of 120 sets, and without labels.
+
+There is a text of each kind of token.
+"""
 import json
 import random
 import subprocess
 import sys
 import tempfile
+from collections.abc import Iterator
+from functools import partial
 
 from automaton_texts import CHECK, huge_texts
-from program import OMEGA, SECONDS, shown
+from program import OMEGA, SECONDS, Cases, Fault, shown
 
 MOST_TEXT = 16_777_216
 CHECK_GAME = ["check", "--format", "pg"]
@@ -22,13 +29,13 @@ print(json.dumps([os.waitstatus_to_exitcode(status), used.ru_maxrss * 1024, wrot
 """
 
 
-def peak_fault(words, text, wanted):
+def peak_fault(words: list[str], text: bytes, wanted: str) -> Fault:
     """Runs the program on a text. What differs from the text wanted on its outputs, or how far its memory went."""
     with tempfile.TemporaryFile() as file:
         file.write(text)
         file.seek(0)
-        run = subprocess.run([sys.executable, "-c", SMALL, OMEGA, *words], stdin=file, stdout=subprocess.PIPE, check=True,
-                             timeout=SECONDS)
+        run = subprocess.run([sys.executable, "-c", SMALL, OMEGA, *words], stdin=file, stdout=subprocess.PIPE,
+                             check=True, timeout=SECONDS)
     _, peak, wrote = json.loads(run.stdout)
     if wrote != wanted:
         return f"{shown(wrote.encode())} for {shown(wanted.encode())}"
@@ -36,15 +43,15 @@ def peak_fault(words, text, wanted):
     return None if peak <= most else f"{peak} bytes of memory for {len(text)} bytes of text, and {most} at most"
 
 
-def alone(token):
+def alone(token: bytes) -> bytes:
     """The longest text of one token again and again."""
     return token * (MOST_TEXT // len(token))
 
 
-def tokens_alone():
+def tokens_alone() -> Iterator[tuple[list[str], bytes, str]]:
     """Texts of one kind of token, with the line of their refusal."""
-    for token in (b"State: ", b"a: ", b"--BODY--", b"--END--", b"--ABORT--", b"[", b"]", b"{", b"}", b"(", b")", b"!", b"&",
-                  b"|", b"t ", b"f ", b"0 ", b"a ", b'"" ', b"@a "):
+    for token in (b"State: ", b"a: ", b"--BODY--", b"--END--", b"--ABORT--", b"[", b"]", b"{", b"}", b"(", b")", b"!",
+                  b"&", b"|", b"t ", b"f ", b"0 ", b"a ", b'"" ', b"@a "):
         yield CHECK, token, "3 Syntax at 0"
     headers = alone(b"HOA: ")
     yield CHECK, b"HOA: ", f"3 Syntax at {len(headers)}"
@@ -54,7 +61,7 @@ def tokens_alone():
     yield CHECK_GAME, b"parity ", "3 Syntax at 7"
 
 
-def labelled_body(states, source):
+def labelled_body(states: int, source: random.Random) -> Iterator[bytes]:
     """A Büchi automaton with four edges a state, each with a label of four propositions."""
     yield b'HOA: v1 States: %d Start: 0 AP: 4 "a" "b" "c" "d" acc-name: Buchi Acceptance: 1 Inf(0) --BODY--\n' % states
     for state in range(states):
@@ -66,7 +73,7 @@ def labelled_body(states, source):
     yield b"--END--\n"
 
 
-def marked_body(states, source):
+def marked_body(states: int, source: random.Random) -> Iterator[bytes]:
     """Three edges a state, with marks of a hundred and twenty sets."""
     sets = b" & ".join(b"Fin(%d)" % k for k in range(120))
     yield b'HOA: v1 States: %d Start: 0 AP: 1 "a" Acceptance: 120 %s --BODY--\n' % (states, sets)
@@ -77,7 +84,7 @@ def marked_body(states, source):
     yield b"--END--\n"
 
 
-def implicit_body(states, source):
+def implicit_body(states: int, source: random.Random) -> Iterator[bytes]:
     """Sixteen edges a state without labels, for each valuation of four propositions."""
     yield b'HOA: v1 States: %d Start: 0 AP: 4 "a" "b" "c" "d" acc-name: all Acceptance: 0 t --BODY--\n' % states
     for state in range(states):
@@ -86,7 +93,7 @@ def implicit_body(states, source):
     yield b"--END--\n"
 
 
-def bodies():
+def bodies() -> Iterator[tuple[str, bytes]]:
     """Automata of some megabytes."""
     source = random.Random(1)
     yield "labels of four propositions", b"".join(labelled_body(50_000, source))
@@ -94,10 +101,10 @@ def bodies():
     yield "bodies without labels", b"".join(implicit_body(60_000, source))
 
 
-def peak_checks():
+def peak_checks() -> Cases:
     for words, token, line in tokens_alone():
-        yield f"{words[-1]} of {token.decode()}alone", peak_fault(words, alone(token), f"omega: {line}\n")
-    for label, text, line in huge_texts():
-        yield label, peak_fault(CHECK, text, "accepted\n" if line is None else f"omega: {line}\n")
+        yield f"{words[-1]} of {token.decode()}alone", partial(peak_fault, words, alone(token), f"omega: {line}\n")
+    for label, text, refusal in huge_texts():
+        yield label, partial(peak_fault, CHECK, text, "accepted\n" if refusal is None else f"omega: {refusal}\n")
     for label, text in bodies():
-        yield label, peak_fault(CHECK, text, "accepted\n")
+        yield label, partial(peak_fault, CHECK, text, "accepted\n")

@@ -1,12 +1,22 @@
-"""`meet`, `complement` and `empty --word`: the languages of what they write, against a plain judge of words, on automata
-whose languages are known and on automata made at random."""
-import tempfile
+"""What `meet`, `complement` and `empty --word` write, against a plain judge of words. Five known languages, their
+complements and products are compared on all words of up to 3 letters of 2 propositions; 2,000 random pairs follow, with
+the states of products in order, 400 lines `word`, and refusal 56. Two products are at the limit of states.
 
-from automata import Refused, read_one
+The products of the five are made in both orders; the stem and the cycle of a word have up to 3 letters together. The
+random pairs are deterministic and not, with propositions in the same order and in another, labels of states and of
+edges, edges without labels, sets that no edge is in, several starts and none. The states of a product are the pairs
+that a slow search reaches, in its order. What is not deterministic is refused 56. The line `word` is that of a slow
+writer. Of two products one is at the limit of states, and one past it.
+"""
+import tempfile
+from collections.abc import Callable
+from functools import partial
+
+from automata import Automaton, Refused, read_one
 from emptiness import branches, read_lasso
 from emptiness_checks import Emptied
-from products import accepts, is_deterministic, names_of, pairs_reached, word_line, words_over
-from program import fault_of, run_of, shown
+from products import Word, accepts, is_deterministic, names_of, pairs_reached, word_line, words_over
+from program import Cases, Fault, Ran, fault_of, run_of, shown
 
 HEAD = b'HOA: v1 States: %d Start: 0 AP: %d %s acc-name: %s Acceptance: %s --BODY-- %s --END--'
 
@@ -18,7 +28,7 @@ UNTIL = HEAD % (2, 2, b'"b" "a"', b"Buchi", b"1 Inf(0)", b"State: 0 [0] 1 [!0&1]
 IMPLICIT = HEAD % (1, 1, b'"b"', b"Buchi", b"1 Inf(0)", b"State: 0 0 0 {0}")
 
 
-def holds_until(letters_of_stem, letters_of_cycle):
+def holds_until(letters_of_stem: Word, letters_of_cycle: Word) -> bool:
     for letter in letters_of_stem + letters_of_cycle:
         if b"b" in letter:
             return True
@@ -45,7 +55,7 @@ class Paired(Emptied):
     """Makes automata at random whose propositions stand in one order or the other, nondeterministic and deterministic,
     with labels of edges and states and without."""
 
-    def body_of(self, count, sets, deterministic):
+    def body_of(self, count: int, sets: int, deterministic: bool) -> bytes:
         lines = []
         for number in range(count):
             marks, choice = self.marks(sets), self.some(0, 5)
@@ -58,7 +68,7 @@ class Paired(Emptied):
                 lines.append(self.edged(number, count, sets))
         return b"".join(lines)
 
-    def parted(self, count, sets):
+    def parted(self, count: int, sets: int) -> bytes:
         """Edges whose labels part the letters, some of which are left out."""
         cubes = [b"!0&!1", b"0&!1", b"!0&1", b"0&1"]
         self.random.shuffle(cubes)
@@ -69,16 +79,17 @@ class Paired(Emptied):
             cubes = cubes[size:]
         return edges
 
-    def automaton(self, deterministic=False):
+    def automaton(self, deterministic: bool = False) -> bytes:
         count, sets = self.some(1, 4), self.some(0, 3)
-        starts = b"".join(b"Start: %d\n" % self.some(0, count - 1) for _ in range(1 if deterministic else self.some(0, 2)))
+        starts = b"".join(b"Start: %d\n" % self.some(0, count - 1)
+                          for _ in range(1 if deterministic else self.some(0, 2)))
         names = self.random.choice([b'"a" "b"', b'"b" "a"'])
         return (b"HOA: v1\nStates: %d\n%sAP: 2 %s\nAlias: @x 0&!0\nAlias: @y 0|1\nAcceptance: %d %s\n--BODY--\n"
                 % (count, starts, names, sets, self.acceptance(sets, 2)) + self.body_of(count, sets, deterministic)
                 + b"--END--\n")
 
 
-def meet(one, other):
+def meet(one: bytes, other: bytes) -> Ran:
     """A run of `meet` on two texts."""
     with tempfile.NamedTemporaryFile() as file:
         file.write(other)
@@ -86,19 +97,19 @@ def meet(one, other):
         return run_of(["meet", "--with", file.name], one)
 
 
-def read_written(ran):
+def read_written(ran: Ran) -> Automaton | str:
     """The automaton that a run wrote, or what is wrong."""
     if ran.returncode or ran.stderr:
-        return None, f"status {ran.returncode}: {shown(ran.stderr)}"
+        return f"status {ran.returncode}: {shown(ran.stderr)}"
     try:
         automaton = read_one(ran.stdout)
     except Refused as refused:
-        return None, f"what is written is refused {refused}: {shown(ran.stdout)}"
+        return f"what is written is refused {refused}: {shown(ran.stdout)}"
     fault = fault_of(["canon", "--format", "hoa"], ran.stdout, 0, ran.stdout)
-    return (None, f"it is not canonical: {fault}") if fault else (automaton, None)
+    return f"it is not canonical: {fault}" if fault else automaton
 
 
-def word_fault(automaton, words, wanted):
+def word_fault(automaton: Automaton, words: list[tuple[Word, Word]], wanted: Callable[[Word, Word], bool]) -> Fault:
     """A word of which the automaton says something else than is wanted, or nothing."""
     for stem, cycle in words:
         if accepts(automaton, stem, cycle) != wanted(stem, cycle):
@@ -106,13 +117,13 @@ def word_fault(automaton, words, wanted):
     return None
 
 
-def meet_fault(one, other, words):
+def meet_fault(one: bytes, other: bytes, words: list[tuple[Word, Word]]) -> Fault:
     """What is wrong with what `meet` writes of two texts, or nothing."""
     ran = meet(one, other)
     first, second = read_one(one), read_one(other)
-    product, fault = read_written(ran)
-    if fault:
-        return fault
+    product = read_written(ran)
+    if isinstance(product, str):
+        return product
     pairs, edges = pairs_reached(first, second)
     named = [state.name for state in product.states]
     if named != [b'"%d,%d"' % pair for pair in pairs] or sum(len(state.edges) for state in product.states) != edges:
@@ -123,18 +134,20 @@ def meet_fault(one, other, words):
     return word_fault(product, words, lambda *word: accepts(first, *word) and accepts(second, *word))
 
 
-def complement_fault(text, words):
+def complement_fault(text: bytes, words: list[tuple[Word, Word]]) -> Fault:
     """What is wrong with what `complement` writes of a text, or nothing."""
     ran, automaton = run_of(["complement"], text), read_one(text)
     if not is_deterministic(automaton):
         if ran.returncode != 1 or not ran.stderr.startswith(b"omega: 56 NotDeterministic at ") or ran.stdout:
             return f"status {ran.returncode}: {shown(ran.stdout)} {shown(ran.stderr)}"
         return None
-    complement, fault = read_written(ran)
-    return fault or word_fault(complement, words, lambda *word: not accepts(automaton, *word))
+    complement = read_written(ran)
+    if isinstance(complement, str):
+        return complement
+    return word_fault(complement, words, lambda *word: not accepts(automaton, *word))
 
 
-def word_of_lasso_fault(text):
+def word_of_lasso_fault(text: bytes) -> Fault:
     """What is wrong with what `empty --search --word` writes, or nothing."""
     ran, automaton = run_of(["empty", "--search", "--word"], text), read_one(text)
     if ran.returncode or ran.stderr:
@@ -149,25 +162,25 @@ def word_of_lasso_fault(text):
     return None if ran.stdout == wanted else f"{shown(ran.stdout)} for {shown(wanted)}"
 
 
-def chain(states, name):
+def chain(states: int, name: bytes) -> bytes:
     """A ring of so many states."""
     return HEAD % (states, 1, name, b"Buchi", b"1 Inf(0)", b"".join(
         b"State: %d [t] %d\n" % (state, (state + 1) % states) for state in range(states)))
 
 
-def known_checks():
+def known_checks() -> Cases:
     for one, of_one in LANGUAGES:
-        yield f"the judge on {shown(one)}", word_fault(read_one(one), WORDS, of_one)
-        yield f"the complement of {shown(one)}", complement_fault(one, WORDS)
+        yield f"the judge on {shown(one)}", partial(word_fault, read_one(one), WORDS, of_one)
+        yield f"the complement of {shown(one)}", partial(complement_fault, one, WORDS)
         for other, of_other in LANGUAGES:
-            yield f"{shown(one)} meets {shown(other)}", meet_fault(one, other, WORDS)
+            yield f"{shown(one)} meets {shown(other)}", partial(meet_fault, one, other, WORDS)
     for text in (NO_STARTS, NO_STATES, SETLESS):
-        yield f"{shown(text)} meets another", meet_fault(text, UNTIL, WORDS)
-        yield f"another meets {shown(text)}", meet_fault(UNTIL, text, WORDS)
-        yield f"the complement of {shown(text)}", complement_fault(text, WORDS)
+        yield f"{shown(text)} meets another", partial(meet_fault, text, UNTIL, WORDS)
+        yield f"another meets {shown(text)}", partial(meet_fault, UNTIL, text, WORDS)
+        yield f"the complement of {shown(text)}", partial(complement_fault, text, WORDS)
 
 
-def limit_checks():
+def limit_checks() -> Cases:
     """At both sides of 55: rings whose numbers of states have no common divisor meet in all pairs."""
     ran = meet(chain(1023, b'"a"'), chain(1024, b'"b"'))
     fault = None if ran.returncode == 0 and ran.stdout.count(b"State: ") == 1023 * 1024 else f"status {ran.returncode}"
@@ -177,20 +190,20 @@ def limit_checks():
         b"omega: 55 TooLarge\n") else f"status {ran.returncode}: {shown(ran.stderr)}"
 
 
-def random_checks():
+def random_checks() -> Cases:
     maker = Paired(2027)
     for number in range(2000):
         deterministic = bool(number % 2)
         one, other = maker.automaton(deterministic), maker.automaton(deterministic)
         words = maker.random.sample(WORDS, 8)
         assert not branches(read_one(one))
-        yield f"the pair {number}: {one!r} meets {other!r}", meet_fault(one, other, words)
-        yield f"the complement of {one!r}", complement_fault(one, words)
+        yield f"the pair {number}: {one!r} meets {other!r}", partial(meet_fault, one, other, words)
+        yield f"the complement of {one!r}", partial(complement_fault, one, words)
         if number < 400:
-            yield f"the word of {one!r}", word_of_lasso_fault(one)
+            yield f"the word of {one!r}", partial(word_of_lasso_fault, one)
 
 
-def product_checks():
+def product_checks() -> Cases:
     yield from known_checks()
     yield from random_checks()
     yield from limit_checks()

@@ -5,17 +5,22 @@ A word is a lasso of letters, each the set of the names that hold. Nothing here 
 program.
 """
 import itertools
+from collections.abc import Iterator
 
-from automata import bare
+from automata import Automaton, Tree, bare
 from emptiness import Move, has_accepting_walk, is_true, moves_of
 
+# The names that hold; and the letters of a stem or a cycle.
+Letter = frozenset[bytes]
+Word = list[Letter]
 
-def names_of(automaton):
+
+def names_of(automaton: Automaton) -> list[bytes]:
     """The names of the propositions, as they are written, without their quotes."""
     return [name[1:-1] for name in automaton.first(b"AP:", (0, []))[1]]
 
 
-def can_be_taken(move, names, letter):
+def can_be_taken(move: Move, names: list[bytes], letter: Letter) -> bool:
     """Whether an edge can be taken where the names of a letter hold."""
     held = {number for number, name in enumerate(names) if name in letter}
     if move.label is None:
@@ -23,10 +28,11 @@ def can_be_taken(move, names, letter):
     return is_true(move.label, held)
 
 
-def accepts(automaton, stem, cycle):
-    """Whether the automaton accepts the word: a walk of pairs of a state and a place of the word goes round for ever."""
+def accepts(automaton: Automaton, stem: Word, cycle: Word) -> bool:
+    """Whether the automaton accepts the word: a walk of pairs of a state and a place of the word goes round for
+    ever."""
     letters, names = stem + cycle, names_of(automaton)
-    taken = []
+    taken: list[Move] = []
     for move in moves_of(automaton):
         for place, letter in enumerate(letters):
             if can_be_taken(move, names, letter):
@@ -37,7 +43,7 @@ def accepts(automaton, stem, cycle):
     return has_accepting_walk(starts, taken, bare(automaton.first(b"Acceptance:", None)[1]))
 
 
-def words_over(names, most):
+def words_over(names: list[bytes], most: int) -> Iterator[tuple[Word, Word]]:
     """All words whose stem and cycle have so many letters at most together."""
     letters = [frozenset(held) for size in range(len(names) + 1) for held in itertools.combinations(names, size)]
     for length in range(1, most + 1):
@@ -46,11 +52,11 @@ def words_over(names, most):
                 yield list(word[:stem]), list(word[stem:])
 
 
-def valuations(names):
+def valuations(names: list[bytes]) -> list[Letter]:
     return [frozenset(held) for size in range(len(names) + 1) for held in itertools.combinations(names, size)]
 
 
-def pairs_reached(one, other):
+def pairs_reached(one: Automaton, other: Automaton) -> tuple[list[tuple[int, int]], int]:
     """The pairs of states that edges of both reach together, as they are found breadth first, and how many edges they
     have."""
     names = [names_of(one), names_of(other)]
@@ -71,7 +77,7 @@ def pairs_reached(one, other):
     return found, edges
 
 
-def is_deterministic(automaton):
+def is_deterministic(automaton: Automaton) -> bool:
     """Whether there is one start at most, and no two edges of a state can be taken at one letter."""
     names, taken = names_of(automaton), set()
     for move in moves_of(automaton):
@@ -83,13 +89,13 @@ def is_deterministic(automaton):
     return len(automaton.said(b"Start:")) <= 1
 
 
-def named(name):
+def named(name: bytes) -> bytes:
     """A name as a letter of a word has it: in quotes where it is no identifier."""
     text = name.decode()
     return name if text.isidentifier() and text.isascii() else b'"' + name + b'"'
 
 
-def letter_of(move, names):
+def letter_of(move: Move, names: list[bytes]) -> bytes:
     """The letter that an edge of a lasso has in the word."""
     if move.label is None:
         held = [(b"" if (move.place >> number) % 2 else b"!") + named(name) for number, name in enumerate(names)]
@@ -97,7 +103,7 @@ def letter_of(move, names):
     return labelled(move.label, names, 0)
 
 
-def labelled(tree, names, tight):
+def labelled(tree: Tree, names: list[bytes], tight: int) -> bytes:
     if tree[0] in ("t", "f"):
         return b"1" if tree[0] == "t" else b"0"
     if tree[0] == "number":
@@ -109,7 +115,7 @@ def labelled(tree, names, tight):
     return b"(" + text + b")" if tight > own else text
 
 
-def word_line(automaton, stem, cycle):
+def word_line(automaton: Automaton, stem: list[int], cycle: list[int]) -> bytes:
     """The line `word` of a lasso."""
     moves, names = moves_of(automaton), names_of(automaton)
     stem_text = b"".join(letter_of(moves[number], names) + b"; " for number in stem)

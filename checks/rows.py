@@ -1,9 +1,14 @@
-"""The rows of checks/rows.txt, which says what it has, and rows whose texts are too long to be written down."""
+"""The rows of `checks/rows.txt`: command lines, and the status, output and standard error that each leaves, found by
+hand. They also say what help and faults of the command line have. The texts of a few are made here: bounds about 2^128,
+a game too wide for one player, which `solve --search` solves all the same, and aliases that double.
+"""
 import os
 import subprocess
 import tempfile
+from collections.abc import Iterator
+from functools import partial
 
-from program import OMEGA, SECONDS, difference, shown
+from program import OMEGA, SECONDS, Case, Cases, Fault, Ran, difference, shown
 
 ROWS = os.path.join(os.path.dirname(os.path.abspath(__file__)), "rows.txt")
 FAULT = 2
@@ -13,17 +18,17 @@ ESCAPES = {"n": "\n", "t": "\t", "\\": "\\"}
 class Row:
     """A text, and what each of some command lines leaves of it."""
 
-    def __init__(self, number):
+    def __init__(self, number: int) -> None:
         self.number = number
-        self.commands = []
-        self.file = None
+        self.commands: list[str] = []
+        self.file: bytes | None = None
         self.text = b""
         self.status = 0
         self.output = b""
         self.error = b""
-        self.said = []
+        self.said: list[bytes] = []
 
-    def take(self, mark, rest):
+    def take(self, mark: str, rest: str) -> None:
         """Takes what a line has after its mark."""
         if mark == "$":
             self.commands.append(rest)
@@ -43,7 +48,7 @@ class Row:
             raise ValueError(f"checks/rows.txt has {mark!r} in the row of line {self.number}")
 
 
-def plain(text):
+def plain(text: str) -> bytes:
     """The bytes that a text with escapes stands for."""
     made, rest = [], iter(text)
     for sign in rest:
@@ -51,9 +56,10 @@ def plain(text):
     return "".join(made).encode()
 
 
-def rows_of(text):
+def rows_of(text: str) -> Iterator[Row]:
     """The rows of a file, after its first heading."""
-    row, is_behind = None, False
+    row: Row | None = None
+    is_behind = False
     for number, line in enumerate([*text.split("\n"), ""], 1):
         is_behind = is_behind or line.startswith("## ")
         if not is_behind or line.startswith("## "):
@@ -67,7 +73,7 @@ def rows_of(text):
             row = None
 
 
-def run_in(folder, command, text):
+def run_in(folder: str, command: str, text: bytes) -> Ran:
     """Runs a command line in a folder, or several of which each reads what the one before it writes."""
     for words in command.split(" | "):
         run = subprocess.run([OMEGA, *words.split()], input=text, cwd=folder, capture_output=True, timeout=SECONDS)
@@ -75,7 +81,7 @@ def run_in(folder, command, text):
     return run
 
 
-def said_fault(row, run):
+def said_fault(row: Row, run: Ran) -> Fault:
     """What the text of help or of a fault lacks, or nothing."""
     text, other = (run.stderr, run.stdout) if row.status == FAULT else (run.stdout, run.stderr)
     if other or row.status == FAULT and not text.startswith(b"error: "):
@@ -84,7 +90,7 @@ def said_fault(row, run):
     return f"{missing} is not in {shown(text)}" if missing else None
 
 
-def row_fault(row, command):
+def row_fault(row: Row, command: str) -> Fault:
     """What a command line leaves of a row's text that is not what is wanted, or nothing."""
     with tempfile.TemporaryDirectory() as folder:
         if row.file is not None:
@@ -98,24 +104,25 @@ def row_fault(row, command):
     return difference("output", run.stdout, row.output) or difference("standard error", run.stderr, row.error)
 
 
-def long_row(command, text, status=0, output=b"", error=b""):
-    """A row that is made here: its command line, and its fault, if it has one."""
+def long_row(command: str, text: str, status: int = 0, output: bytes = b"", error: bytes = b"") -> Case:
+    """A row that is made here: its command line, and the call that finds its fault."""
     row = Row(0)
     row.text, row.status, row.output, row.error = text.encode(), status, output, error
-    return command, row_fault(row, command)
+    return command, partial(row_fault, row, command)
 
 
-def odd_loops():
+def odd_loops() -> Cases:
     """Nodes that lead to themselves, each with an odd priority of its own, up to a bound over 128 bits."""
     for count, bound in ((121, "321673174979949641242721308587843387392"), (122, "over 128 bits")):
         text = "".join(f"{node} {2 * node + 1} 0 {node};" for node in range(count))
-        output = f"game nodes {count} edges {count} greatest {count - 1}\nplayer 0 bound {bound}\nplayer 1 bound {count}\n"
+        output = f"game nodes {count} edges {count} greatest {count - 1}\n"
+        output += f"player 0 bound {bound}\nplayer 1 bound {count}\n"
         yield long_row("show --format pg", text, output=output.encode())
 
 
-def wide_for_one():
-    """As many nodes with an even priority of their own as make a game too wide for player 1, and one with priority 1. Each
-    leads to itself."""
+def wide_for_one() -> Cases:
+    """As many nodes with an even priority of their own as make a game too wide for player 1, and one with priority 1.
+    Each leads to itself."""
     text = "".join(f"{node} {2 * node} 0 {node};" for node in range(8192)) + "8192 1 0 8192;"
     wide, used_up, unknown = b"omega: 50 TooWide\n", b"omega: 51 Budget\n", b"omega: 54 UnknownNode\n"
     yield long_row("solve", text, 1, error=wide)
@@ -135,7 +142,7 @@ def wide_for_one():
     yield long_row("solve --search --from 8192", text, output=b"paritysol 8192;\n8192 1;\n")
 
 
-def doubling():
+def doubling() -> Cases:
     """Aliases of which each is twice as large as the one before, and a label that is the last of them."""
     for last, status, output, error in ((14, 0, b"accepted\n", b""), (15, 1, b"", b"omega: 33 Expansion\n"),
                                         (19, 1, b"", b"omega: 33 Expansion\n")):
@@ -145,11 +152,11 @@ def doubling():
         yield long_row("check --format hoa", text, status, output, error)
 
 
-def row_checks():
+def row_checks() -> Cases:
     with open(ROWS) as file:
         for row in rows_of(file.read()):
             for command in row.commands:
-                yield f"line {row.number}: {command}", row_fault(row, command)
+                yield f"line {row.number}: {command}", partial(row_fault, row, command)
     yield from odd_loops()
     yield from wide_for_one()
     yield from doubling()

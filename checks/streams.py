@@ -1,9 +1,15 @@
-"""Which status a run ends with, and what stands on which stream: what `main` adds to what is proved of `obey`."""
+"""Which status a run ends with, and what stands on which stream. Tried are faults of the command line, words that are
+no text, files that cannot be read or are no texts, named by an option or by the operand, streams that fail or are
+closed, and a pipe that nobody reads. Help names the limits as they are.
+
+This is what `main` adds to what is proved of `obey`.
+"""
 import os
 import subprocess
 import tempfile
+from typing import Any
 
-from program import OMEGA, SECONDS, fault_of, fault_with_file, shown, subcommands
+from program import OMEGA, SECONDS, Cases, Ran, fault_of, fault_with_file, shown, subcommands
 
 CHOICE = b"0 0 0 1,2; 1 1 1 0; 2 2 1 0;"
 SOLUTION = b"paritysol 2; 0 0 2; 1 0; 2 0;"
@@ -15,17 +21,22 @@ LIMITS = {
 }
 
 
-def run(words, text=b"", **given):
+def run(words: list[bytes], text: bytes = b"", **given: Any) -> Ran:
     return subprocess.run([os.fsencode(OMEGA)] + words, input=text, stdout=subprocess.PIPE, stderr=subprocess.PIPE,
                           timeout=SECONDS, **given)
 
 
-def unread(name):
-    """What is told of a file that can't be read."""
+def left(came: Ran) -> str:
+    """What a run left, for a message."""
+    return f"{came.returncode} {shown(came.stdout)} {shown(came.stderr)}"
+
+
+def unread(name: str) -> bytes:
+    """What is told with `--verbose` of a file that can't be read."""
     return f"omega: 61 Io\nomega: cannot read '{name}'\n".encode()
 
 
-def statuses():
+def statuses() -> Cases:
     yield "done", fault_of(["check", "--format", "pg"], CHOICE, 0, b"accepted\n")
     yield "a refused text", fault_of(["check", "--format", "pg"], b"", 1, b"", b"omega: 3 Syntax at 0\n")
     yield "a budget that is used up", fault_of(
@@ -34,36 +45,39 @@ def statuses():
     yield "a refused text of automata", fault_of(["check", "--format", "hoa"], b"x", 1, b"", b"omega: 3 Syntax at 0\n")
     yield "a solution verified", fault_with_file(["verify", "--game"], CHOICE, SOLUTION, 0, b"yes\n")
     yield "a game file that is not there", fault_of(
-        ["verify", "--game", MISSING], SOLUTION, 5, b"", unread(MISSING))
+        ["verify", "-v", "--game", MISSING], SOLUTION, 5, b"", unread(MISSING))
     yield "a game file that is a folder", fault_of(
-        ["verify", "--game", tempfile.gettempdir()], SOLUTION, 5, b"", unread(tempfile.gettempdir()))
+        ["verify", "-v", "--game", tempfile.gettempdir()], SOLUTION, 5, b"", unread(tempfile.gettempdir()))
     yield "an operand", fault_with_file(["check", "--format", "pg"], CHOICE, b"", 0, b"accepted\n")
-    yield "an operand that is not there", fault_of(["check", "--format", "pg", MISSING], CHOICE, 5, b"", unread(MISSING))
+    yield "an operand that is not there", fault_of(
+        ["check", "-v", "--format", "pg", MISSING], CHOICE, 5, b"", unread(MISSING))
     yield "an operand that is a folder", fault_of(
-        ["check", "--format", "hoa", tempfile.gettempdir()], b"", 5, b"", unread(tempfile.gettempdir()))
+        ["check", "-v", "--format", "hoa", tempfile.gettempdir()], b"", 5, b"", unread(tempfile.gettempdir()))
 
 
-def command_lines():
-    for words in ([], [b"frobnicate"], [b"solve", b"--player", b"2"], [b"show"], [b"check", b"--format", b"dot"]):
+def command_lines() -> Cases:
+    faulty: list[list[bytes]] = [
+        [], [b"frobnicate"], [b"solve", b"--player", b"2"], [b"show"], [b"check", b"--format", b"dot"]]
+    for words in faulty:
         came = run(words)
         good = came.returncode == 2 and not came.stdout and came.stderr.startswith(b"error: ")
-        yield f"a fault of the command line: {words}", None if good else f"{came.returncode} {shown(came.stdout)} {shown(came.stderr)}"
+        yield f"a fault of the command line: {words}", None if good else left(came)
     came = run([b"solve", b"\xff"])
     good = came.returncode == 2 and not came.stdout and came.stderr == NO_TEXT
-    yield "a word that is no text", None if good else f"{came.returncode} {shown(came.stdout)} {shown(came.stderr)}"
+    yield "a word that is no text", None if good else left(came)
 
 
-def help_texts():
+def help_texts() -> Cases:
     for name in ("", *subcommands()):
         came = run([os.fsencode(word) for word in [name, "--help"] if word])
         good = came.returncode == 0 and not came.stderr and came.stdout
-        yield f"help of {name or 'the program'}", None if good else f"{came.returncode} {shown(came.stdout)} {shown(came.stderr)}"
+        yield f"help of {name or 'the program'}", None if good else left(came)
         for limit in LIMITS.get(name, ()):
             found = limit.encode() in came.stdout or f"{int(limit):,}".encode() in came.stdout
             yield f"the limit {limit} in the help of {name}", None if found else "it is not there"
 
 
-def closed_streams():
+def closed_streams() -> Cases:
     """Standard output that takes nothing, and standard input that can't be read."""
     with open("/dev/full", "wb") as full:
         came = subprocess.run([OMEGA, "check", "--format", "pg"], input=CHOICE, stdout=full, stderr=subprocess.PIPE,
@@ -74,14 +88,14 @@ def closed_streams():
         came = subprocess.run([OMEGA, "check", "--format", "pg"], stdin=written, stdout=subprocess.PIPE,
                               stderr=subprocess.PIPE, timeout=SECONDS)
     good = came.returncode == 5 and not came.stdout and came.stderr == b"omega: 61 Io\n"
-    yield "standard input can't be read", None if good else f"{came.returncode} {shown(came.stdout)} {shown(came.stderr)}"
+    yield "standard input can't be read", None if good else left(came)
     with open("/dev/full", "wb") as full:
         came = subprocess.run([OMEGA, "check", "--format", "pg"], input=b"", stdout=subprocess.PIPE, stderr=full,
                               timeout=SECONDS)
     yield "standard error is full", None if came.returncode == 1 and not came.stdout else f"{came.returncode}"
 
 
-def broken_streams():
+def broken_streams() -> Cases:
     """Streams that are closed, a pipe that nobody reads, a folder for input, and files that are no good texts."""
     words = [OMEGA, "check", "--format", "pg"]
     taken, given = os.pipe()
@@ -96,17 +110,19 @@ def broken_streams():
     yield "standard input is a folder", None if good else f"{came}"
     for closed, text, status, error in (("<&-", b"", 5, b"omega: 61 Io\n"), (">&-", CHOICE, 5, b"omega: 61 Io\n"),
                                         ("2>&-", b"", 1, b"")):
-        came = subprocess.run(["sh", "-c", f'"$0" "$@" {closed}', *words], input=text, capture_output=True, timeout=SECONDS)
+        came = subprocess.run(["sh", "-c", f'"$0" "$@" {closed}', *words], input=text, capture_output=True,
+                              timeout=SECONDS)
         good = (came.returncode, came.stdout, came.stderr) == (status, b"", error)
         yield f"a closed stream, {closed}", None if good else f"{came}"
     long = b"0 0 0 0;" + b" " * 16_777_216
-    for held, line in ((long, b"omega: 4 TooLong\n"), (b"\xff\xfe", b"omega: 1 Lex at 0\n"), (b"", b"omega: 3 Syntax at 0\n")):
+    for held, line in ((long, b"omega: 4 TooLong\n"), (b"\xff\xfe", b"omega: 1 Lex at 0\n"),
+                       (b"", b"omega: 3 Syntax at 0\n")):
         yield f"a game file of {len(held)} bytes", fault_with_file(
-            ["verify", "--game"], held, SOLUTION, 1, b"", line + b"omega: in the game\n")
+            ["verify", "-v", "--game"], held, SOLUTION, 1, b"", line + b"omega: in the game\n")
         yield f"an operand of {len(held)} bytes", fault_with_file(["check", "--format", "pg"], held, b"", 1, b"", line)
 
 
-def stream_checks():
+def stream_checks() -> Cases:
     yield from statuses()
     yield from command_lines()
     yield from help_texts()

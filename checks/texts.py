@@ -1,6 +1,11 @@
-"""Texts cut short at every byte, and with every byte replaced: each is read, or refused by its refusal at its place."""
-from games import Refused, canonical, read_game, read_solution, wins
-from program import fault_of, fault_with_file, refusal_fault, shown
+"""Two game texts and two solutions of a game, cut short at every byte, and with every byte replaced by each of eleven.
+Each text is read, or refused by its refusal at its place, as a slow reader in Python says.
+"""
+from collections.abc import Iterator
+from functools import partial
+
+from games import Game, Refused, canonical, read_game, read_solution, wins
+from program import Cases, Fault, fault_of, fault_with_file, refusal_fault, shown
 
 GAME = b'parity 9; 9 3 1 4; 4 2 0 9,4 "a";'
 CHOICE = b"0 0 0 1,2; 1 1 1 0; 2 2 1 0;"
@@ -10,7 +15,7 @@ SOLUTIONS = [b"paritysol 2; 0 0 2; 1 0; 2 0;", b"paritysol 2; 0 0 1; 1 0; 2 0;"]
 BYTES = [0, 9, 10, 34, 45, 48, 59, 64, 92, 127, 255]
 
 
-def damaged(text):
+def damaged(text: bytes) -> Iterator[bytes]:
     """The text, its beginnings, and the texts that differ from it in one byte."""
     yield text
     for place in range(len(text)):
@@ -19,7 +24,7 @@ def damaged(text):
             yield text[:place] + bytes([byte]) + text[place + 1:]
 
 
-def game_fault(text):
+def game_fault(text: bytes) -> Fault:
     try:
         wanted = canonical(read_game(text))
     except Refused as refused:
@@ -27,8 +32,8 @@ def game_fault(text):
     return fault_of(["canon", "--format", "pg"], text, 0, wanted)
 
 
-def solution_fault(nodes, text):
-    words = ["verify", "--game"]
+def solution_fault(nodes: Game, text: bytes) -> Fault:
+    words = ["verify", "-v", "--game"]
     try:
         solution = read_solution(nodes, text)
     except Refused as refused:
@@ -38,11 +43,11 @@ def solution_fault(nodes, text):
     return fault_with_file(words, CHOICE, text, 6, b"no\n")
 
 
-def text_checks():
+def text_checks() -> Cases:
     for text in (GAME, CHOICE):
         for one in damaged(text):
-            yield f"the game {shown(one)}", game_fault(one)
+            yield f"the game {shown(one)}", partial(game_fault, one)
     nodes = read_game(CHOICE)
     for text in SOLUTIONS:
         for one in damaged(text):
-            yield f"the solution {shown(one)}", solution_fault(nodes, one)
+            yield f"the solution {shown(one)}", partial(solution_fault, nodes, one)

@@ -1,16 +1,16 @@
 """That no line of a comment in the sources is wider than 120 columns."""
 import glob
 import os
-import re
+from collections.abc import Iterator
 
-from program import ROOT
+from program import ROOT, Cases
 
 WIDEST = 120
 # Folders of a crate with the ending of their files, and what a line of a comment begins with in these.
 SOURCES = (("src", "rt", "//"), ("specs", "antt", "--"), ("proofs", "antt", "--"))
 
 
-def wide_comments(path, mark):
+def wide_comments(path: str, mark: str) -> Iterator[int]:
     """The numbers of the lines that are comments and too wide."""
     with open(path) as file:
         for number, line in enumerate(file.read().split("\n"), 1):
@@ -18,7 +18,7 @@ def wide_comments(path, mark):
                 yield number
 
 
-def width_checks():
+def width_checks() -> Cases:
     for crate in sorted(glob.glob(os.path.join(ROOT, "crates", "*"))):
         wide = []
         for folder, ending, mark in SOURCES:
