@@ -6,8 +6,10 @@ The products of the five are made in both orders; the stem and the cycle of a wo
 random pairs are deterministic and not, with propositions in the same order and in another, labels of states and of
 edges, edges without labels, sets that no edge is in, several starts and none. The states of a product are the pairs
 that a slow search reaches, in its order. What is not deterministic is refused 56. The line `word` is that of a slow
-writer. Of two products one is at the limit of states, and one past it.
+writer; read back, it admits words, four of which are tried and accepted. Of two products one is at the limit of states,
+and one past it.
 """
+import random
 import tempfile
 from collections.abc import Callable
 from functools import partial
@@ -15,8 +17,9 @@ from functools import partial
 from automata import Automaton, Refused, read_one
 from emptiness import branches, read_lasso
 from emptiness_checks import Emptied
-from products import Word, accepts, is_deterministic, names_of, pairs_reached, word_line, words_over
+from products import Word, accepts, is_deterministic, names_of, pairs_reached, valuations, word_line, words_over
 from program import Cases, Fault, Ran, fault_of, run_of, shown
+from words import NoWord, admitted, read_word
 
 HEAD = b'HOA: v1 States: %d Start: 0 AP: %d %s acc-name: %s Acceptance: %s --BODY-- %s --END--'
 
@@ -159,7 +162,21 @@ def word_of_lasso_fault(text: bytes) -> Fault:
     if lasso is None:
         return f"no lasso: {shown(ran.stdout)}"
     wanted = b"".join(lines[:2]) + word_line(automaton, *lasso)
-    return None if ran.stdout == wanted else f"{shown(ran.stdout)} for {shown(wanted)}"
+    return admitted_fault(automaton, lines[2]) if ran.stdout == wanted else f"{shown(ran.stdout)} for {shown(wanted)}"
+
+
+def admitted_fault(automaton: Automaton, line: bytes) -> Fault:
+    """A word that a line `word` admits and the automaton does not accept, or why the line is no word; or nothing."""
+    letters, drawn = valuations(names_of(automaton)), random.Random(line)
+    try:
+        stem, cycle = read_word(line)
+        for _ in range(4):
+            word = admitted(stem, letters, drawn.choice), admitted(cycle, letters, drawn.choice)
+            if not accepts(automaton, *word):
+                return f"{shown(line)} admits {word}, which is not accepted"
+    except NoWord as why:
+        return f"{shown(line)}: {why}"
+    return None
 
 
 def chain(states: int, name: bytes) -> bytes:
