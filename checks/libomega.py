@@ -1,7 +1,7 @@
 """The library for C and Python, where it is built (`make libomega`) or this family is named. Its examples run as they
 stand in `docs/library.md`. Random games are solved in both ways, and solutions, right and broken in one place, judged,
-against slow solvers. Faults of shapes, the rows of `checks/rows.txt`, and refused memory, which leaves arrays alone,
-are tried.
+against slow solvers. Faults of shapes, what is no array of integers, threads and processes, the rows of
+`checks/rows.txt`, and refused memory, which leaves arrays alone, are tried.
 
 The games are solved from Python, and each fault of a shape is tried. The rows go through the program as a function.
 """
@@ -20,6 +20,7 @@ from typing import Any
 import games
 from program import ROOT, SECONDS, Cases, Fault, run_of
 from rows import FAULT, ROWS, Row, rows_of
+from wrapper import wrapper_checks
 
 # Priorities, owners and successors of each node.
 Arrays = tuple[list[int], list[int], list[list[int]]]
@@ -379,6 +380,7 @@ def libomega_checks() -> Cases:
     omega = python_of()
     yield from buffer_checks(omega)
     yield from shape_faults(omega)
+    yield from wrapper_checks(omega)
     yield from run_checks(omega)
     yield from row_runs(omega)
     yield from solved_games(omega)

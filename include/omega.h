@@ -1,21 +1,15 @@
 /* libomega: parity games as arrays, solved and judged, and the program omega as a function. For C and C++.
  *
  * Link with libomega.a, which needs nothing but the C library, or with libomega.so; `make libomega` makes both. There is
- * no state, no handle and no thread: calls may be made from any thread at once, but not from a signal handler.
+ * no state, no handle and no thread: calls may be made from any thread at once, and in a process after a fork, but not
+ * from a signal handler. A call cannot be stopped. A budget bounds its lifts; the search has no budget.
  *
- * What every call needs of its caller: pointers are not null, also where the length after them is 0, and what they
- * point to has that length; what a call writes overlaps nothing else that the call is given; malloc, realloc and free
- * are those of one allocator. No call keeps a pointer.
+ * What every call needs of its caller: pointers are not null, also where the length after them is 0, and aligned for
+ * their type, and what they point to has that length. What a call writes overlaps nothing else that the call is given.
+ * Nothing else writes, while a call runs, to what it reads: entries are judged first, and then read again with no test.
+ * malloc, realloc and free are those of one allocator. No call keeps a pointer.
  *
- * What every call gives: an outcome whose number is 0, or that of a refusal, and then nothing was written:
- *
- *   13  TooManyNodes   over 1,048,576 nodes
- *   14  TooManyEdges   over 8,388,608 successors
- *   50  TooWide        a table of measures would be too wide for one of the players
- *   51  Budget         a lift is due once the whole budget is used up
- *   53  BadSolution    the arrays hold no solution of the game
- *   57  BadShape       an entry of an array is wrong: `array` and `place` say which
- *   60  Memory         a request for memory was refused
+ * What every call gives: an outcome whose number is 0, or that of a refusal, and then nothing was written.
  */
 #ifndef OMEGA_H
 #define OMEGA_H
@@ -26,6 +20,20 @@
 #ifdef __cplusplus
 extern "C" {
 #endif
+
+/* The version of this header, as omega_version writes that of the library. */
+#define OMEGA_VERSION "1.5.0"
+
+/* The numbers of refusals. */
+enum {
+    OMEGA_TOO_MANY_NODES = 13, /* over 1,048,576 nodes */
+    OMEGA_TOO_MANY_EDGES = 14, /* over 8,388,608 successors */
+    OMEGA_TOO_WIDE = 50,       /* a table of measures would be too wide for one of the players */
+    OMEGA_BUDGET = 51,         /* a lift is due once the whole budget is used up */
+    OMEGA_BAD_SOLUTION = 53,   /* the arrays hold no solution of the game */
+    OMEGA_BAD_SHAPE = 57,      /* an entry of an array is wrong: `array` and `place` say which */
+    OMEGA_MEMORY = 60          /* a request for memory was refused */
+};
 
 /* The entry of a choice that is none. */
 #define OMEGA_NO_CHOICE UINT32_C(0xFFFFFFFF)
@@ -109,9 +117,9 @@ omega_outcome omega_solve(const omega_game *game, uint8_t by_search, uint64_t bu
 /* Judges a solution of anyone's making, without solving the game: whether for each player the choices win from all
  * nodes given to that player. Where they do not, it writes the places of a walk that the choices leave possible (the
  * stem) to a cycle on which the player loses, and those of the cycle, whose last leads back to its first: as many of
- * each as there is room for. The verdict has their numbers, each at most n in all runs that were ever seen. A choice
- * has to stand exactly where the winner owns the node, and to be one of its successors, else 53. Refuses 57, 13, 14, 53,
- * 60. The time is near (n + m) log d for d priorities. */
+ * each as there is room for. The verdict has their numbers; if one is above the room, which may be so even with room
+ * for n, ask again with more. A choice has to stand exactly where the winner owns the node, and to be one of its
+ * successors, else 53. Refuses 57, 13, 14, 53, 60. The time is near (n + m) log d for d priorities. */
 omega_outcome omega_verify(const omega_game *game, const uint8_t *winners, size_t winner_count,
                            const uint32_t *choices, size_t choice_count, omega_verdict *verdict, uint32_t *stem,
                            size_t stem_room, uint32_t *cycle, size_t cycle_room);

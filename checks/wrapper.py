@@ -1,0 +1,128 @@
+"""What `python/omega.py` makes of what it is given, before and after the library: numbers that are no integers, arrays
+of two dimensions or at odd addresses, budgets, choices from anywhere; refusals that cross a process, and threads.
+"""
+import pickle
+import random
+from array import array
+from collections.abc import Callable
+from concurrent.futures import ProcessPoolExecutor, ThreadPoolExecutor
+from typing import Any
+
+import games
+from program import Cases, Fault
+
+PRIORITIES, OWNERS, STARTS, SUCCESSORS = [0, 1, 2], [0, 1, 1], [0, 2, 3, 4], [1, 2, 0, 0]
+FLAT = (STARTS, SUCCESSORS)
+RIGHT = ([0, 0, 0], [2, None, None])
+
+
+def raises(wanted: type[Exception], call: Callable[..., object], *words: Any, **named: Any) -> Fault:
+    """What comes of a call that has to raise an exception of this type, if it does not; or nothing."""
+    try:
+        came = call(*words, **named)
+    except wanted:
+        return None
+    except Exception as why:
+        return f"{type(why).__name__} for {wanted.__name__}"
+    return f"{came} for {wanted.__name__}"
+
+
+def differs(came: object, wanted: object) -> Fault:
+    return None if came == wanted else f"{came} for {wanted}"
+
+
+def answer_of(made: Any) -> tuple[list[int], list[int | None]]:
+    return made.winner, made.choice
+
+
+def at_odd_address(numbers: list[int]) -> memoryview:
+    """32-bit numbers that begin at an odd address."""
+    held = bytearray(1) + bytearray(array("I", numbers).tobytes())
+    return memoryview(held)[1:].cast("I")
+
+
+def refused_in_another_process(number: int) -> None:
+    """Raises a refusal of this number."""
+    import omega
+    raise omega.Refusal(number, "owners", 3)
+
+
+def entry_checks(omega: Any) -> Cases:
+    """What is no array of integers is no game."""
+    yield "priorities with fractions", raises(TypeError, omega.solve, [0.9, 1.7, 2], OWNERS, FLAT)
+    yield "priorities as a text", raises(TypeError, omega.solve, "012", OWNERS, FLAT)
+    yield "a priority below 0", raises(ValueError, omega.solve, [0, -1, 2], OWNERS, FLAT)
+    yield "a successor with a fraction", raises(TypeError, omega.solve, PRIORITIES, OWNERS, [[1, 2.0], [0], [0]])
+    table = memoryview(array("I", PRIORITIES * 2)).cast("B").cast("I", (2, 3))
+    yield "priorities in two dimensions", raises(ValueError, omega.solve, table, OWNERS, FLAT)
+    yield "successors in two dimensions", raises(ValueError, omega.bound, PRIORITIES, OWNERS, (STARTS, table))
+    yield "choices in two dimensions", raises(ValueError, omega.verify, PRIORITIES, OWNERS, FLAT, RIGHT[0], table)
+    yield "a budget below 0", raises(ValueError, omega.solve, PRIORITIES, OWNERS, FLAT, search=False, budget=-1)
+    yield "a budget with a fraction", raises(TypeError, omega.solve, PRIORITIES, OWNERS, FLAT, budget=2.5)
+    true = omega.solve(PRIORITIES, [False, True, True], FLAT)
+    yield "owners as truth values", differs(answer_of(true), RIGHT)
+
+
+def place_checks(omega: Any) -> Cases:
+    """The same answer wherever the arrays are."""
+    arrays = array("I", PRIORITIES), bytearray(OWNERS), (array("I", STARTS), array("I", SUCCESSORS))
+    odd = at_odd_address(PRIORITIES), bytearray(OWNERS), (at_odd_address(STARTS), at_odd_address(SUCCESSORS))
+    for copy in (True, False):
+        yield f"arrays, copy {copy}", differs(answer_of(omega.solve(*arrays, copy=copy)), RIGHT)
+        yield f"arrays at odd addresses, copy {copy}", differs(answer_of(omega.solve(*odd, copy=copy)), RIGHT)
+        yield f"bounds of arrays, copy {copy}", differs(omega.bound(*arrays, copy=copy), omega.Bounds(6, 12))
+    every_second = memoryview(array("I", [0, 7, 1, 7, 2, 7]))[::2]
+    yield "every second entry of an array", differs(answer_of(omega.solve(every_second, OWNERS, FLAT)), RIGHT)
+    choices = (it for it in RIGHT[1])
+    yield "choices one after another", differs(omega.verify(PRIORITIES, OWNERS, FLAT, RIGHT[0], choices), None)
+
+
+def crossing_checks(omega: Any) -> Cases:
+    """A refusal is the same on the other side of a process, and threads don't disturb one another."""
+    refusal = omega.Refusal(57, "owners", 3)
+    again = pickle.loads(pickle.dumps(refusal))
+    yield "a refusal packed and unpacked", differs(
+        (again.number, again.name, again.array, again.place, str(again)),
+        (57, "BadShape", "owners", 3, "57 BadShape in owners at 3"))
+    yield "a refusal without a place", differs(str(pickle.loads(pickle.dumps(omega.Refusal(51)))), "51 Budget")
+    with ProcessPoolExecutor(1) as processes:
+        came = processes.submit(refused_in_another_process, 57).exception(60)
+    yield "a refusal of another process", differs(str(came), str(refusal))
+    draw, drawn = random.Random(62), []
+    for _ in range(200):
+        nodes = games.random_game(draw, range(60), 7, 3).values()
+        drawn.append(([it.priority for it in nodes], [it.owner for it in nodes], [it.successors for it in nodes]))
+    alone = [answer_of(omega.solve(*game)) for game in drawn]
+    with ThreadPoolExecutor(4) as threads:
+        beside = list(threads.map(lambda game: answer_of(omega.solve(*game)), drawn * 4))
+    yield "four threads at once", differs(beside == alone * 4, True)
+
+
+class Counting:
+    """A library that counts the runs of the program."""
+
+    def __init__(self, library: Any) -> None:
+        self.library, self.runs = library, 0
+
+    def omega_run(self, *words: Any) -> Any:
+        self.runs += 1
+        return self.library.omega_run(*words)
+
+
+def runs_fault(omega: Any, text: bytes, wanted: int) -> Fault:
+    """What is wrong with how often `canon` of a text runs, or nothing."""
+    library = omega._LIBRARY
+    counting = omega._LIBRARY = Counting(library)
+    try:
+        omega.run(["canon", "--format", "pg"], text)
+    finally:
+        omega._LIBRARY = library
+    return differs(counting.runs, wanted)
+
+
+def wrapper_checks(omega: Any) -> Cases:
+    yield from entry_checks(omega)
+    yield from place_checks(omega)
+    yield from crossing_checks(omega)
+    line = b"".join(b"%d 0 0 %d;\n" % (v, v) for v in range(20_000))
+    yield "a text of 300,000 bytes is answered in one run", runs_fault(omega, line, 1)
