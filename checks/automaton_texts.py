@@ -302,15 +302,6 @@ def huge_texts() -> Iterator[Text]:
     yield "a million pairs", front + b"(" * million + b"t" + b")" * million + whole, "32 TooDeep"
     yield "a million negations", front + b"!" * million + b"t" + whole, "32 TooDeep"
     yield "a million atoms", front + b"|".join([b"t"] * million) + whole, "32 TooDeep"
-    header, end = b"HOA: v1 Acceptance: 1 ", b" --BODY-- --END--"
-    for label, formula in (("(", b"(" * million), ("t&", b"t&" * million), ("t|", b"t|" * million)):
-        text = header + formula + end
-        yield f"a million {label} in a formula", text, f"3 Syntax at {text.rindex(b'--BODY--')}"
-    yield "a million ! in a formula", header + b"!" * million + end, f"3 Syntax at {len(header)}"
-    yield "a million pairs in a formula", header + b"(" * million + b"t" + b")" * million + end, "32 TooDeep"
-    for sign in (b"&", b"|"):
-        formula = b"t" + (sign + b"t") * million
-        yield f"a million t{sign.decode()} in a whole formula", header + formula + end, "32 TooDeep"
     yield "a million comments opened", b"HOA: " + b"/*" * million, "1 Lex at 5"
     yield "a string without end", b'HOA: "' + b"a" * million, "1 Lex at 5"
     for sign in (b"[", b"{"):
@@ -320,8 +311,22 @@ def huge_texts() -> Iterator[Text]:
     yield "a large aborted segment", aborted, None
 
 
+def huge_formulas() -> Iterator[Text]:
+    """A million signs of an acceptance formula, likewise. They take more memory than labels do."""
+    million = 1_000_000
+    header, end = b"HOA: v1 Acceptance: 1 ", b" --BODY-- --END--"
+    for label, formula in (("(", b"(" * million), ("t&", b"t&" * million), ("t|", b"t|" * million)):
+        text = header + formula + end
+        yield f"a million {label} in a formula", text, f"3 Syntax at {text.rindex(b'--BODY--')}"
+    yield "a million ! in a formula", header + b"!" * million + end, f"3 Syntax at {len(header)}"
+    yield "a million pairs in a formula", header + b"(" * million + b"t" + b")" * million + end, "32 TooDeep"
+    for sign in (b"&", b"|"):
+        formula = b"t" + (sign + b"t") * million
+        yield f"a million t{sign.decode()} in a whole formula", header + formula + end, "32 TooDeep"
+
+
 def huge_checks() -> Cases:
-    for label, text, line in huge_texts():
+    for label, text, line in itertools.chain(huge_texts(), huge_formulas()):
         yield label, partial(line_fault, text, line)
     count = 100_000
     streamed = (b"HOA: x --ABORT-- " + BUCHI.replace(b"Buchi", b"B") + b"\n") * (count // 2)

@@ -155,6 +155,21 @@ def version_checks() -> Cases:
         logic = file.read()
     is_logic = re.fullmatch(r"logic [0-9a-f]+\n", logic)
     yield "the logic", None if is_logic and lines[1:] == [f"proved in {logic.strip()}"] else f"{said!r} for {logic!r}"
+    yield from header_checks(newest)
+
+
+def header_checks(newest: str) -> Cases:
+    """The header for C names the newest version, and the numbers of refusals that `python/omega.py` names."""
+    with open(os.path.join(ROOT, "include", "omega.h")) as file:
+        header = file.read()
+    with open(os.path.join(ROOT, "python", "omega.py")) as file:
+        names = re.search(r"^NAMES = \{(.*?)\}", file.read(), re.MULTILINE | re.DOTALL)
+    named = re.findall(r'^#define OMEGA_VERSION "(.*)"$', header, re.MULTILINE)
+    yield "the version of include/omega.h", None if named == [newest] else f"it is {named} for {newest}"
+    numbers = {int(number): name.replace("_", "")
+               for name, number in re.findall(r"^    OMEGA_([A-Z_]+) = (\d\d)\b", header, re.MULTILINE)}
+    python = {int(number): name.upper() for number, name in re.findall(r'(\d+): "(\w+)"', names[1] if names else "")}
+    yield "the refusals of include/omega.h", None if numbers == python else f"{numbers} for {python}"
 
 
 def page_checks() -> Cases:

@@ -15,7 +15,9 @@ MOST_COLUMNS = 120
 COMMENT = re.compile(r"^\s*(///|//!|//|--)(?: (.*))?$")
 FUNCTION = re.compile(r"^\s*(?:pub(?:\([a-z]+\))? )?(?:const )?(?:unsafe )?fn \w")
 # First words that end in -s and are no verbs in the third person.
-NO_VERBS = {"This", "Its", "Edges", "States", "Nodes", "Numbers", "Components", "Bytes", "Names", "Groups", "Plus", "As"}
+NO_VERBS = {"This", "Its", "Edges", "Nodes", "Numbers", "Components", "Bytes", "Names", "Groups", "Plus", "As"}
+# "States" is a verb in "States that a limit holds", and else the noun.
+NOUN_STATES = re.compile(r"States (?!that\b|what\b|the\b)")
 WORDS = {
     "'where' in a doc comment": re.compile(r"\bwhere\b"),
     "'stand' or 'stands'": re.compile(r"\bstands?\b"),
@@ -52,7 +54,8 @@ def comments(lines: list[str]) -> Iterator[tuple[str, str, str]]:
 def begins_with_verb(text: str) -> bool:
     found = re.match(r"[A-Za-z]+", text)
     first = found.group() if found else ""
-    return first == "Whether" or first.endswith("s") and first not in NO_VERBS
+    is_noun = first in NO_VERBS or NOUN_STATES.match(text)
+    return first == "Whether" or first.endswith("s") and not is_noun
 
 
 def habits_of(path: Path) -> Counter[str]:
