@@ -18,7 +18,7 @@ module _ (asked : Result Line Refusal) (status : ℕ) (text file input output er
   Left text reported reported' tells unread reads held writes held' =
       IsObeyedSomehow (λ name read. read ≡ text) (λ name refusal. refusal ≡ Memory) asked status reported reported' tells (streams unread reads held writes) held'
 
-  -- the same run, where the texts that it is told of are these
+  -- the same run, if it wrote these texts to standard error
   pub left_over : text ≡ file → reported ≡ Some [] → reported' ≡ Some errors → tells ≡ 0 → unread ≡ Some input → reads ≡ 0 → held ≡ Some [] → writes ≡ 0
       → held' ≡ Some output → Left text reported reported' tells unread reads held writes held' → Left file (Some []) (Some errors) 0 (Some input) 0 (Some []) 0 (Some output)
   left_over e1 e2 e3 e4 e5 e6 e7 e8 e9 h =

@@ -27,7 +27,7 @@ split_at_first p text end e =
       subst (λ (n : ℕ). slice_split p text ≡ take n text ∷ slice_split p (drop (n + 1) text)) found.1 split,
     )
 
--- the pieces of a text of which no byte passes
+-- the pieces of a text none of whose bytes passes
 pub split_none : (p : ℕ → Bool) (text : List ℕ) → position p text ≡ None → slice_split p text ≡ text ∷ []
 split_none p text e =
     let past : length text ≤ position_or_len p text = ltb-false (position_or_len p text) (length text) (cond-None _ _ e) in

@@ -1,8 +1,8 @@
 -- What `omega_bound` leaves.
 use Rattle.std.specs.Prelude.{◌≡◌, ◌⊎◌, None}
 use Rattle.omega_text.specs.Cases.{never, or_game, or_memory}
-use Rattle.omega_game.specs.declared.player.Player.TheVariants.{One, Zero}
-use Rattle.omega_game.specs.Game.{priorities}
+use Rattle.omega_parity_game.specs.declared.player.Player.TheVariants.{One, Zero}
+use Rattle.omega_parity_game.specs.Game.{priorities}
 use Rattle.omega_arrays.specs.declared.bounding.Bounds.{Bounds}
 use Rattle.omega_arrays.specs.declared.fault.ArrayFault.{ArrayFault}
 use Rattle.omega_arrays.specs.Arrays.{GameArrays, nodes_in}
@@ -12,7 +12,7 @@ use Rattle.omega_arrays.specs.Solving.{or_shape}
 use Rattle.omega.specs.declared.outcome.Outcome.{Outcome}
 use Rattle.omega.specs.Outcome.{given, outcome_of}
 
--- the arrays stand for a game within the limits, and these are its bounds
+-- the arrays encode a game within the limits, and these are its bounds
 pub record AreBounds (a : GameArrays) (bounds : Bounds) : Type 0 where
   pub shape : wrong_entry a ≡ None
   pub sized : IsSized a

@@ -21,7 +21,7 @@ is_nul byte = byte == 0
 abbrev pub pieces_of : List ℕ → List (List ℕ)
 pieces_of text = codes "omega" ∷ slice_split is_nul text
 
--- these are the words, the program's name first; after the last NUL stands the rest, which is not read
+-- these are the words, the program's name first; the rest after the last NUL is not read
 pub record AreWords (text : List ℕ) (words : List (List ℕ)) : Type 0 where
   pub rest : List ℕ
   pub split : pieces_of text ≡ words ++ rest ∷ []
@@ -35,12 +35,12 @@ pub record HasNoText (text : List ℕ) : Type 0 where
   pub ended : 0 < length back
   pub broken : ¬ IsUtf8 word
 
--- the line tells that the command line is not UTF-8
+-- the line says that the command line is not UTF-8
 abbrev pub TellsNoText : Line → Type 0
 TellsNoText (Fault text) = string_bytes text ≡ codes "error: the command line is not UTF-8\n\nFor more information, try '--help'.\n"
 TellsNoText line = ⊥
 
--- the line that the words ask for, or where one is not UTF-8, the fault that tells of it
+-- the line that the words request, or if one is not UTF-8, the fault that says so
 abbrev pub IsLineOfWords : List ℕ → Line → Type 0
 IsLineOfWords text line =
     ((words : List (List ℕ)) × AreWords text words × IsLineAsked words line) ⊎ (HasNoText text × TellsNoText line)
@@ -65,15 +65,14 @@ pub record IsObeyedSomehow (reads : List ℕ → List ℕ → Type 0) (refuses :
     tells = Tells reported reported' failed_tells failed_tells';
   })
 
--- the program obeyed the words, with the input, where each file holds the text; it wrote the output, and told the
--- errors
+-- the program obeyed the words, with the input, while each file had the text; it wrote the output and the errors
 pub record IsProgramRun (words input file : List ℕ) (status : ℕ) (output errors : List ℕ) : Type 0 where
   pub asked : Result Line Refusal
   pub read : IsAsked words asked
   pub obeyed : IsObeyedSomehow (λ name text. text ≡ file) (λ name refusal. refusal ≡ Memory) asked status (Some []) (Some errors) 0
       (streams (Some input) 0 (Some []) 0) (Some output)
 
--- what `omega_run` leaves: of the output and of what was told as much as there was room for, and how long they are
+-- what `omega_run` leaves: as much of the output and of the errors as there was room for, and how long they are
 pub record IsRunOutcome (words input file : List ℕ) (ran : Ran) (output output' errors errors' : List ℕ) : Type 0 where
   pub written : List ℕ
   pub reported : List ℕ

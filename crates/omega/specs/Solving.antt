@@ -1,6 +1,6 @@
 -- What `omega_solve` leaves.
 use Rattle.std.specs.Prelude.{◌≡◌, ◌≤◌, ◌==◌, ◌⊎◌, ℕ, Bool, true, false, if◌then◌else◌, List, None, All, length}
-use Rattle.omega_game.specs.Solution.{IsExactSolution}
+use Rattle.omega_parity_game.specs.Solution.{IsExactSolution}
 use Rattle.omega_arrays.specs.declared.fault.ArrayFault.{ArrayFault}
 use Rattle.omega_arrays.specs.declared.solving.Lifts.{Lifts}
 use Rattle.omega_arrays.specs.Answer.{solution_in, wrong_room}

@@ -1,6 +1,6 @@
 -- What `omega_verify` leaves.
 use Rattle.std.specs.Prelude.{◌≡◌, ◌⊎◌, ℕ, List, None}
-use Rattle.omega_game.specs.Solution.{IsSolution}
+use Rattle.omega_parity_game.specs.Solution.{IsSolution}
 use Rattle.omega_arrays.specs.declared.fault.ArrayFault.{ArrayFault}
 use Rattle.omega_arrays.specs.declared.judging.Verdict.{Verdict}
 use Rattle.omega_arrays.specs.Answer.{solution_in, wrong_answer}

@@ -8,16 +8,16 @@ use omega_arrays::ArrayFault;
 pub struct Outcome {
     /// 0 if the call gave its answer, or else the number of what refused it.
     pub number: u32,
-    /// With 57, which array has the wrong entry; else 0.
+    /// With [ArrayFault::BadShape], which array has the wrong entry; else 0.
     pub array: u32,
-    /// With 57, the index of that entry; else 0.
+    /// With [ArrayFault::BadShape], the index of that entry; else 0.
     pub place: u64,
 }
 
 impl Outcome {
     ghost use Rattle.omega.specs.Outcome.{given, outcome_of};
 
-    /// An answer was given.
+    /// Returns the outcome of a call that gave its answer.
     pub(crate) fn given() -> Outcome
         ensures { result ≡ given }
     {
@@ -28,7 +28,7 @@ impl Outcome {
         }
     }
 
-    /// A fault refused the call.
+    /// Returns the outcome of a call that `fault` refused.
     pub(crate) fn of(fault: ArrayFault) -> Outcome
         ensures { result ≡ outcome_of fault }
     {
@@ -47,5 +47,5 @@ impl Outcome {
     }
 }
 
-/// The number of a shape of arrays that stands for no game, or answers for none.
+/// The number of the refusal of arrays that encode no game, or no answer for one.
 const BAD_SHAPE: u32 = 57;

@@ -27,10 +27,10 @@ pub struct Ran {
     pub errors: u64,
 }
 
-/// Does what the program does with a command line, whose words after the program's name are each ended by a NUL; what
-/// stands after the last NUL is not read. The input is its standard input, and each file that a word names, the
-/// operand too, has the text `file`. What it writes is copied as far as there is room for it, and its whole length is
-/// given.
+/// Does what the program does with a command line, whose words after the program's name are each ended by a NUL. The
+/// rest after the last NUL is not read. `input` is the standard input, and each file that a word names, the operand
+/// too, has the text `file`. The output and the errors are copied as far as there is room for them, and their whole
+/// lengths are given.
 #[unsafe(no_mangle)]
 pub extern "C" fn omega_run(
     alloc: Global,
@@ -60,7 +60,7 @@ struct Left {
     errors: Vec<u8>,
 }
 
-/// Obeys the words over the input, with the one text in the place of each file.
+/// Obeys the words over the input, with the text `file` for each file.
 fn left_by(alloc: Global, words: &[u8], input: &[u8], file: &[u8]) -> Left
     ensures { IsProgramRun words.now input.now file.now result.status result.output.items result.errors.items }
 {
@@ -84,7 +84,8 @@ fn left_by(alloc: Global, words: &[u8], input: &[u8], file: &[u8]) -> Left
     }
 }
 
-/// The status after a command line is obeyed. What is left of the input, and how often something failed, is not told.
+/// Obeys a command line and returns its status. The contract leaves out the rest of the input and the count of
+/// failures.
 fn status_of<F: InputFiles, R: Input, W: Output, E: Output>(
     alloc: Global,
     asked: Result<Line, Refusal>,
@@ -104,7 +105,7 @@ fn status_of<F: InputFiles, R: Input, W: Output, E: Output>(
     obey(alloc, asked, files, input, output, errors)
 }
 
-/// What the words of the command line ask for. 60 alone.
+/// Returns the line that the words request.
 fn asked_of(alloc: Global, words: &[u8]) -> Result<Line, Refusal>
     ensures asked { IfOk result (IsLineOfWords words.now) }
     ensures runnable { IfOk result IsRunnable }

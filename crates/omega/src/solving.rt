@@ -7,10 +7,14 @@ use crate::outcome::Outcome;
 use omega_arrays::{Lifts, solve_arrays};
 use std::alloc::Global;
 
-/// Solves the game of the arrays for both players: the winner of each node, 0 or 1, and the winner's choice there, or
-/// 2^32 - 1 where the winner does not own the node; and how many lifts the run for each player made. With `by_search`
-/// not 0 a search is tried first, which makes no lifts; a budget above 2^40 is taken for 2^40. 57, 13, 14, 50, 51 or
-/// 60: nothing is written then.
+/// Solves the game of the arrays for both players. Writes the winner of each node, 0 or 1, and the winner's choice
+/// there, or 2^32 - 1 if the winner does not own the node. Also writes how many lifts the run for each player made.
+///
+/// If `by_search` is not 0, a search is tried first, which makes no lifts. A `budget` above 2^40 counts as 2^40.
+///
+/// The number of the outcome is 0, or that of [ArrayFault::BadShape], [GameFault::TooManyNodes],
+/// [GameFault::TooManyEdges], [TaskFault::TooWide], [TaskFault::Budget] or [Refusal::Memory]. Unless it is 0, nothing
+/// is written.
 #[unsafe(no_mangle)]
 pub extern "C" fn omega_solve(
     alloc: Global,
@@ -41,7 +45,7 @@ pub extern "C" fn omega_solve(
     }
 }
 
-/// Whether a number asks for something.
+/// Whether a number is not 0.
 fn asks(number: u8) -> bool
     ensures { result ≡ asks number }
 {

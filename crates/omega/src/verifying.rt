@@ -6,10 +6,12 @@ use crate::outcome::Outcome;
 use omega_arrays::{Verdict, verify_arrays};
 use std::alloc::Global;
 
-/// Says whether the choices of a solution win from all nodes given to each player. Where they do not, the least player
-/// whose choices do not is named, and the places of a walk to a cycle on which the player loses are written, as many as
-/// there is room for, and those of the cycle; the verdict has their numbers. 57, 13, 14, 53 or 60: nothing is written
-/// then.
+/// Judges whether the choices of a solution win from all nodes given to each player. If they do not, names the least
+/// player whose choices do not, and writes a counterexample: a walk to a cycle on which the player loses, and that
+/// cycle. `stem` and `cycle` get as many of their places as they have room for, and the verdict has their numbers.
+///
+/// The number of the outcome is 0, or that of [ArrayFault::BadShape], [GameFault::TooManyNodes],
+/// [GameFault::TooManyEdges], [TaskFault::BadSolution] or [Refusal::Memory]. Unless it is 0, nothing is written.
 #[unsafe(no_mangle)]
 pub extern "C" fn omega_verify(
     alloc: Global,

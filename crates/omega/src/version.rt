@@ -6,7 +6,7 @@ use omega_arrays::copied;
 /// The version of the library, which is that of the program.
 const VERSION: &str = "1.5.0";
 
-/// Writes the version of the library, as many bytes as there is room for, and gives how many it has.
+/// Writes the version of the library, as many bytes as there is room for, and returns how many it has.
 #[unsafe(no_mangle)]
 pub extern "C" fn omega_version(room: &mut [u8]) -> usize
     ensures count { result ≡ length VERSION.now }

@@ -1,6 +1,3 @@
--- Lemmas, by what they are about: labels, acceptance formulas, what both have in common, and their canonical texts.
-pub mod Equality
-pub mod expressions
-pub mod formulas
-pub mod labels
+-- Lemmas, by what they are about: kinds and priorities, and canonical texts.
+pub mod kinds
 pub mod written

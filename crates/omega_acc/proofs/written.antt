@@ -3,4 +3,4 @@ pub mod FormulaDepths
 pub mod Formulas
 pub mod LabelDepths
 pub mod Labels
-pub mod TextLemmas
+pub mod TokenLemmas

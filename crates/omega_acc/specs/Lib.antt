@@ -1,9 +1,3 @@
--- Labels, aliases, acceptance formulas and kinds; in `private` what only private contracts cite.
-pub mod Depth
-pub mod Limits
-pub mod Symbols
-pub mod Writing
+-- What the laws of labels and acceptance formulas state: of kinds and priorities, and of written texts.
+pub mod KindLaws
 pub mod WritingLaws
-pub mod formula
-pub mod label
-pub mod private

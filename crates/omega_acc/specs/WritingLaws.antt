@@ -1,69 +1,22 @@
 -- How written expressions are read back (docs/formats.md, labels and acceptance formulas):
 -- the canonical text of a tree is the tokens of one expression as it is written, which means that tree.
-use Rattle.std.specs.Prelude.{◌≡◌, ◌≢◌, ℕ, ◌+◌, ◌≤◌, Bool, false, nat_le, nat_lt, if◌then◌else◌, List, [], ◌∷◌, ◌++◌, Some, codes, drop, length, map, slice_index}
-use Rattle.omega_acc.specs.formula.Meaning.{acc_meant}
-use Rattle.omega_acc.specs.formula.Reading.{IsAccOf, formula_symbols}
-use Rattle.omega_acc.specs.formula.Acceptance.{AccTree}
-use Rattle.omega_acc.specs.formula.Acceptance as acc
-use Rattle.omega_acc.specs.label.Expanding.{Defined, Entry, Meaning, expansion, replaced}
-use Rattle.omega_acc.specs.label.Label.{LabelTree, conjunction, constant, disjunction, negation, proposition}
-use Rattle.omega_acc.specs.formula.Raw.{RawAccTree, raw_acc_depth}
-use Rattle.omega_acc.specs.formula.Raw as raw_acc
-use Rattle.omega_acc.specs.label.Raw.{RawLabelTree, raw_depth}
-use Rattle.omega_acc.specs.label.Raw as raw
-use Rattle.omega_acc.specs.label.Reading.{IsOf, label_symbols}
-use Rattle.omega_acc.specs.Symbols.{ExpressionSymbol, disjunctive, expression_symbol_of}
-use Rattle.omega_acc.specs.Writing.{acc_text, label_text}
+use Rattle.std.specs.Prelude.{◌≡◌, ◌≢◌, ℕ, ◌+◌, ◌≤◌, false, List, [], ◌∷◌, ◌++◌, Some, drop, length, map, slice_index}
+use Rattle.omega_formula.specs.Meaning.{acc_meant}
+use Rattle.omega_formula.specs.Reading.{IsAccOf, formula_symbols}
+use Rattle.omega_formula.specs.Acceptance.{AccTree}
+use Rattle.omega_label.specs.Expanding.{Defined, Entry, Meaning, expansion, replaced}
+use Rattle.omega_label.specs.Label.{LabelTree}
+use Rattle.omega_formula.specs.Raw.{RawAccTree, raw_acc_depth}
+use Rattle.omega_label.specs.Raw.{RawLabelTree, raw_depth}
+use Rattle.omega_label.specs.Reading.{IsOf, label_symbols}
+use Rattle.omega_expression.specs.Symbols.{ExpressionSymbol, disjunctive, expression_symbol_of}
+use Rattle.omega_label.specs.Writing.{NumbersFit, label_text, label_written}
+use Rattle.omega_formula.specs.Writing.{SetsFit, acc_text, acc_written}
 use Rattle.omega_text.specs.Cut.{Cuts}
 use Rattle.omega_text.specs.Lexeme.{Lexeme}
-use Rattle.omega_text.specs.Limits.{most_number}
 use Rattle.omega_text.specs.declared.hoa.kind.HoaKind.{HoaKind}
 use Rattle.omega_text.specs.hoa.Format.{hoa_format}
 use Rattle.omega_text.specs.Bytes.{is_word_byte}
-
--- a label in parentheses or not
-abbrev pub grouped : Bool → RawLabelTree → RawLabelTree
-grouped within label = if within then raw.group label else label
-
--- the label as its canonical text has it, with parentheses only if an operator needs them
-abbrev pub label_written : LabelTree → RawLabelTree
-label_written (constant value) = raw.constant value
-label_written (proposition number) = raw.proposition number
-label_written (negation part) = raw.negation (grouped (nat_lt (label_text part).rank 3) (label_written part))
-label_written (conjunction left right) =
-    raw.conjunction (grouped (nat_lt (label_text left).rank 2) (label_written left)) (grouped (nat_le (label_text right).rank 2) (label_written right))
-label_written (disjunction left right) =
-    raw.disjunction (grouped (nat_lt (label_text left).rank 1) (label_written left)) (grouped (nat_le (label_text right).rank 1) (label_written right))
-
--- a formula in parentheses or not
-abbrev pub acc_grouped : Bool → RawAccTree → RawAccTree
-acc_grouped within formula = if within then raw_acc.group formula else formula
-
--- the formula as its canonical text has it, with parentheses only if an operator needs them
-abbrev pub acc_written : AccTree → RawAccTree
-acc_written (acc.constant value) = raw_acc.constant value
-acc_written (acc.inf negated set) = raw_acc.atom (codes "Inf") negated set
-acc_written (acc.fin negated set) = raw_acc.atom (codes "Fin") negated set
-acc_written (acc.conjunction left right) =
-    raw_acc.conjunction (acc_grouped (nat_lt (acc_text left).rank 2) (acc_written left)) (acc_grouped (nat_le (acc_text right).rank 2) (acc_written right))
-acc_written (acc.disjunction left right) =
-    raw_acc.disjunction (acc_grouped (nat_lt (acc_text left).rank 1) (acc_written left)) (acc_grouped (nat_le (acc_text right).rank 1) (acc_written right))
-
--- no proposition of a label is above the greatest number of a text
-abbrev pub NumbersFit : LabelTree → Type 0
-NumbersFit (constant value) = Unit {0}
-NumbersFit (proposition number) = number ≤ most_number
-NumbersFit (negation part) = NumbersFit part
-NumbersFit (conjunction left right) = NumbersFit left × NumbersFit right
-NumbersFit (disjunction left right) = NumbersFit left × NumbersFit right
-
--- no set of a formula is above the greatest number of a text
-abbrev pub SetsFit : AccTree → Type 0
-SetsFit (acc.constant value) = Unit {0}
-SetsFit (acc.inf negated set) = set ≤ most_number
-SetsFit (acc.fin negated set) = set ≤ most_number
-SetsFit (acc.conjunction left right) = SetsFit left × SetsFit right
-SetsFit (acc.disjunction left right) = SetsFit left × SetsFit right
 
 -- a text begins with nothing that goes on in a word, nor with a colon
 pub record StandsApart (text : List ℕ) : Type 0 where

@@ -1,47 +1,28 @@
-//! Label and acceptance formulas of omega-automata, aliases, acceptance kinds and priorities.
+//! Label and acceptance formulas of omega-automata, aliases, acceptance kinds and priorities, and their laws.
 //!
-//! The module `label` has what belongs to labels, and `formula` what belongs to acceptance formulas. What both use is
-//! beside them.
+//! What labels and formulas are, and what is done with them, the crates `omega_label`, `omega_formula` and
+//! `omega_satisfying` have; all of it is handed on here. The laws of kinds and of canonical texts are in `laws`.
 //!
 //! docs/formats.md says when each `Refusal` comes.
 #![tactic(auto)]
 
-mod backward;
-mod depth;
-mod depths;
-mod formula;
-mod label;
 mod laws;
-mod leftward;
-mod limits;
-mod passing;
-mod pending;
-mod postfix;
-mod signs;
-mod writing;
 
-pub use formula::Acc;
-pub use formula::kind::{AccKind, Order, Parity, ParityKind};
-pub use formula::name::{AccName, Parameter};
-pub use formula::priorities::priority;
-pub use formula::raw::RawAcc;
-pub use formula::reading::{read_acc, read_raw_acc};
-pub use formula::recognition::{acceptance_kind, parity_of};
-pub use formula::shape::AccShape;
-pub use label::Label;
-pub use label::aliases::Aliases;
-pub use label::expansion::{expand, expand_in_place, expanded_size};
-pub use label::raw::RawLabel;
-pub use label::reading::{read_label, read_raw_label};
-pub use label::satisfying::satisfiable;
-pub use label::shape::LabelShape;
 pub use laws::{
-    acc_texts_are_formulas, buchi_is_every_set, equal_formulas_are_equal_trees,
-    equal_labels_are_equal_trees, formulas_are_one, label_texts_are_labels, labels_are_one,
-    parity_is_priority, written_formulas_are_shallowest, written_formulas_mean,
-    written_labels_are_shallowest, written_labels_mean,
+    acc_texts_are_formulas, buchi_is_every_set, label_texts_are_labels, parity_is_priority,
+    written_formulas_are_shallowest, written_formulas_mean, written_labels_are_shallowest,
+    written_labels_mean,
 };
-pub use limits::{
+pub use omega_expression::{
     MOST_BUCHI_SETS, MOST_DEPTH, MOST_MENTIONED, MOST_SIZE, expression_limits_are_stated,
 };
-pub use writing::{write_acc, write_label};
+pub use omega_formula::{
+    Acc, AccKind, AccName, AccShape, Order, Parameter, Parity, ParityKind, RawAcc, acceptance_kind,
+    equal_formulas_are_equal_trees, formulas_are_one, parity_of, priority, read_acc, read_raw_acc,
+    write_acc,
+};
+pub use omega_label::{
+    Aliases, Label, LabelShape, RawLabel, equal_labels_are_equal_trees, expand, expand_in_place,
+    expanded_size, labels_are_one, read_label, read_raw_label, write_label,
+};
+pub use omega_satisfying::satisfiable;

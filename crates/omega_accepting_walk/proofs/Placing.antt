@@ -2,10 +2,11 @@
 use Rattle.std.proofs.Common.{◌≡◌, ℕ, ◌+◌, ◌<◌, ◌≤◌, false, inl, inr, Result, Ok, Err, IfOk, List, [], ◌∷◌, ◌++◌, length, get_or, refl, sym, ap, subst, ◌∙◌, arith, append_assoc, length-append}
 use Rattle.std.proofs.lemmas.Bool.{cases_lt}
 use Rattle.std.proofs.lemmas.List.{get_or_append_left, get_or_push, length_push}
-use Rattle.omega_acc.specs.formula.Acceptance.{AccTree, conjunction, constant, disjunction}
+use Rattle.omega_formula.specs.Acceptance.{AccTree, conjunction, constant, disjunction}
 use Rattle.omega_accepting_walk.specs.declared.node.Node.{Node}
 use Rattle.omega_accepting_walk.specs.declared.node.Node.TheVariants.{And, Constant, Fin, Inf, Or}
-use Rattle.omega_accepting_walk.specs.private.Formulas.{Goes, IsFormula, IsMade, IsNode, node_tree, tree_among, tree_at, trees_after}
+use Rattle.omega_accepting_walk.specs.private.Formulas.{IsFormula, IsMade, IsNode, node_tree, tree_among, tree_at, trees_after}
+use Rattle.omega_accepting_walk.specs.private.Lists.{Extends}
 
 trees_after-append : (trees : List AccTree) (nodes more : List Node) → trees_after trees (nodes ++ more) ≡ trees_after (trees_after trees nodes) more
 trees_after-append trees [] more = refl
@@ -104,22 +105,22 @@ pub IsFormula-none : IsFormula []
 IsFormula-none place other below = absurd (omega arith)
 
 -- nodes after nodes after others
-pub Goes-on : (first second third : List Node) → Goes first second → Goes second third → Goes first third
-Goes-on first second third one two =
+pub Extends-on : (first second third : List Node) → Extends first second → Extends second third → Extends first third
+Extends-on first second third one two =
     (one.0 ++ two.0, two.1 ∙ ap (λ nodes. nodes ++ two.0) one.1 ∙ append_assoc first one.0 two.0)
 
-pub Goes-push : (first second third : List Node) (node : Node) → Goes first second → third ≡ second ++ node ∷ [] → Goes first third
-Goes-push first second third node one is = Goes-on first second third one (node ∷ [], is)
+pub Extends-push : (first second third : List Node) (node : Node) → Extends first second → third ≡ second ++ node ∷ [] → Extends first third
+Extends-push first second third node one is = Extends-on first second third one (node ∷ [], is)
 
 -- there are no fewer
-pub length-Goes : (first second : List Node) → Goes first second → length first ≤ length second
-length-Goes first second goes = omega (arith, ap length goes.1, length-append first goes.0)
+pub length-Extends : (first second : List Node) → Extends first second → length first ≤ length second
+length-Extends first second goes = omega (arith, ap length goes.1, length-append first goes.0)
 
 -- and formulas are kept
-pub tree_at-Goes : (first second : List Node) (place : ℕ) → Goes first second → place < length first → tree_at second place ≡ tree_at first place
-tree_at-Goes first second place goes below = ap (λ nodes. tree_at nodes place) goes.1 ∙ tree_at-append first goes.0 place below
+pub tree_at-Extends : (first second : List Node) (place : ℕ) → Extends first second → place < length first → tree_at second place ≡ tree_at first place
+tree_at-Extends first second place goes below = ap (λ nodes. tree_at nodes place) goes.1 ∙ tree_at-append first goes.0 place below
 
--- the formula of the last node, where it is told by its place
+-- the formula of the last node, by its place
 pub tree_pushed : (nodes after : List Node) (node : Node) (place : ℕ) → after ≡ nodes ++ node ∷ [] → place ≡ length nodes
     → tree_at after place ≡ node_tree (tree_at nodes) node
 tree_pushed nodes after node place is last =
@@ -131,7 +132,7 @@ IfOk-after (Ok n) P Q step is = step n is
 IfOk-after (Err e) P Q step is = tt
 
 -- an operator on two formulas that are kept
-pub made_of : (f : AccTree → AccTree → AccTree) (nodes after : List Node) (left right : ℕ) (a b : AccTree) → Goes nodes after → left < length nodes
+pub made_of : (f : AccTree → AccTree → AccTree) (nodes after : List Node) (left right : ℕ) (a b : AccTree) → Extends nodes after → left < length nodes
     → tree_at nodes left ≡ a → tree_at after right ≡ b → f (tree_at after left) (tree_at after right) ≡ f a b
 made_of f nodes after left right a b goes below is_left is_right =
-    joined f (tree_at after left) a (tree_at after right) b (tree_at-Goes nodes after left goes below ∙ is_left) is_right
+    joined f (tree_at after left) a (tree_at after right) b (tree_at-Extends nodes after left goes below ∙ is_left) is_right

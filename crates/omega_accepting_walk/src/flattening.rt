@@ -1,17 +1,18 @@
 //! A formula as a list of nodes.
 ghost use Rattle.std.specs.Prelude.{◌≡◌, ◌<◌, ◌++◌, [], ◌∷◌, length, IfOk, OnOk, IsOkUnless};
-ghost use Rattle.omega_acc.specs.formula.Shape.{acc_tree_of_shape};
-ghost use Rattle.omega_accepting_walk.specs.private.Formulas.{Goes, IsFormula, IsMade, node_tree, tree_at};
+ghost use Rattle.omega_formula.specs.Shape.{acc_tree_of_shape};
+ghost use Rattle.omega_accepting_walk.specs.private.Lists.{Extends};
+ghost use Rattle.omega_accepting_walk.specs.private.Formulas.{IsFormula, IsMade, node_tree, tree_at};
 
 use crate::node::Node;
-use omega_acc::AccShape;
+use omega_formula::AccShape;
 use omega_text::Refusal;
 
 /// Appends the nodes of the formula `shape` to `nodes`, parts first, and returns the place of its root.
 pub(crate) fn add_formula(nodes: &mut Vec<Node>, shape: &AccShape) -> Result<u32, Refusal>
     requires formula { IsFormula nodes.old.items }
     ensures formula { OnOk result (IsFormula nodes.new.items) }
-    ensures goes { OnOk result (Goes nodes.old.items nodes.new.items) }
+    ensures goes { OnOk result (Extends nodes.old.items nodes.new.items) }
     ensures place { IfOk result (λ place. place < length nodes.new.items) }
     ensures tree { IfOk result (λ place. tree_at nodes.new.items place ≡ acc_tree_of_shape shape.now) }
     ensures memory { IsOkUnless result Refusal.Memory }

@@ -10,6 +10,7 @@ mod flattening;
 mod meeting;
 mod narrowing;
 mod node;
+mod round;
 mod search;
 mod set_table;
 mod stepping;
@@ -19,5 +20,5 @@ mod valuing;
 mod way;
 
 pub use accepting::accepting_walk;
-pub use omega_acc::AccShape;
 pub use omega_components::{Graph, Refusal};
+pub use omega_formula::AccShape;

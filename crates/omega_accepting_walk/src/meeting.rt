@@ -1,10 +1,8 @@
 //! Edges that carry a set of marks, or lack it.
-ghost use Rattle.std.specs.Prelude.{◌≡◌, ◌<◌, true, false, not, length, All, Contains, IfNone, IfOk, IfSome, IsOkUnless, filter};
-ghost use Rattle.omega_acc.specs.formula.Acceptance.{holds, occurs};
+ghost use Rattle.std.specs.Prelude.{◌≡◌, true, false, Contains, IfNone, IfOk, IfSome, IsOkUnless};
+ghost use Rattle.omega_formula.specs.Acceptance.{holds};
 ghost use Rattle.omega_walk_laws.specs.Marks.{meets};
-ghost use Rattle.omega_walk_laws.specs.Walks.{marks_on};
-ghost use Rattle.omega_components.specs.Graph.{marked};
-ghost use Rattle.omega_accepting_walk.specs.Rows.{row_at};
+ghost use Rattle.omega_accepting_walk.specs.private.Search.{HaveMarks, edges_without, meets_at, occurs_on};
 
 use crate::search::Search;
 use omega_text::{Numbers, Refusal};
@@ -27,10 +25,10 @@ fn holds(marks: &[u32], set: u32) -> bool
 
 /// Returns the first of `edges` that meets `set`, or none. Linear in the marks of the edges up to it.
 pub(crate) fn meeting(search: &Search<'_>, edges: &[u32], negated: bool, set: u32) -> Option<u32>
-    requires edges { All (λ edge. edge < length search.now.marks.now) edges.now }
-    ensures none { IfNone result (occurs (marks_on (marked search.now.graph.now (row_at search.now.marks.now)) edges.now) negated set ≡ false) }
+    requires edges { HaveMarks search.now edges.now }
+    ensures none { IfNone result (occurs_on search.now edges.now negated set ≡ false) }
     ensures among { IfSome result (Contains edges.now) }
-    ensures meets { IfSome result (λ edge. meets negated set (row_at search.now.marks.now edge) ≡ true) }
+    ensures meets { IfSome result (λ edge. meets_at search.now negated set edge ≡ true) }
 {
     for edge in edges {
         if meets(&search.marks[*edge as usize], negated, set) {
@@ -42,8 +40,8 @@ pub(crate) fn meeting(search: &Search<'_>, edges: &[u32], negated: bool, set: u3
 
 /// Whether one of `edges` meets `set`. Linear in the marks of the edges up to the first that does.
 pub(crate) fn occurs(search: &Search<'_>, edges: &[u32], negated: bool, set: u32) -> bool
-    requires edges { All (λ edge. edge < length search.now.marks.now) edges.now }
-    ensures { result ≡ occurs (marks_on (marked search.now.graph.now (row_at search.now.marks.now)) edges.now) negated set }
+    requires edges { HaveMarks search.now edges.now }
+    ensures { result ≡ occurs_on search.now edges.now negated set }
 {
     match meeting(search, edges, negated, set) {
         Some(_edge) => true,
@@ -59,8 +57,8 @@ pub(crate) fn without(
     negated: bool,
     set: u32,
 ) -> Result<Vec<u32>, Refusal>
-    requires edges { All (λ edge. edge < length search.now.marks.now) edges.now }
-    ensures left { IfOk result (λ left. left.items ≡ filter (λ edge. not (meets negated set (row_at search.now.marks.now edge))) edges.now) }
+    requires edges { HaveMarks search.now edges.now }
+    ensures left { IfOk result (λ left. left.items ≡ edges_without search.now edges.now negated set) }
     ensures memory { IsOkUnless result Refusal.Memory }
 {
     let mut left = Vec::new(alloc);

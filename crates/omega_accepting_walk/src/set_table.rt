@@ -1,10 +1,7 @@
 //! A table of the sets that a list of edges carries, made once for all atoms.
-ghost use Rattle.std.specs.Prelude.{◌≡◌, ◌<◌, ◌||◌, ℕ, false, length, All, IfOk, IsOkUnless, slice_index_or};
-ghost use Rattle.omega_acc.specs.formula.Acceptance.{holds, occurs};
-ghost use Rattle.omega_walk_laws.specs.Walks.{marks_on};
-ghost use Rattle.omega_components.specs.Graph.{marked};
-ghost use Rattle.omega_accepting_walk.specs.Rows.{row_at};
-ghost use Rattle.omega_accepting_walk.specs.private.Walks.{AreSetsOn};
+ghost use Rattle.std.specs.Prelude.{◌≡◌, length, IfOk, IsOkUnless};
+ghost use Rattle.omega_accepting_walk.specs.private.Walks.{AreSetsOn, HaveMarksAdded};
+ghost use Rattle.omega_accepting_walk.specs.private.Search.{HaveMarks, graph_of, occurs_on};
 
 use crate::meeting::occurs;
 use crate::node::Node;
@@ -23,8 +20,8 @@ pub(crate) fn set_table(
     search: &Search<'_>,
     edges: &[u32],
 ) -> Result<Vec<bool>, Refusal>
-    requires edges { All (λ edge. edge < length search.now.marks.now) edges.now }
-    ensures sets { IfOk result (λ sets. AreSetsOn (marked search.now.graph.now (row_at search.now.marks.now)) edges.now sets.items) }
+    requires edges { HaveMarks search.now edges.now }
+    ensures sets { IfOk result (λ sets. AreSetsOn (graph_of search.now) edges.now sets.items) }
     ensures memory { IsOkUnless result Refusal.Memory }
 {
     let count = set_count(search.nodes).min(edges.len().max(FEW_SETS));
@@ -38,7 +35,7 @@ pub(crate) fn set_table(
 /// Sets the flag of each set that is in `marks`, as far as `sets` goes.
 fn add_marks(sets: &mut Vec<bool>, marks: &[u32])
     ensures count { length sets.new.items ≡ length sets.old.items }
-    ensures sets { (set : ℕ) → set < length sets.old.items → slice_index_or sets.new.items set false ≡ (slice_index_or sets.old.items set false || holds set marks.now) }
+    ensures sets { HaveMarksAdded marks.now sets.old.items sets.new.items }
 {
     for mark in marks {
         if (*mark as usize) < sets.len() {
@@ -66,9 +63,9 @@ pub(crate) fn occurs_by(
     negated: bool,
     set: u32,
 ) -> bool
-    requires edges { All (λ edge. edge < length search.now.marks.now) edges.now }
-    requires sets { AreSetsOn (marked search.now.graph.now (row_at search.now.marks.now)) edges.now sets.now }
-    ensures { result ≡ occurs (marks_on (marked search.now.graph.now (row_at search.now.marks.now)) edges.now) negated set }
+    requires edges { HaveMarks search.now edges.now }
+    requires sets { AreSetsOn (graph_of search.now) edges.now sets.now }
+    ensures { result ≡ occurs_on search.now edges.now negated set }
 {
     if !negated && (set as usize) < sets.len() {
         sets[set as usize]

@@ -1,12 +1,11 @@
 //! A closed walk through edges that show what a formula asks of all edges together.
-ghost use Rattle.std.specs.Prelude.{◌≡◌, ◌<◌, ◌+◌, ◌++◌, ◌∷◌, ℕ, List, true, length, slice_index, slice_index_or, All, Contains, IfOk, IsOkUnless, OnOk};
-ghost use Rattle.omega_acc.specs.formula.Acceptance.{occurs};
+ghost use Rattle.std.specs.Prelude.{◌≡◌, ◌<◌, ◌+◌, length, slice_index, slice_index_or, All, Contains, IfOk, IsOkUnless, OnOk};
 ghost use Rattle.omega_walk_laws.specs.Rules.{IsConnected};
-ghost use Rattle.omega_walk_laws.specs.Walks.{IsClosedEdgeWalk, IsEdgeWalk, marks_on};
-ghost use Rattle.omega_components.specs.Graph.{AreEdges, ends_at, listed, marked};
-ghost use Rattle.omega_accepting_walk.specs.Rows.{row_at};
-ghost use Rattle.omega_accepting_walk.specs.private.Formulas.{tree_at};
-ghost use Rattle.omega_accepting_walk.specs.private.Walks.{IsReady, ShowsAll, ShowsAtom, ShowsInf};
+ghost use Rattle.omega_walk_laws.specs.Walks.{IsClosedEdgeWalk};
+ghost use Rattle.omega_components.specs.Graph.{AreEdges, listed};
+ghost use Rattle.omega_accepting_walk.specs.private.Lists.{Extends};
+ghost use Rattle.omega_accepting_walk.specs.private.Walks.{GoesOn, LeadOn, ShowsAtom};
+ghost use Rattle.omega_accepting_walk.specs.private.Search.{AreEdgesOf, HaveMarks, IsReady, ShowsAllOf, ShowsInfOf, ShowsSet, graph_of};
 
 use crate::meeting::{meeting, occurs};
 use crate::node::Node;
@@ -23,12 +22,12 @@ pub(crate) fn walk_through(
     search: &Search<'_>,
     edges: &[u32],
 ) -> Result<Vec<u32>, Refusal>
-    requires ready { IsReady search.now.graph.now search.now.marks.now search.now.nodes.now }
-    requires edges { AreEdges search.now.graph.now edges.now }
+    requires ready { IsReady search.now }
+    requires edges { AreEdgesOf search.now edges.now }
     requires some { 0 < length edges.now }
-    requires connected { IsConnected (marked search.now.graph.now (row_at search.now.marks.now)) (listed edges.now) }
-    ensures closed { IfOk result (λ walk. IsClosedEdgeWalk (marked search.now.graph.now (row_at search.now.marks.now)) (listed edges.now) walk.items) }
-    ensures shows { IfOk result (λ walk. ShowsAll (marked search.now.graph.now (row_at search.now.marks.now)) search.now.nodes.now (tree_at search.now.nodes.now) edges.now walk.items) }
+    requires connected { IsConnected (graph_of search.now) (listed edges.now) }
+    ensures closed { IfOk result (λ walk. IsClosedEdgeWalk (graph_of search.now) (listed edges.now) walk.items) }
+    ensures shows { IfOk result (λ walk. ShowsAllOf search.now edges.now walk.items) }
     ensures memory { IsOkUnless result Refusal.Memory }
 {
     passing_walks_accept();
@@ -39,11 +38,11 @@ pub(crate) fn walk_through(
 
 /// Returns at least one edge, and for each atom `Inf` that some edge of `edges` meets, an edge that meets it.
 fn stops(alloc: Global, search: &Search<'_>, edges: &[u32]) -> Result<Vec<u32>, Refusal>
-    requires edges { All (λ edge. edge < length search.now.marks.now) edges.now }
+    requires edges { HaveMarks search.now edges.now }
     requires some { 0 < length edges.now }
     ensures some { IfOk result (λ stops. 0 < length stops.items) }
     ensures among { IfOk result (λ stops. All (Contains edges.now) stops.items) }
-    ensures shows { IfOk result (λ stops. ShowsInf (marked search.now.graph.now (row_at search.now.marks.now)) search.now.nodes.now edges.now stops.items) }
+    ensures shows { IfOk result (λ stops. ShowsInfOf search.now edges.now stops.items) }
     ensures memory { IsOkUnless result Refusal.Memory }
 {
     let mut stops = Vec::new(alloc);
@@ -60,7 +59,7 @@ fn add_first(stops: &mut Vec<u32>, edges: &[u32]) -> Result<(), Refusal>
     requires stops { All (Contains edges.now) stops.old.items }
     ensures some { OnOk result (0 < length stops.new.items) }
     ensures among { OnOk result (All (Contains edges.now) stops.new.items) }
-    ensures kept { OnOk result ((more : List ℕ) × (stops.new.items ≡ stops.old.items ++ more)) }
+    ensures kept { OnOk result (Extends stops.old.items stops.new.items) }
     ensures memory { IsOkUnless result Refusal.Memory }
 {
     if !stops.is_empty() {
@@ -77,11 +76,11 @@ fn add_stops(
     edges: &[u32],
     node: Node,
 ) -> Result<(), Refusal>
-    requires edges { All (λ edge. edge < length search.now.marks.now) edges.now }
+    requires edges { HaveMarks search.now edges.now }
     requires stops { All (Contains edges.now) stops.old.items }
     ensures among { OnOk result (All (Contains edges.now) stops.new.items) }
-    ensures kept { OnOk result ((more : List ℕ) × (stops.new.items ≡ stops.old.items ++ more)) }
-    ensures shows { OnOk result (ShowsAtom (marked search.now.graph.now (row_at search.now.marks.now)) edges.now stops.new.items node) }
+    ensures kept { OnOk result (Extends stops.old.items stops.new.items) }
+    ensures shows { OnOk result (ShowsAtom (graph_of search.now) edges.now stops.new.items node) }
     ensures memory { IsOkUnless result Refusal.Memory }
 {
     match node {
@@ -98,12 +97,11 @@ fn add_stop(
     negated: bool,
     set: u32,
 ) -> Result<(), Refusal>
-    requires edges { All (λ edge. edge < length search.now.marks.now) edges.now }
+    requires edges { HaveMarks search.now edges.now }
     requires stops { All (Contains edges.now) stops.old.items }
     ensures among { OnOk result (All (Contains edges.now) stops.new.items) }
-    ensures kept { OnOk result ((more : List ℕ) × (stops.new.items ≡ stops.old.items ++ more)) }
-    ensures shows { OnOk result (occurs (marks_on (marked search.now.graph.now (row_at search.now.marks.now)) edges.now) negated set ≡ true
-        → occurs (marks_on (marked search.now.graph.now (row_at search.now.marks.now)) stops.new.items) negated set ≡ true) }
+    ensures kept { OnOk result (Extends stops.old.items stops.new.items) }
+    ensures shows { OnOk result (ShowsSet search.now edges.now stops.new.items negated set) }
     ensures memory { IsOkUnless result Refusal.Memory }
 {
     if occurs(search, stops.as_slice(), negated, set) {
@@ -122,11 +120,11 @@ fn tour(
     edges: &[u32],
     stops: &[u32],
 ) -> Result<Vec<u32>, Refusal>
-    requires edges { AreEdges search.now.graph.now edges.now }
-    requires connected { IsConnected (marked search.now.graph.now (row_at search.now.marks.now)) (listed edges.now) }
+    requires edges { AreEdgesOf search.now edges.now }
+    requires connected { IsConnected (graph_of search.now) (listed edges.now) }
     requires some { 0 < length stops.now }
     requires among { All (Contains edges.now) stops.now }
-    ensures closed { IfOk result (λ walk. IsClosedEdgeWalk (marked search.now.graph.now (row_at search.now.marks.now)) (listed edges.now) walk.items) }
+    ensures closed { IfOk result (λ walk. IsClosedEdgeWalk (graph_of search.now) (listed edges.now) walk.items) }
     ensures passes { IfOk result (λ walk. All (Contains walk.items) stops.now) }
     ensures memory { IsOkUnless result Refusal.Memory }
 {
@@ -160,11 +158,10 @@ fn add_way(
     next: u32,
 ) -> Result<(), Refusal>
     requires edges { AreEdges graph.now edges.now }
-    requires connected { (marks : ℕ → List ℕ) → IsConnected (marked graph.now marks) (listed edges.now) }
+    requires connected { LeadOn graph.now edges.now }
     requires edge { Contains edges.now edge }
     requires next { Contains edges.now next }
-    ensures way { OnOk result ((way : List ℕ) × (walk.new.items ≡ walk.old.items ++ edge ∷ way)
-        × ((marks : ℕ → List ℕ) → IsEdgeWalk (marked graph.now marks) (listed edges.now) (ends_at graph.now edge).to way (ends_at graph.now next).from)) }
+    ensures way { OnOk result (GoesOn graph.now edges.now edge next walk.old.items walk.new.items) }
     ensures memory { IsOkUnless result Refusal.Memory }
 {
     walk.push(edge)?;

@@ -1,9 +1,8 @@
 //! The values of all parts of the formula on a set of edges.
-ghost use Rattle.std.specs.Prelude.{◌≡◌, ◌<◌, ℕ, length, All, IfOk, IsOkUnless, slice_index_or};
-ghost use Rattle.omega_components.specs.Graph.{marked};
-ghost use Rattle.omega_accepting_walk.specs.Rows.{row_at};
-ghost use Rattle.omega_accepting_walk.specs.private.Formulas.{IsFormula, IsNode, tree_at};
-ghost use Rattle.omega_accepting_walk.specs.private.Walks.{AreSetsOn, AreValues, IsReady, value_on};
+ghost use Rattle.std.specs.Prelude.{◌≡◌, length, IfOk, IsOkUnless};
+ghost use Rattle.omega_accepting_walk.specs.private.Formulas.{IsFormula, IsNode};
+ghost use Rattle.omega_accepting_walk.specs.private.Walks.{AreSetsOn, value_on};
+ghost use Rattle.omega_accepting_walk.specs.private.Search.{AreValuesOn, HaveMarks, formulas_of, graph_of};
 
 use crate::node::Node;
 use crate::search::Search;
@@ -28,8 +27,8 @@ pub(crate) fn values(
     edges: &[u32],
 ) -> Result<Vec<Value>, Refusal>
     requires formula { IsFormula search.now.nodes.now }
-    requires edges { All (λ edge. edge < length search.now.marks.now) edges.now }
-    ensures values { IfOk result (λ values. AreValues (marked search.now.graph.now (row_at search.now.marks.now)) (tree_at search.now.nodes.now) edges.now values.items) }
+    requires edges { HaveMarks search.now edges.now }
+    ensures values { IfOk result (λ values. AreValuesOn search.now edges.now values.items) }
     ensures count { IfOk result (λ values. length values.items ≡ length search.now.nodes.now) }
     ensures memory { IsOkUnless result Refusal.Memory }
 {
@@ -51,11 +50,11 @@ fn node_value(
     node: Node,
     before: &[Value],
 ) -> Value
-    requires node { IsNode (tree_at search.now.nodes.now) (length before.now) node }
-    requires edges { All (λ edge. edge < length search.now.marks.now) edges.now }
-    requires sets { AreSetsOn (marked search.now.graph.now (row_at search.now.marks.now)) edges.now sets.now }
-    requires before { AreValues (marked search.now.graph.now (row_at search.now.marks.now)) (tree_at search.now.nodes.now) edges.now before.now }
-    ensures { result ≡ value_on (marked search.now.graph.now (row_at search.now.marks.now)) edges.now (tree_at search.now.nodes.now (length before.now)) }
+    requires node { IsNode (formulas_of search.now) (length before.now) node }
+    requires edges { HaveMarks search.now edges.now }
+    requires sets { AreSetsOn (graph_of search.now) edges.now sets.now }
+    requires before { AreValuesOn search.now edges.now before.now }
+    ensures { result ≡ value_on (graph_of search.now) edges.now (formulas_of search.now (length before.now)) }
 {
     match node {
         Node::Constant(value) => Value {

@@ -5,12 +5,12 @@ use Rattle.std.proofs.lemmas.Bool.{eq-eqb, false≢true, ne_eqb}
 use Rattle.std.proofs.lemmas.List.{ext_get_or, get_or-map, get_or_default, length-map}
 use Rattle.std.proofs.lemmas.List.FromFn.{fill_by_all, get_or-map-range_with_len}
 use Rattle.std.proofs.lemmas.Option.{slice_get-get_or}
-use Rattle.omega_game.specs.declared.player.Player.{Player}
-use Rattle.omega_game.specs.declared.player.Player.TheVariants.{One, Zero}
-use Rattle.omega_game.specs.declared.solution.Solution.{Solution}
-use Rattle.omega_game.specs.Game.{IsGame, IsWithinLimits, Node, owner_at}
-use Rattle.omega_game.specs.Solution.{IsSolution, choices_of, winner_at}
-use Rattle.omega_game.specs.Winning.{IsStrategy, choice_at}
+use Rattle.omega_parity_game.specs.declared.player.Player.{Player}
+use Rattle.omega_parity_game.specs.declared.player.Player.TheVariants.{One, Zero}
+use Rattle.omega_parity_game.specs.declared.solution.Solution.{Solution}
+use Rattle.omega_parity_game.specs.Game.{IsGame, IsWithinLimits, Node, owner_at}
+use Rattle.omega_parity_game.specs.Solution.{IsSolution, choices_of, winner_at}
+use Rattle.omega_parity_game.specs.Winning.{IsStrategy, choice_at}
 use Rattle.omega_arrays.specs.Arrays.{player_of}
 use Rattle.omega_arrays.specs.Answer.{choice_for, choice_of, choices_for, no_choice, solution_in}
 use Rattle.omega_arrays.specs.private.Written.{AreWritten, ChoosesWhereWon}
@@ -26,7 +26,7 @@ choice_some entry some e =
 some_choice : (entry : ℕ) → entry ≢ no_choice → IsSome (choice_of entry)
 some_choice entry other = subst (λ (b : Bool). is_some (cond b None (Some entry)) ≡ true) (sym (ne_eqb entry no_choice other)) refl
 
--- the choice that the entry of a choice stands for
+-- the choice that the entry of a choice encodes
 choice_back : (choice : Option ℕ) → IfSome choice (λ c. c ≢ no_choice) → choice_of (unwrap_or choice no_choice) ≡ choice
 choice_back None small = refl
 choice_back (Some c) small = subst (λ (b : Bool). cond b None (Some c) ≡ Some c) (sym (ne_eqb c no_choice small)) refl
@@ -35,7 +35,7 @@ nothing : (choice : Option ℕ) → (IsSome choice → ⊥) → None ≡ choice
 nothing None none = refl
 nothing (Some c) none = absurd (none refl)
 
--- where only the winner has a choice, the winner's entry gives each player's choice back
+-- if only the winner has a choice, the winner's entry gives each player's choice back
 restored : (player winner : Player) (choices : Player → Option ℕ) → ((p : Player) → IsSome (choices p) → winner ≡ p)
     → ((p : Player) → IfSome (choices p) (λ c. c ≢ no_choice)) → choice_for player winner (unwrap_or (choices winner) no_choice) ≡ choices player
 restored Zero Zero choices only small = choice_back (choices Zero) (small Zero)
@@ -95,7 +95,7 @@ module _ (nodes : List Node) (solution : Solution) (game : IsGame nodes) (limits
 
 -- ---- what is held
 
--- a choice stands where the owner wins, for each player
+-- there is a choice exactly if the owner wins, for each player
 chosen_by : (player winner owner : Player) (entry : ℕ) → (entry ≢ no_choice) ↔ (owner ≡ winner)
     → IsSome (choice_for player winner entry) ↔ ((owner ≡ player) × (winner ≡ player))
 chosen_by Zero Zero owner entry won = (λ some. (won.0 (choice_some entry some), refl), λ both. some_choice entry (won.1 both.0))
@@ -179,7 +179,7 @@ held_iff nodes winners choices solution answer held count zero one where_won =
     (subst (λ (s : Solution). IsStrategy nodes Zero s.zero.choice) held zero)
     (subst (λ (s : Solution). IsStrategy nodes One s.one.choice) held one) where_won)
 
--- a strategy that does not fit is none of a solution
+-- a strategy that does not fit is not one of a solution
 pub zero_unfit : (nodes : List Node) (solution : Solution) (fits : Bool) → fits ≡ false → IsTrue fits ↔ IsStrategy nodes Zero solution.zero.choice
     → IsTrue false ↔ IsSolution nodes solution
 zero_unfit nodes solution fits unfit is_fit = (λ yes. cc, λ whole. let yes : fits ≡ true = is_fit.1 (whole.strategies Zero) in cc)

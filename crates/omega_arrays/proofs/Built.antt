@@ -12,12 +12,12 @@ use Rattle.omega_text.specs.Limits.{most_number}
 use Rattle.omega_text.specs.Cases.{never, or_game, or_memory}
 use Rattle.omega_text.specs.declared.refusal.Refusal.{Refusal}
 use Rattle.omega_text.specs.declared.refusal.Refusal.TheVariants.{Automaton, Game, Io, Memory, Task, Text}
-use Rattle.omega_game.specs.declared.node_spec.NodeSpec.{NodeSpec}
-use Rattle.omega_game.specs.declared.player.Player.{Player}
-use Rattle.omega_game.specs.Game.{HasEdge, IsGame, IsWithinLimits, Node, identifiers, no_node, node_at, successors_at}
-use Rattle.omega_game.specs.Limits.{most_nodes, most_successors}
-use Rattle.omega_game.specs.Building.{IsBuildRefusal, IsGameOf, game_fault_of, specified, with_last, with_successor}
-use Rattle.omega_game.proofs.parts.Specifying.{with_last-push}
+use Rattle.omega_parity_game.specs.declared.node_spec.NodeSpec.{NodeSpec}
+use Rattle.omega_parity_game.specs.declared.player.Player.{Player}
+use Rattle.omega_parity_game.specs.Game.{HasEdge, IsGame, IsWithinLimits, Node, identifiers, no_node, node_at, successors_at}
+use Rattle.omega_parity_game.specs.Limits.{most_nodes, most_successors}
+use Rattle.omega_parity_game.specs.Building.{IsBuildRefusal, IsGameOf, game_fault_of, specified, with_last, with_successor}
+use Rattle.omega_parity_game.proofs.parts.Specifying.{with_last-push}
 use Rattle.omega_arrays.specs.Arrays.{GameArrays, array_node, listed_at, node_count, nodes_in, player_of, start_at}
 use Rattle.omega_arrays.specs.Shape.{IsGameShape, IsSizeFault}
 use Rattle.omega_arrays.specs.private.Specified.{spec_of, spec_with, specs_below}
@@ -155,7 +155,7 @@ game_of_shape a shape = record {
 
 -- ---- the limits
 
--- the nodes below a place list so many successors
+-- how many successors the nodes below a place list
 listed_below : (a : GameArrays) → IsGameShape a → (v : ℕ) → v ≤ node_count a
     → sum_by (λ (node : Node). length node.successors) (map (array_node a) (range_with_len 0 v)) ≡ start_at a v
 listed_below a shape zero h = sym shape.first
@@ -188,7 +188,7 @@ game_of_specs a shape = record {
   rearranged = rw (specs_are a shape) (IsPermutation-refl (specs_below a (node_count a)));
 }
 
--- where the specifications have no fault, building them is refused for want of memory alone
+-- if the specifications have no fault, building them is refused for want of memory alone
 pub only_memory : (specs : List NodeSpec) (a : GameArrays) (refusal : Refusal) → game_fault_of specs ≡ None → IsBuildRefusal specs refusal
     → or_game (IsSizeFault a) (or_memory never) refusal
 only_memory specs a (Game fault) none h = let e : None ≡ Some fault = sym none ∙ h in cc

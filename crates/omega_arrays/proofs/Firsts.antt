@@ -36,13 +36,13 @@ cond-None : {A : Type 0} (b : Bool) (x : A) → cond b (Some x) None ≡ None �
 cond-None true x e = cc
 cond-None false x e = refl
 
--- where no entry passes, each fails
+-- if no entry passes, each fails
 pub fails_at : {X : Type 0} (p : X → Bool) (xs : List X) (k : ℕ) (d : X) → position p xs ≡ None → k < length xs → p (get_or xs k d) ≡ false
 fails_at p xs k d none h =
     let past : length xs ≤ position_or_len p xs = ltb-false (position_or_len p xs) (length xs) (cond-None _ (position_or_len p xs) none) in
     fails_before_first p xs k d (omega arith)
 
--- where no number of a range passes, each fails
+-- if no number of a range passes, each fails
 pub range_fails_at : (p : ℕ → Bool) (n k : ℕ) → position p (range_with_len 0 n) ≡ None → k < n → p k ≡ false
 range_fails_at p n k none h =
     sym (at_range p n k h) ∙ fails_at p (range_with_len 0 n) k 0 none (omega (arith, length-range_with_len 0 n))

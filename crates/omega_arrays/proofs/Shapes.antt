@@ -1,4 +1,4 @@
--- Arrays without a wrong entry stand for a game.
+-- Arrays without a wrong entry encode a game.
 use Rattle.std.proofs.Common.{◌≡◌, ℕ, zero, suc, ◌+◌, ◌-◌, ◌<◌, ◌≤◌, Bool, true, false, cond, Option, Some, None, List, length, get_or, All, refl, eqb, arith}
 use Rattle.std.specs.Prelude.{option_map, nat_le, nat_lt}
 use Rattle.std.specs.Option.{option_or}
@@ -8,7 +8,7 @@ use Rattle.omega_arrays.specs.Arrays.{GameArrays, node_count, start_at}
 use Rattle.omega_arrays.specs.Shape.{IsGameShape, entry, first_above, first_fall, miscounted, wrong_entry, wrong_length, wrong_start}
 use Rattle.omega_arrays.proofs.Firsts.{fails_at, range_fails_at}
 
--- the first of two is nothing where both are
+-- the first of two is nothing if both are
 both_none : {A : Type 0} (one other : Option A) → option_or one other ≡ None → (one ≡ None) × (other ≡ None)
 both_none None other e = (refl, e)
 both_none (Some x) other e = cc

@@ -2,18 +2,18 @@
 use Rattle.std.specs.Prelude.{ℕ, ◌==◌, if◌then◌else◌, List, Option, Some, None, length, map, slice_index}
 use Rattle.std.specs.List.{range_with_len}
 use Rattle.std.specs.Option.{option_or}
-use Rattle.omega_game.specs.declared.player.Player.{Player}
-use Rattle.omega_game.specs.declared.player.Player.TheVariants.{One, Zero}
-use Rattle.omega_game.specs.declared.solution.Solution.{Solution}
+use Rattle.omega_parity_game.specs.declared.player.Player.{Player}
+use Rattle.omega_parity_game.specs.declared.player.Player.TheVariants.{One, Zero}
+use Rattle.omega_parity_game.specs.declared.solution.Solution.{Solution}
 use Rattle.omega_arrays.specs.declared.fault.WrongEntry.{WrongEntry}
 use Rattle.omega_arrays.specs.Arrays.{GameArrays, node_count, player_of}
 use Rattle.omega_arrays.specs.Shape.{first_above, miscounted, wrong_entry}
 
--- the entry that stands for no choice
+-- the entry of a place without a choice
 abbrev pub no_choice : ℕ
 no_choice = 4294967295
 
--- the choice that an entry stands for
+-- the choice that an entry encodes
 abbrev pub choice_of : ℕ → Option ℕ
 choice_of entry = if entry == no_choice then None else Some entry
 

@@ -1,12 +1,12 @@
--- Games as arrays, and the game that they stand for.
+-- Games as arrays, and the game that they encode.
 use Rattle.std.specs.Prelude.{ℕ, zero, suc, ◌+◌, List, None, length, map, slice_index, slice_range}
 use Rattle.std.specs.List.{range_with_len}
-use Rattle.omega_game.specs.Game.{Node}
-use Rattle.omega_game.specs.declared.player.Player.{Player}
-use Rattle.omega_game.specs.declared.player.Player.TheVariants.{One, Zero}
+use Rattle.omega_parity_game.specs.Game.{Node}
+use Rattle.omega_parity_game.specs.declared.player.Player.{Player}
+use Rattle.omega_parity_game.specs.declared.player.Player.TheVariants.{One, Zero}
 
--- by place the priorities, the owners, and where the successors begin; and the successors, those of the first node
--- first
+-- by place the priorities, the owners, and the index of the first successor; and the successors, those of the first
+-- node first
 pub record GameArrays : Type 0 where
   pub priorities : List ℕ
   pub owners : List ℕ
@@ -21,7 +21,7 @@ arrays priorities owners starts successors = record {
   successors = successors;
 }
 
--- the player for whom a number stands
+-- the player with a number
 abbrev pub player_of : ℕ → Player
 player_of zero = Zero
 player_of (suc n) = One
@@ -30,7 +30,7 @@ player_of (suc n) = One
 abbrev pub node_count : GameArrays → ℕ
 node_count a = length a.priorities
 
--- where the successors of the node at a place begin; those of the last node end at the start after it
+-- the index of the first successor of the node at a place; those of the last node end at the start after it
 abbrev pub start_at : GameArrays → ℕ → ℕ
 start_at a v = slice_index a.starts v
 
@@ -48,6 +48,6 @@ array_node a v = record {
   name = None;
 }
 
--- the game that the arrays stand for, if they have its shape
+-- the game that the arrays encode, if they have its shape
 abbrev pub nodes_in : GameArrays → List Node
 nodes_in a = map (array_node a) (range_with_len 0 (node_count a))

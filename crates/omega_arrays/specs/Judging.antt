@@ -4,11 +4,11 @@ use Rattle.omega_text.specs.Cases.{never, or_game, or_memory, or_task}
 use Rattle.omega_text.specs.declared.refusal.Refusal.{Refusal}
 use Rattle.omega_text.specs.declared.refusal.task.TaskFault.TheVariants.{BadSolution}
 use Rattle.omega_game.specs.declared.lasso.Lasso.{Lasso}
-use Rattle.omega_game.specs.declared.player.Player.{Player}
-use Rattle.omega_game.specs.declared.solution.Solution.{Solution}
-use Rattle.omega_game.specs.Game.{Node}
-use Rattle.omega_game.specs.Player.{player_number}
-use Rattle.omega_game.specs.Solution.{IsSolution, WinsAsGiven, WinsGiven}
+use Rattle.omega_parity_game.specs.declared.player.Player.{Player}
+use Rattle.omega_parity_game.specs.declared.solution.Solution.{Solution}
+use Rattle.omega_parity_game.specs.Game.{Node}
+use Rattle.omega_parity_game.specs.Player.{player_number}
+use Rattle.omega_parity_game.specs.Solution.{IsSolution, WinsAsGiven, WinsGiven}
 use Rattle.omega_game_answers.specs.Verify.{LosesGiven}
 use Rattle.omega_arrays.specs.declared.judging.Verdict.{Verdict}
 use Rattle.omega_arrays.specs.Answer.{solution_in}
@@ -40,7 +40,7 @@ abbrev pub IsVerdictOf : Option (Player × Lasso) → Verdict → (stem stem' cy
 IsVerdictOf None verdict stem stem' cycle cycle' = SaysRight verdict stem stem' cycle cycle'
 IsVerdictOf (Some found) verdict stem stem' cycle cycle' = SaysWrong found.0 found.1 verdict stem stem' cycle cycle'
 
--- what was found of a solution: nothing where for each player the choices win from all nodes given to that player
+-- what was found of a solution: nothing if for each player the choices win from all nodes given to that player
 abbrev pub IsFinding : List Node → Solution → Option (Player × Lasso) → Type 0
 IsFinding nodes solution None = WinsAsGiven nodes solution
 IsFinding nodes solution (Some found) = IsRefuted nodes solution found.0 found.1
@@ -51,7 +51,7 @@ pub record IsJudgement (nodes : List Node) (solution : Solution) (verdict : Verd
   pub is_so : IsFinding nodes solution found
   pub reported : IsVerdictOf found verdict stem stem' cycle cycle'
 
--- the refusal of judging what should be a solution of a game: it is none, or memory
+-- the refusal of judging what should be a solution of a game: `BadSolution` or `Memory`
 abbrev pub IsArraysSolutionRefusal : List Node → Solution → Refusal → Type 0
 IsArraysSolutionRefusal nodes solution = or_task (λ fault. (fault ≡ BadSolution) × ¬ IsSolution nodes solution) (or_memory never)
 

@@ -1,15 +1,15 @@
--- Which arrays stand for a game, and the first entry that is wrong in others.
+-- Which arrays encode a game, and the first entry that is wrong in others.
 use Rattle.std.specs.Prelude.{◌≡◌, ℕ, ◌+◌, ◌-◌, ◌<◌, ◌≤◌, ◌==◌, if◌then◌else◌, List, Option, Some, None, All, length, min, nat_le, nat_lt, option_map, position}
 use Rattle.std.specs.List.{range_with_len}
 use Rattle.std.specs.Option.{option_or}
 use Rattle.omega_text.specs.Limits.{most_number}
 use Rattle.omega_text.specs.declared.refusal.game.GameFault.{GameFault}
 use Rattle.omega_text.specs.declared.refusal.game.GameFault.TheVariants.{TooManyEdges, TooManyNodes}
-use Rattle.omega_game.specs.Limits.{most_nodes, most_successors}
+use Rattle.omega_parity_game.specs.Limits.{most_nodes, most_successors}
 use Rattle.omega_arrays.specs.declared.fault.WrongEntry.{WrongEntry}
 use Rattle.omega_arrays.specs.Arrays.{GameArrays, node_count, start_at}
 
--- arrays that stand for a game: a node or more, for each an owner, a start and a successor or more, all places of nodes
+-- arrays that encode a game: a node or more, for each an owner, a start and a successor or more, all places of nodes
 pub record IsGameShape (a : GameArrays) : Type 0 where
   pub inhabited : 0 < node_count a
   pub owned : length a.owners ≡ node_count a
@@ -25,7 +25,7 @@ pub record IsGameShape (a : GameArrays) : Type 0 where
 abbrev pub entry : ℕ → ℕ → WrongEntry
 entry array place = record { array = array; place = place }
 
--- the first entry that is missing in an array that has so many and is to have so many, or the first that is too many
+-- of an array with `count` entries in place of `wanted` ones, the first that is missing or the first that is too many
 abbrev pub miscounted : (array count wanted : ℕ) → Option WrongEntry
 miscounted array count wanted = if count == wanted then None else Some (entry array (min count wanted))
 
@@ -39,7 +39,7 @@ wrong_length a =
     option_or (if node_count a == 0 then Some (entry 0 0) else None)
     (option_or (miscounted 1 (length a.owners) (node_count a)) (miscounted 2 (length a.starts) (node_count a + 1)))
 
--- the first place whose successors end where they begin, or before
+-- the first place whose successors end before its first one or there
 abbrev pub first_fall : GameArrays → Option ℕ
 first_fall a = position (λ v. nat_le (start_at a (v + 1)) (start_at a v)) (range_with_len 0 (node_count a))
 
@@ -59,7 +59,7 @@ wrong_entry a =
     (option_or (wrong_start a)
     (first_above 3 (node_count a - 1) a.successors))))
 
--- the fault of arrays that stand for a game, but for one over the limits: 13, or else 14
+-- the fault of arrays that encode a game over the limits: too many nodes, or else too many edges
 abbrev pub IsSizeFault : GameArrays → GameFault → Type 0
 IsSizeFault a TooManyNodes = most_nodes < node_count a
 IsSizeFault a TooManyEdges = (node_count a ≤ most_nodes) × (most_successors < length a.successors)

@@ -2,8 +2,8 @@
 use Rattle.std.specs.Prelude.{◌≡◌, ◌⊎◌, ℕ, Bool, true, false, List, Option, Some, None, min}
 use Rattle.omega_text.specs.Cases.{never, or_game, or_memory, or_task}
 use Rattle.omega_text.specs.declared.refusal.Refusal.{Refusal}
-use Rattle.omega_game.specs.declared.player.Player.TheVariants.{One, Zero}
-use Rattle.omega_game.specs.Game.{Node}
+use Rattle.omega_parity_game.specs.declared.player.Player.TheVariants.{One, Zero}
+use Rattle.omega_parity_game.specs.Game.{Node}
 use Rattle.omega_solve.specs.Limits.{most_lifts}
 use Rattle.omega_budget.specs.Within.{EndsWithin}
 use Rattle.omega_game_answers.specs.declared.solve.asked.Asked.TheVariants.{Both}
@@ -19,25 +19,25 @@ use Rattle.omega_arrays.specs.Shape.{IsSizeFault, IsSized}
 abbrev pub budget_of : ℕ → ℕ
 budget_of budget = min budget most_lifts
 
--- each player's lifting run made so many lifts, at most the budget and at most the bound, and left none due
+-- each player's lifting run made these lifts, at most the budget and at most the bound, and left none due
 abbrev pub EndBoth : List Node → ℕ → Lifts → Type 0
 EndBoth nodes budget lifts = EndsWithin nodes Zero budget lifts.zero × EndsWithin nodes One budget lifts.one
 
--- so many lifts were made: by both players' runs, or where a search was asked for, none
+-- these lifts were made: by both players' runs, or none if a search was requested
 abbrev pub AreLifts : Bool → List Node → ℕ → Lifts → Type 0
 AreLifts false nodes budget lifts = EndBoth nodes budget lifts
 AreLifts true nodes budget lifts = ((lifts.zero ≡ 0) × (lifts.one ≡ 0)) ⊎ EndBoth nodes budget lifts
 
--- a wrong entry, or where there is none one of these refusals
+-- a wrong entry, or one of these refusals if no entry is wrong
 abbrev pub or_shape : Option WrongEntry → (Refusal → Type 0) → ArrayFault → Type 0
 or_shape wrong others (BadShape entry) = wrong ≡ Some entry
 or_shape wrong others (Refused refusal) = (wrong ≡ None) × others refusal
 
--- the refusal of solving a game for both players: 50 or 51, or 60
+-- the refusal of solving a game for both players: `TooWide`, `Budget` or `Memory`
 abbrev pub IsWholeRefusal : List Node → ℕ → Refusal → Type 0
 IsWholeRefusal nodes budget = or_task (IsWholeFault nodes Both budget) (or_memory never)
 
--- the refusal of solving the game of arrays that stand for one: 13 or 14, or else that of its game
+-- the refusal of solving the game that the arrays encode: that of its size, or else that of its game
 abbrev pub IsArraysSolvingRefusal : GameArrays → ℕ → Refusal → Type 0
 IsArraysSolvingRefusal a budget =
     or_game (IsSizeFault a) (or_task (λ fault. IsSized a × IsWholeFault (nodes_in a) Both budget fault) (or_memory never))

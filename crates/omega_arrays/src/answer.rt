@@ -1,8 +1,8 @@
 //! Solutions as arrays.
 ghost use Rattle.std.specs.Prelude.{◌≡◌, ◌≢◌, ℕ, ◌≤◌, ◌<◌, ◌^◌, ◌↔◌, All, IfOk, IsOkUnless, IsTrue, None, length, map, unwrap_or};
-ghost use Rattle.omega_game.specs.declared.player.Player.{Player};
-ghost use Rattle.omega_game.specs.Game.{owner_at};
-ghost use Rattle.omega_game.specs.Solution.{IsSolution, choices_of};
+ghost use Rattle.omega_parity_game.specs.declared.player.Player.{Player};
+ghost use Rattle.omega_parity_game.specs.Game.{owner_at};
+ghost use Rattle.omega_parity_game.specs.Solution.{IsSolution, choices_of};
 ghost use Rattle.omega_arrays.specs.Answer.{choice_for, choice_of, choices_for, no_choice, solution_in, wrong_answer, wrong_room};
 ghost use Rattle.omega_arrays.specs.Arrays.{node_count, player_of};
 ghost use Rattle.omega_arrays.specs.Shape.{IsGameShape};
@@ -15,14 +15,14 @@ use crate::shape::{first_owner_above, miscounted};
 use omega_game::{ForwardGame, Player, Refusal, Seq, Solution, Strategy};
 use std::alloc::Global;
 
-/// The entry that stands for no choice, 2^32 - 1.
+/// The entry of a place without a choice, 2^32 - 1.
 pub const NO_CHOICE: u32 = 4_294_967_295;
 
 const WINNERS: u32 = 4;
 
 const CHOICES: u32 = 5;
 
-/// The first entry that is wrong, of the arrays or by the lengths of those for an answer.
+/// Returns the first entry that is wrong in `arrays`, or by the lengths of the arrays for an answer.
 pub(crate) fn wrong_room(arrays: &Arrays<'_>, winners: usize, choices: usize) -> Option<WrongEntry>
     ensures first { result ≡ wrong_room arrays.now winners choices }
     ensures shape { result ≡ None → IsGameShape arrays.now }
@@ -39,7 +39,7 @@ pub(crate) fn wrong_room(arrays: &Arrays<'_>, winners: usize, choices: usize) ->
     miscounted(CHOICES, choices, count)
 }
 
-/// The first entry that is wrong, of the arrays or of those that are to hold a solution.
+/// Returns the first entry that is wrong in `arrays`, or in the arrays that should hold a solution.
 pub(crate) fn wrong_answer(
     arrays: &Arrays<'_>,
     winners: &[u8],
@@ -56,7 +56,7 @@ pub(crate) fn wrong_answer(
     first_owner_above(WINNERS, 1, winners)
 }
 
-/// Writes a solution into arrays.
+/// Writes `solution` into `winners` and `choices`.
 pub(crate) fn write_solution(
     game: &ForwardGame,
     solution: &Solution,
@@ -88,7 +88,7 @@ fn write_places(solution: &Solution, winners: &mut [u8], choices: &mut [u32])
     }
 }
 
-/// The number of a player.
+/// Returns the number of a player.
 fn number_of(player: Player) -> u8
     ensures players { result ≤ 1 }
     ensures number { player_of result ≡ player }
@@ -99,14 +99,14 @@ fn number_of(player: Player) -> u8
     }
 }
 
-/// The entry for a choice.
+/// Returns the entry for a choice.
 fn entry_of(choice: Option<u32>) -> u32
     ensures { result ≡ unwrap_or choice no_choice }
 {
     choice.unwrap_or(NO_CHOICE)
 }
 
-/// The solution that arrays hold, whether it is one of some game or not. 60 alone.
+/// Returns the solution that the arrays hold, whether it is a solution of some game or not.
 pub(crate) fn solution_held(
     alloc: Global,
     winners: &[u8],
@@ -130,7 +130,7 @@ pub(crate) fn solution_held(
     })
 }
 
-/// The players for whom numbers stand. 60 alone.
+/// Returns the players with these numbers.
 fn players_in(alloc: Global, numbers: &[u8]) -> Result<Vec<Player>, Refusal>
     ensures players { IfOk result (λ players. players.items ≡ map player_of numbers.now) }
     ensures memory { IsOkUnless result Refusal.Memory }
@@ -142,7 +142,7 @@ fn players_in(alloc: Global, numbers: &[u8]) -> Result<Vec<Player>, Refusal>
     Ok(players)
 }
 
-/// The choices of a player that arrays hold. 60 alone.
+/// Returns the choices of `player` that the arrays hold.
 fn choices_held(
     alloc: Global,
     player: Player,
@@ -160,7 +160,7 @@ fn choices_held(
     Ok(held)
 }
 
-/// The player's choice at a place with this winner and this entry.
+/// Returns the choice of `player` at a place with this winner and this entry.
 fn choice_for(player: Player, winner: Player, entry: u32) -> Option<u32>
     ensures { result ≡ choice_for player winner entry }
 {
@@ -170,7 +170,7 @@ fn choice_for(player: Player, winner: Player, entry: u32) -> Option<u32>
     }
 }
 
-/// The choice that an entry stands for.
+/// Returns the choice that `entry` encodes.
 fn choice_of(entry: u32) -> Option<u32>
     ensures { result ≡ choice_of entry }
 {
@@ -181,7 +181,7 @@ fn choice_of(entry: u32) -> Option<u32>
     }
 }
 
-/// Whether what arrays hold, of which this is the solution, is a solution of the game.
+/// Whether the arrays hold a solution of the game. What they hold is also given as `solution`.
 #[tactic(auto, using(crate::proofs::Answering::one_unfit, crate::proofs::Answering::zero_unfit))]
 pub(crate) fn is_solution(
     game: &ForwardGame,
@@ -204,7 +204,7 @@ pub(crate) fn is_solution(
     chooses_where_won(game, winners, choices)
 }
 
-/// Whether a choice stands exactly where the owner wins.
+/// Whether each place has a choice exactly if its owner wins.
 fn chooses_where_won(game: &ForwardGame, winners: &[u8], choices: &[u32]) -> bool
     requires winners { length winners.now ≡ length game.now }
     requires choices { length choices.now ≡ length game.now }
@@ -219,7 +219,7 @@ fn chooses_where_won(game: &ForwardGame, winners: &[u8], choices: &[u32]) -> boo
     true
 }
 
-/// Whether a choice stands at a place if its owner wins, and else none.
+/// Whether `place` has a choice exactly if its owner wins.
 fn chooses_if_won(game: &ForwardGame, place: u32, winner: u8, choice: u32) -> bool
     requires { place < length game.now }
     ensures { IsTrue result ↔ ((choice ≢ no_choice) ↔ (owner_at game.now place ≡ player_of winner)) }

@@ -9,7 +9,7 @@ pub struct Arrays<'a> {
     priorities: &'a [u32],
     /// The player who owns each node, 0 or 1.
     owners: &'a [u8],
-    /// For each node where its successors begin, and at last the number of all successors.
+    /// For each node the index of its first successor, and at last the number of all successors.
     starts: &'a [u32],
     /// The places of the successors, those of the first node first.
     successors: &'a [u32],
@@ -27,7 +27,7 @@ impl<'a> Arrays<'a> {
     ghost use Rattle.std.specs.Prelude.{◌≡◌};
     ghost use Rattle.omega_arrays.specs.Arrays.{arrays};
 
-    /// The arrays, whatever they hold.
+    /// Returns these arrays, whatever they hold.
     pub fn new(
         priorities: &'a [u32],
         owners: &'a [u8],
@@ -44,28 +44,28 @@ impl<'a> Arrays<'a> {
         }
     }
 
-    /// The priorities.
+    /// Returns the priorities.
     pub(crate) fn priorities(&self) -> &[u32]
         ensures { result.now ≡ self.now.priorities }
     {
         self.priorities
     }
 
-    /// The numbers of the owners.
+    /// Returns the numbers of the owners.
     pub(crate) fn owners(&self) -> &[u8]
         ensures { result.now ≡ self.now.owners }
     {
         self.owners
     }
 
-    /// Where the successors of each node begin.
+    /// Returns the index of the first successor of each node, and at last the number of all successors.
     pub(crate) fn starts(&self) -> &[u32]
         ensures { result.now ≡ self.now.starts }
     {
         self.starts
     }
 
-    /// The successors of all nodes.
+    /// Returns the successors of all nodes.
     pub(crate) fn successors(&self) -> &[u32]
         ensures { result.now ≡ self.now.successors }
     {

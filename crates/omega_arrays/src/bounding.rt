@@ -1,7 +1,7 @@
 //! The bounds on lifts of a game as arrays.
 ghost use Rattle.std.specs.Prelude.{◌≡◌, ◌+◌, ◌*◌, ◌^◌, IfOk, IfErr, IsOk, None};
-ghost use Rattle.omega_game.specs.declared.player.Player.TheVariants.{One, Zero};
-ghost use Rattle.omega_game.specs.Game.{priorities};
+ghost use Rattle.omega_parity_game.specs.declared.player.Player.TheVariants.{One, Zero};
+ghost use Rattle.omega_parity_game.specs.Game.{priorities};
 ghost use Rattle.omega_text.specs.Cases.{never, or_game, or_memory};
 ghost use Rattle.omega_arrays.specs.Arrays.{nodes_in};
 ghost use Rattle.omega_arrays.specs.Bounds.{IsBound};
@@ -22,7 +22,7 @@ pub struct Bound {
     pub low: u64,
     /// The upper 64 bits.
     pub high: u64,
-    /// 1, or 0 where the bound is over 128 bits; both halves are 0 then.
+    /// 0 if the bound is over 128 bits, and both halves are 0 then; else 1.
     pub fits: u64,
 }
 
@@ -36,13 +36,16 @@ pub struct Bounds {
     pub one: Bound,
 }
 
-/// The most lifts that a run for each player makes on the game of the arrays. 57, 13, 14 or 60.
+/// Returns the bound on the lifts of a run for each player on the game of `arrays`.
+///
+/// Refused with [ArrayFault::BadShape], [GameFault::TooManyNodes], [GameFault::TooManyEdges] or [Refusal::Memory].
 pub fn bound_arrays(alloc: Global, arrays: &Arrays<'_>) -> Result<Bounds, ArrayFault>
     ensures zero { IfOk result (λ bounds. IsBound Zero (priorities (nodes_in arrays.now)) bounds.zero) }
     ensures one { IfOk result (λ bounds. IsBound One (priorities (nodes_in arrays.now)) bounds.one) }
     ensures faultless { IsOk result → wrong_entry arrays.now ≡ None }
     ensures sized { IsOk result → IsSized arrays.now }
-    ensures refused { IfErr result (or_shape (wrong_entry arrays.now) (or_game (IsSizeFault arrays.now) (or_memory never))) }
+    ensures refused { IfErr result
+        (or_shape (wrong_entry arrays.now) (or_game (IsSizeFault arrays.now) (or_memory never))) }
 {
     if let Some(wrong) = arrays.wrong_entry() {
         return Err(ArrayFault::BadShape(wrong));
@@ -54,7 +57,7 @@ pub fn bound_arrays(alloc: Global, arrays: &Arrays<'_>) -> Result<Bounds, ArrayF
     })
 }
 
-/// The bound for a player, in two halves.
+/// Returns the bound for `player`, in two halves.
 fn bound_for(game: &ForwardGame, player: Player) -> Bound
     ensures { IsBound player (priorities game.now) result }
 {
@@ -68,7 +71,7 @@ fn bound_for(game: &ForwardGame, player: Player) -> Bound
     }
 }
 
-/// A number in two halves.
+/// Returns a number in two halves.
 fn halved(number: u128) -> Bound
     ensures parts { number ≡ result.high * 2 ^ 64 + result.low }
     ensures fits { result.fits ≡ 1 }

@@ -1,7 +1,7 @@
-//! The game that arrays stand for.
+//! The game that arrays encode.
 ghost use Rattle.std.specs.Prelude.{◌≡◌, ◌++◌, ◌∷◌, [], ◌<◌, ◌≤◌, IfOk, IfErr, IsOk, IsOkUnless, OnOk, length};
 ghost use Rattle.omega_text.specs.Cases.{never, or_game, or_memory};
-ghost use Rattle.omega_game.specs.Limits.{most_nodes};
+ghost use Rattle.omega_parity_game.specs.Limits.{most_nodes};
 ghost use Rattle.omega_arrays.specs.Arrays.{nodes_in, node_count, player_of};
 ghost use Rattle.omega_arrays.specs.Shape.{IsGameShape, IsSizeFault, IsSized};
 ghost use Rattle.omega_arrays.specs.private.Specified.{spec_of, specs_below};
@@ -14,7 +14,7 @@ use omega_game::{
 use omega_text::GameFault;
 use std::alloc::Global;
 
-/// The game of arrays that stand for one, without predecessors. 13, 14 or 60.
+/// Builds the game that `arrays` encode, without predecessors.
 pub(crate) fn built(alloc: Global, arrays: &Arrays<'_>) -> Result<ForwardGame, Refusal>
     requires { IsGameShape arrays.now }
     ensures game { IfOk result (λ game. game ≡ nodes_in arrays.now) }
@@ -34,7 +34,7 @@ pub(crate) fn built(alloc: Global, arrays: &Arrays<'_>) -> Result<ForwardGame, R
     nodes.finish_forward()
 }
 
-/// The same with predecessors. 13, 14 or 60.
+/// Builds the game that `arrays` encode, with predecessors.
 pub(crate) fn built_game(alloc: Global, arrays: &Arrays<'_>) -> Result<Game, Refusal>
     requires { IsGameShape arrays.now }
     ensures game { IfOk result (λ game. game ≡ nodes_in arrays.now) }
@@ -48,7 +48,7 @@ pub(crate) fn built_game(alloc: Global, arrays: &Arrays<'_>) -> Result<Game, Ref
     }
 }
 
-/// The specifications of the nodes. 60 alone.
+/// Returns the specifications of the nodes.
 fn collected(alloc: Global, arrays: &Arrays<'_>) -> Result<GameBuilder, Refusal>
     requires shape { IsGameShape arrays.now }
     requires few { node_count arrays.now ≤ most_nodes }
@@ -63,7 +63,7 @@ fn collected(alloc: Global, arrays: &Arrays<'_>) -> Result<GameBuilder, Refusal>
     Ok(nodes)
 }
 
-/// Adds the specification of the node at a place. 60 alone.
+/// Adds the specification of the node at `place`.
 fn add_node(arrays: &Arrays<'_>, place: usize, nodes: &mut GameBuilder) -> Result<(), Refusal>
     requires shape { IsGameShape arrays.now }
     requires few { node_count arrays.now ≤ most_nodes }
@@ -87,7 +87,7 @@ fn add_node(arrays: &Arrays<'_>, place: usize, nodes: &mut GameBuilder) -> Resul
     Ok(())
 }
 
-/// The player for whom a number stands: player 0 for 0.
+/// Returns the player with this number: player 0 for 0.
 pub(crate) fn player_of(number: u8) -> Player
     ensures { result ≡ player_of number }
 {

@@ -2,7 +2,7 @@ ghost use Rattle.std.specs.Prelude.{◌≡◌};
 
 use omega_text::Refusal;
 
-/// The first entry of some arrays that is wrong, so that they stand for no game, or answer for none.
+/// The first wrong entry of arrays that encode no game, or no answer for one.
 #[repr(C)]
 #[derive(Clone, Copy, Debug, PartialEq, Eq)]
 pub struct WrongEntry {
@@ -18,7 +18,7 @@ pub struct WrongEntry {
 pub enum ArrayFault {
     /// 57 `BadShape`: an entry is wrong, or there are too few or too many.
     BadShape(WrongEntry),
-    /// A refusal of the game that the arrays stand for, or 60.
+    /// A refusal of the game that the arrays encode, or [Refusal::Memory].
     Refused(Refusal),
 }
 

@@ -1,7 +1,7 @@
 //! Solutions as arrays, judged.
 ghost use Rattle.std.specs.Prelude.{◌≡◌, IfOk, IfErr, IsOk, IsOkUnless, OnErr, None, length};
 ghost use Rattle.omega_text.specs.declared.refusal.Refusal.TheVariants.{Memory};
-ghost use Rattle.omega_game.specs.Solution.{IsSolution};
+ghost use Rattle.omega_parity_game.specs.Solution.{IsSolution};
 ghost use Rattle.omega_arrays.specs.Answer.{solution_in, wrong_answer};
 ghost use Rattle.omega_arrays.specs.Arrays.{nodes_in};
 ghost use Rattle.omega_arrays.specs.Judging.{IsFinding, IsJudgement, IsArraysJudgingRefusal, IsArraysSolutionRefusal, IsVerdictOf};
@@ -17,23 +17,25 @@ use omega_game::{ForwardGame, Lasso, Player, Refusal, Solution, TaskFault};
 use omega_game_answers::lost_by;
 use std::alloc::Global;
 
-/// What is said of a solution.
+/// The verdict on a solution.
 #[repr(C)]
 #[derive(Clone, Copy, Debug, PartialEq, Eq)]
 pub struct Verdict {
     /// 1 if for each player the choices win from all nodes given to that player, or else 0.
     pub is_right: u32,
-    /// Where it is 0, the number of the least player whose choices do not.
+    /// If it is 0, the number of the least player whose choices do not.
     pub player: u32,
-    /// Where it is 0, how many places the stem of the counterexample has.
+    /// If it is 0, how many places the stem of the counterexample has.
     pub stem: u64,
-    /// Where it is 0, how many places its cycle has.
+    /// If it is 0, how many places its cycle has.
     pub cycle: u64,
 }
 
-/// Says whether the choices win from all nodes given to each player. Where they do not, a counterexample is written:
-/// the places of a walk to a cycle, and those of the cycle, as many of each as there is room for. 57, 13, 14, 53 where
-/// the arrays hold no solution of the game, or 60: nothing is written then.
+/// Judges whether the choices win from all nodes given to each player. If they do not, a counterexample is written: a
+/// walk to a cycle, and that cycle. `stem` and `cycle` get as many of their places as they have room for.
+///
+/// Refused with [ArrayFault::BadShape], [GameFault::TooManyNodes], [GameFault::TooManyEdges], [TaskFault::BadSolution]
+/// if the arrays hold no solution of the game, or [Refusal::Memory]. Then nothing is written.
 pub fn verify_arrays(
     alloc: Global,
     arrays: &Arrays<'_>,
@@ -42,13 +44,17 @@ pub fn verify_arrays(
     stem: &mut [u32],
     cycle: &mut [u32],
 ) -> Result<Verdict, ArrayFault>
-    ensures judged { IfOk result (λ verdict. IsJudgement (nodes_in arrays.now) (solution_in winners.now choices.now) verdict stem.old stem.new cycle.old cycle.new) }
+    ensures judged { IfOk result (λ verdict.
+        IsJudgement (nodes_in arrays.now) (solution_in winners.now choices.now)
+        verdict stem.old stem.new cycle.old cycle.new) }
     ensures solution { IsOk result → IsSolution (nodes_in arrays.now) (solution_in winners.now choices.now) }
     ensures faultless { IsOk result → wrong_answer arrays.now winners.now choices.now ≡ None }
     ensures sized { IsOk result → IsSized arrays.now }
     ensures stem_kept { OnErr result (stem.new ≡ stem.old) }
     ensures cycle_kept { OnErr result (cycle.new ≡ cycle.old) }
-    ensures refused { IfErr result (or_shape (wrong_answer arrays.now winners.now choices.now) (IsArraysJudgingRefusal arrays.now winners.now choices.now)) }
+    ensures refused { IfErr result (or_shape
+        (wrong_answer arrays.now winners.now choices.now)
+        (IsArraysJudgingRefusal arrays.now winners.now choices.now)) }
 {
     if let Some(wrong) = wrong_answer(arrays, winners, choices) {
         return Err(ArrayFault::BadShape(wrong));
@@ -58,7 +64,8 @@ pub fn verify_arrays(
     Ok(reported(&found, stem, cycle))
 }
 
-/// Why the solution that arrays hold does not win, none where it does. 53 where it is no solution of the game, or 60.
+/// Returns a player and a counterexample if the solution that the arrays hold does not win, or none if it wins. Refused
+/// with [TaskFault::BadSolution] if they hold no solution of the game.
 fn judged(
     alloc: Global,
     game: &ForwardGame,
@@ -79,7 +86,7 @@ fn judged(
     Ok(found)
 }
 
-/// Why a solution does not win, for the least player whose choices do not; none where they do. 60 alone.
+/// Returns the least player whose choices do not win, with a counterexample, or none if both players' choices win.
 fn refuted(
     alloc: Global,
     game: &ForwardGame,
@@ -98,7 +105,7 @@ fn refuted(
     Ok(None)
 }
 
-/// The verdict, and the places of a counterexample written.
+/// Returns the verdict, and writes the places of the counterexample.
 fn reported(found: &Option<(Player, Lasso)>, stem: &mut [u32], cycle: &mut [u32]) -> Verdict
     ensures { IsVerdictOf found.now result stem.old stem.new cycle.old cycle.new }
 {

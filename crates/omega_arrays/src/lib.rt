@@ -1,4 +1,4 @@
-//! Parity games as arrays: which shapes stand for a game, its solutions as arrays, solved and judged in place.
+//! Parity games as arrays: which shapes encode a game, its solutions as arrays, solved and judged in place.
 //!
 //! Numbers of refusals are those of `Refusal`; docs/formats.md says when each comes.
 #![tactic(auto)]

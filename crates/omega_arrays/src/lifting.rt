@@ -1,8 +1,8 @@
 //! Games solved by lifting for both players.
 ghost use Rattle.std.specs.Prelude.{◌≡◌, ◌≤◌, IfOk, IfErr, false};
-ghost use Rattle.omega_game.specs.declared.player.Player.{Player};
-ghost use Rattle.omega_game.specs.Game.{priorities};
-ghost use Rattle.omega_game.specs.Solution.{IsExactSolution};
+ghost use Rattle.omega_parity_game.specs.declared.player.Player.{Player};
+ghost use Rattle.omega_parity_game.specs.Game.{priorities};
+ghost use Rattle.omega_parity_game.specs.Solution.{IsExactSolution};
 ghost use Rattle.omega_measure.specs.Table.{is_too_wide};
 ghost use Rattle.omega_solve.specs.Limits.{most_lifts};
 ghost use Rattle.omega_arrays.specs.Solving.{AreLifts, EndBoth, IsWholeRefusal};
@@ -14,8 +14,9 @@ use omega_game_answers::{fits_both, winners_of};
 use omega_region_laws::{regions_are_apart, regions_cover};
 use std::alloc::Global;
 
-/// The solution of a game, by lifting for one player and then for the other, and how many lifts the runs made. Whether
-/// the tables of both fit is asked before either is lifted for, so that 50 comes before 51. 50, 51 or 60.
+/// Solves the game by lifting for one player and then for the other, and returns also how many lifts the runs made.
+/// Both players' tables are fitted before either is lifted, so that [TaskFault::TooWide] comes before
+/// [TaskFault::Budget].
 pub(crate) fn lifted(
     alloc: Global,
     game: &ForwardGame,
@@ -31,7 +32,7 @@ pub(crate) fn lifted(
     lifted_for_both(alloc, game, &reordered, budget)
 }
 
-/// The same of a game that is too wide for neither player. 51 or 60.
+/// Solves the game as [lifted] does if it is too wide for neither player.
 fn lifted_for_both(
     alloc: Global,
     game: &ForwardGame,

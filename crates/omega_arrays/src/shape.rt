@@ -1,4 +1,4 @@
-//! Which arrays stand for a game.
+//! Which arrays encode a game.
 ghost use Rattle.std.specs.Prelude.{◌≡◌, ◌+◌, ◌<◌, IfSome, None, length, nat_lt, option_map, position};
 ghost use Rattle.omega_arrays.specs.Arrays.{node_count};
 ghost use Rattle.omega_arrays.specs.Shape.{IsGameShape, entry, first_above, first_fall, miscounted, wrong_entry, wrong_length, wrong_start};
@@ -16,8 +16,8 @@ const STARTS: u32 = 2;
 const SUCCESSORS: u32 = 3;
 
 impl Arrays<'_> {
-    /// The first entry that is wrong, none exactly where the arrays stand for a game: the lengths are judged first,
-    /// then the priorities, the owners, the starts and the successors. Takes time in the entries, and no memory.
+    /// Returns the first entry that is wrong, or none exactly if the arrays encode a game. The lengths are judged
+    /// first, then the priorities, the owners, the starts and the successors. Takes linear time, and no memory.
     pub fn wrong_entry(&self) -> Option<WrongEntry>
         ensures first { result ≡ wrong_entry self.now }
         ensures shape { result ≡ None → IsGameShape self.now }
@@ -25,7 +25,7 @@ impl Arrays<'_> {
         self.first_wrong()
     }
 
-    /// The first entry that is wrong.
+    /// Returns the first entry that is wrong.
     fn first_wrong(&self) -> Option<WrongEntry>
         ensures { result ≡ wrong_entry self.now }
     {
@@ -45,7 +45,7 @@ impl Arrays<'_> {
         first_above(SUCCESSORS, count - 1, self.successors())
     }
 
-    /// The first entry by which a length is wrong.
+    /// Returns the first entry by which a length is wrong.
     fn wrong_length(&self) -> Option<WrongEntry>
         ensures { result ≡ wrong_length self.now }
     {
@@ -59,7 +59,7 @@ impl Arrays<'_> {
         miscounted(STARTS, self.starts().len(), count + 1)
     }
 
-    /// The first start that is wrong.
+    /// Returns the first start that is wrong.
     fn wrong_start(&self) -> Option<WrongEntry>
         requires { length self.now.starts ≡ node_count self.now + 1 }
         ensures { result ≡ wrong_start self.now }
@@ -78,7 +78,7 @@ impl Arrays<'_> {
         None
     }
 
-    /// The first place whose successors end where they begin, or before.
+    /// Returns the first place whose successors end before its first one or there.
     fn first_fall(&self) -> Option<usize>
         requires { length self.now.starts ≡ node_count self.now + 1 }
         ensures first { result ≡ first_fall self.now }
@@ -94,7 +94,7 @@ impl Arrays<'_> {
     }
 }
 
-/// An entry of an array, at an index.
+/// Returns the entry of the array with number `array` at the index `place`.
 fn wrong_at(array: u32, place: usize) -> WrongEntry
     ensures { result ≡ entry array place }
 {
@@ -104,7 +104,8 @@ fn wrong_at(array: u32, place: usize) -> WrongEntry
     }
 }
 
-/// The first entry that is missing, or that is too many, where an array has so many and is to have so many.
+/// Returns the first entry that is missing, or that is too many, in an array with `count` entries in place of `wanted`
+/// ones.
 pub(crate) fn miscounted(array: u32, count: usize, wanted: usize) -> Option<WrongEntry>
     ensures { result ≡ miscounted array count wanted }
 {
@@ -114,35 +115,35 @@ pub(crate) fn miscounted(array: u32, count: usize, wanted: usize) -> Option<Wron
     Some(wrong_at(array, count.min(wanted)))
 }
 
-/// The first entry over a limit.
+/// Returns the first entry over `most`.
 fn first_above(array: u32, most: usize, entries: &[u32]) -> Option<WrongEntry>
     ensures { result ≡ first_above array most entries.now }
 {
     wrong_at_first(array, place_above(most, entries))
 }
 
-/// The index of the first entry over a limit.
+/// Returns the index of the first entry over `most`.
 fn place_above(most: usize, entries: &[u32]) -> Option<usize>
     ensures { result ≡ position (λ x. nat_lt most x) entries.now }
 {
     entries.iter().position(|entry| *entry as usize > most)
 }
 
-/// The first number of an owner over a limit.
+/// Returns the first number of an owner over `most`.
 pub(crate) fn first_owner_above(array: u32, most: u8, entries: &[u8]) -> Option<WrongEntry>
     ensures { result ≡ first_above array most entries.now }
 {
     wrong_at_first(array, owner_above(most, entries))
 }
 
-/// The index of the first number of an owner over a limit.
+/// Returns the index of the first number of an owner over `most`.
 fn owner_above(most: u8, entries: &[u8]) -> Option<usize>
     ensures { result ≡ position (λ x. nat_lt most x) entries.now }
 {
     entries.iter().position(|entry| *entry > most)
 }
 
-/// The entry at an index, if there is one.
+/// Returns the entry at the index `found`, if there is one.
 fn wrong_at_first(array: u32, found: Option<usize>) -> Option<WrongEntry>
     ensures { result ≡ option_map (entry array) found }
 {

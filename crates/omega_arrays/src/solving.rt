@@ -1,6 +1,6 @@
 //! Games as arrays, solved.
 ghost use Rattle.std.specs.Prelude.{◌≡◌, ◌≤◌, All, IfOk, IfErr, IsOk, OnOk, OnErr, None, length};
-ghost use Rattle.omega_game.specs.Solution.{IsExactSolution};
+ghost use Rattle.omega_parity_game.specs.Solution.{IsExactSolution};
 ghost use Rattle.omega_solve.specs.Limits.{most_lifts};
 ghost use Rattle.omega_arrays.specs.Answer.{solution_in, wrong_room};
 ghost use Rattle.omega_arrays.specs.Arrays.{nodes_in};
@@ -27,10 +27,12 @@ pub struct Lifts {
     pub one: u64,
 }
 
-/// Solves the game of the arrays for both players, and writes for each place its winner, and the winner's choice there,
-/// or `NO_CHOICE` where the winner does not own the node. A search is tried first if that is asked for; where it gives
-/// an answer no lifts are made. Each run makes at most as many lifts as the budget, at most 2^40. 57, 13, 14, 50, 51 or
-/// 60: nothing is written then.
+/// Solves the game of the arrays for both players. Writes for each place its winner, and the winner's choice there, or
+/// [NO_CHOICE] if the winner does not own the node. With `by_search` a search is tried first, and if it gives an answer
+/// no lifts are made. Each run makes at most `budget` lifts, and at most 2^40.
+///
+/// Refused with [ArrayFault::BadShape], [GameFault::TooManyNodes], [GameFault::TooManyEdges], [TaskFault::TooWide],
+/// [TaskFault::Budget] or [Refusal::Memory]. Then nothing is written.
 pub fn solve_arrays(
     alloc: Global,
     arrays: &Arrays<'_>,
@@ -46,7 +48,9 @@ pub fn solve_arrays(
     ensures sized { IsOk result → IsSized arrays.now }
     ensures winners_kept { OnErr result (winners.new ≡ winners.old) }
     ensures choices_kept { OnErr result (choices.new ≡ choices.old) }
-    ensures refused { IfErr result (or_shape (wrong_room arrays.now (length winners.old) (length choices.old)) (IsArraysSolvingRefusal arrays.now (budget_of budget))) }
+    ensures refused { IfErr result (or_shape
+        (wrong_room arrays.now (length winners.old) (length choices.old))
+        (IsArraysSolvingRefusal arrays.now (budget_of budget))) }
 {
     if let Some(wrong) = wrong_room(arrays, winners.len(), choices.len()) {
         return Err(ArrayFault::BadShape(wrong));
@@ -57,7 +61,7 @@ pub fn solve_arrays(
     Ok(lifts)
 }
 
-/// The solution of a game, by the search if that is asked for and gives one, or else by lifting. 50, 51 or 60.
+/// Solves the game by the search if `by_search` requests it and it gives an answer, or else by lifting.
 fn solved(
     alloc: Global,
     game: &Game,

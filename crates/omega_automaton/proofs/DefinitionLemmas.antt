@@ -8,7 +8,7 @@ use Rattle.std.proofs.lemmas.List.Folds.{list_any-append}
 use Rattle.omega_text.specs.declared.refusal.Refusal.{Refusal}
 use Rattle.omega_text.specs.declared.refusal.Refusal.TheVariants.{Automaton, Game, Io, Memory, Task, Text}
 use Rattle.omega_text.specs.Cases.{IsMemory}
-use Rattle.omega_acc.specs.label.Expanding.{Defined, Entry, Meaning, entries_of, expansion, replaced}
+use Rattle.omega_label.specs.Expanding.{Defined, Entry, Meaning, entries_of, expansion, replaced}
 use Rattle.omega_automaton.specs.Automaton.{has_repeat}
 use Rattle.omega_automaton.specs.Faults.{is_deep, is_large}
 use Rattle.omega_automaton.specs.declared.making.definitions.Definitions.{Definitions}
@@ -19,7 +19,7 @@ use Rattle.omega_automaton.proofs.Repeats.{has_repeat-front, has_repeat-push, li
 abbrev entry_of : List Entry → Defined → Entry
 entry_of before next = record { name = next.name; meaning = replaced before next.body }
 
--- the entries of more definitions stand after those of the first
+-- the entries of more definitions come after those of the first
 entries_of-append : (before : List Entry) (xs ys : List Defined) → entries_of before (xs ++ ys) ≡ entries_of before xs ++ entries_of (before ++ entries_of before xs) ys
 entries_of-append before [] ys = ap (λ entries. entries_of entries ys) (sym (append-nil before))
 entries_of-append before (x ∷ xs) ys =

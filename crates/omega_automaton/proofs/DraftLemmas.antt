@@ -1,11 +1,11 @@
--- What a draft means, and which refusals say that there is none.
+-- What a draft means, and which refusals say that no draft exists.
 use Rattle.std.proofs.Common.{◌≡◌, false, List, [], Option, Some, None, Result, Ok, Err, IfOk, option_map, option_and_then, unwrap_or, refl, ap, sym, ◌∙◌, subst}
 use Rattle.std.specs.List.{AllZip}
 use Rattle.omega_text.specs.declared.refusal.Refusal.{Refusal}
 use Rattle.omega_text.specs.declared.refusal.Refusal.TheVariants.{Automaton, Game, Io, Memory, Task, Text}
-use Rattle.omega_acc.specs.formula.Meaning.{acc_meant}
-use Rattle.omega_acc.specs.formula.Acceptance.{AccTree}
-use Rattle.omega_acc.specs.formula.Raw.{RawAccTree}
+use Rattle.omega_formula.specs.Meaning.{acc_meant}
+use Rattle.omega_formula.specs.Acceptance.{AccTree}
+use Rattle.omega_formula.specs.Raw.{RawAccTree}
 use Rattle.omega_raw.specs.declared.raw_automaton.RawAutomaton.{RawAutomaton}
 use Rattle.omega_raw.specs.declared.raw_state.RawState.{RawState}
 use Rattle.omega_automaton.specs.Faults.{definitions_of}
@@ -59,7 +59,7 @@ pub body_means : (raw : RawAutomaton) (gathered : Gathered) (definitions : Defin
 body_means raw gathered definitions outline (Ok body) said is meant zipped = draft_means raw gathered definitions outline body.acceptance body.defined said is zipped meant
 body_means raw gathered definitions outline (Err refusal) said is meant zipped = tt
 
--- where no fault is left there is a draft
+-- if no fault is left there is a draft
 pub draft_last : (raw : RawAutomaton) (gathered : Gathered) (definitions : Definitions) (states : List RawState) (outline : HeaderOutline) → IsOutlineOf raw outline
     → HasGathered raw.items gathered → AreNoted (definitions_of raw) definitions → states ≡ raw.states
     → last_fault definitions states outline.late outline.deep ≡ None → IsDraftOf raw gathered definitions
@@ -79,7 +79,7 @@ pub draft_accepts : (raw : RawAutomaton) (gathered : Gathered) (definitions : De
     → IsSoundAcceptance gathered.acceptance
 draft_accepts raw gathered definitions is = subst (λ (o : Option RawAccTree). IsSoundAcceptance o) (sym is.gathered.acceptance) (acceptance_sound raw is.faultless)
 
--- a fault that is left is the fault where no lesser one applies
+-- a fault that is left is the fault if no lesser one applies
 pub last-meaningless : (raw : RawAutomaton) (definitions : Definitions) (states : List RawState) (outline : HeaderOutline) (refusal : Refusal) → IsOutlineOf raw outline
     → AreNoted (definitions_of raw) definitions → states ≡ raw.states → IsLastFault definitions states outline.late outline.deep refusal → IsMeaningless raw refusal
 last-meaningless raw definitions states outline (Text fault) said noted same refused = refused
@@ -90,7 +90,7 @@ last-meaningless raw definitions states outline (Task fault) said noted same ref
 last-meaningless raw definitions states outline Memory said noted same refused = refused
 last-meaningless raw definitions states outline Io said noted same refused = refused
 
--- a wrong definition is the fault where no lesser one applies
+-- a wrong definition is the fault if no lesser one applies
 pub unnoted-meaningless : (raw : RawAutomaton) (refusal : Refusal) → early_fault raw ≡ None → IsUnnoted (definitions_of raw) refusal → IsMeaningless raw refusal
 unnoted-meaningless raw (Text fault) none refused = refused
 unnoted-meaningless raw (Game fault) none refused = refused

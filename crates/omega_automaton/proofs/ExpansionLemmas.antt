@@ -13,7 +13,7 @@ use Rattle.omega_automaton.specs.private.layout.Findings.{AreFound, capped, labe
 use Rattle.omega_automaton.specs.private.layout.Order.{fault_found, last_fault}
 use Rattle.omega_automaton.proofs.SoundLemmas.{labels_sound}
 
--- a size that is counted is over the limit where the size is
+-- a size that is counted is over the limit if the size is
 capped_over : (size : ℕ) → nat_lt most_total_size (capped size) ≡ nat_lt most_total_size size
 capped_over size = grind (arith, nat_tests)
 

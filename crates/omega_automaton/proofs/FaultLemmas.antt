@@ -6,7 +6,7 @@ use Rattle.omega_text.specs.declared.refusal.automaton.AutomatonFault.{Automaton
 use Rattle.omega_text.specs.declared.refusal.automaton.AutomatonFault.TheVariants.{AcceptanceAtom, Alias, Expansion, ImplicitCount, MissingAcceptance, MixedLabels, Proposition, RepeatedHeader, SetRange, StateRange, StateTwice, TooDeep, UnknownHeader, Version}
 use Rattle.omega_automaton.specs.Faults.{faults}
 
--- faults of which each has a lesser number than all later ones
+-- faults that have a lesser number each than all later ones
 abbrev AreRising : List AutomatonFault → Type 0
 AreRising [] = Unit {0}
 AreRising (x ∷ xs) = ((m : AutomatonFault) → Contains xs m → automaton_number x < automaton_number m) × AreRising xs
@@ -57,7 +57,7 @@ found_least test (x ∷ xs) fault rising found = by_test (test x) refl (found_le
     by_test true passes least e = least_first test x xs fault rising passes (let same : x ≡ fault = cc in same)
     by_test false fails least e = least_later test x xs fault fails (least e)
 
--- where nothing is found nothing passes
+-- if nothing is found nothing passes
 found_none : (test : AutomatonFault → Bool) (xs : List AutomatonFault) → find test xs ≡ None → (other : AutomatonFault) → Contains xs other → test other ≡ false
 found_none test [] found other has = absurd (omega (arith, has.1))
 found_none test (x ∷ xs) found other has = by_test (test x) refl (λ e h. found_none test xs e other h) found
@@ -83,7 +83,7 @@ there AcceptanceAtom = (11, lit< tt, refl)
 there TooDeep = (12, lit< tt, refl)
 there Expansion = (13, lit< tt, refl)
 
--- the first of all faults is below the others, where the next is and the others are above the next
+-- the first of all faults is below the others, if the next is and the others are above the next
 below_next : (x y : AutomatonFault) (ys : List AutomatonFault) → automaton_number x < automaton_number y → AreRising (y ∷ ys) → AreRising (x ∷ y ∷ ys)
 below_next x y ys less rising = (
   (λ m has. elim (first_or_later y ys m has) [
@@ -122,6 +122,6 @@ fault_is_least test fault found =
     let least = found_least test faults fault faults_rise found in
     (least.0, λ other below. least.1 other (there other) below)
 
--- where nothing is found among the faults none passes
+-- if nothing is found among the faults none passes
 pub no_fault_passes : (test : AutomatonFault → Bool) (other : AutomatonFault) → find test faults ≡ None → test other ≡ false
 no_fault_passes test other found = found_none test faults found other (there other)

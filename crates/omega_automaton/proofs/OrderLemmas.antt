@@ -1,13 +1,13 @@
--- The fault of an automaton that is written, asked for in order.
+-- The fault of an automaton that is written, found in order.
 use Rattle.std.proofs.Common.{◌≡◌, Bool, true, false, cond, ◌||◌, List, [], ◌∷◌, ◌++◌, map, Option, Some, None, nat_lt, is_none, refl, ap, sym, ◌∙◌}
 use Rattle.std.specs.List.{find, list_any}
 use Rattle.std.specs.Option.{option_or}
 use Rattle.std.specs.Str.{bytes_eq}
 use Rattle.omega_text.specs.declared.refusal.automaton.AutomatonFault.{AutomatonFault}
 use Rattle.omega_text.specs.declared.refusal.automaton.AutomatonFault.TheVariants.{AcceptanceAtom, Alias, Expansion, ImplicitCount, MissingAcceptance, MixedLabels, Proposition, RepeatedHeader, SetRange, StateRange, StateTwice, TooDeep, UnknownHeader, Version}
-use Rattle.omega_acc.specs.label.Expanding.{Defined, Entry, entries_of}
-use Rattle.omega_acc.specs.Limits.{most_depth}
-use Rattle.omega_acc.specs.formula.Raw.{raw_acc_depth}
+use Rattle.omega_label.specs.Expanding.{Defined, Entry, entries_of}
+use Rattle.omega_expression.specs.Limits.{most_depth}
+use Rattle.omega_formula.specs.Raw.{raw_acc_depth}
 use Rattle.omega_raw.specs.declared.raw_automaton.RawAutomaton.{RawAutomaton}
 use Rattle.omega_raw.specs.declared.raw_item.RawItem.{RawItem}
 use Rattle.omega_raw.specs.declared.raw_state.RawState.{RawState}
@@ -45,13 +45,13 @@ in_order raw =
     find-append (applies raw) early (Alias ∷ late ++ TooDeep ∷ Expansion ∷ [])
     ∙ ap (λ o. option_or (early_fault raw) (cond (has_wrong_alias raw) (Some Alias) o)) (find-append (applies raw) late (TooDeep ∷ Expansion ∷ []))
 
--- one of three, where the first two fail
+-- one of three, if the first two fail
 or_third : (a b c : Bool) → (a || b) ≡ false → (a || (b || c)) ≡ c
 or_third true b c h = absurd (let no : ⊥ = cc in no)
 or_third false true c h = absurd (let no : ⊥ = cc in no)
 or_third false false c h = refl
 
--- whether an alias is wrong, where no definition is
+-- whether an alias is wrong, if no definition is
 alias_wrong : (raw : RawAutomaton) (aliases : List Defined) → aliases ≡ definitions_of raw → has_wrong_definition (definitions_of raw) ≡ false
     → has_wrong_alias raw ≡ labels_pass is_none aliases raw.states
 unfolding has_wrong_alias
@@ -70,7 +70,7 @@ large_is : (raw : RawAutomaton) (definitions : Definitions) → AreNoted (defini
 unfolding has_large_expression
 large_is raw definitions all = rw (all.large, all.aliases) refl
 
--- the fault where none of the early ones applies and no definition is wrong
+-- the fault if none of the early ones applies and no definition is wrong
 last_is : (raw : RawAutomaton) (definitions : Definitions) (later : Option AutomatonFault) (acceptance : Bool) → early_fault raw ≡ None
     → AreNoted (definitions_of raw) definitions → later ≡ late_fault raw
     → acceptance ≡ list_any (λ (item : RawItem). passes (λ (accepted : Accepted). nat_lt most_depth (raw_acc_depth accepted.formula)) (acceptance_in item)) raw.items
@@ -79,7 +79,7 @@ last_is raw definitions later acceptance none all after is =
     in_order raw
     ∙ rw (none, alias_wrong raw definitions.aliases all.aliases all.sound, deep_is raw definitions acceptance all is, large_is raw definitions all, after) refl
 
--- the same of the fault that was asked for
+-- the same of the fault that was found
 pub last_as : (raw : RawAutomaton) (definitions : Definitions) (states : List RawState) (later fault : Option AutomatonFault) (acceptance : Bool)
     → early_fault raw ≡ None → AreNoted (definitions_of raw) definitions → states ≡ raw.states → later ≡ late_fault raw
     → acceptance ≡ list_any (λ (item : RawItem). passes (λ (accepted : Accepted). nat_lt most_depth (raw_acc_depth accepted.formula)) (acceptance_in item)) raw.items
@@ -87,7 +87,7 @@ pub last_as : (raw : RawAutomaton) (definitions : Definitions) (states : List Ra
 last_as raw definitions states later fault acceptance none all same after is found =
     last_is raw definitions later acceptance none all after is ∙ (ap (λ x. last_fault definitions x later acceptance) (sym same) ∙ sym found)
 
--- one of three, where one of the first two holds
+-- one of three, if one of the first two holds
 or_some : (a b c : Bool) → (a || b) ≡ true → (a || (b || c)) ≡ true
 or_some true b c h = refl
 or_some false true c h = refl
@@ -101,6 +101,6 @@ definition_wrong raw wrong =
     (list_any (λ (entry : Entry). is_none entry.meaning) (entries_of [] (definitions_of raw)))
     (labels_pass is_none (definitions_of raw) raw.states) wrong
 
--- the fault where none of the early ones applies and some definition is wrong
+-- the fault if none of the early ones applies and some definition is wrong
 pub alias_is : (raw : RawAutomaton) → early_fault raw ≡ None → has_wrong_definition (definitions_of raw) ≡ true → automaton_fault_of raw ≡ Some Alias
 alias_is raw none wrong = in_order raw ∙ rw (none, definition_wrong raw wrong) refl

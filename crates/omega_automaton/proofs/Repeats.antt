@@ -89,7 +89,7 @@ not_true : (b : Bool) → not b ≡ true → b ≡ false
 not_true true h = absurd (false≢true h)
 not_true false h = refl
 
--- keys that are the items before: a key is among them where its item is the same as one of the items
+-- keys that are the items before: a key is among them if its item is the same as one of the items
 among_keys : {K X : Type 0} (view : K → X) (same : X → X → Bool) (xs : List X) (i : ℕ) (d : X) (key : K) (keys : List K)
     → view key ≡ get_or xs i d → map view keys ≡ take i xs
     → list_any (same (get_or xs i d)) (take i xs) ≡ list_any (λ k. same (view key) (view k)) keys

@@ -1,16 +1,16 @@
--- Labels and acceptances of which no fault applies.
+-- Labels and acceptances without a fault that applies.
 use Rattle.std.proofs.Common.{◌≡◌, ℕ, ◌<◌, Bool, true, false, cond, not, ◌||◌, ◌&&◌, List, [], ◌∷◌, Option, Some, None, MatchOption, option_map, nat_lt, is_none, is_some, length, get_or, refl, ap, sym, ◌∙◌}
 use Rattle.std.specs.List.{cons_option, filter_map, list_any, slice_get}
 use Rattle.std.proofs.lemmas.Bool.{false≢true}
 use Rattle.std.proofs.lemmas.List.Folds.{list_any_at}
 use Rattle.omega_text.specs.declared.refusal.automaton.AutomatonFault.TheVariants.{AcceptanceAtom, Alias, Expansion, MissingAcceptance, TooDeep}
-use Rattle.omega_acc.specs.formula.Meaning.{acc_meant, fault_of_meant}
-use Rattle.omega_acc.specs.formula.Acceptance.{AccTree}
-use Rattle.omega_acc.specs.label.Expanding.{Defined, Meaning, expansion}
-use Rattle.omega_acc.specs.label.Label.{label_size}
-use Rattle.omega_acc.specs.Limits.{most_depth, most_size}
-use Rattle.omega_acc.specs.formula.Raw.{raw_acc_depth}
-use Rattle.omega_acc.specs.label.Raw.{RawLabelTree}
+use Rattle.omega_formula.specs.Meaning.{acc_meant, fault_of_meant}
+use Rattle.omega_formula.specs.Acceptance.{AccTree}
+use Rattle.omega_label.specs.Expanding.{Defined, Meaning, expansion}
+use Rattle.omega_label.specs.Label.{label_size}
+use Rattle.omega_expression.specs.Limits.{most_depth, most_size}
+use Rattle.omega_formula.specs.Raw.{raw_acc_depth}
+use Rattle.omega_label.specs.Raw.{RawLabelTree}
 use Rattle.omega_raw.specs.declared.raw_automaton.RawAutomaton.{RawAutomaton}
 use Rattle.omega_raw.specs.declared.raw_edge.RawEdge.{RawEdge}
 use Rattle.omega_raw.specs.declared.raw_item.RawItem.{RawItem}
@@ -49,7 +49,7 @@ pub none-turn : {X : Type 0} (test : X → Bool) (xs all : List X) (i : ℕ) (x 
     → (i < length all) × (x ≡ get_or all i x) → test x ≡ false
 none-turn test xs all i x same none turn = none-at test all i x (ap (list_any test) same ∙ none) turn.0 turn.1
 
--- ---- three tests that fail, and a fourth that fails where they do
+-- ---- three tests that fail, and a fourth that fails if they do
 
 three-any : {X : Type 0} (a b c t : X → Bool) → ((x : X) → a x ≡ false → b x ≡ false → c x ≡ false → t x ≡ false) → (xs : List X)
     → list_any a xs ≡ false → list_any b xs ≡ false → list_any c xs ≡ false → list_any t xs ≡ false
@@ -82,7 +82,7 @@ sound_meaning (Some known) one two three = by_tests (nat_lt most_depth known.dep
     by_tests false true h k = absurd (false≢true (sym k))
     by_tests false false h k = refl
 
--- where no label is undefined, too deep or too large, none has a fault
+-- if no label is undefined, too deep or too large, none has a fault
 pub labels_sound : (definitions : List Defined) (states : List RawState)
     → labels_pass is_none definitions states ≡ false → labels_pass is_deep definitions states ≡ false → labels_pass is_large definitions states ≡ false
     → labels_pass is_faulty definitions states ≡ false
@@ -94,7 +94,7 @@ labels_sound definitions states one two three =
     (λ label. sound_meaning (expansion definitions label)))
     states one two three
 
--- where a test fails another does, of the items of a list
+-- if a test fails another does, of the items of a list
 two-any : {X : Type 0} (a t : X → Bool) → ((x : X) → a x ≡ false → t x ≡ false) → (xs : List X) → list_any a xs ≡ false → list_any t xs ≡ false
 two-any a t each xs none = three-any a a a t (λ x one two three. each x one) xs none none none
 
@@ -109,7 +109,7 @@ faultless_meaning (Some known) sound = by_tests (nat_lt most_depth known.depth) 
     by_tests false true h = absurd (false≢true (sym h))
     by_tests false false h = (refl, refl, refl)
 
--- where no label has a fault, none passes a test that only faulty ones do
+-- if no label has a fault, none passes a test that only faulty ones do
 pub labels_fail : (test : Option Meaning → Bool) → ((meaning : Option Meaning) → is_faulty meaning ≡ false → test meaning ≡ false)
     → (definitions : List Defined) (states : List RawState) → labels_pass is_faulty definitions states ≡ false → labels_pass test definitions states ≡ false
 labels_fail test each definitions states none =
@@ -119,7 +119,7 @@ labels_fail test each definitions states none =
     (λ label one two three. each (expansion definitions label) one) state sound sound sound)
     states none
 
--- where a label has a fault, and none is undefined or too deep, one is too large
+-- if a label has a fault, and none is undefined or too deep, one is too large
 pub label_large : (definitions : List Defined) (states : List RawState) → labels_pass is_faulty definitions states ≡ true
     → labels_pass is_none definitions states ≡ false → labels_pass is_deep definitions states ≡ false → labels_pass is_large definitions states ≡ true
 label_large definitions states some one two = by_test (labels_pass is_large definitions states) (labels_sound definitions states one two)
@@ -139,7 +139,7 @@ body_sound raw none =
 
 -- ---- acceptances
 
--- the first of what may be there and others, where all fail a test
+-- the first of what may be there and others, if all fail a test
 first_of : {X : Type 0} (test : X → Bool) (o : Option X) (rest : List X) (a b : Bool) → (is_some o || a) ≡ true → (passes test o || b) ≡ false
     → (a ≡ true → b ≡ false → MatchOption (slice_get rest 0) ⊥ (λ x. test x ≡ false))
     → MatchOption (slice_get (cons_option o rest) 0) ⊥ (λ x. test x ≡ false)

@@ -1,11 +1,11 @@
 -- An automaton that is written means at most one automaton.
 use Rattle.std.proofs.Common.{◌≡◌, ℕ, List, [], ◌∷◌, Option, Some, None, refl, ap, sym, ◌∙◌}
 use Rattle.std.specs.List.{AllZip}
-use Rattle.omega_acc.specs.formula.Acceptance.{AccTree}
-use Rattle.omega_acc.specs.label.Expanding.{Defined}
-use Rattle.omega_acc.specs.label.Label.{LabelTree}
-use Rattle.omega_acc.specs.label.Raw.{RawLabelTree}
-use Rattle.omega_acc.specs.declared.formula.name.AccName.{AccName}
+use Rattle.omega_formula.specs.Acceptance.{AccTree}
+use Rattle.omega_label.specs.Expanding.{Defined}
+use Rattle.omega_label.specs.Label.{LabelTree}
+use Rattle.omega_label.specs.Raw.{RawLabelTree}
+use Rattle.omega_formula.specs.declared.name.AccName.{AccName}
 use Rattle.omega_raw.specs.declared.raw_automaton.RawAutomaton.{RawAutomaton}
 use Rattle.omega_raw.specs.declared.raw_edge.RawEdge.{RawEdge}
 use Rattle.omega_raw.specs.declared.raw_state.RawState.{RawState}
@@ -38,7 +38,7 @@ labels_one definitions (Some raw) None b one other = absurd one
 labels_one definitions (Some raw) (Some x) None one other = absurd other
 labels_one definitions (Some raw) (Some x) (Some y) one other = sym one.tree_is ∙ other.tree_is
 
--- what is related one by one is one, where each item is
+-- what is related one by one is one, if each item is
 zip_one : {A B : Type 0} (R : A → B → Type 0) → ((x : A) (a b : B) → R x a → R x b → a ≡ b)
     → (xs : List A) (as_ bs : List B) → AllZip R xs as_ → AllZip R xs bs → as_ ≡ bs
 zip_one R each [] [] [] one other = refl

@@ -1,8 +1,8 @@
 -- The acceptance of an automaton by its kind (HOA v1, section on acc-name).
 use Rattle.std.specs.Prelude.{◌≡◌, Some}
-use Rattle.omega_acc.specs.formula.Names.{IsAcceptanceRow}
-use Rattle.omega_acc.specs.declared.formula.name.AccName.{AccName}
-use Rattle.omega_acc.specs.declared.formula.kind.AccKind.{AccKind}
+use Rattle.omega_formula.specs.Names.{IsAcceptanceRow}
+use Rattle.omega_formula.specs.declared.name.AccName.{AccName}
+use Rattle.omega_formula.specs.declared.kind.AccKind.{AccKind}
 use Rattle.omega_automaton.specs.Automaton.{Description}
 
 -- the acceptance kind of an automaton, by its name, its count of sets and its formula

@@ -4,10 +4,10 @@ use Rattle.std.specs.Prelude.{◌≡◌, ℕ, ◌+◌, ◌<◌, ◌≤◌, Bool,
 use Rattle.std.specs.List.{flat_map, list_any}
 use Rattle.std.specs.List.Sorted.{IsStrictlyIncreasing}
 use Rattle.std.specs.Str.{bytes_eq}
-use Rattle.omega_acc.specs.formula.Acceptance.{AccTree, acc_depth, conjunction, constant, disjunction, fin, inf}
-use Rattle.omega_acc.specs.label.Label.{LabelTree, label_size, propositions}
-use Rattle.omega_acc.specs.Limits.{most_depth, most_size}
-use Rattle.omega_acc.specs.declared.formula.name.AccName.{AccName}
+use Rattle.omega_formula.specs.Acceptance.{AccTree, acc_depth, conjunction, constant, disjunction, fin, inf}
+use Rattle.omega_label.specs.Label.{LabelTree, label_size, propositions}
+use Rattle.omega_expression.specs.Limits.{most_depth, most_size}
+use Rattle.omega_formula.specs.declared.name.AccName.{AccName}
 use Rattle.omega_automaton.specs.Limits.{most_propositions, most_total_size}
 use Rattle.omega_automaton.specs.declared.edge.Edge.{Edge}
 use Rattle.omega_automaton.specs.declared.header.Header.{Header}

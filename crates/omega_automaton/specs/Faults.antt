@@ -6,12 +6,12 @@ use Rattle.std.specs.Str.{bytes_eq}
 use Rattle.omega_text.specs.Limits.{most_number}
 use Rattle.omega_text.specs.declared.refusal.automaton.AutomatonFault.{AutomatonFault}
 use Rattle.omega_text.specs.declared.refusal.automaton.AutomatonFault.TheVariants.{AcceptanceAtom, Alias, Expansion, ImplicitCount, MissingAcceptance, MixedLabels, Proposition, RepeatedHeader, SetRange, StateRange, StateTwice, TooDeep, UnknownHeader, Version}
-use Rattle.omega_acc.specs.formula.Meaning.{acc_meant, acc_sets}
-use Rattle.omega_acc.specs.label.Expanding.{Defined, Entry, Meaning, entries_of, expansion}
-use Rattle.omega_acc.specs.label.Label.{label_size}
-use Rattle.omega_acc.specs.Limits.{most_depth, most_size}
-use Rattle.omega_acc.specs.formula.Raw.{raw_acc_depth}
-use Rattle.omega_acc.specs.label.Raw.{RawLabelTree, raw_propositions}
+use Rattle.omega_formula.specs.Meaning.{acc_meant, acc_sets}
+use Rattle.omega_label.specs.Expanding.{Defined, Entry, Meaning, entries_of, expansion}
+use Rattle.omega_label.specs.Label.{label_size}
+use Rattle.omega_expression.specs.Limits.{most_depth, most_size}
+use Rattle.omega_formula.specs.Raw.{raw_acc_depth}
+use Rattle.omega_label.specs.Raw.{RawLabelTree, raw_propositions}
 use Rattle.omega_raw.specs.declared.raw_automaton.RawAutomaton.{RawAutomaton}
 use Rattle.omega_raw.specs.declared.raw_edge.RawEdge.{RawEdge}
 use Rattle.omega_raw.specs.declared.raw_item.RawItem.{RawItem}
@@ -210,7 +210,7 @@ abbrev pub size_of_meaning : Option Meaning → ℕ
 size_of_meaning None = 0
 size_of_meaning (Some meaning) = label_size meaning.tree
 
--- the tree nodes of a label with its aliases replaced, or 0 if there is none
+-- the tree nodes of a label with its aliases replaced, or 0 for no label
 abbrev pub size_under : List Defined → Option RawLabelTree → ℕ
 size_under definitions label = size_of_meaning (option_and_then (expansion definitions) label)
 

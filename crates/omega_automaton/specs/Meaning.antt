@@ -5,10 +5,10 @@ use Rattle.std.specs.List.{AllZip, filter_map, flat_map}
 use Rattle.std.specs.List.Sorted.{IsStrictlyIncreasing}
 use Rattle.omega_text.specs.Cases.{never, or_automaton, or_memory}
 use Rattle.omega_text.specs.declared.refusal.Refusal.{Refusal}
-use Rattle.omega_acc.specs.formula.Meaning.{acc_meant}
-use Rattle.omega_acc.specs.label.Expanding.{Defined, IsExpansion}
-use Rattle.omega_acc.specs.label.Label.{LabelTree}
-use Rattle.omega_acc.specs.label.Raw.{RawLabelTree}
+use Rattle.omega_formula.specs.Meaning.{acc_meant}
+use Rattle.omega_label.specs.Expanding.{Defined, IsExpansion}
+use Rattle.omega_label.specs.Label.{LabelTree}
+use Rattle.omega_label.specs.Raw.{RawLabelTree}
 use Rattle.omega_raw.specs.declared.raw_automaton.RawAutomaton.{RawAutomaton}
 use Rattle.omega_raw.specs.declared.raw_edge.RawEdge.{RawEdge}
 use Rattle.omega_raw.specs.declared.raw_state.RawState.{RawState}

@@ -6,7 +6,7 @@ use crate::header::Header;
 use crate::making::{Body, Gathered};
 use crate::state::State;
 use crate::tool::Tool;
-use omega_acc::{Acc, AccName};
+use omega_formula::{Acc, AccName};
 use omega_text::{ByteString, Numbers, Seq};
 use std::alloc::Global;
 use std::marker::Model;
@@ -33,8 +33,8 @@ pub struct Automaton {
 
 impl Model for Automaton {
     ghost use Rattle.std.specs.Coded.{codes};
-    ghost use Rattle.omega_acc.specs.contracts.formula.Acc as acc;
-    ghost use Rattle.omega_acc.specs.contracts.label.Label as label;
+    ghost use Rattle.omega_formula.specs.contracts.formula.Acc as acc;
+    ghost use Rattle.omega_label.specs.contracts.label.Label as label;
     ghost use Rattle.omega_automaton.specs.Automaton.{Description};
 
     ghost Value = { Description };

@@ -1,4 +1,4 @@
-use omega_acc::Label;
+use omega_label::Label;
 use omega_text::Numbers;
 
 /// An edge of an automaton (HOA v1, *Body*).

@@ -1,7 +1,7 @@
 ghost use Rattle.std.specs.Prelude.{◌≡◌};
 ghost use Rattle.std.specs.Option.{option_copied};
 
-use omega_acc::Label;
+use omega_label::Label;
 use std::marker::Model;
 
 /// An edge among the edges of a state, wherever its parts are kept. Contracts see the edge.
@@ -14,7 +14,7 @@ pub struct EdgeRef<'a> {
 
 impl<'a> Model for EdgeRef<'a> {
     ghost use Rattle.std.specs.Coded.{codes};
-    ghost use Rattle.omega_acc.specs.contracts.label.Label as expanded_label;
+    ghost use Rattle.omega_label.specs.contracts.label.Label as expanded_label;
     ghost use Rattle.omega_automaton.specs.declared.edge.Edge.{Edge};
 
     ghost Value = { Edge };

@@ -28,7 +28,7 @@ enum Held {
 impl Model for Edges {
     ghost use Rattle.std.specs.Prelude.{List};
     ghost use Rattle.std.specs.Coded.{codes};
-    ghost use Rattle.omega_acc.specs.contracts.label.Label as expanded_label;
+    ghost use Rattle.omega_label.specs.contracts.label.Label as expanded_label;
     ghost use Rattle.omega_automaton.specs.declared.edge.Edge.{Edge};
 
     ghost Value = { List Edge };

@@ -28,7 +28,8 @@ pub use laws::{
 };
 pub use limits::{MOST_PROPOSITIONS, MOST_TOTAL_SIZE, automaton_limits_are_stated};
 pub use making::automaton_of;
-pub use omega_acc::{Acc, AccName, Label, Parameter};
+pub use omega_formula::{Acc, AccName, Parameter};
+pub use omega_label::Label;
 pub use omega_raw::{HeaderValue, RawAutomaton, StateName};
 pub use omega_text::{AutomatonFault, ByteString, Marks, Numbers, Refusal, Seq};
 pub use state::State;

@@ -66,7 +66,8 @@ fn body_with(
     requires outline { IsOutlineOf raw outline }
     requires gathered { HasGathered [] gathered.old }
     requires noted { AreNoted [] definitions.old }
-    ensures ok { IfOk result (λ body. Means raw (described gathered.new outline.state_count outline.set_count body.acceptance body.defined)) }
+    ensures ok { IfOk result (λ body.
+        Means raw (described gathered.new outline.state_count outline.set_count body.acceptance body.defined)) }
     ensures counted { IfOk result (λ body. body.edge_count ≡ length (flat_map edges_from body.defined)) }
     ensures err { IfErr result (IsMeaningless raw) }
 {

@@ -1,5 +1,5 @@
 use crate::edges::Edges;
-use omega_acc::Label;
+use omega_label::Label;
 use omega_raw::StateName;
 use omega_text::Numbers;
 

@@ -1,8 +1,9 @@
 -- The text of the label of a valuation, one proposition more at a time.
 use Rattle.std.proofs.Common.{◌≡◌, ◌==◌, ℕ, zero, suc, ◌+◌, ◌≤◌, ◌/◌, ◌%◌, ◌^◌, Bool, true, false, cond, List, ◌++◌, ap, refl, sym, ◌∙◌, append_assoc, arith}
 use Rattle.std.specs.Prelude.{codes, nat_le, nat_lt}
-use Rattle.omega_acc.specs.Writing.{bracketed, label_text}
-use Rattle.omega_acc.specs.label.Label.{negation, proposition}
+use Rattle.omega_expression.specs.Writing.{bracketed}
+use Rattle.omega_label.specs.Writing.{label_text}
+use Rattle.omega_label.specs.Label.{negation, proposition}
 use Rattle.omega_automaton_drawing.specs.Expressions.{named_text}
 use Rattle.omega_edge_labels.proofs.Valuations.{valuation_more}
 use Rattle.omega_edge_labels.specs.Labels.{literal, valuation_label}
@@ -12,7 +13,7 @@ literal_tight : (set : Bool) (p : ℕ) → (label_text (cond set (proposition p)
 literal_tight true p = refl
 literal_tight false p = refl
 
--- no valuation stands in parentheses as a left part of `&`
+-- no valuation is in parentheses as a left part of `&`
 valuation_bare : (index p : ℕ) → 1 ≤ p → nat_lt (label_text (valuation_label index p)).rank 2 ≡ false
 valuation_bare index zero some = absurd (omega arith)
 valuation_bare index (suc zero) some = ap (λ rank. nat_lt rank 2) (literal_tight ((index / 2 ^ 0) % 2 == 1) 0)

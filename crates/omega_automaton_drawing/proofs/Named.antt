@@ -6,8 +6,9 @@ use Rattle.std.proofs.lemmas.Fmt.{decimal_by_steps}
 use Rattle.std.proofs.lemmas.List.{append-nil}
 use Rattle.std.proofs.lemmas.List.Elements.{All-contains, All-contains_itself, All-head, All-weaker, Contains-append_left, Contains-append_right}
 use Rattle.std.specs.Prelude.{Contains}
-use Rattle.omega_acc.specs.label.Label.{LabelTree, conjunction, constant, disjunction, negation, proposition, propositions}
-use Rattle.omega_acc.specs.Writing.{bracketed, label_text, truth_text}
+use Rattle.omega_label.specs.Label.{LabelTree, conjunction, constant, disjunction, negation, proposition, propositions}
+use Rattle.omega_expression.specs.Writing.{bracketed, truth_text}
+use Rattle.omega_label.specs.Writing.{label_text}
 use Rattle.omega_automaton.specs.Automaton.{AreBelow}
 use Rattle.omega_automaton.specs.Limits.{most_propositions}
 use Rattle.omega_text.specs.Bytes.{is_digit}
@@ -33,7 +34,7 @@ module _ (names : List (List ℕ)) (few : length names ≤ most_propositions) wh
   abbrev Ends : List ℕ → Type 0
   Ends rest = (number : ℕ) → with_names names (Some number) rest ≡ drawn_name (name_at names number) ++ with_names names None rest
 
-  -- bytes that are written as others, whatever is after where a number ends
+  -- bytes that are written as others, whatever is after the end of a number
   abbrev Makes : List ℕ → List ℕ → Type 0
   Makes bytes named = (rest : List ℕ) → Ends rest → with_names names None (bytes ++ rest) ≡ named ++ with_names names None rest
 

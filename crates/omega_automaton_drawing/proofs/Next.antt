@@ -51,7 +51,7 @@ next_passed targets next i last entry entries e below known one index target fro
 pub same_target : (targets : List (Option ℕ)) (i target other : ℕ) → get_or targets i None ≡ Some target → get_or targets i None ≡ Some other → target ≡ other
 same_target targets i target other here there = cc
 
--- an edge from one on that leads to a state is after it, where it leads to none
+-- an edge from one on that leads to a state is after it, if it leads to none
 pub beyond : (targets : List (Option ℕ)) (i last index target : ℕ) → last ≡ i + 1 → get_or targets i None ≡ None → i ≤ index
     → get_or targets index None ≡ Some target → last ≤ index
 beyond targets i last index target e here from there =

@@ -30,7 +30,7 @@ module _ {X : Type 0} (key : X → Option ℕ) (lines : X → List ℕ) where
     pub here : get_or (map key xs) (j - n) None ≡ Some t
     pub rest : shared t xs ≡ shared t (drop (j - n) xs)
 
-  -- where no item has the key there are no lines
+  -- if no item has the key there are no lines
   none_at : (b : Bool) (t n : ℕ) (x : X) (xs : List X) → is_to t (key x) ≡ b → (position_from (is_to t) (n + 1) (map key xs) ≡ None → shared t xs ≡ [])
       → cond b (Some n) (position_from (is_to t) (n + 1) (map key xs)) ≡ None → shared t (x ∷ xs) ≡ []
   none_at true t n x xs e later none = cc
@@ -69,7 +69,7 @@ module _ {X : Type 0} (key : X → Option ℕ) (lines : X → List ℕ) where
   reached t n j [] found = cc
   reached t n j (x ∷ xs) found = reached_at (is_to t (key x)) t n j x xs refl (reached t (n + 1) j xs) found
 
-  -- the item at a place has the key: its lines stand before those of the items after it
+  -- the item at a place has the key: its lines are before those of the items after it
   pub one_shared : (t k : ℕ) (xs : List X) (x : X) → k < length xs → x ≡ get_or xs k x → key x ≡ Some t
       → shared t (drop k xs) ≡ lines x ++ shared t (drop (k + 1) xs)
   one_shared t k xs x below here is =
@@ -115,7 +115,7 @@ module _ {X : Type 0} (key : X → Option ℕ) (lines : X → List ℕ) where
   rest_from t xs None = []
   rest_from t xs (Some k) = shared t (drop k xs)
 
-  -- an item with a key, where the next one is looked for
+  -- an item with a key, at the place from which the next one is searched
   abbrev pub IsThere : ℕ → List X → Option ℕ → Type 0
   IsThere t xs at = IfSome at (λ k. (k < length xs) × (get_or (map key xs) k None ≡ Some t))
 

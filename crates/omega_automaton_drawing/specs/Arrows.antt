@@ -1,4 +1,4 @@
--- The edges of an automaton in its drawing: arrows, of which edges to the same one state share one.
+-- The edges of an automaton in its drawing: arrows. Edges to the same one state share an arrow.
 use Rattle.std.specs.Prelude.{ℕ, ◌+◌, ◌==◌, nat_eq, Bool, false, if◌then◌else◌, Option, Some, None, List, [], ◌∷◌, ◌++◌, codes, decimal, length, slice_index}
 use Rattle.std.specs.List.{flat_map, position_from}
 use Rattle.std.specs.Option.{option_eq}
@@ -52,7 +52,7 @@ pub record Drawn : Type 0 where
   pub targets : List ℕ
   pub lines : List ℕ
 
--- an edge of a state by its index there, where the edges of the state are numbered from a first number on
+-- an edge of a state by its index there, if the edges of the state are numbered from a first number on
 abbrev pub drawn_edge : List (List ℕ) → (ℕ → Role) → ℕ → State → ℕ → Edge → Drawn
 drawn_edge names role first state index edge = record {
   role = role (first + index);
@@ -61,7 +61,7 @@ drawn_edge names role first state index edge = record {
   lines = edge_lines names (role (first + index)) (first + index) state index edge;
 }
 
--- edges of a state, of which the first has this index
+-- edges of a state, from the one of this index on
 abbrev pub drawn_from : List (List ℕ) → (ℕ → Role) → ℕ → State → ℕ → List Edge → List Drawn
 drawn_from names role first state index [] = []
 drawn_from names role first state index (edge ∷ edges) =
@@ -102,8 +102,8 @@ own_text state edge =
     if length edge.targets == 1 then arrow_line edge.role state (slice_index edge.targets 0) edge.lines
     else branch_text edge.role edge.number state edge.targets edge.lines
 
--- what the edge of an index has of the arrow to a state that edges share: the first of them has it, with the lines of
--- each, and the others have nothing
+-- the text of the edge of an index, if it shares an arrow to a state: the arrow for the first edge that does, with the
+-- lines of each, and no text for the others
 abbrev pub shared_text : ℕ → List Drawn → ℕ → ℕ → List ℕ
 shared_text state edges index target =
     if is_first target edges index then arrow_line Plain state target (shared_lines target edges) else []

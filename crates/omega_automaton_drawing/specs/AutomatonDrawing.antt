@@ -1,8 +1,8 @@
 -- The drawing of an automaton, and of an automaton with a lasso.
--- States that nothing defines are drawn where an arrow leads to them.
+-- States that nothing defines are drawn if an arrow leads to them.
 use Rattle.std.specs.Prelude.{ℕ, ◌==◌, Bool, if◌then◌else◌, List, ◌++◌, codes, decimal, length}
 use Rattle.std.specs.List.{flat_map}
-use Rattle.omega_acc.specs.Writing.{acc_text}
+use Rattle.omega_formula.specs.Writing.{acc_text}
 use Rattle.omega_automaton.specs.Automaton.{Description}
 use Rattle.omega_automaton_drawing.specs.Arrows.{edges_text}
 use Rattle.omega_automaton_drawing.specs.Roles.{role_of}
@@ -19,7 +19,7 @@ front a =
     codes "digraph automaton {\n  rankdir=LR;\n  labelloc=t;\n  label=\"" ++ (name_label_line a.name ++ ((acc_text a.acceptance).bytes
     ++ codes "\\n\";\n"))
 
--- the end of the line of a point, which is not seen where its initial choice lists a single state
+-- the end of the line of a point, which is invisible if its initial choice lists a single state
 abbrev pub point_end : Bool → List ℕ
 point_end single = if single then codes " [shape=point, style=invis];\n" else codes " [shape=point];\n"
 

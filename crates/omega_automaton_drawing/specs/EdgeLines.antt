@@ -1,6 +1,6 @@
 -- The lines in the labels of edges.
 use Rattle.std.specs.Prelude.{ℕ, Option, Some, None, List, [], ◌++◌, codes, decimal, length}
-use Rattle.omega_acc.specs.label.Label.{LabelTree}
+use Rattle.omega_label.specs.Label.{LabelTree}
 use Rattle.omega_automaton.specs.declared.edge.Edge.{Edge}
 use Rattle.omega_automaton.specs.declared.state.State.{State}
 use Rattle.omega_automaton_drawing.specs.Expressions.{named_text}
@@ -16,15 +16,15 @@ number_line Plain number = []
 number_line Stem number = codes "edge " ++ (decimal number ++ line_end)
 number_line Cycle number = codes "edge " ++ (decimal number ++ line_end)
 
--- the line of what an edge demands, by the label of its state, its index there and its own label: its label, or that of
--- the valuation of its index where neither has one
+-- the line of an edge's label, by the label of its state, its index there and its own label: its own, or that of the
+-- valuation of its index if neither has one
 abbrev pub expression_line : List (List ℕ) → Option LabelTree → ℕ → Option LabelTree → List ℕ
 expression_line names of_state index (Some label) = named_text names label ++ line_end
 expression_line names (Some of_state) index None = []
 expression_line names None index None = named_text names (valuation_label index (length names)) ++ line_end
 
--- the lines of an edge of a state by its index there and its number: for its number, if it is on a lasso, for what it
--- demands and for its sets
+-- the lines of an edge of a state by its index there and its number: for its number, if it is on a lasso, for its
+-- label and for its sets
 abbrev pub edge_lines : List (List ℕ) → Role → ℕ → State → ℕ → Edge → List ℕ
 edge_lines names role number state index edge =
     number_line role number ++ (expression_line names state.label index edge.label ++ marks_line edge.marks)

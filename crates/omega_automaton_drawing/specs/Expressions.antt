@@ -1,10 +1,11 @@
--- The text of a label in a drawing: the names of the propositions stand in place of their numbers.
+-- The text of a label in a drawing: the names of the propositions are in place of their numbers.
 use Rattle.std.specs.Prelude.{ℕ, nat_le, nat_lt, List, ◌++◌, codes}
-use Rattle.omega_acc.specs.label.Label.{LabelTree, conjunction, constant, disjunction, negation, proposition}
-use Rattle.omega_acc.specs.Writing.{bracketed, label_text, truth_text}
+use Rattle.omega_label.specs.Label.{LabelTree, conjunction, constant, disjunction, negation, proposition}
+use Rattle.omega_expression.specs.Writing.{bracketed, truth_text}
+use Rattle.omega_label.specs.Writing.{label_text}
 use Rattle.omega_automaton_drawing.specs.Names.{drawn_name, name_at}
 
--- a label with names, in parentheses where its canonical text has them, and with spaces about `&` and `|`
+-- a label with names, with the parentheses of its canonical text, and with spaces about `&` and `|`
 abbrev pub named_text : List (List ℕ) → LabelTree → List ℕ
 named_text names (constant value) = truth_text value
 named_text names (proposition number) = drawn_name (name_at names number)

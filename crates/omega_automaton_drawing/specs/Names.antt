@@ -1,4 +1,4 @@
--- How the names of propositions stand in a drawing.
+-- The names of propositions in a drawing.
 use Rattle.std.specs.Prelude.{ℕ, ◌&&◌, ◌||◌, Bool, not, if◌then◌else◌, List, [], ◌++◌, codes, slice_index_or}
 use Rattle.std.specs.Str.{bytes_eq}
 use Rattle.omega_dot.specs.Labels.{escaped}
@@ -8,7 +8,7 @@ use Rattle.omega_edge_labels.specs.Names.{is_identifier}
 abbrev pub is_constant : List ℕ → Bool
 is_constant name = bytes_eq name (codes "t") || bytes_eq name (codes "f")
 
--- a name, in quotes where it is no identifier or could be taken for a constant
+-- a name, in quotes if it is no identifier or could be taken for a constant
 abbrev pub drawn_name : List ℕ → List ℕ
 drawn_name name = if is_identifier name && not (is_constant name) then escaped name else codes "\\\"" ++ (escaped name ++ codes "\\\"")
 

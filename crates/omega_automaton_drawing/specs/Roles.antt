@@ -1,4 +1,4 @@
--- The edges of a lasso: which role an edge has, by its number.
+-- The roles of edges in a lasso, by their numbers.
 use Rattle.std.specs.Prelude.{ℕ, ◌==◌, Bool, if◌then◌else◌, List}
 use Rattle.std.specs.List.{list_any}
 use Rattle.omega_automaton_drawing.specs.declared.role.Role.{Role}

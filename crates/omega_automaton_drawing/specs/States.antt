@@ -1,7 +1,7 @@
 -- The states of an automaton in its drawing.
 use Rattle.std.specs.Prelude.{ℕ, Option, Some, None, List, [], ◌∷◌, ◌++◌, codes, decimal}
 use Rattle.std.specs.List.{flat_map}
-use Rattle.omega_acc.specs.label.Label.{LabelTree}
+use Rattle.omega_label.specs.Label.{LabelTree}
 use Rattle.omega_automaton.specs.declared.state.State.{State}
 use Rattle.omega_automaton_drawing.specs.Expressions.{named_text}
 use Rattle.omega_dot.specs.Labels.{line_end, name_label_line}

@@ -10,7 +10,7 @@ use crate::state_edges::StateEdges;
 use omega_automaton::EdgeRef;
 use omega_text::{Refusal, write_number};
 
-/// Appends the arrow of an edge that leads to one state and shares no arrow.
+/// Appends the arrow of `edge`, which leads to one state and shares no arrow.
 pub(crate) fn write_arrow(
     edges: &StateEdges<'_>,
     index: usize,
@@ -20,8 +20,8 @@ pub(crate) fn write_arrow(
     requires roles { HaveRoles edges.now }
     requires edge { IsEdgeOf edges.now index edge.now }
     requires single { length edge.now.targets ≡ 1 }
-    ensures ok { let drawn = drawn_at edges.now index edge.now in OnOk result
-        (out.new.items ≡ out.old.items ++ arrow_line drawn.role edges.now.state.now.number (slice_index drawn.targets 0) drawn.lines) }
+    ensures ok { let drawn = drawn_at edges.now index edge.now in OnOk result (out.new.items ≡ out.old.items
+        ++ arrow_line drawn.role edges.now.state.now.number (slice_index drawn.targets 0) drawn.lines) }
     ensures memory { IsOkUnless result Refusal.Memory }
 {
     write_tail(edges.state.number, out)?;
@@ -31,7 +31,7 @@ pub(crate) fn write_arrow(
     Ok(())
 }
 
-/// Appends the beginning of an arrow that leaves a state.
+/// Appends the beginning of an arrow that leaves `state`.
 pub(crate) fn write_tail(state: u32, out: &mut Vec<u8>) -> Result<(), Refusal>
     ensures ok { OnOk result (out.new.items ≡ out.old.items ++ tail_part state) }
     ensures memory { IsOkUnless result Refusal.Memory }
@@ -42,7 +42,7 @@ pub(crate) fn write_tail(state: u32, out: &mut Vec<u8>) -> Result<(), Refusal>
     Ok(())
 }
 
-/// Appends the label of an edge and its style.
+/// Appends the label of `edge` and its style.
 pub(crate) fn write_attributes(
     edges: &StateEdges<'_>,
     index: usize,
@@ -61,7 +61,7 @@ pub(crate) fn write_attributes(
     write_style(edges.role(index), out)
 }
 
-/// Appends the style of a role.
+/// Appends the style of `role`.
 pub(crate) fn write_style(role: Role, out: &mut Vec<u8>) -> Result<(), Refusal>
     ensures ok { OnOk result (out.new.items ≡ out.old.items ++ style_part role) }
     ensures memory { IsOkUnless result Refusal.Memory }

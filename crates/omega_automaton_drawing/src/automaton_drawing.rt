@@ -10,16 +10,19 @@ use omega_automaton::Automaton;
 use omega_text::Refusal;
 use std::alloc::Global;
 
-/// The drawing of an automaton as a graph in DOT. 60 alone.
+/// Draws `automaton` as a graph in DOT.
 ///
-/// Its name and its acceptance formula stand above it. A state has its number, its name, its own label in brackets and
-/// its sets in braces; an edge its label and its sets. An edge without a label in a state without one has the label of
-/// its valuation. Labels have the names of propositions, in quotes where they are no identifiers, or `t` or `f`. Edges
-/// of a state to the same one state share an arrow, which has the lines of each. An arrow from nowhere leads to each
-/// start. A universal branch, and a start of several states, leads to a point and from there to each of its states.
-/// States that are only counted, and neither defined nor started from nor entered, are not drawn. The text is in the
-/// DOT language (graphviz.org/doc/info/lang.html) and in UTF-8, whatever bytes the names have. The cost is linear in
-/// it, but for n log n in the edges of a state.
+/// - Above it are its name and its acceptance formula.
+/// - A state has its number, its name, its own label in brackets and its sets in braces. States that are only counted,
+///   and neither defined nor started from nor entered, are not drawn.
+/// - An edge has its label and its sets. An edge without a label in a state without one has the label of its valuation.
+/// - Labels have the names of propositions, in quotes if they are no identifiers, or are `t` or `f`.
+/// - Edges of a state to the same one state share an arrow, which has the lines of each.
+/// - An arrow from nowhere leads to each start. A universal branch, and a start of several states, leads to a point and
+///   from there to each of its states.
+///
+/// The text is in the DOT language (graphviz.org/doc/info/lang.html) and in UTF-8, whatever bytes the names have. The
+/// cost is linear in it, except for n log n in the edges of a state.
 pub fn draw_automaton(alloc: Global, automaton: &Automaton) -> Result<Vec<u8>, Refusal>
     ensures text { IfOk result (λ text. text.items ≡ drawing_of_automaton automaton.now) }
     ensures memory { IsOkUnless result Refusal.Memory }
@@ -27,9 +30,10 @@ pub fn draw_automaton(alloc: Global, automaton: &Automaton) -> Result<Vec<u8>, R
     draw_lasso(alloc, automaton, &[], &[])
 }
 
-/// The drawing of an automaton with a lasso, given by the numbers of its edges: as that of the automaton, the edges of
-/// the cycle bold and red, and others of the stem bold and blue, each with its number and an arrow of its own. Numbers
-/// of no edge change nothing. 60 alone.
+/// Draws `automaton` with a lasso, given by the numbers of the edges of its `stem` and `cycle`.
+///
+/// It is drawn as without one, except that the edges of the cycle are bold and red, and others of the stem bold and
+/// blue. Each of them has its number and an arrow of its own. Numbers of no edge change nothing.
 pub fn draw_lasso(
     alloc: Global,
     automaton: &Automaton,

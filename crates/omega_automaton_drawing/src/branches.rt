@@ -11,7 +11,7 @@ use crate::state_edges::StateEdges;
 use omega_automaton::EdgeRef;
 use omega_text::{Refusal, write_number};
 
-/// Appends an edge that leads to several states at once.
+/// Appends `edge`, which leads to several states at once.
 pub(crate) fn write_branch(
     edges: &StateEdges<'_>,
     index: usize,
@@ -20,8 +20,8 @@ pub(crate) fn write_branch(
 ) -> Result<(), Refusal>
     requires roles { HaveRoles edges.now }
     requires edge { IsEdgeOf edges.now index edge.now }
-    ensures ok { let drawn = drawn_at edges.now index edge.now in OnOk result
-        (out.new.items ≡ out.old.items ++ branch_text drawn.role drawn.number edges.now.state.now.number drawn.targets drawn.lines) }
+    ensures ok { let drawn = drawn_at edges.now index edge.now in OnOk result (out.new.items ≡ out.old.items
+        ++ branch_text drawn.role drawn.number edges.now.state.now.number drawn.targets drawn.lines) }
     ensures memory { IsOkUnless result Refusal.Memory }
 {
     let number = edges.number(index);
@@ -35,7 +35,7 @@ pub(crate) fn write_branch(
     Ok(())
 }
 
-/// Appends the name of the point of a universal branch.
+/// Appends the name of the point of the universal branch with this `number`.
 fn write_branch_name(number: usize, out: &mut Vec<u8>) -> Result<(), Refusal>
     ensures ok { OnOk result (out.new.items ≡ out.old.items ++ branch_name number) }
     ensures memory { IsOkUnless result Refusal.Memory }
@@ -44,7 +44,7 @@ fn write_branch_name(number: usize, out: &mut Vec<u8>) -> Result<(), Refusal>
     write_number(number as u128, out)
 }
 
-/// Appends the point of a universal branch.
+/// Appends the point of the universal branch with this `number`.
 fn write_branch_point(number: usize, out: &mut Vec<u8>) -> Result<(), Refusal>
     ensures ok { OnOk result (out.new.items ≡ out.old.items ++ branch_point number) }
     ensures memory { IsOkUnless result Refusal.Memory }
@@ -55,7 +55,7 @@ fn write_branch_point(number: usize, out: &mut Vec<u8>) -> Result<(), Refusal>
     Ok(())
 }
 
-/// Appends the arrows from the point of a universal branch.
+/// Appends the arrows from the point of a universal branch to `targets`.
 fn write_branch_arrows(
     number: usize,
     role: Role,
@@ -71,7 +71,7 @@ fn write_branch_arrows(
     Ok(())
 }
 
-/// Appends an arrow from the point of a universal branch to a state.
+/// Appends the arrow from the point of a universal branch to `target`.
 fn write_branch_arrow(
     number: usize,
     role: Role,

@@ -1,4 +1,4 @@
-//! The lines in the labels of edges.
+//! Lines in the labels of edges.
 
 ghost use Rattle.std.specs.Prelude.{◌≡◌, ◌++◌, IfSome, IsOkUnless, OnOk};
 ghost use Rattle.std.specs.Option.{option_copied};
@@ -11,11 +11,11 @@ use crate::role::Role;
 use crate::state_edges::StateEdges;
 use crate::states::write_marks;
 use crate::valuations::write_valuation;
-use omega_acc::Label;
 use omega_automaton::{Automaton, EdgeRef};
+use omega_label::Label;
 use omega_text::{Refusal, write_number};
 
-/// Appends the lines of an edge.
+/// Appends the lines in the label of `edge`.
 pub(crate) fn write_lines(
     edges: &StateEdges<'_>,
     index: usize,
@@ -38,7 +38,7 @@ pub(crate) fn write_lines(
     write_marks(edge.marks(), out)
 }
 
-/// Appends the line of the number of an edge of a lasso.
+/// Appends the line of the `number` of an edge with this `role`, if it is on a lasso.
 fn write_number_line(role: Role, number: usize, out: &mut Vec<u8>) -> Result<(), Refusal>
     ensures ok { OnOk result (out.new.items ≡ out.old.items ++ number_line role number) }
     ensures memory { IsOkUnless result Refusal.Memory }
@@ -54,7 +54,7 @@ fn write_number_line(role: Role, number: usize, out: &mut Vec<u8>) -> Result<(),
     }
 }
 
-/// Appends the line of what an edge demands, by the label of its state, its index there and its own label.
+/// Appends the line of an edge's label, by the label `of_state` of its state, its `index` there and its own `label`.
 fn write_expression_line(
     automaton: &Automaton,
     of_state: &Option<Label>,

@@ -16,7 +16,7 @@ use crate::state_edges::StateEdges;
 use omega_automaton::{Automaton, EdgeRef};
 use omega_text::Refusal;
 
-/// Appends all edges, each with its role.
+/// Appends all edges of `automaton`, each with its role.
 pub(crate) fn write_edges(
     automaton: &Automaton,
     roles: &[Role],
@@ -43,11 +43,12 @@ pub(crate) fn write_edges(
     Ok(())
 }
 
-/// Appends the edges of a state.
+/// Appends `edges`, those of a state.
 fn write_edges_of(edges: &StateEdges<'_>, out: &mut Vec<u8>) -> Result<(), Refusal>
     requires { HaveRoles edges.now }
     ensures ok { OnOk result (out.new.items ≡ out.old.items
-        ++ state_edges_text edges.now.automaton.now.propositions (role_at edges.now.roles.now) edges.now.first edges.now.state.now) }
+        ++ state_edges_text edges.now.automaton.now.propositions (role_at edges.now.roles.now)
+        edges.now.first edges.now.state.now) }
     ensures memory { IsOkUnless result Refusal.Memory }
 {
     let alloc = *out.allocator();
@@ -60,7 +61,7 @@ fn write_edges_of(edges: &StateEdges<'_>, out: &mut Vec<u8>) -> Result<(), Refus
     Ok(())
 }
 
-/// Appends an edge of a state, or where edges share an arrow, the arrow for the first of them.
+/// Appends `edge`. If it shares an arrow, that is appended for the first edge that does.
 fn write_edge(
     edges: &StateEdges<'_>,
     sharing: &Sharing,
@@ -81,7 +82,7 @@ fn write_edge(
     }
 }
 
-/// Appends an edge that shares no arrow.
+/// Appends `edge`, which shares no arrow.
 fn write_own(
     edges: &StateEdges<'_>,
     index: usize,

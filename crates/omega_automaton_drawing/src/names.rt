@@ -1,4 +1,4 @@
-//! The names of propositions as they are drawn.
+//! Names of propositions as they are drawn.
 
 ghost use Rattle.std.specs.Prelude.{◌≡◌, ◌++◌, IsOkUnless, OnOk};
 ghost use Rattle.omega_automaton_drawing.specs.Names.{drawn_name, is_constant as is_name_of_constant, name_at};
@@ -7,7 +7,8 @@ use omega_dot::write_escaped;
 use omega_edge_labels::is_identifier;
 use omega_text::{ByteString, Refusal};
 
-/// Appends the name of the proposition of a number; empty quotes where there is none, as in no automaton.
+/// Appends the name of the proposition with this `number`, or empty quotes without one. An automaton has a name for
+/// each number in its labels.
 pub(crate) fn write_name_at(
     names: &[ByteString],
     number: usize,
@@ -22,7 +23,7 @@ pub(crate) fn write_name_at(
     }
 }
 
-/// Appends a name, in quotes where it is no identifier or could be taken for a constant.
+/// Appends `name`, in quotes if it is no identifier or could be taken for a constant.
 fn write_name(name: &[u8], out: &mut Vec<u8>) -> Result<(), Refusal>
     ensures ok { OnOk result (out.new.items ≡ out.old.items ++ drawn_name name.now) }
     ensures memory { IsOkUnless result Refusal.Memory }
@@ -36,7 +37,7 @@ fn write_name(name: &[u8], out: &mut Vec<u8>) -> Result<(), Refusal>
     Ok(())
 }
 
-/// Whether a name is that of a constant, `t` or `f`.
+/// Whether `name` is that of a constant, `t` or `f`.
 fn is_constant(name: &[u8]) -> bool
     ensures { result ≡ is_name_of_constant name.now }
 {

@@ -1,7 +1,7 @@
-//! The names of propositions in place of their numbers.
+//! Names of propositions in place of their numbers.
 
 ghost use Rattle.std.specs.Prelude.{◌≡◌, ◌≤◌, true, ◌++◌, IfOk, IfSome, IsOkUnless, None, OnOk, length};
-ghost use Rattle.omega_acc.specs.label.Label.{propositions};
+ghost use Rattle.omega_label.specs.Label.{propositions};
 ghost use Rattle.omega_automaton.specs.Automaton.{AreBelow};
 ghost use Rattle.omega_automaton.specs.Limits.{most_propositions};
 ghost use Rattle.omega_text.specs.Bytes.{is_digit};
@@ -9,11 +9,11 @@ ghost use Rattle.omega_automaton_drawing.specs.Expressions.{named_text};
 ghost use Rattle.omega_automaton_drawing.specs.private.layout.Naming.{AreOwed, pending_name, sign_text, with_digit, with_names};
 
 use crate::names::write_name_at;
-use omega_acc::{Label, write_label};
 use omega_automaton::MOST_PROPOSITIONS;
+use omega_label::{Label, write_label};
 use omega_text::{ByteString, Refusal};
 
-/// Appends the text of a label with the names of its propositions.
+/// Appends the text of `label` with the `names` of its propositions.
 pub(crate) fn write_named(
     label: &Label,
     names: &[ByteString],
@@ -30,7 +30,7 @@ pub(crate) fn write_named(
     Ok(())
 }
 
-/// Appends the text of a label, in which each number is the name of its proposition.
+/// Appends the `text` of a label, with the name of its proposition in place of each number.
 fn write_with_names(text: &[u8], names: &[ByteString], out: &mut Vec<u8>) -> Result<(), Refusal>
     ensures ok { OnOk result (out.new.items ≡ out.old.items ++ with_names names.now None text.now) }
     ensures memory { IsOkUnless result Refusal.Memory }
@@ -42,7 +42,7 @@ fn write_with_names(text: &[u8], names: &[ByteString], out: &mut Vec<u8>) -> Res
     write_pending(number, names, out)
 }
 
-/// Passes a byte: a digit goes into the number, and another byte is written after the name of the number before it.
+/// Passes `byte`: a digit is added to `number`, and another byte is written after the name of that number.
 fn pass(
     number: Option<u32>,
     byte: u8,
@@ -62,7 +62,7 @@ fn pass(
     Ok(None)
 }
 
-/// The number whose digits have been passed, with a digit more.
+/// Returns `number`, whose digits have been passed, with one digit more.
 fn with_digit(number: Option<u32>, byte: u8) -> u32
     requires number { IfSome number (λ number. number ≤ most_propositions) }
     requires digit { is_digit byte ≡ true }
@@ -72,7 +72,7 @@ fn with_digit(number: Option<u32>, byte: u8) -> u32
     (number.unwrap_or(0) * 10 + u32::from(byte - b'0')).min(MOST_PROPOSITIONS as u32)
 }
 
-/// Appends the name of the proposition whose number has been passed, if there is one.
+/// Appends the name of the proposition whose `number` has been passed, if there is one.
 fn write_pending(
     number: Option<u32>,
     names: &[ByteString],
@@ -87,7 +87,7 @@ fn write_pending(
     }
 }
 
-/// Appends a sign of a label.
+/// Appends `byte`, a sign of a label.
 fn write_sign(byte: u8, out: &mut Vec<u8>) -> Result<(), Refusal>
     ensures ok { OnOk result (out.new.items ≡ out.old.items ++ sign_text byte) }
     ensures memory { IsOkUnless result Refusal.Memory }

@@ -4,7 +4,7 @@ ghost use Rattle.omega_automaton_drawing.specs.private.layout.Marking.{AreMarked
 use omega_text::Refusal;
 use std::alloc::Global;
 
-/// How an edge stands to a lasso.
+/// The part of a lasso that an edge is on.
 #[derive(Clone, Copy)]
 pub(crate) enum Role {
     /// It is on neither part.
@@ -15,7 +15,8 @@ pub(crate) enum Role {
     Cycle,
 }
 
-/// The role of each of so many edges, by number, where a lasso has these. A number that is no edge's is passed over.
+/// Returns the role of each of `edges` edges in the lasso of `stem` and `cycle`, by number. A number of no edge is
+/// ignored.
 pub(crate) fn roles_of(
     alloc: Global,
     edges: u32,
@@ -31,7 +32,7 @@ pub(crate) fn roles_of(
     Ok(roles)
 }
 
-/// The role of the edge of a number.
+/// Returns the role of the edge with this `number`.
 pub(crate) fn role_at(roles: &[Role], number: usize) -> Role
     requires { number < length roles.now }
     ensures { result ≡ role_at roles.now number }
@@ -39,7 +40,7 @@ pub(crate) fn role_at(roles: &[Role], number: usize) -> Role
     roles[number]
 }
 
-/// Gives a role to these numbers.
+/// Gives `role` to all `numbers`.
 fn mark(roles: &mut [Role], numbers: &[u32], role: Role)
     ensures { AreMarked numbers.now role roles.old roles.new }
 {
@@ -48,7 +49,7 @@ fn mark(roles: &mut [Role], numbers: &[u32], role: Role)
     }
 }
 
-/// Gives a role to a number, if it has an entry.
+/// Gives `role` to `number`, if it has an entry.
 fn mark_one(roles: &mut [Role], number: u32, role: Role)
     ensures { AreMarked (number ∷ []) role roles.old roles.new }
 {

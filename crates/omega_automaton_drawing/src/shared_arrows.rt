@@ -11,7 +11,7 @@ use crate::sharing::Sharing;
 use crate::state_edges::StateEdges;
 use omega_text::{Refusal, write_number};
 
-/// Appends the arrow to a state that edges share, if the edge of this index is the first of them.
+/// Appends the arrow to `target` that edges share, if the edge of this `index` is the first of them.
 pub(crate) fn write_shared_arrow(
     edges: &StateEdges<'_>,
     sharing: &Sharing,
@@ -36,7 +36,7 @@ pub(crate) fn write_shared_arrow(
     Ok(())
 }
 
-/// Appends the lines of the edges that share an arrow to a state, from the first on to the last.
+/// Appends the lines of the edges that share an arrow to `_target`, from the first one, at `index`, to the last.
 fn write_shared_lines(
     edges: &StateEdges<'_>,
     sharing: &Sharing,

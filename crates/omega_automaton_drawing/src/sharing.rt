@@ -1,4 +1,4 @@
-//! Which edges of a state share arrows.
+//! Edges of a state that share arrows.
 
 ghost use Rattle.std.specs.Prelude.{◌≡◌, ◌<◌, None, Some, IfOk, IsOkUnless, List, ℕ, Option, length, nat_eq, slice_index_or};
 ghost use Rattle.std.specs.BTreeMap.{get};
@@ -10,7 +10,7 @@ use omega_text::Refusal;
 use std::alloc::Global;
 use std::collections::BTreeMap;
 
-/// Which edges of a state share arrows.
+/// A table of the edges of a state that share arrows.
 #[derive(Drop)]
 pub(crate) struct Sharing {
     /// For each edge the next that shares its arrow, if there is one.
@@ -19,7 +19,7 @@ pub(crate) struct Sharing {
     firsts: BTreeMap<u32, usize>,
 }
 
-/// Which of some edges share arrows, by the states that they share arrows to. 60 alone. The cost is n log n in them.
+/// Returns the table of edges that share arrows to these `targets`. The cost is n log n in the edges.
 pub(crate) fn sharing_of(alloc: Global, targets: &[Option<u32>]) -> Result<Sharing, Refusal>
     ensures sharing { IfOk result (λ sharing. IsSharing targets.now sharing) }
     ensures memory { IsOkUnless result Refusal.Memory }
@@ -36,7 +36,7 @@ pub(crate) fn sharing_of(alloc: Global, targets: &[Option<u32>]) -> Result<Shari
 }
 
 impl Sharing {
-    /// The next edge that shares the arrow of the edge of an index.
+    /// Returns the next edge that shares the arrow of the edge of this `index`.
     pub(crate) fn next(&self, index: usize) -> Option<usize>
         requires { index < length self.now.next.items }
         ensures { result ≡ slice_index_or self.now.next.items index None }
@@ -44,7 +44,7 @@ impl Sharing {
         self.next[index]
     }
 
-    /// Whether the edge of an index is the first that shares an arrow to a state.
+    /// Whether the edge of this `index` is the first that shares an arrow to `target`.
     pub(crate) fn is_first(&self, index: usize, target: u32) -> bool
         ensures { result ≡ option_eq nat_eq (get nat_cmp self.now.firsts target) (Some index) }
     {

@@ -1,4 +1,4 @@
-//! The edges of a state that are to be drawn.
+//! Edges of a state that are to be drawn.
 
 ghost use Rattle.std.specs.Prelude.{◌≡◌, ◌+◌, ◌<◌, IfOk, IsOkUnless, length};
 ghost use Rattle.omega_automaton_drawing.specs.Arrows.{shared_target as shared_target_of};
@@ -23,14 +23,14 @@ pub(crate) struct StateEdges<'a> {
 }
 
 impl<'a> StateEdges<'a> {
-    /// How many there are.
+    /// Returns the number of edges.
     pub(crate) fn len(&self) -> usize
         ensures { result ≡ length self.now.state.now.edges }
     {
         self.state.edges.len()
     }
 
-    /// The edge of an index.
+    /// Returns the edge of this `index`.
     pub(crate) fn edge(&self, index: usize) -> EdgeRef<'a>
         requires roles { HaveRoles self.now }
         requires within { index < length self.now.state.now.edges }
@@ -39,7 +39,7 @@ impl<'a> StateEdges<'a> {
         self.state.edges.edge(index)
     }
 
-    /// The number of the edge of an index.
+    /// Returns the number of the edge of this `index`.
     pub(crate) fn number(&self, index: usize) -> usize
         requires roles { HaveRoles self.now }
         requires within { index < length self.now.state.now.edges }
@@ -48,7 +48,7 @@ impl<'a> StateEdges<'a> {
         self.first + index
     }
 
-    /// The role of the edge of an index.
+    /// Returns the role of the edge of this `index`.
     pub(crate) fn role(&self, index: usize) -> Role
         requires roles { HaveRoles self.now }
         requires within { index < length self.now.state.now.edges }
@@ -57,7 +57,7 @@ impl<'a> StateEdges<'a> {
         role_at(self.roles, self.number(index))
     }
 
-    /// The state that the edge of an index shares an arrow to, if it shares one.
+    /// Returns the state that `edge` shares an arrow to, if it shares one.
     pub(crate) fn target(&self, index: usize, edge: &EdgeRef<'_>) -> Option<u32>
         requires roles { HaveRoles self.now }
         requires edge { IsEdgeOf self.now index edge.now }
@@ -66,7 +66,7 @@ impl<'a> StateEdges<'a> {
         shared_target(self.role(index), edge.targets())
     }
 
-    /// For each edge the state that it shares an arrow to, if it shares one. 60 alone.
+    /// Returns for each edge the state that it shares an arrow to, if it shares one.
     pub(crate) fn targets(&self, alloc: Global) -> Result<Vec<Option<u32>>, Refusal>
         requires { HaveRoles self.now }
         ensures targets { IfOk result (λ targets. targets.items ≡ targets_of (drawn_all self.now)) }
@@ -81,7 +81,7 @@ impl<'a> StateEdges<'a> {
     }
 }
 
-/// The state that an edge of a role shares an arrow to: the one that it leads to, if it is on no lasso.
+/// Returns the state that an edge with this `role` shares an arrow to: its only target, if it is on no lasso.
 fn shared_target(role: Role, targets: &[u32]) -> Option<u32>
     ensures { result ≡ shared_target_of role targets.now }
 {

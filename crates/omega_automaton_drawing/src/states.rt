@@ -8,9 +8,10 @@ ghost use Rattle.omega_automaton_drawing.specs.States.{drawn_state, marks_line, 
 ghost use Rattle.omega_dot.specs.Numbered.{numbered};
 
 use crate::naming::write_named;
-use omega_acc::{Label, write_acc};
 use omega_automaton::{Automaton, State};
 use omega_dot::write_name_line;
+use omega_formula::write_acc;
+use omega_label::Label;
 use omega_text::{Refusal, write_number};
 
 /// Appends the front of the graph, with the automaton's name and acceptance formula.
@@ -36,7 +37,7 @@ pub(crate) fn write_starts(automaton: &Automaton, out: &mut Vec<u8>) -> Result<(
     Ok(())
 }
 
-/// Appends an initial choice.
+/// Appends the initial choice of this `number`.
 fn write_start(number: usize, states: &[u32], out: &mut Vec<u8>) -> Result<(), Refusal>
     ensures ok { OnOk result (out.new.items ≡ out.old.items ++ start_text number states.now) }
     ensures memory { IsOkUnless result Refusal.Memory }
@@ -48,7 +49,7 @@ fn write_start(number: usize, states: &[u32], out: &mut Vec<u8>) -> Result<(), R
     Ok(())
 }
 
-/// Appends the point of an initial choice.
+/// Appends the point of the initial choice of this `number`.
 fn write_start_point(number: usize, states: &[u32], out: &mut Vec<u8>) -> Result<(), Refusal>
     ensures ok { OnOk result (out.new.items ≡ out.old.items ++ start_point number states.now) }
     ensures memory { IsOkUnless result Refusal.Memory }
@@ -58,7 +59,7 @@ fn write_start_point(number: usize, states: &[u32], out: &mut Vec<u8>) -> Result
     write_point_end(states.len() == 1, out)
 }
 
-/// Appends the end of the line of a point, which is not seen where its initial choice lists a single state.
+/// Appends the end of the line of a point, which is invisible if its initial choice lists a single state.
 fn write_point_end(single: bool, out: &mut Vec<u8>) -> Result<(), Refusal>
     ensures ok { OnOk result (out.new.items ≡ out.old.items ++ point_end single) }
     ensures memory { IsOkUnless result Refusal.Memory }
@@ -71,7 +72,7 @@ fn write_point_end(single: bool, out: &mut Vec<u8>) -> Result<(), Refusal>
     Ok(())
 }
 
-/// Appends an arrow from the point of an initial choice to a state.
+/// Appends an arrow from the point of an initial choice to `state`.
 fn write_start_arrow(number: usize, state: u32, out: &mut Vec<u8>) -> Result<(), Refusal>
     ensures ok { OnOk result (out.new.items ≡ out.old.items ++ start_arrow number state) }
     ensures memory { IsOkUnless result Refusal.Memory }
@@ -86,7 +87,8 @@ fn write_start_arrow(number: usize, state: u32, out: &mut Vec<u8>) -> Result<(),
 
 /// Appends the states that are defined.
 pub(crate) fn write_states(automaton: &Automaton, out: &mut Vec<u8>) -> Result<(), Refusal>
-    ensures ok { OnOk result (out.new.items ≡ out.old.items ++ flat_map (drawn_state automaton.now.propositions) automaton.now.defined) }
+    ensures ok { OnOk result
+        (out.new.items ≡ out.old.items ++ flat_map (drawn_state automaton.now.propositions) automaton.now.defined) }
     ensures memory { IsOkUnless result Refusal.Memory }
 {
     automaton.keeps_limits();
@@ -96,7 +98,7 @@ pub(crate) fn write_states(automaton: &Automaton, out: &mut Vec<u8>) -> Result<(
     Ok(())
 }
 
-/// Appends a state.
+/// Appends `state`.
 fn write_state(automaton: &Automaton, state: &State, out: &mut Vec<u8>) -> Result<(), Refusal>
     requires { IsState automaton.now state.now }
     ensures ok { OnOk result (out.new.items ≡ out.old.items ++ drawn_state automaton.now.propositions state.now) }
@@ -110,7 +112,7 @@ fn write_state(automaton: &Automaton, state: &State, out: &mut Vec<u8>) -> Resul
     Ok(())
 }
 
-/// Appends the front of a state's line, up to the number in its label.
+/// Appends the front of the line of the state with this `number`, up to the number in its label.
 fn write_state_number(number: u32, out: &mut Vec<u8>) -> Result<(), Refusal>
     ensures ok { OnOk result (out.new.items ≡ out.old.items ++ state_front number) }
     ensures memory { IsOkUnless result Refusal.Memory }
@@ -123,14 +125,15 @@ fn write_state_number(number: u32, out: &mut Vec<u8>) -> Result<(), Refusal>
     Ok(())
 }
 
-/// Appends the line of a state's own label, if it has one.
+/// Appends the line of a state's own `label`, if it has one.
 fn write_state_label(
     automaton: &Automaton,
     label: &Option<Label>,
     out: &mut Vec<u8>,
 ) -> Result<(), Refusal>
     requires { IfSome label.now (IsLabel automaton.now) }
-    ensures ok { OnOk result (out.new.items ≡ out.old.items ++ state_label_line automaton.now.propositions label.now) }
+    ensures ok { OnOk result
+        (out.new.items ≡ out.old.items ++ state_label_line automaton.now.propositions label.now) }
     ensures memory { IsOkUnless result Refusal.Memory }
 {
     automaton.keeps_limits();
@@ -142,7 +145,7 @@ fn write_state_label(
     Ok(())
 }
 
-/// Appends the line of some sets, or nothing for no sets.
+/// Appends the line of the sets `marks`, or nothing for no sets.
 pub(crate) fn write_marks(marks: &[u32], out: &mut Vec<u8>) -> Result<(), Refusal>
     ensures ok { OnOk result (out.new.items ≡ out.old.items ++ marks_line marks.now) }
     ensures memory { IsOkUnless result Refusal.Memory }
@@ -156,7 +159,7 @@ pub(crate) fn write_marks(marks: &[u32], out: &mut Vec<u8>) -> Result<(), Refusa
     Ok(())
 }
 
-/// Appends numbers with a space before each.
+/// Appends `numbers` with a space before each.
 fn write_numbers_after(numbers: &[u32], out: &mut Vec<u8>) -> Result<(), Refusal>
     ensures ok { OnOk result (out.new.items ≡ out.old.items ++ spaced_numbers numbers.now) }
     ensures memory { IsOkUnless result Refusal.Memory }

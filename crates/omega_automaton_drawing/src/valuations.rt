@@ -1,4 +1,4 @@
-//! The valuations of edges without labels.
+//! Valuations of edges without labels.
 
 ghost use Rattle.std.specs.Prelude.{◌≡◌, ◌++◌, IsOkUnless, OnOk, length};
 ghost use Rattle.omega_automaton_drawing.specs.Expressions.{named_text};
@@ -8,13 +8,14 @@ use crate::names::write_name_at;
 use omega_edge_labels::has_bit;
 use omega_text::{ByteString, Refusal};
 
-/// Appends the label of the valuation of an index over all propositions.
+/// Appends the label of the valuation of `index` over all propositions.
 pub(crate) fn write_valuation(
     names: &[ByteString],
     index: usize,
     out: &mut Vec<u8>,
 ) -> Result<(), Refusal>
-    ensures ok { OnOk result (out.new.items ≡ out.old.items ++ named_text names.now (valuation_label index (length names.now))) }
+    ensures ok { OnOk result
+        (out.new.items ≡ out.old.items ++ named_text names.now (valuation_label index (length names.now))) }
     ensures memory { IsOkUnless result Refusal.Memory }
 {
     if names.is_empty() {
@@ -29,7 +30,7 @@ pub(crate) fn write_valuation(
     Ok(())
 }
 
-/// Appends a proposition that holds in the valuation of an index, or its negation.
+/// Appends the proposition `p` if it holds in the valuation of `index`, else its negation.
 fn write_literal(
     names: &[ByteString],
     index: usize,

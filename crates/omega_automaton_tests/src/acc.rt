@@ -227,7 +227,7 @@ fn definitions_are_judged_before_they_are_copied(rt: HostRuntime) {
     );
 }
 
-// `0` in pairs of parentheses, alone or as what an alias stands for.
+// `0` in pairs of parentheses, alone or as the value of an alias.
 fn wrapped(alloc: Global, pairs: u32) -> Result<RawLabel, Refusal> {
     let mut label = RawLabel::proposition(alloc, 0)?;
     for _ in 0..pairs {

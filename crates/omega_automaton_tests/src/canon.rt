@@ -15,7 +15,7 @@ fn canon(alloc: Global, text: &[u8]) -> Result<Vec<u8>, Refusal> {
 
 // A text, and its canonical text.
 static TEXTS: [(&str, &str); 9] = [
-    // an alias, and a mark that stands twice
+    // an alias, and a mark that is written twice
     (
         "HOA: v1 States: 1 Start: 0 AP: 1 \"a\" Alias: @b 0|t Acceptance: 1 Inf(0) acc-name: Buchi --BODY-- State: 0 [!@b&0] 0 {0 0} --END--",
         "HOA: v1\nStates: 1\nStart: 0\nAP: 1 \"a\"\nacc-name: Buchi\nAcceptance: 1 Inf(0)\n--BODY--\nState: 0\n[!(0|t)&0] 0 {0}\n--END--\n",

@@ -32,7 +32,7 @@ fn is_stream_of(alloc: Global, made: Result<Vec<u8>, Refusal>, want: Reported) -
     }
 }
 
-/// How many of the items are aborted, and how many automata.
+/// Counts the items that are aborted, and the automata.
 fn counts(items: &[Item]) -> (usize, usize) {
     let mut aborted: usize = 0;
     for item in items {

@@ -19,7 +19,7 @@ pub(crate) fn reported<T: Drop>(answer: Result<T, Refusal>) -> Reported {
     }
 }
 
-/// The number of a refusal, 0 where there is none.
+/// Returns the number of a refusal, or 0 for an answer.
 pub(crate) fn number_of<T: Drop>(answer: Result<T, Refusal>) -> u32 {
     match answer {
         Ok(_) => 0,
@@ -35,12 +35,12 @@ pub(crate) fn is_text(made: Result<Vec<u8>, Refusal>, want: &str) -> bool {
     }
 }
 
-/// The number of the refusal of a text, 0 where it means an automaton.
+/// Returns the number of the refusal of a text, or 0 if it means an automaton.
 pub(crate) fn outcome(alloc: Global, text: &[u8]) -> u32 {
     number_of(meaning(alloc, text))
 }
 
-/// That of a text that is to be made first.
+/// Returns the same for a text that has yet to be made.
 pub(crate) fn outcome_of(alloc: Global, made: Result<Vec<u8>, Refusal>) -> u32 {
     match made {
         Ok(text) => outcome(alloc, text.as_slice()),

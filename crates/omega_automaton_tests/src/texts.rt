@@ -4,10 +4,10 @@ use omega_raw::{RawAutomaton, read_raw};
 use omega_text::{Cursor, Refusal, hoa_tokens};
 use std::alloc::Global;
 
-/// A piece of a text, and how many times it stands there.
+/// A piece of a text, and how many times it is repeated there.
 pub(crate) type Piece<'a> = (&'a str, usize);
 
-/// Puts a piece so many times at the end of a text.
+/// Puts `piece` at the end of a text `count` times.
 fn put_many(text: &mut Vec<u8>, piece: &str, count: usize) -> Result<(), Refusal> {
     for _ in 0..count {
         text.extend_from_slice(piece.as_bytes())?;
@@ -15,7 +15,7 @@ fn put_many(text: &mut Vec<u8>, piece: &str, count: usize) -> Result<(), Refusal
     Ok(())
 }
 
-/// The text of these pieces.
+/// Returns the text of these pieces.
 pub(crate) fn text_of(alloc: Global, pieces: &[Piece<'_>]) -> Result<Vec<u8>, Refusal> {
     let mut text = Vec::new(alloc);
     for (piece, count) in pieces {
@@ -24,28 +24,25 @@ pub(crate) fn text_of(alloc: Global, pieces: &[Piece<'_>]) -> Result<Vec<u8>, Re
     Ok(text)
 }
 
-/// The text of an automaton with this version, these items and this body.
+/// Returns the text of an automaton with this version, these items and this body.
 pub(crate) fn text_with(
     alloc: Global,
     version: &str,
     items: &str,
     body: &str,
 ) -> Result<Vec<u8>, Refusal> {
-    text_of(
-        alloc,
-        &[
-            ("HOA: ", 1),
-            (version, 1),
-            (" ", 1),
-            (items, 1),
-            (" --BODY-- ", 1),
-            (body, 1),
-            (" --END--", 1),
-        ],
-    )
+    let mut text = Vec::new(alloc);
+    put_many(&mut text, "HOA: ", 1)?;
+    put_many(&mut text, version, 1)?;
+    put_many(&mut text, " ", 1)?;
+    put_many(&mut text, items, 1)?;
+    put_many(&mut text, " --BODY-- ", 1)?;
+    put_many(&mut text, body, 1)?;
+    put_many(&mut text, " --END--", 1)?;
+    Ok(text)
 }
 
-/// What a text is read as: the automaton as it is written, and where the cursor then stands.
+/// Returns what a text is read as: the automaton as it is written, and the place of the cursor after it.
 pub(crate) fn raw_in(alloc: Global, text: &[u8]) -> Result<(RawAutomaton, usize), Refusal> {
     let tokens = hoa_tokens(alloc, text)?;
     let mut cursor = Cursor::new(tokens.as_slice(), text.len());
@@ -53,7 +50,7 @@ pub(crate) fn raw_in(alloc: Global, text: &[u8]) -> Result<(RawAutomaton, usize)
     Ok((raw, cursor.place()))
 }
 
-/// What a text means.
+/// Returns what a text means.
 pub(crate) fn meaning(alloc: Global, text: &[u8]) -> Result<Automaton, Refusal> {
     match raw_in(alloc, text) {
         Ok((raw, _)) => automaton_of(alloc, raw),

@@ -1,9 +1,9 @@
 -- Budgets dealt out in the reordered game are dealt out in the original game.
 use Rattle.std.proofs.Common.{◌≡◌, ◌∙◌, ◌<◌, ◌++◌, ℕ, Bool, true, false, List, [], ◌∷◌, length, map, get_or, replicate, ap, ap₂, arith, refl, subst, sym}
 use Rattle.std.proofs.lemmas.List.{ext_get_or, get_or-map, get_or-replicate, length-map, length-replicate, length_push}
-use Rattle.omega_game.specs.declared.player.Player.{Player}
-use Rattle.omega_game.specs.Bound.{bound_of}
-use Rattle.omega_game.specs.Game.{Node, IsGame, priorities}
+use Rattle.omega_parity_game.specs.declared.player.Player.{Player}
+use Rattle.omega_parity_game.specs.Bound.{bound_of}
+use Rattle.omega_parity_game.specs.Game.{Node, IsGame, priorities}
 use Rattle.omega_lift_laws.specs.Laws.{RunsAreBounded}
 use Rattle.omega_lift_laws.specs.Measure.{Measure, zero_measure}
 use Rattle.omega_lift_laws.specs.Run.{IsDue, IsLiftingRun, zero_table}

@@ -3,9 +3,9 @@ use Rattle.std.proofs.Common.{◌≡◌, ℕ, ◌<◌, ◌≤◌, ◌⊎◌, inl
 use Rattle.std.proofs.lemmas.Bool.{cases_lt}
 use Rattle.std.proofs.lemmas.List.{get_or-map, get_or_past, length-map}
 use Rattle.std.proofs.lemmas.Option.{get_or_from_slice_get, slice_get-get_or, slice_get_past}
-use Rattle.omega_game.specs.declared.player.Player.{Player}
-use Rattle.omega_game.specs.Game.{Node, HasEdge, IsGame, successors_at}
-use Rattle.omega_game.specs.Winning.{Chooses, IsStrategy}
+use Rattle.omega_parity_game.specs.declared.player.Player.{Player}
+use Rattle.omega_parity_game.specs.Game.{Node, HasEdge, IsGame, successors_at}
+use Rattle.omega_parity_game.specs.Winning.{Chooses, IsStrategy}
 use Rattle.omega_lift_laws.specs.Allowance.{IsAllowanceOf, measure_at}
 use Rattle.omega_lift_laws.specs.Answer.{AreChoices, IsFirstLeast, won_in}
 use Rattle.omega_lift_laws.specs.Measure.{Measure}

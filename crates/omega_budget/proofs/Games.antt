@@ -2,10 +2,10 @@
 use Rattle.std.proofs.Common.{◌≡◌, ℕ, ◌<◌, inl, inr, List, Contains, length, map, get_or, sym, ap, ap₂, subst, ◌*◌, nat_lt, Err, IfErr, Ok, Result, ◌∙◌, arith}
 use Rattle.std.proofs.lemmas.List.{get_or-map, get_or_past, length-map}
 use Rattle.std.proofs.lemmas.Bool.{cases_lt}
-use Rattle.omega_game.specs.declared.player.Player.{Player}
-use Rattle.omega_game.specs.Bound.{bound_of}
-use Rattle.omega_game.specs.Game.{Node, HasEdge, no_node, node_at, priorities, successors_at}
-use Rattle.omega_game.proofs.elements.Membership.{Contains-nothing, Contains-under, map-Contains, map-map, map_same}
+use Rattle.omega_parity_game.specs.declared.player.Player.{Player}
+use Rattle.omega_parity_game.specs.Bound.{bound_of}
+use Rattle.omega_parity_game.specs.Game.{Node, HasEdge, no_node, node_at, priorities, successors_at}
+use Rattle.omega_parity_game.proofs.elements.Membership.{Contains-nothing, Contains-under, map-Contains, map-map, map_same}
 use Rattle.omega_text.specs.declared.refusal.Refusal.{Refusal}
 use Rattle.omega_text.specs.declared.refusal.Refusal.TheVariants.{Automaton, Game, Io, Memory, Task, Text}
 use Rattle.omega_measure.specs.Limits.{most_cells}

@@ -4,19 +4,19 @@ use Rattle.std.specs.List.{range_with_len}
 use Rattle.std.proofs.lemmas.List.{get_or-map, get_or_default, take_more, length-map, map_more}
 use Rattle.std.proofs.lemmas.List.Elements.{Contains-get_or}
 use Rattle.omega_text.specs.Limits.{most_number}
-use Rattle.omega_game.specs.declared.player.Player.{Player}
+use Rattle.omega_parity_game.specs.declared.player.Player.{Player}
 use Rattle.std.proofs.lemmas.List.FromFn.{fill_by_all, get_or-map-range_with_len, length-map-range_with_len, map-range_with_len_more}
 use Rattle.std.proofs.lemmas.List.Sorted.{IsPermutation-refl}
 use Rattle.std.specs.List.Sorted.{IsPermutation}
-use Rattle.omega_game.specs.declared.node_spec.NodeSpec.{NodeSpec}
-use Rattle.omega_game.specs.declared.Refusal.{Refusal}
-use Rattle.omega_game.specs.declared.Refusal.TheVariants.{Memory}
-use Rattle.omega_game.specs.Building.{IsBuildRefusal, IsGameOf, specified, with_last, with_successor}
-use Rattle.omega_game.specs.Game.{Node, IsGame, IsWithinLimits, IsWritableNode, identifiers, no_node, node_at, owner_at, priority_at, successors_at}
-use Rattle.omega_game.specs.Laws.{GamesHaveNoFault, SpecificationsHaveOneGame}
-use Rattle.omega_game.proofs.elements.Membership.{map-Contains, map_same}
-use Rattle.omega_game.proofs.parts.PartGames.{memory_alone}
-use Rattle.omega_game.proofs.parts.Specifying.{with_last-push}
+use Rattle.omega_parity_game.specs.declared.node_spec.NodeSpec.{NodeSpec}
+use Rattle.omega_parity_game.specs.declared.Refusal.{Refusal}
+use Rattle.omega_parity_game.specs.declared.Refusal.TheVariants.{Memory}
+use Rattle.omega_parity_game.specs.Building.{IsBuildRefusal, IsGameOf, specified, with_last, with_successor}
+use Rattle.omega_parity_game.specs.Game.{Node, IsGame, IsWithinLimits, IsWritableNode, identifiers, no_node, node_at, owner_at, priority_at, successors_at}
+use Rattle.omega_parity_game.specs.Laws.{GamesHaveNoFault, SpecificationsHaveOneGame}
+use Rattle.omega_parity_game.proofs.elements.Membership.{map-Contains, map_same}
+use Rattle.omega_parity_game.proofs.parts.PartGames.{memory_alone}
+use Rattle.omega_parity_game.proofs.parts.Specifying.{with_last-push}
 use Rattle.omega_order.specs.Permutation.{AreInverse}
 use Rattle.omega_budget.specs.private.steps.Building.{spec_of, specs_below}
 use Rattle.omega_budget.specs.Reordering.{IsMoved, IsReordering}

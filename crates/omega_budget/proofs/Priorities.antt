@@ -2,9 +2,9 @@
 -- same.
 use Rattle.std.proofs.Common.{◌≡◌, ℕ, zero, suc, ◌+◌, ◌*◌, ◌<◌, ◌≤◌, ◌==◌, Bool, not, cond, IsTrue, List, [], ◌∷◌, None, Some, length, map, max, fold, filter, count_by, replicate, sum_by, get_or, nat_lt, nat_le, take, option_map, refl, sym, ap, ap₂, subst, ◌∙◌, arith}
 use Rattle.std.specs.Ordering.{is_gt, is_lt}
-use Rattle.omega_game.specs.declared.player.Player.{Player}
-use Rattle.omega_game.specs.Bound.{occurrences, below_falling, priorities_in_use, bound_of, greatest, losing_priorities, product, product_of}
-use Rattle.omega_game.specs.Player.{loses}
+use Rattle.omega_parity_game.specs.declared.player.Player.{Player}
+use Rattle.omega_parity_game.specs.Bound.{occurrences, below_falling, priorities_in_use, bound_of, greatest, losing_priorities, product, product_of}
+use Rattle.omega_parity_game.specs.Player.{loses}
 use Rattle.omega_lift_laws.specs.Allowance.{IsAllowance, suffices}
 use Rattle.omega_lift_laws.specs.Measure.{IsMeasure, Measure, compare, compare_from, entries_from, zero_measure}
 use Rattle.omega_order.specs.Permutation.{AreInverse}
@@ -40,7 +40,7 @@ below_greatest start [] i lt = omega arith
 below_greatest start (x ∷ xs) zero lt = omega (arith, start_below (max start x) xs)
 below_greatest start (x ∷ xs) (suc i) lt = below_greatest (max start x) xs i (omega (arith, lt))
 
--- each number stands at its position in the other list
+-- each number is at its position in the other list
 module _ (numbers others positions places : List ℕ) (inverse : AreInverse positions places) (positioned : length positions ≡ length numbers)
     (placed : length places ≡ length numbers) (entries : length others ≡ length numbers)
     (same : (v : ℕ) → v < length numbers → get_or others (get_or positions v 0) 0 ≡ get_or numbers v 0) where

@@ -1,14 +1,14 @@
--- Sums over lists whose elements stand at other places.
+-- Sums over lists whose elements are at other places.
 use Rattle.std.proofs.Common.{◌≡◌, ℕ, suc, ◌<◌, ◌≤◌, List, [], ◌∷◌, length, map, get_or, set, sum_by, refl, sym, ap, ◌∙◌, arith}
 use Rattle.std.proofs.lemmas.List.{get_or-map, get_or-set_other, length-map, length-set}
 use Rattle.std.proofs.lemmas.List.Sums.{sum_by-cons, sum_by-set}
-use Rattle.omega_game.proofs.elements.Counting.{sum_by-map}
+use Rattle.omega_parity_game.proofs.elements.Counting.{sum_by-map}
 use Rattle.omega_order.specs.Permutation.{AreInverse}
 
 abbrev total : List ℕ → ℕ
 total xs = sum_by (λ x. x) xs
 
--- numbers that stand in another list too, each at a place of its own, come to no more than that list
+-- numbers that are in another list too, each at a place of its own, come to no more than that list
 fitting : (xs ys : List ℕ) (to : ℕ → ℕ)
     → ((i : ℕ) → i < length xs → (to i < length ys) × (get_or ys (to i) 0 ≡ get_or xs i 0))
     → ((i j : ℕ) → i < length xs → j < length xs → to i ≡ to j → i ≡ j)
@@ -27,7 +27,7 @@ fitting (x ∷ xs) ys to there apart =
         )
 
 module _ {X : Type 0} (f : X → ℕ) (xs ys : List X) (d : X) where
-  -- where each element stands at its position, the sum is at most that of the other list
+  -- if each element is at its position, the sum is at most that of the other list
   pub sum_fits : (positions places : List ℕ) → AreInverse positions places → length positions ≡ length xs → length places ≡ length ys
       → ((v : ℕ) → v < length xs → f (get_or ys (get_or positions v 0) d) ≡ f (get_or xs v d))
       → sum_by f xs ≤ sum_by f ys

@@ -1,12 +1,12 @@
--- A new solver that ran within a budget gives the answer, or the reason why there is none, and the reports of its run.
+-- A new solver that ran within a budget gives the answer, or the reason for giving none, and the reports of its run.
 use Rattle.std.proofs.Common.{◌≡◌, ◌↔◌, ◌+◌, ◌*◌, ◌<◌, ◌≤◌, ◌∙◌, ℕ, true, false, List, [], ◌∷◌, Option, None, Result, Ok, Err, IfErr, IfOk, IsOkUnless, length, ap, arith, inl, inr, refl, subst, sym}
 use Rattle.std.specs.Result.{IsErrAnd}
 use Rattle.std.proofs.lemmas.Bool.{cases_Bool}
 use Rattle.omega_text.specs.declared.refusal.Refusal.{Refusal}
 use Rattle.omega_text.specs.declared.refusal.Refusal.TheVariants.{Automaton, Game, Io, Memory, Task, Text}
-use Rattle.omega_game.specs.declared.player.Player.{Player}
-use Rattle.omega_game.specs.Bound.{bound_of}
-use Rattle.omega_game.specs.Game.{IsGame, Node, priorities}
+use Rattle.omega_parity_game.specs.declared.player.Player.{Player}
+use Rattle.omega_parity_game.specs.Bound.{bound_of}
+use Rattle.omega_parity_game.specs.Game.{IsGame, Node, priorities}
 use Rattle.omega_lift_laws.specs.Answer.{AreChoices, won_in}
 use Rattle.omega_lift_laws.specs.Measure.{Measure}
 use Rattle.omega_lift_laws.specs.Run.{IsDue, IsLiftingRun, IsStable}
@@ -214,7 +214,7 @@ pub not_spent : {A : Type 0} (result : Result A Refusal) → IsOkUnless result M
 not_spent (Ok value) memory = (λ e. cc, λ e. cc)
 not_spent (Err refusal) memory = (λ e. cc, λ e. let same : refusal ≡ Memory = memory in cc)
 
--- what refuses a run where the table fits refuses to solve the game
+-- what refuses a run with a table that fits refuses to solve the game
 pub refused_where_narrow : (nodes : List Node) (player : Player) (budget : ℕ) (refusal : Refusal) → is_too_wide player (priorities nodes) ≡ false
     → IsBudgetRefusal nodes player budget refusal → IsSolvingRefusal nodes player budget refusal
 refused_where_narrow nodes player budget (Task fault) narrow refused =

@@ -1,8 +1,8 @@
 -- What holds of solvers of reordered games, and of budgets, whatever the code does.
 use Rattle.std.specs.Prelude.{◌≡◌, ◌<◌, ℕ, List}
-use Rattle.omega_game.specs.declared.player.Player.{Player}
-use Rattle.omega_game.specs.Bound.{bound_of}
-use Rattle.omega_game.specs.Game.{Node, IsGame, priorities}
+use Rattle.omega_parity_game.specs.declared.player.Player.{Player}
+use Rattle.omega_parity_game.specs.Bound.{bound_of}
+use Rattle.omega_parity_game.specs.Game.{Node, IsGame, priorities}
 use Rattle.omega_solve.specs.Headline.{DealsOut, IsBoundedAndExact}
 use Rattle.omega_solve.specs.Solver.{SolverState, HasLiftDue, IsFinished, IsReached, start_of}
 use Rattle.omega_budget.specs.Reordering.{IsReordering, state_by_place}

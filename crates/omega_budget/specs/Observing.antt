@@ -4,9 +4,9 @@ use Rattle.omega_text.specs.Cases.{never, or_memory, or_task}
 use Rattle.omega_text.specs.declared.refusal.Refusal.{Refusal}
 use Rattle.omega_text.specs.declared.refusal.Refusal.TheVariants.{Task}
 use Rattle.omega_text.specs.declared.refusal.task.TaskFault.TheVariants.{Budget, TooWide}
-use Rattle.omega_game.specs.declared.player.Player.{Player}
-use Rattle.omega_game.specs.Bound.{bound_of}
-use Rattle.omega_game.specs.Game.{Node, priorities}
+use Rattle.omega_parity_game.specs.declared.player.Player.{Player}
+use Rattle.omega_parity_game.specs.Bound.{bound_of}
+use Rattle.omega_parity_game.specs.Game.{Node, priorities}
 use Rattle.omega_solve.specs.declared.outcome.Outcome.{Outcome}
 use Rattle.omega_solve.specs.declared.outcome.Outcome.TheVariants.{Done, Spent}
 use Rattle.omega_budget.specs.Within.{EndsSo}

@@ -1,6 +1,6 @@
 -- Reordered games, and their answers restated for the original game.
 use Rattle.std.specs.Prelude.{◌≡◌, ℕ, ◌<◌, Bool, false, List, length, map, slice_index, slice_index_or}
-use Rattle.omega_game.specs.Game.{Node, node_at, priorities}
+use Rattle.omega_parity_game.specs.Game.{Node, node_at, priorities}
 use Rattle.omega_lift_laws.specs.Allowance.{measure_at}
 use Rattle.omega_lift_laws.specs.Measure.{Measure}
 use Rattle.omega_order.specs.Permutation.{AreInverse}

@@ -1,6 +1,6 @@
 //! Translates the answer for the reordered game back to the original places.
 ghost use Rattle.std.specs.Prelude.{◌≡◌, ℕ, ◌<◌, true, false, length, slice_index_or, IfOk, IfErr, IfSome, IsOk, IsOkUnless, None};
-ghost use Rattle.omega_game.specs.Game.{priorities};
+ghost use Rattle.omega_parity_game.specs.Game.{priorities};
 ghost use Rattle.omega_measure.specs.Table.{IsPrepareRefusal, is_too_wide};
 ghost use Rattle.omega_budget.specs.Reordering.{flags_by_place, measures_by_place};
 ghost use Rattle.omega_budget.specs.private.steps.Reordering.{choices_by_place};
@@ -10,8 +10,8 @@ ghost use Rattle.omega_solve.specs.Solver.{start_of};
 
 use crate::found::Found;
 use crate::reordered::Reordered;
-use omega_game::{Player, Refusal};
 use omega_order::Permutation;
+use omega_parity_game::{Player, Refusal};
 use omega_solve::{MeasureTable, Schedule, Solver, headline};
 use std::alloc::Global;
 
@@ -41,9 +41,13 @@ impl Reordered<'_> {
         requires nodes { solver.now.nodes ≡ self.now.reordered }
         requires done { solver.now.done ≡ true }
         ensures lifts { IfOk result (λ found. found.lifts ≡ solver.now.lifts) }
-        ensures exact { IfOk result (λ found. IsExact self.now.given solver.now.player found.won.items found.choice.items) }
-        ensures below_top { IfOk result (λ found. found.won.items ≡ won_in (measures_by_place self.now.positions solver.now.table.measures)) }
-        ensures chosen { IfOk result (λ found. AreChoices self.now.given solver.now.player (measures_by_place self.now.positions solver.now.table.measures) found.choice.items) }
+        ensures exact { IfOk result (λ found.
+            IsExact self.now.given solver.now.player found.won.items found.choice.items) }
+        ensures below_top { IfOk result (λ found.
+            found.won.items ≡ won_in (measures_by_place self.now.positions solver.now.table.measures)) }
+        ensures chosen { IfOk result (λ found.
+            AreChoices self.now.given solver.now.player
+            (measures_by_place self.now.positions solver.now.table.measures) found.choice.items) }
         ensures memory { IsOkUnless result Refusal.Memory }
     {
         headline();
@@ -85,7 +89,8 @@ fn choices_of(
 ) -> Result<Vec<Option<u32>>, Refusal>
     requires entries { length choices.now ≡ length permutation.now.positions }
     requires positions { (r : ℕ) → IfSome (slice_index_or choices.now r None) (λ w. w < length permutation.now.places) }
-    ensures choices { IfOk result (λ places. places.items ≡ choices_by_place permutation.now.positions permutation.now.places choices.now) }
+    ensures choices { IfOk result (λ places.
+        places.items ≡ choices_by_place permutation.now.positions permutation.now.places choices.now) }
     ensures memory { IsOkUnless result Refusal.Memory }
 {
     let count = permutation.len();

@@ -1,14 +1,14 @@
 //! Builds the game with the same nodes at other places.
 ghost use Rattle.std.specs.Prelude.{◌≡◌, ◌++◌, ◌∷◌, [], ◌<◌, length, IfOk, OnOk, IsOkUnless};
-ghost use Rattle.omega_game.specs.Game.{IsGame, IsWithinLimits};
+ghost use Rattle.omega_parity_game.specs.Game.{IsGame, IsWithinLimits};
 ghost use Rattle.omega_order.specs.Permutation.{AreInverse};
 ghost use Rattle.omega_budget.specs.private.steps.Building.{spec_of};
 ghost use Rattle.omega_budget.specs.Reordering.{IsReordering};
 
-use omega_game::{
+use omega_order::Permutation;
+use omega_parity_game::{
     ForwardGame, Game, GameBuilder, Refusal, games_have_no_fault, specifications_have_one_game,
 };
-use omega_order::Permutation;
 use std::alloc::Global;
 
 /// Builds the game with each node of `game` at its position.
@@ -18,7 +18,8 @@ pub(crate) fn reordered_game(
     permutation: &Permutation,
 ) -> Result<Game, Refusal>
     requires positioned { length permutation.now.positions ≡ length game.now }
-    ensures reordered { IfOk result (λ other. IsReordering game.now other permutation.now.positions permutation.now.places) }
+    ensures reordered { IfOk result (λ other.
+        IsReordering game.now other permutation.now.positions permutation.now.places) }
     ensures memory { IsOkUnless result Refusal.Memory }
 {
     games_have_no_fault();
@@ -44,7 +45,8 @@ fn add_positioned(
     requires placed { length permutation.now.places ≡ length game.now }
     requires inverse { AreInverse permutation.now.positions permutation.now.places }
     requires position { position < length game.now }
-    ensures ok { OnOk result (builder.new ≡ builder.old ++ spec_of game.now permutation.now.positions permutation.now.places position ∷ []) }
+    ensures ok { OnOk result
+        (builder.new ≡ builder.old ++ spec_of game.now permutation.now.positions permutation.now.places position ∷ []) }
     ensures memory { IsOkUnless result Refusal.Memory }
 {
     let place = permutation.place(position);

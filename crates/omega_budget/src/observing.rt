@@ -1,7 +1,7 @@
 ghost use Rattle.std.specs.Prelude.{◌≡◌, ℕ, ◌<◌};
 ghost use Rattle.omega_budget.specs.Observing.{lifts_between_reports};
 
-use omega_game::Player;
+use omega_parity_game::Player;
 
 /// The number of lifts that the program makes from one report to the next.
 pub const LIFTS_BETWEEN_REPORTS: u64 = 67_108_864;

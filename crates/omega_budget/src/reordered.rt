@@ -1,9 +1,9 @@
 ghost use Rattle.std.specs.Prelude.{◌≡◌, IfOk, IsOkUnless};
-ghost use Rattle.omega_game.specs.Game.{IsGame};
+ghost use Rattle.omega_parity_game.specs.Game.{IsGame};
 
 use crate::building::reordered_game;
-use omega_game::{ForwardGame, Game, Refusal};
 use omega_order::Permutation;
+use omega_parity_game::{ForwardGame, Game, Refusal};
 use std::alloc::Global;
 use std::marker::Model;
 
@@ -25,7 +25,8 @@ impl<'g> Model for Reordered<'g> {
 
     ghost view = { λ a. record { given = a.given.now; reordered = a.other; positions = a.permutation.positions; places = a.permutation.places } };
 
-    ghost invariant = { λ a. IsReordered (record { given = a.given.now; reordered = a.other; positions = a.permutation.positions; places = a.permutation.places }) };
+    ghost invariant = { λ a. IsReordered
+        (record { given = a.given.now; reordered = a.other; positions = a.permutation.positions; places = a.permutation.places }) };
 }
 
 impl<'g> Reordered<'g> {

@@ -6,7 +6,7 @@ ghost use Rattle.omega_solve.specs.Limits.{most_lifts};
 ghost use Rattle.omega_solve.specs.Solver.{start_of};
 
 use crate::observing::{Progress, Reporter};
-use omega_game::{ForwardGame, Game, Player, bound};
+use omega_parity_game::{ForwardGame, Game, Player, bound};
 use omega_solve::{MeasureTable, Outcome, Schedule, Solver};
 
 /// Runs a new `solver` for `game` and `player` within `budget`. Reports to `observer` after each `reporter.every()`
@@ -23,7 +23,8 @@ pub(crate) fn run_observed<T: MeasureTable, S: Schedule, L, W: Reporter<L>>(
     requires fresh { solver.old ≡ start_of game.now player }
     requires budget { budget ≤ most_lifts }
     ensures lifted { HasLifted game.now player budget result solver.new }
-    ensures reported { IsReported (W.tells reporter.now) player (W.pace reporter.now) most result solver.new.lifts observer.old observer.new }
+    ensures reported { IsReported (W.tells reporter.now) player (W.pace reporter.now) most
+        result solver.new.lifts observer.old observer.new }
 {
     let every = reporter.every();
     let mut made = 0;

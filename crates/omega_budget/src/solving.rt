@@ -1,5 +1,5 @@
 ghost use Rattle.std.specs.Prelude.{◌≡◌, ◌≤◌, false, IfOk, IfErr, IsOk, IsOkUnless};
-ghost use Rattle.omega_game.specs.Game.{priorities};
+ghost use Rattle.omega_parity_game.specs.Game.{priorities};
 ghost use Rattle.omega_measure.specs.Table.{is_too_wide};
 ghost use Rattle.omega_solve.specs.Limits.{most_lifts};
 ghost use Rattle.omega_solve.specs.Solver.{start_of};
@@ -12,7 +12,7 @@ use crate::laws::{reorderings_keep_bounds, reorderings_keep_states};
 use crate::observing::Reporter;
 use crate::reordered::Reordered;
 use crate::running::{most_lifts_of, run_observed};
-use omega_game::{Player, Refusal, TaskFault};
+use omega_parity_game::{Player, Refusal, TaskFault};
 use omega_solve::{MeasureTable, Nested, Outcome, PackedTable, Schedule, Solver};
 use std::alloc::Global;
 
@@ -32,7 +32,8 @@ impl Reordered<'_> {
         ensures found { IfOk result (IsFound self.now.given player budget) }
         ensures fits { IsOk result → is_too_wide player (priorities self.now.given) ≡ false }
         ensures refused { IfErr result (IsSolvingRefusal self.now.given player budget) }
-        ensures reported { ReportsSolving (W.tells reporter.now) (W.pace reporter.now) self.now.given player budget result observer.old observer.new }
+        ensures reported { ReportsSolving (W.tells reporter.now) (W.pace reporter.now)
+            self.now.given player budget result observer.old observer.new }
     {
         let solver: Solver<'_, PackedTable, Nested> = self.prepare(alloc, player)?;
         self.found_observed(alloc, solver, player, budget, reporter, observer)
@@ -53,7 +54,8 @@ impl Reordered<'_> {
         requires budget { budget ≤ most_lifts }
         ensures found { IfOk result (IsFound self.now.given player budget) }
         ensures refused { IfErr result (IsBudgetRefusal self.now.given player budget) }
-        ensures reported { ReportsFound (W.tells reporter.now) (W.pace reporter.now) self.now.given player budget result observer.old observer.new }
+        ensures reported { ReportsFound (W.tells reporter.now) (W.pace reporter.now)
+            self.now.given player budget result observer.old observer.new }
     {
         reorderings_keep_states();
         reorderings_keep_bounds();

@@ -25,7 +25,7 @@ pub(crate) fn called(alloc: Global, call: &str, text: &[u8]) -> Option<Result<Ve
     }
 }
 
-/// The automaton of a text as it is written, over the bytes.
+/// Returns the automaton of a text as it is written, over the bytes.
 fn raw_in(alloc: Global, text: &[u8]) -> Result<RawAutomaton, Refusal> {
     match check_tokens::<HoaKind>(text) {
         Ok(()) => read_raw(alloc, &mut TextCursor::<HoaKind>::new(text)),
@@ -33,7 +33,7 @@ fn raw_in(alloc: Global, text: &[u8]) -> Result<RawAutomaton, Refusal> {
     }
 }
 
-/// The same over the list of its tokens.
+/// Returns the same over the list of its tokens.
 fn raw_of_tokens(alloc: Global, text: &[u8]) -> Result<RawAutomaton, Refusal> {
     let tokens = hoa_tokens(alloc, text)?;
     read_raw(alloc, &mut Cursor::new(tokens.as_slice(), text.len()))
@@ -73,7 +73,7 @@ fn drawn(alloc: Global, text: &[u8]) -> Result<Vec<u8>, Refusal> {
     }
 }
 
-/// The drawing with the edge 0 as a cycle, whatever it leads to.
+/// Returns the drawing with the edge 0 as a cycle, whatever it leads to.
 fn drawn_with_lasso(alloc: Global, text: &[u8]) -> Result<Vec<u8>, Refusal> {
     match read_one(alloc, text) {
         Ok(automaton) => draw_lasso(alloc, &automaton, &[], &[0]),
@@ -81,7 +81,7 @@ fn drawn_with_lasso(alloc: Global, text: &[u8]) -> Result<Vec<u8>, Refusal> {
     }
 }
 
-/// Two short edges and one with a label, in as much memory as they need.
+/// Returns two short edges and one with a label, in as much memory as they need.
 fn edges_written(alloc: Global) -> Result<Vec<u8>, Refusal> {
     let mut edges = RawEdges::new(alloc);
     push_again(alloc, &mut edges, 1, false)?;
@@ -121,7 +121,7 @@ fn label(alloc: Global, labelled: bool) -> Result<Option<RawLabel>, Refusal> {
     }
 }
 
-/// The targets of each edge, and whether it has a label.
+/// Returns the targets of each edge, and whether it has a label.
 fn written_edges(alloc: Global, edges: &RawEdges) -> Result<Vec<u8>, Refusal> {
     let mut out = Vec::new(alloc);
     for at in 0..edges.len() {
@@ -132,7 +132,7 @@ fn written_edges(alloc: Global, edges: &RawEdges) -> Result<Vec<u8>, Refusal> {
     Ok(out)
 }
 
-/// A name as a state keeps it.
+/// Returns a name as a state keeps it.
 fn name_written(alloc: Global, text: &[u8]) -> Result<Vec<u8>, Refusal> {
     let name = StateName::of(alloc, ByteString::from_slice(alloc, text)?)?;
     match name.as_slice() {

@@ -54,12 +54,12 @@ fn verdict_written(alloc: Global, verdict: Result<Verdict, Refusal>) -> Result<V
     Ok(out)
 }
 
-/// The verdict within a small budget, while nobody is told.
+/// Returns the verdict within a small budget, with no observer.
 fn observed(alloc: Global, automaton: &Automaton) -> Result<Verdict, Refusal> {
     emptiness_observed(alloc, automaton, 1000, &NoObserver, &mut ())
 }
 
-/// The verdict of the emptiness game once it is solved.
+/// Returns the verdict of the emptiness game once it is solved.
 fn decided(alloc: Global, automaton: &Automaton) -> Result<Verdict, Refusal> {
     match emptiness_game(alloc, automaton) {
         Ok(game) => {

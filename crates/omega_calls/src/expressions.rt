@@ -30,13 +30,13 @@ pub(crate) fn called(
     }
 }
 
-/// The label of a text, over the list of its tokens.
+/// Returns the label of a text, over the list of its tokens.
 pub(crate) fn label_in(alloc: Global, text: &[u8]) -> Result<RawLabel, Refusal> {
     let tokens = hoa_tokens(alloc, text)?;
     read_label(alloc, &mut Cursor::new(tokens.as_slice(), text.len()))
 }
 
-/// The same over the bytes.
+/// Returns the same over the bytes.
 fn raw_label_in(alloc: Global, text: &[u8]) -> Result<RawLabel, Refusal> {
     match check_tokens::<HoaKind>(text) {
         Ok(()) => read_raw_label(alloc, &mut TextCursor::<HoaKind>::new(text)),
@@ -44,7 +44,7 @@ fn raw_label_in(alloc: Global, text: &[u8]) -> Result<RawLabel, Refusal> {
     }
 }
 
-/// `(!0)&t|@a`.
+/// Returns `(!0)&t|@a`.
 fn label_built(alloc: Global) -> Result<RawLabel, Refusal> {
     let left = front_built(alloc)?;
     left.or(RawLabel::alias(alloc, b"@a")?)
@@ -55,7 +55,7 @@ fn front_built(alloc: Global) -> Result<RawLabel, Refusal> {
     left.and(RawLabel::constant(alloc, true)?)
 }
 
-/// What is written of a label in which `@a` stands for `1|2`.
+/// Returns what is written of a label in which `@a` is `1|2`.
 fn label_written(alloc: Global, raw: Result<RawLabel, Refusal>) -> Result<Vec<u8>, Refusal> {
     match raw {
         Ok(raw) => over_aliases(alloc, &raw, &aliases(alloc, b"1|2")?),
@@ -67,7 +67,7 @@ fn over_aliases(alloc: Global, raw: &RawLabel, aliases: &Aliases) -> Result<Vec<
     written(alloc, &expand(alloc, raw, aliases)?)
 }
 
-/// A label after `<`. A refused request leaves `<` alone, and the label is asked for once more.
+/// Returns a label after `<`. A refused request leaves `<` alone, and the label is written once more.
 fn written(alloc: Global, label: &Label) -> Result<Vec<u8>, Refusal> {
     let mut out = Vec::from_slice(alloc, b"<")?;
     match write_label(label, &mut out) {
@@ -80,7 +80,7 @@ fn written(alloc: Global, label: &Label) -> Result<Vec<u8>, Refusal> {
     }
 }
 
-/// `@a` for a text, and `@b` for `@a&!@a`.
+/// Returns `@a` for a text, and `@b` for `@a&!@a`.
 fn aliases(alloc: Global, text: &[u8]) -> Result<Aliases, Refusal> {
     let mut aliases = Aliases::new(alloc);
     add_again(alloc, &mut aliases, b"@a", text)?;
@@ -120,20 +120,20 @@ fn size(alloc: Global, text: &[u8], definition: &[u8]) -> Result<Vec<u8>, Refusa
     Ok(out)
 }
 
-/// The label of a text, taken apart and put together.
+/// Returns the label of a text, taken apart and put together.
 fn label_again(alloc: Global, text: &[u8]) -> Result<Vec<u8>, Refusal> {
     let label = expand(alloc, &label_in(alloc, text)?, &Aliases::new(alloc))?;
     let shape = label.shape(alloc)?;
     written(alloc, &Label::of_shape(alloc, &shape)?)
 }
 
-/// The acceptance formula of a text, over the list of its tokens.
+/// Returns the acceptance formula of a text, over the list of its tokens.
 pub(crate) fn formula_in(alloc: Global, text: &[u8]) -> Result<Acc, Refusal> {
     let tokens = hoa_tokens(alloc, text)?;
     read_acc(alloc, &mut Cursor::new(tokens.as_slice(), text.len()))
 }
 
-/// The same as it is written, over the bytes.
+/// Returns the same as it is written, over the bytes.
 fn raw_formula_in(alloc: Global, text: &[u8]) -> Result<RawAcc, Refusal> {
     match check_tokens::<HoaKind>(text) {
         Ok(()) => read_raw_acc(alloc, &mut TextCursor::<HoaKind>::new(text)),
@@ -141,13 +141,13 @@ fn raw_formula_in(alloc: Global, text: &[u8]) -> Result<RawAcc, Refusal> {
     }
 }
 
-/// The formula of a text, taken apart and put together.
+/// Returns the formula of a text, taken apart and put together.
 fn formula_again(alloc: Global, text: &[u8]) -> Result<Vec<u8>, Refusal> {
     let shape = formula_in(alloc, text)?.shape(alloc)?;
     text_of(alloc, &Acc::of_shape(alloc, &shape)?)
 }
 
-/// `(Inf(0))&t|Fin(!1)`.
+/// Returns `(Inf(0))&t|Fin(!1)`.
 fn raw_built(alloc: Global) -> Result<RawAcc, Refusal> {
     let left = raw_front_built(alloc)?;
     left.or(RawAcc::atom(alloc, b"Fin", true, 1)?)
@@ -158,7 +158,7 @@ fn raw_front_built(alloc: Global) -> Result<RawAcc, Refusal> {
     left.and(RawAcc::constant(alloc, true)?)
 }
 
-/// `Inf(0)&t|Fin(!1)`.
+/// Returns `Inf(0)&t|Fin(!1)`.
 fn built(alloc: Global) -> Result<Acc, Refusal> {
     let left = front_of_built(alloc)?;
     left.or(Acc::fin(alloc, true, 1)?)
@@ -183,7 +183,7 @@ fn formula_written(alloc: Global, formula: Result<Acc, Refusal>) -> Result<Vec<u
     }
 }
 
-/// A formula after `<`. A refused request leaves `<` alone, and the formula is asked for once more.
+/// Returns a formula after `<`. A refused request leaves `<` alone, and the formula is written once more.
 fn text_of(alloc: Global, formula: &Acc) -> Result<Vec<u8>, Refusal> {
     let mut out = Vec::from_slice(alloc, b"<")?;
     match write_acc(formula, &mut out) {

@@ -56,7 +56,7 @@ fn forward_written(
     }
 }
 
-/// The game of a text, its predecessors made after the rest.
+/// Returns the game of a text, its predecessors made after the rest.
 fn completed(alloc: Global, text: &[u8]) -> Result<Game, Refusal> {
     match read_forward_game(alloc, text) {
         Ok(forward) => forward.with_predecessors(alloc),
@@ -71,7 +71,7 @@ fn drawn(alloc: Global, text: &[u8]) -> Result<Vec<u8>, Refusal> {
     }
 }
 
-/// What the game's first node reaches by two edges.
+/// Returns a drawing of what the game's first node reaches by two edges.
 fn part_drawn(alloc: Global, text: &[u8]) -> Result<Vec<u8>, Refusal> {
     match read_game(alloc, text) {
         Ok(game) => drawn_from_first(alloc, &game),
@@ -90,7 +90,7 @@ fn drawn_from_first(alloc: Global, game: &Game) -> Result<Vec<u8>, Refusal> {
     draw_game(alloc, game.forward(), extent)
 }
 
-/// The part of the game's first node.
+/// Returns the part of the game's first node.
 fn part(alloc: Global, text: &[u8]) -> Result<Game, Refusal> {
     match read_game(alloc, text) {
         Ok(game) => part_of_first(alloc, &game),
@@ -105,7 +105,7 @@ fn part_of_first(alloc: Global, game: &Game) -> Result<Game, Refusal> {
     game.part(alloc, 0)
 }
 
-/// The game of two nodes, of which one has a name.
+/// Returns the game of two nodes, one of them with a name.
 fn built_of_two(alloc: Global) -> Result<Game, Refusal> {
     let first = Seq::from_vec(Vec::from_slice(alloc, &[7, 3])?);
     let second = Seq::from_vec(Vec::from_slice(alloc, &[7])?);
@@ -129,17 +129,17 @@ fn built_of_two(alloc: Global) -> Result<Game, Refusal> {
     Game::build(alloc, specs)
 }
 
-/// The game of a text, its nodes handed to a builder one by one.
+/// Returns the game of a text, its nodes handed to a builder one by one.
 fn built_again(alloc: Global, text: &[u8]) -> Result<Game, Refusal> {
     filled(alloc, text)?.finish()
 }
 
-/// The same without predecessors.
+/// Returns the same without predecessors.
 fn forward_built_again(alloc: Global, text: &[u8]) -> Result<ForwardGame, Refusal> {
     filled(alloc, text)?.finish_forward()
 }
 
-/// A builder with the nodes of the game of a text.
+/// Returns a builder with the nodes of the game of a text.
 fn filled(alloc: Global, text: &[u8]) -> Result<GameBuilder, Refusal>
     ensures { IfOk result (λ builder. 0 < length builder) }
 {
@@ -212,7 +212,7 @@ fn list_again(builder: &mut GameBuilder, successor: u32) -> Result<(), Refusal> 
     }
 }
 
-/// Names the last node.
+/// Gives the last node its name once more.
 fn name_again(builder: &mut GameBuilder) -> Result<(), Refusal> {
     if builder.len() == 0 {
         return Err(Refusal::Io);
@@ -223,7 +223,7 @@ fn name_again(builder: &mut GameBuilder) -> Result<(), Refusal> {
     }
 }
 
-/// What a call gives of a game and a solution.
+/// Returns what a call gives of a game and a solution.
 fn called_of_both(
     alloc: Global,
     call: &str,
@@ -263,7 +263,7 @@ fn judged_by_order(alloc: Global, game: &Game, solution: &Solution) -> Result<Ve
     Ok(out)
 }
 
-/// What a call gives of both players' choices.
+/// Returns what a call gives of both players' choices.
 fn judged(alloc: Global, call: &str, game: &Game, solution: &Solution) -> Result<Vec<u8>, Refusal> {
     let mut out = Vec::new(alloc);
     judge(alloc, call, game, solution, Player::Zero, &mut out)?;

@@ -19,7 +19,7 @@ pub(crate) fn called(alloc: Global, call: &str, text: &[u8]) -> Option<Result<Ve
     }
 }
 
-/// The first bytes of a text, up to 40 of them.
+/// Returns the first bytes of a text, up to 40 of them.
 fn first_piece(alloc: Global, text: &[u8]) -> Result<Vec<u8>, Refusal> {
     let mut piece = [0; 40];
     let count = read_piece(&mut FromRead::new(text), 0, &mut piece)?;
@@ -49,7 +49,7 @@ impl TokenReader<PgKind> for Values {
     }
 }
 
-/// The values of the tokens of a game text, which may be any.
+/// Returns the values of the tokens of a game text, which may be any.
 fn numbers_in(alloc: Global, text: &[u8]) -> Result<Vec<u8>, Refusal> {
     let values = Values {
         taken: Vec::new(alloc),
@@ -62,7 +62,7 @@ fn numbers_in(alloc: Global, text: &[u8]) -> Result<Vec<u8>, Refusal> {
     Ok(out)
 }
 
-/// What is told of an item: the canonical text of an automaton.
+/// An answer to each item: the canonical text of an automaton.
 struct CanonicalItem;
 
 impl ItemText for CanonicalItem {
@@ -83,7 +83,7 @@ fn reported(alloc: Global, text: &[u8]) -> Result<Vec<u8>, Refusal> {
     tell_stream::<CanonicalItem, FromRead<&[u8]>>(alloc, &mut input)
 }
 
-/// The lines of a refusal of a text of the given name.
+/// Returns the lines of a refusal of a text of the given name.
 fn named(alloc: Global, name: &[u8]) -> Result<Vec<u8>, Refusal> {
     match std::str::from_utf8(name) {
         Ok(name) => lines_in(alloc, name, Refusal::Text(TextFault::Syntax { at: 12 })),
@@ -91,7 +91,7 @@ fn named(alloc: Global, name: &[u8]) -> Result<Vec<u8>, Refusal> {
     }
 }
 
-/// The lines of a refusal of a file of the given name.
+/// Returns the lines of a refusal of a file of the given name.
 fn named_as_file(alloc: Global, name: &[u8]) -> Result<Vec<u8>, Refusal> {
     match std::str::from_utf8(name) {
         Ok(name) => file_lines(alloc, name, Refusal::Io),

@@ -18,7 +18,7 @@ pub(crate) fn called(
     }
 }
 
-/// The product of the automata of two texts.
+/// Returns the product of the automata of two texts.
 fn product_in(alloc: Global, text: &[u8], other: &[u8]) -> Result<Vec<u8>, Refusal> {
     match read_one(alloc, text) {
         Ok(automaton) => product_with(alloc, &automaton, other),

@@ -28,7 +28,7 @@ fn read_and_written(alloc: Global, text: &[u8]) -> Result<Vec<u8>, Refusal> {
     }
 }
 
-/// Of the automaton of a text and the lasso of another its word, or what the referee says.
+/// Returns for the automaton of a text and the lasso of another its word, or what the referee says.
 fn of_lasso_in(alloc: Global, call: &str, text: &[u8], other: &[u8]) -> Result<Vec<u8>, Refusal> {
     match read_one(alloc, text) {
         Ok(automaton) => of_lasso(alloc, call, &automaton, other),
@@ -58,7 +58,7 @@ fn word(alloc: Global, automaton: &Automaton, lasso: &LassoText) -> Result<Vec<u
     )
 }
 
-/// The fault of a lasso, or that it accepts.
+/// Returns the fault of a lasso, or that it accepts.
 fn judged(alloc: Global, automaton: &Automaton, lasso: &LassoText) -> Result<Vec<u8>, Refusal> {
     let (stem, cycle) = (lasso.stem.as_slice(), lasso.cycle.as_slice());
     let found = judge_lasso(alloc, automaton, stem, cycle)?;
@@ -70,7 +70,7 @@ fn judged(alloc: Global, automaton: &Automaton, lasso: &LassoText) -> Result<Vec
     Ok(out)
 }
 
-/// Where the edges of the automaton of a text stand: the place of the state, and that among its edges.
+/// Returns for each edge of the automaton of a text the place of its state, and its own among the edges of that state.
 fn places_in(alloc: Global, text: &[u8]) -> Result<Vec<u8>, Refusal> {
     match read_one(alloc, text) {
         Ok(automaton) => places_of(alloc, &automaton),

@@ -1,6 +1,6 @@
 //! A program that makes one public call of the libraries on two texts, each of them a word after the call's name, and
-//! writes what the call gives. Its status is 0, or the number of the refusal; 61 also where a call left something
-//! changed after a refused request, or where there is no such call. `checks/calls.py` refuses its requests for memory.
+//! writes what the call gives. Its status is 0, or the number of the refusal. It is 61 also if a call left something
+//! changed after a refused request, or if there is no such call. `checks/calls.py` refuses its requests for memory.
 #![tactic(auto)]
 
 mod automata;
@@ -38,7 +38,7 @@ fn status_of(refusal: Refusal) -> ExitCode {
     ExitCode::from(u8::try_from(refusal.number()).unwrap_or(255))
 }
 
-/// What the words ask for.
+/// Returns what the words request.
 fn answer(rt: &HostRuntime) -> Result<Vec<u8>, Refusal> {
     match words_of(rt) {
         Ok(words) => asked(rt.alloc(), words.as_slice()),
@@ -60,7 +60,7 @@ fn asked(alloc: Global, words: &[String]) -> Result<Vec<u8>, Refusal> {
     called(alloc, words[1].as_str(), text, other)
 }
 
-/// What a call gives of two texts.
+/// Returns what a call gives of two texts.
 fn called(alloc: Global, call: &str, text: &[u8], other: &[u8]) -> Result<Vec<u8>, Refusal> {
     if let Some(given) = tokens::called(alloc, call, text) {
         return given;

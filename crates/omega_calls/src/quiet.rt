@@ -42,8 +42,8 @@ fn texts(alloc: Global, text: &[u8], runs: bool) -> Result<Vec<u8>, Refusal> {
     Ok(out)
 }
 
-/// The first token of a text of the Hanoi format, all of them by a cursor over its bytes, and its first one as a game
-/// text.
+/// Puts the first token of a text of the Hanoi format, all of them by a cursor over its bytes, and its first one as a
+/// game text.
 fn put_tokens(alloc: Global, text: &[u8], out: &mut Vec<u8>) -> Result<(), Refusal> {
     if let Ok(Some(token)) = next_hoa_token(text, 0) {
         put(out, token.span.end as u128)?;
@@ -113,7 +113,7 @@ fn put_game(game: &Game, strategy: &Strategy, out: &mut Vec<u8>) -> Result<(), R
     put(out, bound(game.forward(), Player::Zero).unwrap_or(0))
 }
 
-/// A player, and whether a priority that occurs for ever is lost by the opponent.
+/// Puts a player, and whether a priority that occurs for ever is lost by the opponent.
 fn put_player(player: Player, priority: u32, out: &mut Vec<u8>) -> Result<(), Refusal> {
     put(out, u128::from(player.number()))?;
     put_answer(out, player.opponent().loses(priority))?;
@@ -180,14 +180,14 @@ fn put_edges(state: &State, out: &mut Vec<u8>) -> Result<(), Refusal> {
     Ok(())
 }
 
-/// Whether an edge has a label, where it leads, and its marks.
+/// Puts whether an edge has a label, its targets, and its marks.
 fn put_edge(edge: &EdgeRef<'_>, out: &mut Vec<u8>) -> Result<(), Refusal> {
     put_answer(out, edge.label().is_some())?;
     put_all(out, edge.targets())?;
     put_all(out, edge.marks())
 }
 
-/// What the acceptance of an automaton is.
+/// Puts the kind of the acceptance of an automaton.
 fn put_kind(automaton: &Automaton, out: &mut Vec<u8>) -> Result<(), Refusal> {
     let Some(name) = automaton.acc_name() else {
         return Ok(());

@@ -24,7 +24,7 @@ pub(crate) fn called(alloc: Global, call: &str, text: &[u8]) -> Option<Result<Ve
     }
 }
 
-/// States 0 and 1 with an edge each way, and from 1 one to 2, which has an edge to itself.
+/// Returns a graph of states 0 and 1 with an edge each way, and from 1 one to 2, which has an edge to itself.
 fn graph(alloc: Global) -> Result<Graph, Refusal>
     ensures states { IfOk result (λ graph. graph.states ≡ 3) }
     ensures edges { IfOk result (λ graph. length graph.edges ≡ 4) }
@@ -37,7 +37,7 @@ fn graph(alloc: Global) -> Result<Graph, Refusal>
     Ok(graph)
 }
 
-/// The edges of each component.
+/// Returns the edges of each component.
 fn grouped(alloc: Global) -> Result<Vec<u8>, Refusal> {
     let graph = graph(alloc)?;
     let mut scratch = Scratch::new(alloc, 3)?;
@@ -49,7 +49,7 @@ fn grouped(alloc: Global) -> Result<Vec<u8>, Refusal> {
     Ok(out)
 }
 
-/// Which states are reached from the last one.
+/// Returns which states are reached from the last one.
 fn met(alloc: Global) -> Result<Vec<u8>, Refusal> {
     let graph = graph(alloc)?;
     let states = reached(alloc, &graph, EDGES.as_slice(), [2].as_slice())?;
@@ -60,14 +60,14 @@ fn met(alloc: Global) -> Result<Vec<u8>, Refusal> {
     Ok(out)
 }
 
-/// A walk from the first state to the last.
+/// Returns a walk from the first state to the last.
 fn walked(alloc: Global) -> Result<Vec<u8>, Refusal> {
     let graph = graph(alloc)?;
     let walk = path(alloc, &graph, EDGES.as_slice(), [0].as_slice(), 2)?;
     written_walk(alloc, walk)
 }
 
-/// A closed walk that the formula of a text accepts, where the edges have marks 0, 1, none and 1.
+/// Returns a closed walk that the formula of a text accepts, if the edges have marks 0, 1, none and 1.
 fn accepted(alloc: Global, text: &[u8]) -> Result<Vec<u8>, Refusal> {
     let shape = formula_in(alloc, text)?.shape(alloc)?;
     let graph = graph(alloc)?;

@@ -34,8 +34,8 @@ pub(crate) fn called(
     }
 }
 
-/// What two solvers find, one of which takes the places in the game's order. All of the text's room is asked for
-/// before they are made, and neither runs where it is not to.
+/// Returns what two solvers find; one of them takes the places in the game's order. All of the text's room is requested
+/// before they are made, and neither runs unless `runs`.
 fn of_text<T: MeasureTable, S: Schedule>(
     alloc: Global,
     text: &[u8],
@@ -76,7 +76,7 @@ fn lift_by_both<T: MeasureTable, S: Schedule>(
     }
 }
 
-/// Runs a solver lift by lift. Its lifts, its attempts, and what it finds.
+/// Runs a solver lift by lift, and puts its lifts, its attempts, and what it finds.
 fn lift_whole<T: MeasureTable, S: Schedule>(
     solver: &mut Solver<'_, T, S>,
     out: &mut Vec<u8>,
@@ -168,7 +168,7 @@ fn ordered(alloc: Global, text: &[u8]) -> Result<Vec<u8>, Refusal> {
     }
 }
 
-/// The places of a game in the order of their positions, and how many words its sets of positions have.
+/// Returns the places of a game in the order of their positions, and how many words its sets of positions have.
 fn order(alloc: Global, game: &Game) -> Result<Vec<u8>, Refusal> {
     let permutation = Permutation::nested(alloc, game.forward())?;
     let mut out = Vec::new(alloc);

@@ -19,7 +19,7 @@ pub(crate) fn called(alloc: Global, call: &str, text: &[u8]) -> Option<Result<Ve
     }
 }
 
-/// The greatest number after `<`. A refused request leaves `<` alone, and the number is asked for once more.
+/// Returns the greatest number after `<`. A refused request leaves `<` alone, and the number is written once more.
 fn number(alloc: Global) -> Result<Vec<u8>, Refusal> {
     let mut out = Vec::from_slice(alloc, b"<")?;
     match write_number(u128::MAX, &mut out) {
@@ -42,7 +42,7 @@ fn hoa_places(alloc: Global, text: &[u8]) -> Result<Vec<u8>, Refusal> {
     places(alloc, tokens.as_slice())
 }
 
-/// Where tokens begin and end.
+/// Returns the places at which tokens begin and end.
 fn places<K: TokenKind>(alloc: Global, tokens: &[Token<'_, K>]) -> Result<Vec<u8>, Refusal> {
     let mut out = Vec::new(alloc);
     for token in tokens {
@@ -57,7 +57,7 @@ fn string(alloc: Global, text: &[u8]) -> Result<Vec<u8>, Refusal> {
     Ok(Vec::from_slice(alloc, string.as_slice())?)
 }
 
-/// Some numbers from a list, and as many one by one. A refused request leaves the list as it was.
+/// Returns some numbers from a list, and as many one by one. A refused request leaves the list as it was.
 fn numbers(alloc: Global) -> Result<Vec<u8>, Refusal> {
     let mut list = Numbers::from_slice(alloc, &[3, 1, 4, 1, 5])?;
     for number in 0..20u32 {

@@ -1,11 +1,12 @@
 -- The lines of the header in the canonical text of an automaton, in their order.
 use Rattle.std.specs.Prelude.{ℕ, Option, Some, None, List, [], ◌∷◌, ◌++◌, length, codes, decimal}
 use Rattle.std.specs.List.{flat_map}
-use Rattle.omega_acc.specs.formula.Acceptance.{AccTree}
-use Rattle.omega_acc.specs.Writing.{acc_text, truth_text}
-use Rattle.omega_acc.specs.declared.formula.name.AccName.{AccName}
-use Rattle.omega_acc.specs.declared.formula.name.Parameter.{Parameter}
-use Rattle.omega_acc.specs.declared.formula.name.Parameter.TheVariants as parameter
+use Rattle.omega_formula.specs.Acceptance.{AccTree}
+use Rattle.omega_expression.specs.Writing.{truth_text}
+use Rattle.omega_formula.specs.Writing.{acc_text}
+use Rattle.omega_formula.specs.declared.name.AccName.{AccName}
+use Rattle.omega_formula.specs.declared.name.Parameter.{Parameter}
+use Rattle.omega_formula.specs.declared.name.Parameter.TheVariants as parameter
 use Rattle.omega_automaton.specs.Automaton.{Description}
 use Rattle.omega_automaton.specs.declared.header.Header.{Header}
 use Rattle.omega_automaton.specs.declared.tool.Tool.{Tool}
@@ -44,7 +45,8 @@ parameter_part (parameter.Word bytes) = spaced bytes
 -- `acc-name:` with its parameters, if there is one
 abbrev pub acc_name_line : Option AccName → List ℕ
 acc_name_line None = []
-acc_name_line (Some name) = codes "acc-name:" ++ (spaced name.name ++ (flat_map parameter_part name.parameters ++ codes "\n"))
+acc_name_line (Some name) =
+    codes "acc-name:" ++ (spaced name.name ++ (flat_map parameter_part name.parameters ++ codes "\n"))
 
 -- `Acceptance:`, the count of sets and the formula
 abbrev pub acceptance_line : ℕ → AccTree → List ℕ
@@ -69,6 +71,7 @@ unknown_line header = header.name ++ (codes ":" ++ (flat_map value_part header.v
 -- all lines before the body
 abbrev pub header_text : Description → List ℕ
 header_text a =
-    codes "HOA: v1\n" ++ (tool_line a.tool ++ (name_line a.name ++ (states_line a.states ++ (flat_map start_line a.starts
+    codes "HOA: v1\n"
+    ++ (tool_line a.tool ++ (name_line a.name ++ (states_line a.states ++ (flat_map start_line a.starts
     ++ (propositions_line a.propositions ++ (acc_name_line a.acc_name ++ (acceptance_line a.sets a.acceptance
     ++ (properties_line a.properties ++ flat_map unknown_line a.unknown))))))))

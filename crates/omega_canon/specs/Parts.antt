@@ -2,8 +2,8 @@
 -- canonical text of an automaton).
 use Rattle.std.specs.Prelude.{ℕ, Option, Some, None, List, [], ◌∷◌, ◌++◌, codes, decimal}
 use Rattle.std.specs.List.{flat_map}
-use Rattle.omega_acc.specs.label.Label.{LabelTree}
-use Rattle.omega_acc.specs.Writing.{label_text}
+use Rattle.omega_label.specs.Label.{LabelTree}
+use Rattle.omega_label.specs.Writing.{label_text}
 
 -- bytes between quotes
 abbrev pub quoted_string : List ℕ → List ℕ

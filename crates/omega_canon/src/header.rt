@@ -4,13 +4,14 @@ ghost use Rattle.std.specs.Prelude.{◌≡◌, ◌++◌, IsOkUnless, OnOk, decim
 ghost use Rattle.std.specs.List.{flat_map};
 ghost use Rattle.omega_canon.specs.HeaderText.{acc_name_line, acceptance_line, header_text, name_line, parameter_part, properties_line, propositions_line, start_line, states_line, tool_line, unknown_line, value_part};
 ghost use Rattle.omega_canon.specs.Parts.{spaced};
-ghost use Rattle.omega_acc.specs.Writing.{acc_text, truth_text};
+ghost use Rattle.omega_expression.specs.Writing.{truth_text};
+ghost use Rattle.omega_formula.specs.Writing.{acc_text};
 
 use crate::parts::{
     write_numbers, write_string, write_string_part, write_strings, write_word, write_words,
 };
-use omega_acc::{Acc, Parameter, write_acc};
 use omega_automaton::{Automaton, HeaderValue};
+use omega_formula::{Acc, Parameter, write_acc};
 use omega_text::{ByteString, Refusal, write_number};
 
 /// Appends all lines before the body.
@@ -126,7 +127,8 @@ fn write_parameters(parameters: &[Parameter], out: &mut Vec<u8>) -> Result<(), R
 
 /// Appends the line `Acceptance:`.
 fn write_acceptance(automaton: &Automaton, out: &mut Vec<u8>) -> Result<(), Refusal>
-    ensures ok { OnOk result (out.new.items ≡ out.old.items ++ acceptance_line automaton.now.sets automaton.now.acceptance) }
+    ensures ok { OnOk result
+        (out.new.items ≡ out.old.items ++ acceptance_line automaton.now.sets automaton.now.acceptance) }
     ensures memory { IsOkUnless result Refusal.Memory }
 {
     out.extend_from_slice(b"Acceptance: ")?;

@@ -2,9 +2,9 @@
 
 ghost use Rattle.std.specs.Prelude.{◌≡◌, [], ◌∷◌, ◌++◌, IsOkUnless, OnOk, option_map};
 ghost use Rattle.std.specs.Option.{option_copied};
-ghost use Rattle.omega_canon.specs.Parts.{conjunction, label_part, marks_part, numbers_after, numbers_joined, quoted_string, spaced, string_part, strings, words};
+ghost use Rattle.omega_canon.specs.Parts.{label_part, marks_part, numbers_after, numbers_joined, quoted_string, spaced, string_part, strings, words};
 
-use omega_acc::{Label, write_label};
+use omega_label::{Label, write_label};
 use omega_text::{ByteString, Refusal, write_number};
 
 /// Appends a space and bytes between quotes.
@@ -50,7 +50,7 @@ pub(crate) fn write_words(texts: &[ByteString], out: &mut Vec<u8>) -> Result<(),
     Ok(())
 }
 
-/// Appends numbers with a sign before each.
+/// Appends `numbers`, with `sign` before each.
 fn write_numbers_after(sign: u8, numbers: &[u32], out: &mut Vec<u8>) -> Result<(), Refusal>
     ensures ok { OnOk result (out.new.items ≡ out.old.items ++ numbers_after (sign ∷ []) numbers.now) }
     ensures memory { IsOkUnless result Refusal.Memory }
@@ -62,7 +62,7 @@ fn write_numbers_after(sign: u8, numbers: &[u32], out: &mut Vec<u8>) -> Result<(
     Ok(())
 }
 
-/// Appends numbers with a sign between each two.
+/// Appends `numbers`, with `sign` between each two.
 pub(crate) fn write_numbers(sign: u8, numbers: &[u32], out: &mut Vec<u8>) -> Result<(), Refusal>
     ensures ok { OnOk result (out.new.items ≡ out.old.items ++ numbers_joined (sign ∷ []) numbers.now) }
     ensures memory { IsOkUnless result Refusal.Memory }
@@ -102,7 +102,8 @@ pub(crate) fn write_label_part(label: Option<&Label>, out: &mut Vec<u8>) -> Resu
 
 /// Appends a space and a string, if there is one.
 pub(crate) fn write_string_part(bytes: Option<&[u8]>, out: &mut Vec<u8>) -> Result<(), Refusal>
-    ensures ok { OnOk result (out.new.items ≡ out.old.items ++ string_part (option_map (λ bytes. bytes.now) bytes.entry)) }
+    ensures ok { OnOk result
+        (out.new.items ≡ out.old.items ++ string_part (option_map (λ bytes. bytes.now) bytes.entry)) }
     ensures memory { IsOkUnless result Refusal.Memory }
 {
     if let Some(bytes) = bytes {

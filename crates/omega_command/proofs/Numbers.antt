@@ -29,7 +29,7 @@ empty : (text : List ℕ) → length text ≡ 0 → text ≡ []
 empty [] none = refl
 empty (byte ∷ rest) none = absurd (omega (arith, none))
 
--- the reason that is told of a text that begins with no sign
+-- the reason for a text that begins with no sign
 reported : (most : ℕ) (text : List ℕ) (why : IntErrorKind) → (BeginsWithSign text → ⊥) → IsParseIntError 10 text text kind.PosOverflow why
     → (IsNumeral 10 text × (digits_value 10 text < 2 ^ 64) → ⊥) → IsNumberReason most text (reason_for (list_all is_decimal text) why)
 reported most text why unsigned (inl (is, none)) fails = rw is (empty text none)
@@ -43,7 +43,7 @@ reported most text why unsigned (inr (some, inr is)) fails = rw is (go (list_all
     ]
     go false passed = (record { nonempty = some; unsigned = unsigned }, λ numeral. let all = digits_back text numeral.1 in cc)
 
--- where no plus begins it, none is left away
+-- if no plus begins it, none is left out
 whole : (text : List ℕ) → (BeginsWithSign text → ⊥) → without_leading_plus text ≡ text
 whole text unsigned = go (slice_index text 0 == 43) refl
   where

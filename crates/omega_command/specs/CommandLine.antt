@@ -1,8 +1,8 @@
 -- What a subcommand asks for with the texts of its options.
 use Rattle.std.specs.Prelude.{◌≡◌, ◌≢◌, ◌≤◌, ◌⊎◌, Bool, true, false, List, Option, Some, None, IsSome, ℕ, codes, string_bytes, option_map}
 use Rattle.std.specs.Str.Parse.{IsNumeral, digits_value}
-use Rattle.omega_game.specs.declared.player.Player.{Player}
-use Rattle.omega_game.specs.Player.{player_number}
+use Rattle.omega_parity_game.specs.declared.player.Player.{Player}
+use Rattle.omega_parity_game.specs.Player.{player_number}
 use Rattle.omega_command.specs.Limits.{most_budget}
 use Rattle.omega_command.specs.Reason.{IsReason}
 use Rattle.omega_text.specs.Limits.{most_number}
@@ -24,9 +24,9 @@ use Rattle.omega_command.specs.declared.options.OptionName.{OptionName}
 use Rattle.omega_command.specs.declared.options.OptionName.TheVariants as name
 use Rattle.omega_command.specs.declared.options.Options.{Options}
 
--- ---- what the text of an option stands for
+-- ---- what the text of an option means
 
--- decimal digits and nothing else stand for a number up to the greatest
+-- the text is decimal digits and nothing else, and its number is at most the greatest
 pub record IsNumberText (most : ℕ) (text : List ℕ) (number : ℕ) : Type 0 where
   pub digits : IsNumeral 10 text
   pub value : digits_value 10 text ≡ number
@@ -94,8 +94,8 @@ text_of name.File options = option_map (λ text. text.now) options.file
 
 -- ---- what a subcommand asks for
 
--- the part of a game that the node with the identifier reaches, by at most so many steps, if that is said; the steps
--- are counted from a node that is given
+-- the part of a game that the node `from` reaches, by at most `depth` steps if that is given; a depth needs a node from
+-- which its steps are counted
 abbrev pub GivesPart : Options → (from depth : Option ℕ) → Type 0
 GivesPart options from depth =
     Gives (IsNumberText most_number) (text_of name.From options) from × Gives (IsNumberText most_number) (text_of name.Depth options) depth
@@ -167,8 +167,8 @@ AsksFor subcommand options (task.Observed command budget) =
     AsksToLift subcommand options command budget × GivesFlag (text_of name.Progress options) true
 AsksFor subcommand options (task.Beside file asked) = AsksBeside subcommand options (string_bytes file) asked
 
--- the subcommand of this name, with these options, asks for the line: for a task with the text that the operand names;
--- a refusal is told with what it is about exactly if that is asked for
+-- the subcommand of this name, with these options, requests the line: a task with the input that the operand names, and
+-- whether a refusal is written with what it is about
 abbrev pub Asks : List ℕ → Options → Line → Type 0
 Asks subcommand options (line.Do task source verbose) =
     AsksFor subcommand options task × GivesSource (text_of name.File options) source × GivesFlag (text_of name.Verbose options) verbose
@@ -199,7 +199,7 @@ HasOption subcommand name.Progress = (subcommand ≡ codes "solve") ⊎ (subcomm
 HasOption subcommand name.Verbose = Unit {0}
 HasOption subcommand name.File = Unit {0}
 
--- the option has to be given where the subcommand has it; the game only where no automaton is given
+-- the option has to be given if the subcommand has it; the game only if no automaton is given
 abbrev pub IsRequired : OptionName → Options → Type 0
 IsRequired name.Format options = Unit {0}
 IsRequired name.Player options = ⊥
@@ -219,7 +219,7 @@ IsRequired name.Progress options = ⊥
 IsRequired name.Verbose options = ⊥
 IsRequired name.File options = ⊥
 
--- the text stands for no value of the option
+-- the text is no value of the option
 abbrev pub StandsForNothing : OptionName → List ℕ → Type 0
 StandsForNothing name.Format text = (format : Format) → IsFormatText text format → ⊥
 StandsForNothing name.Player text = (player : Player) → IsPlayerText text player → ⊥
@@ -239,7 +239,7 @@ StandsForNothing name.Progress text = (flag : Bool) → IsTruthText text flag �
 StandsForNothing name.Verbose text = (flag : Bool) → IsTruthText text flag → ⊥
 StandsForNothing name.File text = ⊥
 
--- the mistake is that the option is missing, or that its text stands for nothing, with the reason why
+-- the mistake is that the option is missing, or that its text is no value of it, with the reason why
 abbrev pub IsFaulty : OptionName → Options → Mistake → Type 0
 IsFaulty option options (mistake.Missing other) = (other ≡ option) × IsRequired option options × (text_of option options ≡ None)
 IsFaulty option options (mistake.Value other text reason) =
@@ -282,8 +282,8 @@ IsUsed name.Progress options = GivesFlag (text_of name.Progress options) true
 IsUsed name.Verbose options = GivesFlag (text_of name.Verbose options) true
 IsUsed name.File options = text_of name.File options ≢ None
 
--- the option of the subcommand that is not given beside this one: the search of `solve` is for both players,
--- that of `empty` makes no lifts, and a lasso of an automaton is of no game and of no part of one
+-- the option of the subcommand that conflicts with this one: the search of `solve` is for both players, that of `empty`
+-- makes no lifts, and `--automaton` conflicts with `--game` and `--from`
 abbrev pub IsApartFrom : OptionName → List ℕ → OptionName → Type 0
 IsApartFrom name.Search subcommand option =
     ((subcommand ≡ codes "solve") × (option ≡ name.Player))
@@ -297,8 +297,8 @@ pub record IsConflict (subcommand : List ℕ) (options : Options) (one other : O
   pub one_used : IsUsed one options
   pub other_used : IsUsed other options
 
--- the option of the subcommand that has to be given where this one is: the steps of a depth are counted from a node,
--- and a legend is of a solution
+-- the option of the subcommand that has to be given if this one is: the steps of a depth are counted from a node, and a
+-- legend is of a solution
 abbrev pub IsNeededBy : OptionName → List ℕ → OptionName → Type 0
 IsNeededBy name.Depth subcommand option = (subcommand ≡ codes "draw") × (option ≡ name.From)
 IsNeededBy name.Legend subcommand option = (subcommand ≡ codes "draw") × (option ≡ name.Solution)
@@ -326,8 +326,8 @@ pub record IsOfOtherFormat (subcommand : List ℕ) (options : Options) (option :
   pub is_other : other ≢ format
   pub used : IsUsed option options
 
--- what is wrong: no subcommand has the name, or an option that it takes is faulty, or one is given without another that
--- it needs, or two are not given together, or one is for another format; or memory is wanting
+-- what is wrong: no subcommand has the name, or memory is wanting, or options are wrong. Then an option is faulty, one
+-- lacks another that it needs, two conflict, or one is for another format
 abbrev pub IsMistake : List ℕ → Options → Mistake → Type 0
 IsMistake subcommand options mistake.Unknown = IsUnknownSubcommand subcommand
 IsMistake subcommand options mistake.Memory = Unit {0}

@@ -1,5 +1,5 @@
 -- What contracts of the command line cite.
-pub use Rattle.omega_game.specs.Player
+pub use Rattle.omega_parity_game.specs.Player
 pub mod Limits
 pub mod Reason
 pub mod CommandLine

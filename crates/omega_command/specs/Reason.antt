@@ -1,4 +1,4 @@
--- Why a text stands for no value of an option.
+-- Why a text is no value of an option.
 use Rattle.std.specs.Prelude.{◌≡◌, ◌⊎◌, ◌^◌, ◌<◌, ◌≤◌, ℕ, List, [], length, slice_index}
 use Rattle.std.specs.Str.Parse.{IsNumeral, digits_value}
 use Rattle.omega_command.specs.Limits.{most_budget}
@@ -24,15 +24,15 @@ pub record IsUnsigned (text : List ℕ) : Type 0 where
   pub nonempty : 0 < length text
   pub unsigned : BeginsWithSign text → ⊥
 
--- the digits stand for a number above the greatest, and both are told
+-- the number of the digits is above the greatest, and the reason has both
 pub record IsAboveLimit (most : ℕ) (text : List ℕ) (number limit : ℕ) : Type 0 where
   pub digits : IsNumeral 10 text
   pub value : digits_value 10 text ≡ number
   pub above : most < number
   pub limit_is : limit ≡ most
 
--- why a text stands for no number up to the greatest: it is empty, begins with a sign, is not of digits alone, is that
--- of a number of more than 64 bits, or is that of a number above the greatest
+-- why a text is no number up to the greatest: it is empty, begins with a sign, or has a byte that is no digit; or its
+-- number has more than 64 bits, or is above the greatest
 abbrev pub IsNumberReason : ℕ → List ℕ → Reason → Type 0
 IsNumberReason most text reason.Empty = text ≡ []
 IsNumberReason most text reason.Sign = BeginsWithSign text
@@ -42,7 +42,7 @@ IsNumberReason most text (reason.Above number limit) = IsAboveLimit most text nu
 IsNumberReason most text reason.NoFormat = ⊥
 IsNumberReason most text reason.NoTruth = ⊥
 
--- why a text stands for no value of an option; a name of a file is never without one
+-- why a text is no value of an option; every text names a file
 abbrev pub IsReason : OptionName → List ℕ → Reason → Type 0
 IsReason name.Format text why = why ≡ reason.NoFormat
 IsReason name.Player text why = IsNumberReason 1 text why

@@ -1,4 +1,4 @@
--- Which mistakes are told with the usage of the subcommand.
+-- Which mistakes are written with the usage of the subcommand.
 use Rattle.std.specs.Prelude.{Bool, false, true}
 use Rattle.omega_command.specs.declared.mistake.Mistake.{Mistake}
 use Rattle.omega_command.specs.declared.mistake.Mistake.TheVariants as mistake

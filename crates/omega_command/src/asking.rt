@@ -16,8 +16,8 @@ use crate::values::{
 };
 use std::alloc::Global;
 
-/// What a subcommand asks for with the texts of its options and its operand, or what is wrong with them. Options that
-/// it does not take are not looked at.
+/// Returns the line that `subcommand` requests with `options`, or what is wrong with them. Options that the subcommand
+/// does not take are not looked at.
 pub fn line_for<'a>(
     alloc: Global,
     subcommand: &str,
@@ -36,7 +36,7 @@ pub fn line_for<'a>(
     })
 }
 
-/// The task that a subcommand asks for with the texts of its options, or what is wrong with them.
+/// Returns the task that `subcommand` requests with `options`, or what is wrong with them.
 fn task_for<'a>(alloc: Global, subcommand: &str, options: &Options<'a>) -> Result<Task, Mistake<'a>>
     ensures asked { IfOk result (AsksFor subcommand.now options.now) }
     ensures mistaken { IfErr result (IsMistake subcommand.now options.now) }
@@ -74,7 +74,7 @@ fn task_for<'a>(alloc: Global, subcommand: &str, options: &Options<'a>) -> Resul
     Err(Mistake::Unknown)
 }
 
-/// What `canon` asks for with the texts of its options, or what is wrong with them.
+/// Returns the task that `canon` requests with `options`, or what is wrong with them.
 fn canonical_for<'a>(options: &Options<'a>) -> Result<Task, Mistake<'a>>
     ensures asked { IfOk result (AsksFor (codes "canon") options.now) }
     ensures mistaken { IfErr result (IsMistake (codes "canon") options.now) }
@@ -89,7 +89,7 @@ fn canonical_for<'a>(options: &Options<'a>) -> Result<Task, Mistake<'a>>
     }
 }
 
-/// What `verify` asks for with the texts of its options, or what is wrong with them.
+/// Returns the task that `verify` requests with `options`, or what is wrong with them.
 fn verifying_for<'a>(alloc: Global, options: &Options<'a>) -> Result<Task, Mistake<'a>>
     ensures asked { IfOk result (AsksFor (codes "verify") options.now) }
     ensures mistaken { IfErr result (IsMistake (codes "verify") options.now) }
@@ -123,7 +123,7 @@ fn verifying_for<'a>(alloc: Global, options: &Options<'a>) -> Result<Task, Mista
     }
 }
 
-/// What `solve` asks for with the texts of its options, or what is wrong with them.
+/// Returns the task that `solve` requests with `options`, or what is wrong with them.
 fn solving_for<'a>(options: &Options<'a>) -> Result<Task, Mistake<'a>>
     ensures asked { IfOk result (AsksFor (codes "solve") options.now) }
     ensures mistaken { IfErr result (IsMistake (codes "solve") options.now) }
@@ -151,7 +151,7 @@ fn solving_for<'a>(options: &Options<'a>) -> Result<Task, Mistake<'a>>
     })
 }
 
-/// What `empty` asks for with the texts of its options, or what is wrong with them.
+/// Returns the task that `empty` requests with `options`, or what is wrong with them.
 fn emptiness_for<'a>(options: &Options<'a>) -> Result<Task, Mistake<'a>>
     ensures asked { IfOk result (AsksFor (codes "empty") options.now) }
     ensures mistaken { IfErr result (IsMistake (codes "empty") options.now) }
@@ -176,7 +176,7 @@ fn emptiness_for<'a>(options: &Options<'a>) -> Result<Task, Mistake<'a>>
     Ok(Task::Run(Command::EmptySearch { word }, MOST_BUDGET))
 }
 
-/// What `meet` asks for with the text of its option, or what is wrong with it.
+/// Returns the task that `meet` requests with `options`, or what is wrong with them.
 fn meeting_for<'a>(alloc: Global, options: &Options<'a>) -> Result<Task, Mistake<'a>>
     ensures asked { IfOk result (AsksFor (codes "meet") options.now) }
     ensures mistaken { IfErr result (IsMistake (codes "meet") options.now) }
@@ -193,7 +193,7 @@ fn meeting_for<'a>(alloc: Global, options: &Options<'a>) -> Result<Task, Mistake
     }
 }
 
-/// What `draw` asks for with the texts of its options, or what is wrong with them.
+/// Returns the task that `draw` requests with `options`, or what is wrong with them.
 fn drawing_for<'a>(alloc: Global, options: &Options<'a>) -> Result<Task, Mistake<'a>>
     ensures asked { IfOk result (AsksFor (codes "draw") options.now) }
     ensures mistaken { IfErr result (IsMistake (codes "draw") options.now) }
@@ -204,7 +204,7 @@ fn drawing_for<'a>(alloc: Global, options: &Options<'a>) -> Result<Task, Mistake
     }
 }
 
-/// What `draw` asks for of a game.
+/// Returns the task that `draw` requests for a game, or what is wrong with `options`.
 fn game_drawing_for<'a>(alloc: Global, options: &Options<'a>) -> Result<Task, Mistake<'a>>
     requires { Gives IsFormatText (text_of name.Format options.now) (Some Pg) }
     ensures asked { IfOk result (AsksFor (codes "draw") options.now) }
@@ -241,7 +241,7 @@ fn game_drawing_for<'a>(alloc: Global, options: &Options<'a>) -> Result<Task, Mi
     }
 }
 
-/// What `draw` asks for of an automaton.
+/// Returns the task that `draw` requests for an automaton, or what is wrong with `options`.
 fn automaton_drawing_for<'a>(options: &Options<'a>) -> Result<Task, Mistake<'a>>
     requires { Gives IsFormatText (text_of name.Format options.now) (Some Hoa) }
     ensures asked { IfOk result (AsksFor (codes "draw") options.now) }

@@ -1,16 +1,16 @@
-/// What is done with two texts: that of a file and that of the input.
+/// A task with two texts: that of a file and that of the input.
 #[derive(Clone, Copy, Debug)]
 pub enum Beside {
     /// Checks the solution that the input has, of the game of the file or of the part of it that one node reaches.
     Verify {
         /// The identifier of the node whose part is meant.
         from: Option<u32>,
-        /// Whether it is explained where the solution is not right.
+        /// Whether a `no` is explained.
         explain: bool,
     },
     /// Checks whether the lasso that the input has is an accepting one of the automaton of the file.
     VerifyLasso {
-        /// Whether it is explained where it is none.
+        /// Whether a `no` is explained.
         explain: bool,
     },
     /// Writes an automaton that accepts the words that both accept, the one of the input and the one of the file.

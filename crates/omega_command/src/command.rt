@@ -1,4 +1,4 @@
-use omega_game::Player;
+use omega_parity_game::Player;
 use std::fmt;
 
 /// What the program does with the one text that it reads.
@@ -26,7 +26,7 @@ pub enum Command {
         /// The identifier of the node whose part is solved.
         from: Option<u32>,
     },
-    /// Says whether an automaton accepts nothing, and shows a lasso where it does not. Decided by lifting.
+    /// Says whether an automaton accepts nothing, and shows a lasso if it accepts something. Decided by lifting.
     Empty {
         /// Whether the word that the lasso accepts is written too.
         word: bool,
@@ -40,7 +40,7 @@ pub enum Command {
     Game,
     /// Writes an automaton that accepts the words that a deterministic one does not.
     Complement,
-    /// Draws the one game or automaton that the text stands for.
+    /// Draws the one game or automaton of the text.
     Draw(Format),
     /// Draws the part of a game that one node reaches.
     DrawPart {

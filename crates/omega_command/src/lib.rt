@@ -18,5 +18,5 @@ pub use command::{Command, Format};
 pub use limits::{MOST_BUDGET, budget_limit_is_stated};
 pub use line::{Line, Source, Task};
 pub use mistake::{Mistake, Reason};
-pub use omega_game::{Player, Refusal};
+pub use omega_parity_game::{Player, Refusal};
 pub use options::{OptionName, Options};

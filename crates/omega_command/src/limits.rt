@@ -1,10 +1,10 @@
 ghost use Rattle.std.specs.Prelude.{◌≡◌};
 ghost use Rattle.omega_command.specs.Limits.{most_budget};
 
-/// The greatest budget that a command line may give, and the one that it has where it gives none.
+/// The largest value of `--budget`, which is also its default.
 pub const MOST_BUDGET: u64 = 1_099_511_627_776;
 
-/// The limit is the number that the definitions state.
+/// States that the limit is the number in the definitions.
 pub fn budget_limit_is_stated()
     ensures { MOST_BUDGET ≡ most_budget }
 {}

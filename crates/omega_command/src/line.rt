@@ -7,9 +7,9 @@ pub enum Line {
     /// A task.
     Do {
         task: Task,
-        /// Where the text of its input comes from.
+        /// The source of its input.
         source: Source,
-        /// Whether a refusal is told with the text or the file that it is about.
+        /// Whether a refusal is written with the text or the file that it is about.
         verbose: bool,
     },
     /// A text of help, or the version, which goes to standard output.
@@ -23,13 +23,13 @@ pub enum Line {
 pub enum Task {
     /// A command, and the most lifts of each of its runs.
     Run(Command, u64),
-    /// The same of a command that lifts; how far its runs have come is told on standard error.
+    /// The same for a command that lifts, with its progress reported on standard error.
     Observed(Command, u64),
-    /// What is done with the text of the file of this name beside that of the input.
+    /// A task with the text of the file of this name and that of the input.
     Beside { file: String, asked: Beside },
 }
 
-/// Where the text of an input comes from.
+/// The source of an input.
 #[derive(Debug, Drop)]
 pub enum Source {
     /// Standard input.

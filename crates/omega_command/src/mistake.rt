@@ -13,17 +13,17 @@ pub enum Mistake<'a> {
     Unknown,
     /// The option has to be given.
     Missing(OptionName),
-    /// The text of the option stands for none of its values.
+    /// The text is no value of the option.
     Value(OptionName, &'a str, Reason),
     /// The two options are not given together.
     Conflict(OptionName, OptionName),
     /// The option goes with this format only, and another is given.
     OnlyWith(OptionName, Format),
-    /// There is no memory for what is asked for.
+    /// A request for memory was refused.
     Memory,
 }
 
-/// Why a text stands for no value.
+/// Why a text is no value of an option.
 #[derive(Clone, Copy)]
 pub enum Reason {
     /// It is empty.
@@ -88,8 +88,7 @@ impl fmt::Display for Mistake<'_> {
 impl Mistake<'_> {
     ghost use Rattle.omega_command.specs.Usage.{has_usage};
 
-    /// Whether it is told with the usage of the subcommand, as `clap` tells of options that do not go together and of
-    /// one that is missing.
+    /// Whether the message ends with the usage line, as the messages of `clap` for conflicting and missing options do.
     pub fn has_usage(&self) -> bool
         ensures usage { result ≡ has_usage self.now }
         ensures memory { result ≡ true → self.now ≢ mistake.Memory }
@@ -100,12 +99,12 @@ impl Mistake<'_> {
         )
     }
 
-    /// What is wrong, without more. Want of memory has no text.
+    /// Returns the message without a usage line. Want of memory has no text.
     pub fn message(&self, alloc: Global) -> Result<String, AllocError> {
         format!(in alloc; "{self}")
     }
 
-    /// The text of the fault, in the form of those that `clap` finds and tells of without a usage. Want of memory has
+    /// Returns the text of the fault, in the form of those that `clap` writes without a usage line. Want of memory has
     /// none.
     pub fn text(&self, alloc: Global) -> Result<String, AllocError>
         ensures { IfOk result (λ _. self.now ≢ mistake.Memory) }

@@ -7,13 +7,13 @@ ghost use Rattle.omega_command.specs.private.Numbers.{is_decimal, reason_for};
 use crate::mistake::Reason;
 use std::num::IntErrorKind;
 
-/// The number that digits stand for, if it is at most the greatest, or why there is none.
+/// Returns the number that `text` has in decimal digits if it is at most `most`, or why it has none.
 pub fn number_in(text: &str, most: u64) -> Result<u64, Reason>
     ensures number { IfOk result (IsNumberText most text.now) }
     ensures none { IfErr result (λ _. (number : ℕ) → IsNumberText most text.now number → ⊥) }
     ensures reason { IfErr result (IsNumberReason most text.now) }
 {
-    // The numbers of `std` may begin with a plus. A minus is told in the same words.
+    // The numbers of `std` may begin with a plus. A plus and a minus are refused with the same reason.
     if text.starts_with('+') || text.starts_with('-') {
         return Err(Reason::Sign);
     }
@@ -29,7 +29,7 @@ pub fn number_in(text: &str, most: u64) -> Result<u64, Reason>
     }
 }
 
-/// Why `std` reads no number of 64 bits in a text. It may tell that a number is too large before it comes to a byte
+/// Returns why `std` reads no number of 64 bits in `text`. `std` may find a number too large before it comes to a byte
 /// that is no digit.
 fn reason_of(kind: &IntErrorKind, text: &[u8]) -> Reason
     ensures { result ≡ reason_for (list_all is_decimal text.now) kind.now }
@@ -41,7 +41,7 @@ fn reason_of(kind: &IntErrorKind, text: &[u8]) -> Reason
     }
 }
 
-/// Whether each byte of a text is a digit.
+/// Whether each byte of `text` is a digit.
 fn has_digits_alone(text: &[u8]) -> bool
     ensures { result ≡ list_all is_decimal text.now }
 {

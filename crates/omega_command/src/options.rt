@@ -58,7 +58,7 @@ pub struct Options<'a> {
     pub from: Option<&'a str>,
     /// The most lifts of each run, at most `MOST_BUDGET`.
     pub budget: Option<&'a str>,
-    /// `true` where the flag is given; `clap` may say `false` where it is not.
+    /// `true` if the flag is given; otherwise `clap` may give `false`.
     pub search: Option<&'a str>,
     /// The name of the file of a game.
     pub game: Option<&'a str>,

@@ -8,10 +8,10 @@ use crate::mistake::Mistake;
 use crate::options::Options;
 use std::alloc::Global;
 
-/// The operand that stands for standard input.
+/// The operand that names standard input.
 const STANDARD_INPUT: &str = "-";
 
-/// Where the text of the input comes from: the file that the operand names, or standard input.
+/// Returns the source of the input: the file that the operand names, or standard input.
 pub fn source_in<'a>(alloc: Global, options: &Options<'a>) -> Result<Source, Mistake<'a>>
     ensures given { IfOk result (GivesSource (text_of name.File options.now)) }
     ensures memory { IfErr result (λ found. found ≡ mistake.Memory) }

@@ -1,4 +1,4 @@
-//! What the texts of options stand for.
+//! The values of options.
 ghost use Rattle.std.specs.Prelude.{◌≡◌, Bool, Some, IfOk, IfErr, MatchOption};
 ghost use Rattle.omega_text.specs.Limits.{most_number};
 ghost use Rattle.omega_command.specs.CommandLine.{Gives, GivesBudget, GivesFlag, IsFaulty};
@@ -10,10 +10,10 @@ use crate::limits::MOST_BUDGET;
 use crate::mistake::{Mistake, Reason};
 use crate::number::number_in;
 use crate::options::{OptionName, Options};
-use omega_game::Player;
+use omega_parity_game::Player;
 use omega_text::MOST_NUMBER;
 
-/// The kind of text, which has to be given.
+/// Returns the kind of text, which has to be given.
 pub fn format_in<'a>(options: &Options<'a>) -> Result<Format, Mistake<'a>>
     ensures given { IfOk result (λ format. Gives IsFormatText (text_of name.Format options.now) (Some format)) }
     ensures faulty { IfErr result (IsFaulty name.Format options.now) }
@@ -30,7 +30,7 @@ pub fn format_in<'a>(options: &Options<'a>) -> Result<Format, Mistake<'a>>
     }
 }
 
-/// The player, if one is named.
+/// Returns the player, if one is named.
 pub fn player_in<'a>(options: &Options<'a>) -> Result<Option<Player>, Mistake<'a>>
     ensures given { IfOk result (Gives IsPlayerText (text_of name.Player options.now)) }
     ensures faulty { IfErr result (IsFaulty name.Player options.now) }
@@ -44,7 +44,7 @@ pub fn player_in<'a>(options: &Options<'a>) -> Result<Option<Player>, Mistake<'a
     }
 }
 
-/// The identifier of the node whose part is meant, if one is named.
+/// Returns the identifier of the node whose part is meant, if one is named.
 pub fn identifier_in<'a>(options: &Options<'a>) -> Result<Option<u32>, Mistake<'a>>
     ensures given { IfOk result (Gives (IsNumberText most_number) (text_of name.From options.now)) }
     ensures faulty { IfErr result (IsFaulty name.From options.now) }
@@ -58,7 +58,7 @@ pub fn identifier_in<'a>(options: &Options<'a>) -> Result<Option<u32>, Mistake<'
     }
 }
 
-/// How many steps from that node the part goes, if that is said.
+/// Returns how many steps from that node the part goes, if that is given.
 pub fn depth_in<'a>(options: &Options<'a>) -> Result<Option<u32>, Mistake<'a>>
     ensures given { IfOk result (Gives (IsNumberText most_number) (text_of name.Depth options.now)) }
     ensures faulty { IfErr result (IsFaulty name.Depth options.now) }
@@ -72,7 +72,7 @@ pub fn depth_in<'a>(options: &Options<'a>) -> Result<Option<u32>, Mistake<'a>>
     }
 }
 
-/// Whether a search is taken in place of lifting.
+/// Whether the task is done by a search in place of lifting.
 pub fn is_search<'a>(options: &Options<'a>) -> Result<bool, Mistake<'a>>
     ensures given { IfOk result (GivesFlag (text_of name.Search options.now)) }
     ensures faulty { IfErr result (IsFaulty name.Search options.now) }
@@ -114,7 +114,7 @@ pub fn is_with_word<'a>(options: &Options<'a>) -> Result<bool, Mistake<'a>>
     }
 }
 
-/// Whether it is said in the drawing what its colours mean.
+/// Whether the drawing has a legend of its colours.
 pub fn is_with_legend<'a>(options: &Options<'a>) -> Result<bool, Mistake<'a>>
     ensures given { IfOk result (GivesFlag (text_of name.Legend options.now)) }
     ensures faulty { IfErr result (IsFaulty name.Legend options.now) }
@@ -142,7 +142,7 @@ pub fn is_with_lasso<'a>(options: &Options<'a>) -> Result<bool, Mistake<'a>>
     }
 }
 
-/// Whether it is told how far runs have come.
+/// Whether progress is reported.
 pub(super) fn is_observed<'a>(options: &Options<'a>) -> Result<bool, Mistake<'a>>
     ensures given { IfOk result (GivesFlag (text_of name.Progress options.now)) }
     ensures faulty { IfErr result (IsFaulty name.Progress options.now) }
@@ -156,7 +156,7 @@ pub(super) fn is_observed<'a>(options: &Options<'a>) -> Result<bool, Mistake<'a>
     }
 }
 
-/// Whether a refusal is told with the text or the file that it is about.
+/// Whether a refusal is written with the text or the file that it is about.
 pub fn is_verbose<'a>(options: &Options<'a>) -> Result<bool, Mistake<'a>>
     ensures given { IfOk result (GivesFlag (text_of name.Verbose options.now)) }
     ensures faulty { IfErr result (IsFaulty name.Verbose options.now) }
@@ -170,7 +170,7 @@ pub fn is_verbose<'a>(options: &Options<'a>) -> Result<bool, Mistake<'a>>
     }
 }
 
-/// What the text of a flag says, if it says anything.
+/// Returns the value of a flag with the text `text`, if it has one.
 fn truth_in(text: &str) -> Option<bool>
     ensures { MatchOption result ((flag : Bool) → IsTruthText text.now flag → ⊥) (IsTruthText text.now) }
 {
@@ -183,7 +183,7 @@ fn truth_in(text: &str) -> Option<bool>
     }
 }
 
-/// The most lifts of each run: the greatest budget, where none is given.
+/// Returns the most lifts of each run. The default is the greatest budget.
 pub fn budget_in<'a>(options: &Options<'a>) -> Result<u64, Mistake<'a>>
     ensures given { IfOk result (GivesBudget (text_of name.Budget options.now)) }
     ensures faulty { IfErr result (IsFaulty name.Budget options.now) }

@@ -33,27 +33,26 @@ id_of name.Progress = codes "progress"
 id_of name.Verbose = codes "verbose"
 id_of name.File = codes "file"
 
--- the line is the fault that tells of the mistake; want of memory is told by no line
+-- the line is a fault with the message of the mistake; want of memory has no line
 abbrev pub IsFaultLineOf : Mistake → Line → Type 0
 IsFaultLineOf found line = IsFaultLine line × (found ≢ mistake.Memory)
 
--- the line for the subcommand of this name with these options: what it asks for,
--- or the fault that tells what is wrong with it
+-- the line for the subcommand of this name with these options: what it requests, or a fault that says what is wrong
 abbrev pub IsLineOf : List ℕ → Options → Line → Type 0
 IsLineOf subcommand options line =
     Asks subcommand options line ⊎ ((found : Mistake) × IsMistake subcommand options found × IsFaultLineOf found line)
 
--- the line for the subcommand of this name, where the options are those that `clap` found after it
+-- the line for the subcommand of this name, with the options that `clap` found after it
 abbrev pub IsLineFor : List ℕ → List Row → Line → Type 0
 IsLineFor subcommand rows line =
     (options : Options) × ((name : OptionName) → text_of name options ≡ first_of (id_of name) rows) × IsLineOf subcommand options line
 
--- the line for the subcommand that `clap` found; a fault where it found none
+-- the line for the subcommand that `clap` found; a fault if it found none
 abbrev pub IsLineFound : Option (List ℕ × List Row) → Line → Type 0
 IsLineFound None line = IsFaultLine line
 IsLineFound (Some (subcommand, rows)) line = IsLineFor subcommand rows line
 
--- the line for an error of `clap`: help where the user asked for a text, else a fault
+-- the line for an error of `clap`: help if the user requested a text, else a fault
 abbrev pub IsPrinted : ErrorKind → Line → Type 0
 IsPrinted kind (line.Help text) = (kind ≡ DisplayHelp) ⊎ (kind ≡ DisplayVersion)
 IsPrinted kind (line.Fault text) = (kind ≢ DisplayHelp) × (kind ≢ DisplayVersion)

@@ -6,9 +6,9 @@ use Rattle.omega_help.specs.Program.{program}
 use Rattle.omega_command_line.specs.Found.{IsLineFound, IsPrinted}
 use Rattle.omega_command.specs.declared.line.Line.{Line}
 
--- the words, of which the first is the program's name, ask for the line: it is that of the subcommand and the options
--- that `clap` finds in them, where it finds nothing else to say; else it is a text,
--- of one of the kinds that `clap` finds: help, the version, or what is wrong
+-- the words, the program's name first, request the line. If `clap` finds no fault in them, it is the line of the
+-- subcommand and the options that it finds. Else the line is a text of one of the kinds that `clap` finds: help, the
+-- version, or what is wrong
 abbrev pub IsLineAsked : List Text → Line → Type 0
 IsLineAsked words line =
     ((fault_of program words ≡ []) × IsLineFound (subcommand_of program words) line)

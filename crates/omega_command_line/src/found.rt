@@ -7,7 +7,7 @@ ghost use Rattle.omega_command.specs.CommandLine.{text_of};
 use clap::ArgMatches;
 use omega_command::Options;
 
-/// The texts of the options and of the operand that `clap` found after a subcommand.
+/// Returns the texts of the options and of the operand that `clap` found after a subcommand.
 pub fn options_in<'a>(found: &ArgMatches<'a>) -> Options<'a>
     ensures { (name : OptionName) → text_of name result ≡ first_of (id_of name) (rows_of (found_of found.now)) }
 {

@@ -14,7 +14,7 @@ use omega_help::{fault_text, matches_of};
 use omega_text::Refusal;
 use std::alloc::Global;
 
-/// What the words of a command line ask for, of which the first is the program's name. 60 alone.
+/// Returns the line that `words` request. The first word is the program's name.
 pub fn read_words<'a>(alloc: Global, words: &'a [String]) -> Result<Line, Refusal>
     ensures asked { IfOk result (IsLineAsked (map string_bytes words.now)) }
     ensures runnable { IfOk result IsRunnable }
@@ -26,7 +26,7 @@ pub fn read_words<'a>(alloc: Global, words: &'a [String]) -> Result<Line, Refusa
     }
 }
 
-/// What the subcommand that `clap` found asks for. `clap` has refused a command line without one.
+/// Returns the line of the subcommand that `clap` found. `clap` has refused a command line without one.
 fn asked_for(alloc: Global, found: &ArgMatches<'_>) -> Result<Line, Refusal>
     ensures line { IfOk result (IsLineFound (subcommand_rows_of found.now)) }
     ensures runnable { IfOk result IsRunnable }
@@ -38,7 +38,7 @@ fn asked_for(alloc: Global, found: &ArgMatches<'_>) -> Result<Line, Refusal>
     }
 }
 
-/// The line for a subcommand with the options that `clap` found after it.
+/// Returns the line for `subcommand` with the options that `clap` found after it.
 fn answered(alloc: Global, subcommand: &str, matches: &ArgMatches<'_>) -> Result<Line, Refusal>
     ensures line { IfOk result (IsLineFor subcommand.now (rows_of (found_of matches.now))) }
     ensures runnable { IfOk result IsRunnable }
@@ -50,7 +50,7 @@ fn answered(alloc: Global, subcommand: &str, matches: &ArgMatches<'_>) -> Result
     }
 }
 
-/// The line that tells of a mistake in the options of a subcommand.
+/// Returns the fault with the message of a mistake in the options of `subcommand`.
 fn mistaken(alloc: Global, subcommand: &str, mistake: &Mistake<'_>) -> Result<Line, Refusal>
     ensures fault { IfOk result (IsFaultLineOf mistake.now) }
     ensures memory { IsOkUnless result Memory }
@@ -63,7 +63,7 @@ fn mistaken(alloc: Global, subcommand: &str, mistake: &Mistake<'_>) -> Result<Li
     Ok(Line::Fault(mistake.text(alloc)?))
 }
 
-/// The text that was asked for, or that says what is wrong.
+/// Returns the line with the text of `error`: help, the version, or what is wrong.
 fn printed(alloc: Global, error: &Error) -> Result<Line, Refusal>
     ensures printed { IfOk result (IsPrinted (kind_of error.now)) }
     ensures with_memory { IfOk result (λ _. kind_of error.now ≢ OutOfMemory) }

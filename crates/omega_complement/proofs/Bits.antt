@@ -3,7 +3,7 @@ use Rattle.std.proofs.Common.{◌≡◌, ◌==◌, ℕ, zero, suc, ◌+◌, ◌*
 use Rattle.std.specs.Int.{bit_at}
 use Rattle.std.proofs.lemmas.Bool.{cases_lt}
 use Rattle.std.proofs.lemmas.Nat.Bits.{bit_at-lt, bit_at_cat_high, bit_at_cat_low, same_from_bits_below}
-use Rattle.omega_acc.specs.label.Label.{negation, proposition, truth}
+use Rattle.omega_label.specs.Label.{negation, proposition, truth}
 use Rattle.omega_edge_labels.specs.Labels.{literal, valuation_label}
 
 -- whether a bit of an index is set

@@ -1,12 +1,12 @@
 -- The dual formula with room for an atom more.
 use Rattle.std.proofs.Common.{◌≡◌, ◌<◌, ◌≤◌, ℕ, Bool, nat_lt, max, codes, refl, ap, arith}
-use Rattle.omega_acc.specs.Limits.{most_depth}
-use Rattle.omega_acc.specs.Writing.{acc_text}
-use Rattle.omega_acc.specs.WritingLaws.{acc_grouped, acc_written}
-use Rattle.omega_acc.specs.formula.Acceptance.{AccTree}
-use Rattle.omega_acc.specs.formula.Acceptance as acc
-use Rattle.omega_acc.specs.formula.Raw.{RawAccTree, raw_acc_depth}
-use Rattle.omega_acc.specs.formula.Raw as raw_acc
+use Rattle.omega_expression.specs.Limits.{most_depth}
+use Rattle.omega_formula.specs.Writing.{acc_text}
+use Rattle.omega_formula.specs.Writing.{acc_grouped, acc_written}
+use Rattle.omega_formula.specs.Acceptance.{AccTree}
+use Rattle.omega_formula.specs.Acceptance as acc
+use Rattle.omega_formula.specs.Raw.{RawAccTree, raw_acc_depth}
+use Rattle.omega_formula.specs.Raw as raw_acc
 
 -- a formula before `|` needs no parentheses
 bare_before_or : (tree : AccTree) → acc_grouped (nat_lt (acc_text tree).rank 1) (acc_written tree) ≡ acc_written tree

@@ -1,14 +1,15 @@
 -- Refusals of a label that is judged are those of its state.
 use Rattle.std.proofs.Common.{◌≡◌, ℕ, ◌<◌, ◌⊎◌, inl, inr, Bool, false, List, length, Some, sym, subst, arith}
-use Rattle.omega_acc.specs.label.Label.{LabelTree}
-use Rattle.omega_acc.specs.label.Raw.{raw_depth}
-use Rattle.omega_acc.specs.label.Satisfiable.{mentioned}
-use Rattle.omega_acc.specs.label.Shape.{FitsALabel}
-use Rattle.omega_acc.specs.formula.Raw.{raw_acc_depth}
-use Rattle.omega_acc.specs.Limits.{most_depth, most_mentioned}
-use Rattle.omega_acc.specs.WritingLaws.{acc_written, label_written}
-use Rattle.omega_text.specs.Cases.{IsMemory}
+use Rattle.omega_label.specs.Label.{LabelTree}
+use Rattle.omega_label.specs.Raw.{raw_depth}
+use Rattle.omega_satisfying.specs.Satisfiable.{mentioned}
+use Rattle.omega_label.specs.Shape.{FitsALabel}
+use Rattle.omega_formula.specs.Raw.{raw_acc_depth}
+use Rattle.omega_expression.specs.Limits.{most_depth, most_mentioned}
+use Rattle.omega_label.specs.Writing.{label_written}
+use Rattle.omega_formula.specs.Writing.{acc_written}
 use Rattle.omega_text.specs.declared.refusal.Refusal.{Refusal}
+use Rattle.omega_text.specs.declared.refusal.Refusal.TheVariants.{Memory}
 use Rattle.omega_text.specs.declared.refusal.automaton.AutomatonFault.{AutomatonFault}
 use Rattle.omega_text.specs.declared.refusal.task.TaskFault.{TaskFault}
 use Rattle.omega_text.specs.declared.refusal.task.TaskFault.TheVariants.{BadSolution, Budget, NotDeterministic, NotParity, TooLarge, TooManyPropositions, TooWide, UniversalBranch, UnknownNode}
@@ -29,7 +30,7 @@ use Rattle.omega_edge_labels.proofs.Depths.{deep_text, unfit_text}
 use Rattle.omega_edge_labels.proofs.Refusals.{large_task, memory_task, task_weaker}
 
 module _ (full : Bool) (labels : List LabelTree) (number : ℕ) (label : LabelTree) where
-  -- a label that is written and is no label, or is none in a text
+  -- a label to be written that is too deep or too large
   pub unwritten_refused : (refusal : Refusal) → IsWrittenLabel labels label → IsLarge (FitsAText label → ⊥) refusal → IsStateRefusal full labels number refusal
   unwritten_refused refusal written is =
       large_task (FitsAText label → ⊥) (IsStateFault full labels number) (λ unfit. inr (label, written, unfit)) refusal is
@@ -53,7 +54,7 @@ module _ (full : Bool) (labels : List LabelTree) (number : ℕ) (label : LabelTr
       go fault (inr wide) = subst (IsStateFault full labels number) (sym wide.0) (label, judged, wide.1)
 
 -- want of memory
-pub memory_refused : (full : Bool) (labels : List LabelTree) (number : ℕ) (refusal : Refusal) → IsMemory refusal → IsStateRefusal full labels number refusal
+pub memory_refused : (full : Bool) (labels : List LabelTree) (number : ℕ) (refusal : Refusal) → refusal ≡ Memory → IsStateRefusal full labels number refusal
 memory_refused full labels number refusal is = memory_task (IsStateFault full labels number) refusal is
 
 -- a formula that is too deep leaves no room

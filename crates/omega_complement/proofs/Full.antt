@@ -5,7 +5,7 @@ use Rattle.std.specs.Prelude.{unwrap_or}
 use Rattle.std.specs.List.{list_all, list_any}
 use Rattle.std.specs.Option.{option_or}
 use Rattle.std.proofs.lemmas.Option.{slice_get-get_or, slice_get_within}
-use Rattle.omega_acc.specs.label.Label.{LabelTree, truth}
+use Rattle.omega_label.specs.Label.{LabelTree, truth}
 use Rattle.omega_automaton.specs.declared.edge.Edge.{Edge}
 use Rattle.omega_automaton.specs.declared.state.State.{State}
 use Rattle.omega_complement.specs.Labels.{is_full, labels_of}

@@ -5,8 +5,8 @@ use Rattle.std.proofs.lemmas.Bool.{cases_lt}
 use Rattle.std.proofs.lemmas.List.Elements.{All-contains}
 use Rattle.std.proofs.lemmas.List.{length-drop, length-take, take-append-drop}
 use Rattle.std.proofs.lemmas.Option.{get_or_from_slice_get, slice_get_read, slice_get_within}
-use Rattle.omega_acc.specs.label.Label.{LabelTree, disjunction}
-use Rattle.omega_acc.specs.label.Shape.{FitsALabel}
+use Rattle.omega_label.specs.Label.{LabelTree, disjunction}
+use Rattle.omega_label.specs.Shape.{FitsALabel}
 use Rattle.omega_complement.specs.Judged.{AreFitting, IsBoth, IsJudgedLabel, IsOne, IsWrittenLabel}
 use Rattle.omega_complement.specs.Letters.{AreExclusive, IsAnyOf, IsPair, IsRestLabel, LacksLetter, alone, halves}
 use Rattle.omega_complement.specs.private.Apart.{AreApartTo, IsApart, IsApartFrom}

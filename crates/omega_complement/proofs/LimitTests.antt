@@ -1,9 +1,9 @@
 -- Whether a limit would be passed, test by test.
 use Rattle.std.proofs.Common.{◌≡◌, ℕ, ◌+◌, ◌<◌, ◌≤◌, Bool, true, false, ◌||◌, nat_le, refl, sym, ap, arith, true≢false}
 use Rattle.omega_text.specs.Limits.{most_number}
-use Rattle.omega_acc.specs.Limits.{most_depth}
-use Rattle.omega_acc.specs.WritingLaws.{acc_written}
-use Rattle.omega_acc.specs.formula.Raw.{raw_acc_depth}
+use Rattle.omega_expression.specs.Limits.{most_depth}
+use Rattle.omega_formula.specs.Writing.{acc_written}
+use Rattle.omega_formula.specs.Raw.{raw_acc_depth}
 use Rattle.omega_automaton.specs.Automaton.{Description, edge_count}
 use Rattle.omega_complement.specs.Complement.{exceeds_limits}
 use Rattle.omega_complement.specs.Dual.{dual}

@@ -4,8 +4,8 @@ use Rattle.std.specs.List.{list_any}
 use Rattle.std.proofs.Math.Seq.{drop-append_seam, take-append_seam}
 use Rattle.std.proofs.lemmas.List.{length-append}
 use Rattle.std.proofs.lemmas.List.Folds.{list_any-append}
-use Rattle.omega_acc.specs.label.Label.{LabelTree, disjunction, negation, truth}
-use Rattle.omega_acc.specs.label.Satisfiable.{IsSatisfiable}
+use Rattle.omega_label.specs.Label.{LabelTree, disjunction, negation, truth}
+use Rattle.omega_satisfying.specs.Satisfiable.{IsSatisfiable}
 use Rattle.omega_complement.specs.Letters.{IsAnyOf, IsRestLabel, LacksLetter, alone, halves}
 
 or_false : (b : Bool) → b ≡ (b || false)

@@ -37,7 +37,7 @@ module _ {X : Type 0} (given : ℕ → Edge → X) where
   each_length first [] = refl
   each_length first (x ∷ edges) = ap suc (each_length (first + 1) edges)
 
-  -- what stands at an index
+  -- the element at an index
   pub each_get : (first : ℕ) (edges : List Edge) (k : ℕ) → slice_get (each_by_index given first edges) k ≡ option_map (given (first + k)) (slice_get edges k)
   each_get first [] k = refl
   each_get first (x ∷ edges) zero = let e : first ≡ first + 0 = omega arith in ap (λ i. Some (given i x)) e
@@ -45,7 +45,7 @@ module _ {X : Type 0} (given : ℕ → Edge → X) where
       let e : (first + 1) + k ≡ first + suc k = omega arith in
       each_get (first + 1) edges k ∙ ap (λ i. option_map (given i) (slice_get edges k)) e
 
-  -- what stands at an index is given for the edge there
+  -- the element at an index is the result for the edge there
   pub each_at : (edges : List Edge) (k : ℕ) (x : X) → slice_get (each_by_index given 0 edges) k ≡ Some x
       → (edge : Edge) × ((slice_get edges k ≡ Some edge) × (x ≡ given k edge))
   each_at edges k x e = go (slice_get edges k) refl (sym e ∙ each_get 0 edges k ∙ ap (λ i. option_map (given i) (slice_get edges k)) zero_plus)

@@ -53,7 +53,7 @@ past_end [] i d past = refl
 past_end (x ∷ xs) zero d past = absurd (omega arith)
 past_end (x ∷ xs) (suc i) d past = past_end xs i d (omega arith)
 
--- the state at the place where the number stands
+-- the state at the place of its number
 pub state_found : (states : List State) (numbers : List ℕ) (number place : ℕ) → numbers ≡ map (λ (state : State). state.number) states
     → position (nat_eq number) numbers ≡ Some place → state_among states number ≡ get_or states place (undefined number)
 state_found states numbers number place are found =
@@ -61,7 +61,7 @@ state_found states numbers number place are found =
     at_place states number
     ∙ ap (λ ns. get_or states (position_or_len (nat_eq number) ns) (undefined number)) (sym are) ∙ ap (λ i. get_or states i (undefined number)) p
 
--- a number that does not stand there
+-- a number that is not listed
 pub state_missing : (states : List State) (numbers : List ℕ) (number : ℕ) → numbers ≡ map (λ (state : State). state.number) states
     → position (nat_eq number) numbers ≡ None → state_among states number ≡ undefined number
 state_missing states numbers number are missing = go (cases_lt (position_or_len (nat_eq number) numbers) (length numbers))
@@ -87,13 +87,13 @@ state_number (state ∷ states) number = go (state.number == number) refl (state
     go true e rest = ap (λ b. (if b then state else state_among states number).number) e ∙ eqb-true state.number number e
     go false e rest = ap (λ b. (if b then state else state_among states number).number) e ∙ rest
 
--- an element does not depend on what stands for none
+-- an element does not depend on the default
 same_default : {X : Type 0} (xs : List X) (i : ℕ) (d e : X) → i < length xs → get_or xs i d ≡ get_or xs i e
 same_default [] i d e below = absurd (omega arith)
 same_default (x ∷ xs) zero d e below = refl
 same_default (x ∷ xs) (suc i) d e below = same_default xs i d e (omega arith)
 
--- what stands at the place of a number is the state of the number
+-- the state at the place of a number has this number
 pub state_placed : (states : List State) (numbers : List ℕ) (number place : ℕ) (state : State) → numbers ≡ map (λ (state : State). state.number) states
     → position (nat_eq number) numbers ≡ Some place → state ≡ get_or states place state → state ≡ state_among states number
 state_placed states numbers number place state are found here =

@@ -2,18 +2,16 @@
 -- same states and edges, an edge more for the letters that a state lacks, and the dual acceptance.
 use Rattle.std.specs.Prelude.{◌≡◌, ℕ, ◌+◌, ◌<◌, ◌≤◌, Bool, false, ◌||◌, nat_le, length}
 use Rattle.omega_text.specs.Limits.{most_number}
-use Rattle.omega_acc.specs.Limits.{most_depth}
-use Rattle.omega_acc.specs.WritingLaws.{acc_written}
-use Rattle.omega_acc.specs.formula.Raw.{raw_acc_depth}
+use Rattle.omega_expression.specs.Limits.{most_depth}
+use Rattle.omega_formula.specs.Raw.{raw_acc_depth}
 use Rattle.omega_automaton.specs.Automaton.{Description, edge_count}
 use Rattle.omega_automaton.specs.Branching.{has_universal_branching}
 use Rattle.omega_automaton.specs.Meaning.{Means}
 use Rattle.omega_raw.specs.declared.raw_automaton.RawAutomaton.{RawAutomaton}
-use Rattle.omega_complement.specs.Dual.{dual}
 use Rattle.omega_complement.specs.Judged.{AreFitting}
-use Rattle.omega_complement.specs.Labels.{is_full, labels_at, state_at}
+use Rattle.omega_complement.specs.Labels.{is_full_at, labels_at}
 use Rattle.omega_complement.specs.Letters.{AreExclusive}
-use Rattle.omega_complement.specs.Written.{IsWrittenComplement}
+use Rattle.omega_complement.specs.Written.{IsWrittenComplement, written_dual}
 use Rattle.omega_edge_labels.specs.Limits.{most_edges, most_states}
 
 -- an automaton is the complement of another: it is the meaning of the written complement
@@ -25,7 +23,7 @@ IsComplement a complement = (raw : RawAutomaton) × IsWrittenComplement a raw ×
 abbrev pub exceeds_limits : Description → Bool
 exceeds_limits a =
     nat_le most_states a.states || nat_le most_edges (edge_count a + a.states) || nat_le most_number a.sets
-    || nat_le most_depth (raw_acc_depth (acc_written (dual a.acceptance)))
+    || nat_le most_depth (raw_acc_depth (written_dual a))
 
 -- of each state with a number below `count`, at most one edge can be taken at each letter
 abbrev pub AreExclusiveBelow : Description → ℕ → Type 0
@@ -37,10 +35,13 @@ pub record IsDeterministic (a : Description) : Type 0 where
   pub one_start : length a.starts ≤ 1
   pub apart : AreExclusiveBelow a a.states
 
--- of each state with a number below `count`, the labels to be judged and the labels to be written fit the limits
+-- the labels to be judged and the labels to be written of the state with a number fit the limits
+abbrev pub AreFittingAt : Description → ℕ → Type 0
+AreFittingAt a number = AreFitting (is_full_at a number) (labels_at a number)
+
+-- of each state with a number below `count`, these labels fit the limits
 abbrev pub AreFittingBelow : Description → ℕ → Type 0
-AreFittingBelow a count =
-    (number : ℕ) → number < count → AreFitting (is_full (length a.propositions) (state_at a number)) (labels_at a number)
+AreFittingBelow a count = (number : ℕ) → number < count → AreFittingAt a number
 
 -- no refusal of the automaton applies
 pub record HasComplement (a : Description) : Type 0 where

@@ -1,7 +1,7 @@
 -- The dual of an acceptance formula, which holds exactly if the formula does not. It exchanges the operators, the
 -- constants, and `Fin` and `Inf` (HOA v1, acceptance).
 use Rattle.std.specs.Prelude.{not}
-use Rattle.omega_acc.specs.formula.Acceptance.{AccTree, conjunction, constant, disjunction, fin, inf}
+use Rattle.omega_formula.specs.Acceptance.{AccTree, conjunction, constant, disjunction, fin, inf}
 
 -- the dual of a formula
 abbrev pub dual : AccTree → AccTree

@@ -1,7 +1,7 @@
 -- The labels of the edges of a state, and the states of an automaton by their numbers.
-use Rattle.std.specs.Prelude.{ℕ, ◌+◌, ◌^◌, ◌==◌, ◌&&◌, Bool, if◌then◌else◌, List, [], ◌∷◌, length, is_none, None}
+use Rattle.std.specs.Prelude.{ℕ, ◌+◌, ◌^◌, ◌==◌, ◌&&◌, Bool, if◌then◌else◌, List, [], ◌∷◌, length, map, is_none, None}
 use Rattle.std.specs.List.{list_all}
-use Rattle.omega_acc.specs.label.Label.{LabelTree}
+use Rattle.omega_label.specs.Label.{LabelTree}
 use Rattle.omega_automaton.specs.Automaton.{Description}
 use Rattle.omega_automaton.specs.declared.edge.Edge.{Edge}
 use Rattle.omega_automaton.specs.declared.state.State.{State}
@@ -18,13 +18,14 @@ labels_of count state = each_by_index (label_at count state) 0 state.edges
 
 -- whether a state and its edges have no labels, and there is an edge for each valuation of `count` propositions
 abbrev pub is_full : ℕ → State → Bool
-is_full count state = is_none state.label && list_all (λ edge. is_none edge.label) state.edges && length state.edges == 2 ^ count
+is_full count state =
+    is_none state.label && list_all (λ edge. is_none edge.label) state.edges && length state.edges == 2 ^ count
 
 -- a state that the body does not define
 abbrev pub undefined : ℕ → State
 undefined number = record { label = None; number = number; name = None; marks = []; edges = [] }
 
--- the first state with a number, or one without edges if there is none
+-- the first state with a number, or a state without edges if no state has it
 abbrev pub state_among : List State → ℕ → State
 state_among [] number = undefined number
 state_among (state ∷ states) number = if state.number == number then state else state_among states number
@@ -32,6 +33,14 @@ state_among (state ∷ states) number = if state.number == number then state els
 -- the state with a number of an automaton
 abbrev pub state_at : Description → ℕ → State
 state_at a number = state_among a.defined number
+
+-- the numbers of the states that an automaton defines, in the order written
+abbrev pub defined_numbers : Description → List ℕ
+defined_numbers a = map (λ state. state.number) a.defined
+
+-- whether the state with a number has an edge for each valuation, and no labels
+abbrev pub is_full_at : Description → ℕ → Bool
+is_full_at a number = is_full (length a.propositions) (state_at a number)
 
 -- the labels of the edges of the state with a number
 abbrev pub labels_at : Description → ℕ → List LabelTree

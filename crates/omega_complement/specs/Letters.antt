@@ -2,8 +2,8 @@
 -- and at which none.
 use Rattle.std.specs.Prelude.{◌≡◌, ◌⊎◌, ℕ, suc, ◌<◌, Bool, true, false, List, [], ◌∷◌, ◌++◌, length, slice_get, Some}
 use Rattle.std.specs.List.{list_any}
-use Rattle.omega_acc.specs.label.Label.{LabelTree, conjunction, constant, disjunction, negation, truth}
-use Rattle.omega_acc.specs.label.Satisfiable.{IsSatisfiable}
+use Rattle.omega_label.specs.Label.{LabelTree, conjunction, constant, disjunction, negation, truth}
+use Rattle.omega_satisfying.specs.Satisfiable.{IsSatisfiable}
 
 -- the labels of two different edges of a state, in their order
 pub record IsPair (labels : List LabelTree) (one other : LabelTree) : Type 0 where
@@ -15,7 +15,8 @@ pub record IsPair (labels : List LabelTree) (one other : LabelTree) : Type 0 whe
 
 -- at some letter two edges can be taken
 abbrev pub HasClash : List LabelTree → Type 0
-HasClash labels = (one : LabelTree) × ((other : LabelTree) × IsPair labels one other × IsSatisfiable (conjunction one other))
+HasClash labels =
+    (one : LabelTree) × ((other : LabelTree) × IsPair labels one other × IsSatisfiable (conjunction one other))
 
 -- at each letter at most one edge can be taken
 abbrev pub AreExclusive : List LabelTree → Type 0
@@ -28,7 +29,8 @@ LacksLetter labels = (held : ℕ → Bool) × (list_any (truth held) labels ≡ 
 -- one label, or the disjunction of two halves of them; the second half is as long as the first or one longer
 pub data IsAnyOf : List LabelTree → LabelTree → Type 0 where
   alone : (label : LabelTree) → IsAnyOf (label ∷ []) label
-  halves : (left right : List LabelTree) (one other : LabelTree) → (length right ≡ length left) ⊎ (length right ≡ suc (length left))
+  halves : (left right : List LabelTree) (one other : LabelTree)
+      → (length right ≡ length left) ⊎ (length right ≡ suc (length left))
       → IsAnyOf left one → IsAnyOf right other → IsAnyOf (left ++ right) (disjunction one other)
 
 -- the label of the letters at which no edge can be taken: `t` without labels, else the negated disjunction of them all

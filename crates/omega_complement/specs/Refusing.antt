@@ -1,19 +1,20 @@
--- The refusal of the complement, the first of these: 41; 55 by the counts of the automaton; 56 by a second
--- start; 56, 42 or 55 of the first state with one; 55 by the written complement; 60 for memory.
+-- The refusal of the complement, the first of these: `UniversalBranch`; `TooLarge` by the counts of the automaton;
+-- `NotDeterministic` by a second start; the fault of the first state with one, which is `NotDeterministic`,
+-- `TooManyPropositions` or `TooLarge`; `TooLarge` by the written complement. Want of memory may come at each step.
 use Rattle.std.specs.Prelude.{◌≡◌, ◌⊎◌, ℕ, ◌<◌, ◌≤◌, Bool, true, false, List, length, slice_get, slice_index_or, Some}
 use Rattle.omega_text.specs.Cases.{never, or_memory, or_task}
 use Rattle.omega_text.specs.declared.refusal.Refusal.{Refusal}
 use Rattle.omega_text.specs.declared.refusal.automaton.AutomatonFault.{AutomatonFault}
 use Rattle.omega_text.specs.declared.refusal.task.TaskFault.{TaskFault}
 use Rattle.omega_text.specs.declared.refusal.task.TaskFault.TheVariants.{BadSolution, Budget, NotDeterministic, NotParity, TooLarge, TooManyPropositions, TooWide, UniversalBranch, UnknownNode}
-use Rattle.omega_acc.specs.label.Label.{LabelTree}
+use Rattle.omega_label.specs.Label.{LabelTree}
 use Rattle.omega_automaton.specs.Automaton.{Description}
 use Rattle.omega_automaton.specs.Branching.{has_universal_branching}
 use Rattle.omega_automaton.specs.Faults.{automaton_fault_of}
 use Rattle.omega_raw.specs.declared.raw_automaton.RawAutomaton.{RawAutomaton}
 use Rattle.omega_complement.specs.Complement.{AreExclusiveBelow, AreFittingBelow, exceeds_limits}
 use Rattle.omega_complement.specs.Judged.{HasLargeJudged, HasWideJudged}
-use Rattle.omega_complement.specs.Labels.{is_full, labels_at, state_at}
+use Rattle.omega_complement.specs.Labels.{is_full_at, labels_at}
 use Rattle.omega_complement.specs.Letters.{HasClash}
 use Rattle.omega_complement.specs.Written.{IsWrittenComplement}
 
@@ -37,20 +38,24 @@ IsStateFault full labels number (NotDeterministic state) = (state ≡ number) ×
 abbrev pub IsFirstFault : Description → TaskFault → Type 0
 IsFirstFault a fault =
     (number : ℕ) × (number < a.states) × AreExclusiveBelow a number × AreFittingBelow a number
-    × IsStateFault (is_full (length a.propositions) (state_at a number)) (labels_at a number) number fault
+    × IsStateFault (is_full_at a number) (labels_at a number) number fault
+
+-- a written automaton breaks a limit of automata
+abbrev pub BreaksLimit : RawAutomaton → Type 0
+BreaksLimit raw = (fault : AutomatonFault) × (automaton_fault_of raw ≡ Some fault)
 
 -- the written complement breaks a limit of automata
 abbrev pub IsUnwritable : Description → Type 0
 IsUnwritable a =
     AreExclusiveBelow a a.states × AreFittingBelow a a.states
-    × ((raw : RawAutomaton) × IsWrittenComplement a raw × ((fault : AutomatonFault) × (automaton_fault_of raw ≡ Some fault)))
+    × ((raw : RawAutomaton) × IsWrittenComplement a raw × BreaksLimit raw)
 
--- neither 41 nor 55 by the counts applies
+-- there is no universal branching, and the counts of the automaton leave room for the complement
 pub record FitsComplementLimits (a : Description) : Type 0 where
   pub plain : has_universal_branching a ≡ false
   pub limits : exceeds_limits a ≡ false
 
--- nor does 56 by a second start apply
+-- in addition there is at most one start
 pub record HasStart (a : Description) : Type 0 where
   pub limits : FitsComplementLimits a
   pub one_start : length a.starts ≤ 1
@@ -65,7 +70,8 @@ IsComplementFault a Budget = ⊥
 IsComplementFault a BadSolution = ⊥
 IsComplementFault a UnknownNode = ⊥
 IsComplementFault a TooLarge =
-    ((has_universal_branching a ≡ false) × (exceeds_limits a ≡ true)) ⊎ (HasStart a × (IsFirstFault a TooLarge ⊎ IsUnwritable a))
+    ((has_universal_branching a ≡ false) × (exceeds_limits a ≡ true))
+    ⊎ (HasStart a × (IsFirstFault a TooLarge ⊎ IsUnwritable a))
 IsComplementFault a (NotDeterministic state) =
     (FitsComplementLimits a × IsSecondStart a state) ⊎ (HasStart a × IsFirstFault a (NotDeterministic state))
 

@@ -1,25 +1,24 @@
 //! The acceptance of a complement, as a text writes it.
 
-ghost use Rattle.std.specs.Prelude.{◌≡◌, ◌<◌, IfErr, IfOk};
-ghost use Rattle.omega_text.specs.Cases.{IsMemory};
-ghost use Rattle.omega_acc.specs.Limits.{most_depth};
-ghost use Rattle.omega_acc.specs.WritingLaws.{acc_written};
-ghost use Rattle.omega_acc.specs.formula.Raw.{raw_acc_depth};
-ghost use Rattle.omega_acc.specs.formula.Shape.{acc_tree_of_shape};
+ghost use Rattle.std.specs.Prelude.{◌≡◌, ◌<◌, IfErr, IfOk, IsOkUnless};
+ghost use Rattle.omega_expression.specs.Limits.{most_depth};
+ghost use Rattle.omega_formula.specs.Raw.{raw_acc_depth};
+ghost use Rattle.omega_formula.specs.Shape.{acc_tree_of_shape};
 ghost use Rattle.omega_complement.specs.Dual.{dual};
+ghost use Rattle.omega_complement.specs.Written.{written_dual};
 ghost use Rattle.omega_edge_labels.specs.Fitting.{IsLarge};
 
-use omega_acc::{AccShape, RawAcc};
 use omega_automaton::Automaton;
 use omega_edge_labels::written_formula;
+use omega_formula::{AccShape, RawAcc};
 use omega_text::Refusal;
 use std::alloc::Global;
 
 /// Returns the dual of the acceptance of `automaton`. Fails with [TaskFault::TooLarge] if its written form is deeper
 /// than `MOST_DEPTH`.
 pub(crate) fn dual_acceptance(alloc: Global, automaton: &Automaton) -> Result<RawAcc, Refusal>
-    ensures dual { IfOk result (λ raw. raw ≡ acc_written (dual automaton.now.acceptance)) }
-    ensures err { IfErr result (IsLarge (most_depth < raw_acc_depth (acc_written (dual automaton.now.acceptance)))) }
+    ensures dual { IfOk result (λ raw. raw ≡ written_dual automaton.now) }
+    ensures err { IfErr result (IsLarge (most_depth < raw_acc_depth (written_dual automaton.now))) }
 {
     let shape = automaton.acceptance().shape(alloc)?;
     let dual = dual_of(alloc, &shape)?;
@@ -29,7 +28,7 @@ pub(crate) fn dual_acceptance(alloc: Global, automaton: &Automaton) -> Result<Ra
 /// Returns the dual of a formula.
 fn dual_of(alloc: Global, shape: &AccShape) -> Result<AccShape, Refusal>
     ensures dual { IfOk result (λ turned. acc_tree_of_shape turned ≡ dual (acc_tree_of_shape shape.now)) }
-    ensures err { IfErr result IsMemory }
+    ensures memory { IsOkUnless result Refusal.Memory }
 {
     match shape {
         AccShape::Constant(value) => Ok(AccShape::Constant(!*value)),

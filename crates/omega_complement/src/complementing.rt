@@ -1,10 +1,9 @@
 //! The complement of a deterministic automaton.
 
-ghost use Rattle.std.specs.Prelude.{◌≡◌, ◌≤◌, ℕ, length, IfErr, IfOk, OnOk};
-ghost use Rattle.omega_text.specs.Cases.{never, or_memory, or_task};
-ghost use Rattle.omega_text.specs.declared.refusal.task.TaskFault.TheVariants.{NotDeterministic};
+ghost use Rattle.std.specs.Prelude.{◌≤◌, length, IfErr, IfOk, OnOk};
 ghost use Rattle.omega_complement.specs.Complement.{HasComplement, IsComplement};
-ghost use Rattle.omega_complement.specs.Refusing.{IsUncomplemented, IsSecondStart};
+ghost use Rattle.omega_complement.specs.Refusing.{IsUncomplemented};
+ghost use Rattle.omega_complement.specs.private.Turned.{IsStartRefusal};
 
 use crate::acceptance::dual_acceptance;
 use crate::forming::{formed, written_complement};
@@ -65,7 +64,7 @@ pub fn complement(alloc: Global, automaton: &Automaton) -> Result<Automaton, Ref
 /// Judges that there is at most one start. Fails with [TaskFault::NotDeterministic] with the state of the second.
 fn judge_starts(automaton: &Automaton) -> Result<(), Refusal>
     ensures one { OnOk result (length automaton.now.starts ≤ 1) }
-    ensures err { IfErr result (or_task (λ fault. ((state : ℕ) × (fault ≡ NotDeterministic state) × IsSecondStart automaton.now state)) never) }
+    ensures err { IfErr result (IsStartRefusal automaton.now) }
 {
     match automaton.starts() {
         [_, second, ..] => {

@@ -1,19 +1,16 @@
 //! A complement as a text writes it, and the automaton that this means.
 
-ghost use Rattle.std.specs.Prelude.{◌≡◌, ◌↔◌, ◌<◌, ◌++◌, ◌∷◌, [], ℕ, IsTrue, false, length, slice_index_or, IfErr, IfOk};
-ghost use Rattle.omega_text.specs.Cases.{IsMemory};
-ghost use Rattle.omega_acc.specs.WritingLaws.{acc_written};
+ghost use Rattle.std.specs.Prelude.{◌≡◌, ◌↔◌, ◌++◌, IsTrue, false, IfErr, IfOk, IsOkUnless};
+ghost use Rattle.omega_formula.specs.Writing.{acc_written};
 ghost use Rattle.omega_automaton.specs.Meaning.{Means};
 ghost use Rattle.omega_complement.specs.Complement.{exceeds_limits};
-ghost use Rattle.omega_complement.specs.Dual.{dual};
-ghost use Rattle.omega_complement.specs.Labels.{labels_at};
-ghost use Rattle.omega_complement.specs.Letters.{LacksLetter};
-ghost use Rattle.omega_complement.specs.Written.{IsWrittenComplement, NeedsSink, complement_acceptance, header, sink_state, sinks};
+ghost use Rattle.omega_complement.specs.Written.{IsWrittenComplement, NeedsSink, SomeLacksLetter, complement_acceptance, header, propositions_item, sink_state, sinks, start_or_sink, written_dual};
 ghost use Rattle.omega_complement.specs.private.Turned.{AreTurned, IsUnformed};
 
 use crate::states::Body;
-use omega_acc::{RawAcc, RawLabel};
 use omega_automaton::{Automaton, RawAutomaton, StateName, automaton_of};
+use omega_formula::RawAcc;
+use omega_label::RawLabel;
 use omega_raw::{RawEdge, RawEdges, RawItem, RawState};
 use omega_text::{ByteString, Marks, Numbers, Refusal, Seq, TaskFault};
 use std::alloc::Global;
@@ -26,10 +23,10 @@ pub(crate) fn written_complement(
     body: Body,
 ) -> Result<RawAutomaton, Refusal>
     requires limits { exceeds_limits automaton.now ≡ false }
-    requires dual { formula ≡ acc_written (dual automaton.now.acceptance) }
+    requires dual { formula ≡ written_dual automaton.now }
     requires turned { AreTurned automaton.now automaton.now.states body.states.items body.lacks }
     ensures written { IfOk result (IsWrittenComplement automaton.now) }
-    ensures err { IfErr result IsMemory }
+    ensures memory { IsOkUnless result Refusal.Memory }
 {
     let sink = needs_sink(automaton, body.lacks);
     let items = header(alloc, automaton, formula, sink)?;
@@ -44,7 +41,7 @@ pub(crate) fn written_complement(
 
 /// Whether a sink is needed. `lacks` says whether some state lacks a letter.
 fn needs_sink(automaton: &Automaton, lacks: bool) -> bool
-    requires { IsTrue lacks ↔ ((number : ℕ) × (number < automaton.now.states) × LacksLetter (labels_at automaton.now number)) }
+    requires { IsTrue lacks ↔ SomeLacksLetter automaton.now automaton.now.states }
     ensures { IsTrue result ↔ NeedsSink automaton.now }
 {
     if automaton.starts().is_empty() {
@@ -62,7 +59,7 @@ fn with_sink(
     sink: bool,
 ) -> Result<Vec<RawState>, Refusal>
     ensures states { IfOk result (λ all. all.items ≡ states.items ++ sinks automaton.now sink) }
-    ensures err { IfErr result IsMemory }
+    ensures memory { IsOkUnless result Refusal.Memory }
 {
     let mut all = states;
     if sink {
@@ -79,9 +76,9 @@ fn header(
     sink: bool,
 ) -> Result<Vec<RawItem>, Refusal>
     requires limits { exceeds_limits automaton.now ≡ false }
-    requires dual { formula ≡ acc_written (dual automaton.now.acceptance) }
+    requires dual { formula ≡ written_dual automaton.now }
     ensures items { IfOk result (λ items. items.items ≡ header automaton.now sink) }
-    ensures err { IfErr result IsMemory }
+    ensures memory { IsOkUnless result Refusal.Memory }
 {
     let further = u32::from(sink);
     let acceptance = acceptance_of(alloc, automaton, formula, sink)?;
@@ -104,9 +101,9 @@ fn acceptance_of(
     sink: bool,
 ) -> Result<RawAcc, Refusal>
     requires limits { exceeds_limits automaton.now ≡ false }
-    requires dual { formula ≡ acc_written (dual automaton.now.acceptance) }
+    requires dual { formula ≡ written_dual automaton.now }
     ensures acceptance { IfOk result (λ written. written ≡ acc_written (complement_acceptance automaton.now sink)) }
-    ensures err { IfErr result IsMemory }
+    ensures memory { IsOkUnless result Refusal.Memory }
 {
     if !sink {
         return Ok(formula);
@@ -116,8 +113,8 @@ fn acceptance_of(
 
 /// Returns the start of `automaton`, or the sink if it has none.
 fn start_of(alloc: Global, automaton: &Automaton) -> Result<Numbers, Refusal>
-    ensures start { IfOk result (λ start. start ≡ slice_index_or automaton.now.starts 0 (automaton.now.states ∷ [])) }
-    ensures err { IfErr result IsMemory }
+    ensures start { IfOk result (λ start. start ≡ start_or_sink automaton.now) }
+    ensures memory { IsOkUnless result Refusal.Memory }
 {
     match automaton.starts().first() {
         None => Ok(Numbers::one(automaton.state_count())),
@@ -127,8 +124,8 @@ fn start_of(alloc: Global, automaton: &Automaton) -> Result<Numbers, Refusal>
 
 /// Returns the header item of the propositions.
 fn propositions(alloc: Global, automaton: &Automaton) -> Result<RawItem, Refusal>
-    ensures item { IfOk result (λ item. item ≡ RawItem.Propositions (length automaton.now.propositions) automaton.now.propositions) }
-    ensures err { IfErr result IsMemory }
+    ensures item { IfOk result (λ item. item ≡ propositions_item automaton.now) }
+    ensures memory { IsOkUnless result Refusal.Memory }
 {
     automaton.keeps_limits();
     let names = automaton.propositions();
@@ -142,7 +139,7 @@ fn propositions(alloc: Global, automaton: &Automaton) -> Result<RawItem, Refusal
 /// Copies `names`.
 fn copied(alloc: Global, names: &[ByteString]) -> Result<Vec<ByteString>, Refusal>
     ensures same { IfOk result (λ same. same.items ≡ names.now) }
-    ensures err { IfErr result IsMemory }
+    ensures memory { IsOkUnless result Refusal.Memory }
 {
     let mut same = Vec::with_capacity(alloc, names.len())?;
     for name in names {
@@ -154,7 +151,7 @@ fn copied(alloc: Global, names: &[ByteString]) -> Result<Vec<ByteString>, Refusa
 /// Returns the sink.
 fn sink_state(alloc: Global, automaton: &Automaton) -> Result<RawState, Refusal>
     ensures sink { IfOk result (λ state. state ≡ sink_state automaton.now) }
-    ensures err { IfErr result IsMemory }
+    ensures memory { IsOkUnless result Refusal.Memory }
 {
     let mut edges = RawEdges::new(alloc);
     let edge = RawEdge {

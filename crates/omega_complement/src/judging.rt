@@ -1,16 +1,17 @@
 //! Whether the labels of a state are exclusive: at each letter at most one of its edges can be taken.
 
-ghost use Rattle.std.specs.Prelude.{◌↔◌, ◌<◌, false, IsTrue, IfErr, IfOk, OnOk, length};
-ghost use Rattle.omega_acc.specs.label.Label.{LabelTree, conjunction};
-ghost use Rattle.omega_acc.specs.label.Satisfiable.{IsSatisfiable};
-ghost use Rattle.omega_acc.specs.label.Shape.{FitsALabel, label_tree_of_shape};
-ghost use Rattle.omega_complement.specs.Judged.{IsBoth};
+ghost use Rattle.std.specs.Prelude.{◌↔◌, ◌<◌, IsTrue, IfErr, IfOk, OnOk, length};
+ghost use Rattle.omega_label.specs.Label.{conjunction};
+ghost use Rattle.omega_satisfying.specs.Satisfiable.{IsSatisfiable};
+ghost use Rattle.omega_label.specs.Shape.{FitsALabel, label_tree_of_shape};
+ghost use Rattle.omega_complement.specs.Judged.{BothFit};
 ghost use Rattle.omega_complement.specs.Letters.{AreExclusive};
 ghost use Rattle.omega_complement.specs.private.Apart.{IsApartFrom};
-ghost use Rattle.omega_complement.specs.private.Turned.{IsStateRefusal, IsUnjudged};
+ghost use Rattle.omega_complement.specs.private.Turned.{IsJudgingRefusal, IsUnjudged};
 
-use omega_acc::{Label, LabelShape};
+use crate::state_labels::StateLabels;
 use omega_edge_labels::fitting_label;
+use omega_label::{Label, LabelShape};
 use omega_satisfying::is_satisfiable;
 use omega_text::{Refusal, TaskFault};
 use std::alloc::Global;
@@ -27,28 +28,29 @@ pub(crate) fn can_hold(alloc: Global, shape: &LabelShape) -> Result<bool, Refusa
     is_satisfiable(alloc, &label)
 }
 
-/// Judges that at each letter at most one of `labels` is true, two at a time. Fails with [TaskFault::NotDeterministic]
-/// with the state's `number` if two can be true together, and as `can_hold` does.
-pub(crate) fn judge_apart(alloc: Global, labels: &[Label], number: u32) -> Result<(), Refusal>
-    ensures apart { OnOk result (AreExclusive labels.now) }
-    ensures fits { OnOk result ((label : LabelTree) → IsBoth labels.now label → FitsALabel label) }
-    ensures err { IfErr result (IsStateRefusal false labels.now number) }
+/// Judges that at each letter at most one of the labels of `state` is true, two at a time. Fails with
+/// [TaskFault::NotDeterministic] with the number of the state if two can be true together, and as `can_hold` does.
+pub(crate) fn judge_apart(alloc: Global, state: &StateLabels<'_>) -> Result<(), Refusal>
+    ensures apart { OnOk result (AreExclusive state.now.labels.now) }
+    ensures fits { OnOk result (BothFit state.now.labels.now) }
+    ensures err { IfErr result (IsJudgingRefusal state.now) }
 {
-    for second in 0..labels.len() {
-        judge_before(alloc, labels, second, number)?;
+    for second in 0..state.labels.len() {
+        judge_before(alloc, state, second)?;
     }
     Ok(())
 }
 
 /// Judges the label at `second` together with each one before it.
-fn judge_before(alloc: Global, labels: &[Label], second: usize, number: u32) -> Result<(), Refusal>
-    requires { second < length labels.now }
-    ensures apart { OnOk result (IsApartFrom labels.now second second) }
-    ensures err { IfErr result (IsStateRefusal false labels.now number) }
+fn judge_before(alloc: Global, state: &StateLabels<'_>, second: usize) -> Result<(), Refusal>
+    requires { second < length state.now.labels.now }
+    ensures apart { OnOk result (IsApartFrom state.now.labels.now second second) }
+    ensures err { IfErr result (IsJudgingRefusal state.now) }
 {
+    let labels = state.labels;
     for first in 0..second {
         if can_meet(alloc, &labels[first], &labels[second])? {
-            return Err(Refusal::Task(TaskFault::NotDeterministic(number as usize)));
+            return Err(Refusal::Task(TaskFault::NotDeterministic(state.number as usize)));
         }
     }
     Ok(())

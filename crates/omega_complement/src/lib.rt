@@ -11,6 +11,7 @@ mod labels;
 mod limits;
 mod places;
 mod rest;
+mod state_labels;
 mod states;
 mod turning;
 

@@ -1,21 +1,21 @@
 //! Whether the complement would pass a limit, by the counts of the automaton.
 
 ghost use Rattle.std.specs.Prelude.{◌≡◌, nat_le};
-ghost use Rattle.omega_acc.specs.Limits.{most_depth};
-ghost use Rattle.omega_acc.specs.WritingLaws.{acc_written};
-ghost use Rattle.omega_acc.specs.formula.Raw.{raw_acc_depth};
+ghost use Rattle.omega_expression.specs.Limits.{most_depth};
+ghost use Rattle.omega_formula.specs.Raw.{raw_acc_depth};
 ghost use Rattle.omega_complement.specs.Complement.{exceeds_limits};
-ghost use Rattle.omega_complement.specs.Dual.{dual};
+ghost use Rattle.omega_complement.specs.Written.{written_dual};
 
-use omega_acc::{MOST_DEPTH, RawAcc};
 use omega_automaton::Automaton;
 use omega_edge_labels::{MOST_EDGES, MOST_STATES};
+use omega_expression::MOST_DEPTH;
+use omega_formula::RawAcc;
 use omega_text::MOST_NUMBER;
 
 /// Whether one state more, one edge more for each state, one set more, or a written formula one deeper would pass a
 /// limit. `formula` is the written dual acceptance.
 pub(crate) fn exceeds_limits(automaton: &Automaton, formula: &RawAcc) -> bool
-    requires { formula.now ≡ acc_written (dual automaton.now.acceptance) }
+    requires { formula.now ≡ written_dual automaton.now }
     ensures { result ≡ exceeds_limits automaton.now }
 {
     let states = automaton.state_count() as usize;

@@ -1,5 +1,5 @@
-ghost use Rattle.std.specs.Prelude.{◌≡◌, ◌++◌, ◌∷◌, [], map, IfErr, IfOk, OnOk};
-ghost use Rattle.omega_text.specs.Cases.{IsMemory};
+ghost use Rattle.std.specs.Prelude.{◌≡◌, ◌++◌, ◌∷◌, [], IfOk, OnOk, IsOkUnless};
+ghost use Rattle.omega_complement.specs.Labels.{defined_numbers};
 
 use indexmap::IndexSet;
 use omega_automaton::Automaton;
@@ -9,8 +9,8 @@ use std::alloc::Global;
 /// Returns the numbers of the states that `automaton` defines, in the order written. Also fails with [Refusal::Memory]
 /// if two states have one number, which can't happen for an automaton.
 pub(crate) fn places_of(alloc: Global, automaton: &Automaton) -> Result<IndexSet<u32>, Refusal>
-    ensures numbers { IfOk result (λ numbers. numbers.keys ≡ map (λ state. state.number) automaton.now.defined) }
-    ensures err { IfErr result IsMemory }
+    ensures numbers { IfOk result (λ numbers. numbers.keys ≡ defined_numbers automaton.now) }
+    ensures memory { IsOkUnless result Refusal.Memory }
 {
     let mut numbers = IndexSet::new(alloc);
     for state in automaton.defined() {
@@ -22,7 +22,7 @@ pub(crate) fn places_of(alloc: Global, automaton: &Automaton) -> Result<IndexSet
 /// Appends `number`. Also fails with [Refusal::Memory] if it is in the set already.
 fn add(numbers: &mut IndexSet<u32>, number: u32) -> Result<(), Refusal>
     ensures numbers { OnOk result (numbers.new.keys ≡ numbers.old.keys ++ number ∷ []) }
-    ensures err { IfErr result IsMemory }
+    ensures memory { IsOkUnless result Refusal.Memory }
 {
     if !numbers.insert(number)? {
         return Err(Refusal::Memory);

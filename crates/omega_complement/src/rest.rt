@@ -1,33 +1,28 @@
 //! The letters at which no edge of a state can be taken.
 
-ghost use Rattle.std.specs.Prelude.{◌<◌, false, length, IfErr, IfOk, OnOk};
-ghost use Rattle.omega_text.specs.Cases.{IsMemory};
-ghost use Rattle.omega_acc.specs.label.Label.{LabelTree};
-ghost use Rattle.omega_acc.specs.label.Shape.{FitsALabel, label_tree_of_shape};
-ghost use Rattle.omega_complement.specs.Letters.{IsAnyOf, IsRestLabel, LacksLetter};
+ghost use Rattle.std.specs.Prelude.{◌<◌, length, IfErr, IfOk, IsOkUnless, OnOk};
+ghost use Rattle.omega_label.specs.Shape.{label_tree_of_shape};
+ghost use Rattle.omega_complement.specs.Judged.{RestFits, RestFitsAText};
+ghost use Rattle.omega_complement.specs.Letters.{IsAnyOf, IsRestLabel};
 ghost use Rattle.omega_complement.specs.Written.{IsMissing};
-ghost use Rattle.omega_complement.specs.private.Turned.{IsStateRefusal};
-ghost use Rattle.omega_edge_labels.specs.Fitting.{FitsAText};
+ghost use Rattle.omega_complement.specs.private.Turned.{IsJudgingRefusal};
 
 use crate::judging::can_hold;
-use omega_acc::{Label, LabelShape, RawLabel};
+use crate::state_labels::StateLabels;
 use omega_edge_labels::written_label;
+use omega_label::{Label, LabelShape, RawLabel};
 use omega_text::Refusal;
 use std::alloc::Global;
 
-/// Returns the label of the letters at which no edge can be taken, or none if there is no such letter. Fails as
-/// `can_hold` does. Only the contract reads the number of the state.
-pub(crate) fn missing(
-    alloc: Global,
-    labels: &[Label],
-    _number: u32,
-) -> Result<Option<RawLabel>, Refusal>
-    ensures missing { IfOk result (IsMissing labels.now) }
-    ensures judged { OnOk result ((label : LabelTree) → IsRestLabel labels.now label → FitsALabel label) }
-    ensures written { OnOk result (LacksLetter labels.now → (label : LabelTree) → IsRestLabel labels.now label → FitsAText label) }
-    ensures err { IfErr result (IsStateRefusal false labels.now _number) }
+/// Returns the label of the letters at which no edge of `state` can be taken, or none if there is no such letter. Fails
+/// as `can_hold` does.
+pub(crate) fn missing(alloc: Global, state: &StateLabels<'_>) -> Result<Option<RawLabel>, Refusal>
+    ensures missing { IfOk result (IsMissing state.now.labels.now) }
+    ensures judged { OnOk result (RestFits state.now.labels.now) }
+    ensures written { OnOk result (RestFitsAText state.now.labels.now) }
+    ensures err { IfErr result (IsJudgingRefusal state.now) }
 {
-    let rest = rest_of(alloc, labels)?;
+    let rest = rest_of(alloc, state.labels)?;
     if can_hold(alloc, &rest)? {
         Ok(Some(written_label(alloc, &rest)?))
     } else {
@@ -38,7 +33,7 @@ pub(crate) fn missing(
 /// Returns the label of the letters at which no edge can be taken.
 fn rest_of(alloc: Global, labels: &[Label]) -> Result<LabelShape, Refusal>
     ensures rest { IfOk result (λ shape. IsRestLabel labels.now (label_tree_of_shape shape)) }
-    ensures err { IfErr result IsMemory }
+    ensures memory { IsOkUnless result Refusal.Memory }
 {
     if labels.is_empty() {
         return Ok(LabelShape::Constant(true));
@@ -51,7 +46,7 @@ fn rest_of(alloc: Global, labels: &[Label]) -> Result<LabelShape, Refusal>
 fn any_of(alloc: Global, labels: &[Label]) -> Result<LabelShape, Refusal>
     requires { 0 < length labels.now }
     ensures any { IfOk result (λ shape. IsAnyOf labels.now (label_tree_of_shape shape)) }
-    ensures err { IfErr result IsMemory }
+    ensures memory { IsOkUnless result Refusal.Memory }
 {
     if labels.len() == 1 {
         return labels[0].shape(alloc);

@@ -1,11 +1,11 @@
 //! The states of a complement.
 
-ghost use Rattle.std.specs.Prelude.{◌≡◌, ◌↔◌, ◌||◌, length, map, IsTrue, IfErr, IfOk, OnOk};
-ghost use Rattle.omega_complement.specs.Judged.{AreFitting};
-ghost use Rattle.omega_complement.specs.Labels.{is_full, labels_at, state_at, undefined as undefined_state};
+ghost use Rattle.std.specs.Prelude.{◌≡◌, ◌↔◌, ◌||◌, IsTrue, IfErr, IfOk, OnOk};
+ghost use Rattle.omega_complement.specs.Complement.{AreFittingAt};
+ghost use Rattle.omega_complement.specs.Labels.{defined_numbers, labels_at, state_at, undefined as undefined_state};
 ghost use Rattle.omega_complement.specs.Letters.{AreExclusive, LacksLetter};
-ghost use Rattle.omega_complement.specs.Written.{IsTurned};
-ghost use Rattle.omega_complement.specs.private.Turned.{AreRefused, AreTurned, IsStateRefusal};
+ghost use Rattle.omega_complement.specs.Written.{IsTurnedAt};
+ghost use Rattle.omega_complement.specs.private.Turned.{AreRefused, AreTurned, IsRefusalAt};
 
 use crate::places::places_of;
 use crate::turning::{Turned, turned_state};
@@ -54,12 +54,12 @@ fn turned_at(
     places: &IndexSet<u32>,
     number: u32,
 ) -> Result<Turned, Refusal>
-    requires { places.now.keys ≡ map (λ state. state.number) automaton.now.defined }
-    ensures turned { IfOk result (λ turned. IsTurned (length automaton.now.propositions) automaton.now.states (state_at automaton.now number) turned.state) }
+    requires { places.now.keys ≡ defined_numbers automaton.now }
+    ensures turned { IfOk result (λ turned. IsTurnedAt automaton.now number turned.state) }
     ensures lacks { IfOk result (λ turned. IsTrue turned.lacks ↔ LacksLetter (labels_at automaton.now number)) }
     ensures apart { OnOk result (AreExclusive (labels_at automaton.now number)) }
-    ensures fitting { OnOk result (AreFitting (is_full (length automaton.now.propositions) (state_at automaton.now number)) (labels_at automaton.now number)) }
-    ensures err { IfErr result (IsStateRefusal (is_full (length automaton.now.propositions) (state_at automaton.now number)) (labels_at automaton.now number) number) }
+    ensures fitting { OnOk result (AreFittingAt automaton.now number) }
+    ensures err { IfErr result (IsRefusalAt automaton.now number) }
 {
     let count = automaton.propositions().len();
     let sink = automaton.state_count();
@@ -75,7 +75,7 @@ fn state_of<'a>(
     number: u32,
     spare: &'a State,
 ) -> &'a State
-    requires places { places.now.keys ≡ map (λ state. state.number) automaton.now.defined }
+    requires places { places.now.keys ≡ defined_numbers automaton.now }
     requires spare { spare.now ≡ undefined_state number }
     ensures { result.now ≡ state_at automaton.now number }
 {

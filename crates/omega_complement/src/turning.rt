@@ -1,24 +1,22 @@
 //! A state of a complement.
 
-ghost use Rattle.std.specs.Prelude.{◌≡◌, ◌↔◌, ◌++◌, ◌==◌, length, IsTrue, is_none, IfErr, IfOk, OnOk, Some};
+ghost use Rattle.std.specs.Prelude.{◌≡◌, ◌↔◌, ◌++◌, ◌==◌, IsTrue, is_none, IfErr, IfOk, OnOk, Some, IsOkUnless};
 ghost use Rattle.std.specs.List.{All, list_all};
-ghost use Rattle.omega_text.specs.Cases.{IsMemory};
-ghost use Rattle.omega_acc.specs.label.Label.{LabelTree};
-ghost use Rattle.omega_acc.specs.label.Shape.{FitsALabel};
-ghost use Rattle.omega_complement.specs.Judged.{AreFitting, IsJudgedLabel};
+ghost use Rattle.omega_label.specs.Shape.{FitsALabel};
+ghost use Rattle.omega_complement.specs.Judged.{JudgedFit, RestFitsAText};
 ghost use Rattle.omega_complement.specs.Labels.{is_full as has_all_edges, labels_of as labels_of_state};
-ghost use Rattle.omega_complement.specs.Letters.{AreExclusive, IsRestLabel, LacksLetter};
-ghost use Rattle.omega_complement.specs.Written.{IsMissing, IsTurned, further_edges, turned_edge as edge_turned, turned_edges as edges_turned};
-ghost use Rattle.omega_complement.specs.private.Turned.{IsStateRefusal};
+ghost use Rattle.omega_complement.specs.Letters.{AreExclusive, LacksLetter};
+ghost use Rattle.omega_complement.specs.Written.{IsMissing, IsTurned, further_edges, turned_edges as edges_turned, turned_with};
+ghost use Rattle.omega_complement.specs.private.Turned.{AreFittingOf, IsRefusalOf, IsStateRefusal};
 ghost use Rattle.omega_edge_labels.specs.Fitting.{FitsAText, IsLarge};
-ghost use Rattle.omega_edge_labels.specs.Labels.{label_at};
 
 use crate::judging::judge_apart;
 use crate::labels::labels_of;
 use crate::rest::missing;
-use omega_acc::{Label, RawLabel};
+use crate::state_labels::StateLabels;
 use omega_automaton::{EdgeRef, State, StateName};
 use omega_edge_labels::written_label;
+use omega_label::{Label, RawLabel};
 use omega_raw::{RawEdge, RawEdges, RawState};
 use omega_text::{ByteString, Marks, Numbers, Refusal};
 use std::alloc::Global;
@@ -41,8 +39,8 @@ pub(crate) fn turned_state(
     ensures turned { IfOk result (λ turned. IsTurned count sink state.now turned.state) }
     ensures lacks { IfOk result (λ turned. IsTrue turned.lacks ↔ LacksLetter (labels_of_state count state.now)) }
     ensures apart { OnOk result (AreExclusive (labels_of_state count state.now)) }
-    ensures fitting { OnOk result (AreFitting (has_all_edges count state.now) (labels_of_state count state.now)) }
-    ensures err { IfErr result (IsStateRefusal (has_all_edges count state.now) (labels_of_state count state.now) state.now.number) }
+    ensures fitting { OnOk result (AreFittingOf count state.now) }
+    ensures err { IfErr result (IsRefusalOf count state.now) }
 {
     let labels = labels_of(alloc, count, state)?;
     let missing = judged(alloc, count, state, labels.as_slice())?;
@@ -74,15 +72,19 @@ fn judged(
     requires { labels.now ≡ labels_of_state count state.now }
     ensures missing { IfOk result (IsMissing labels.now) }
     ensures apart { OnOk result (AreExclusive labels.now) }
-    ensures judged { OnOk result ((label : LabelTree) → IsJudgedLabel (has_all_edges count state.now) labels.now label → FitsALabel label) }
-    ensures written { OnOk result (LacksLetter labels.now → (label : LabelTree) → IsRestLabel labels.now label → FitsAText label) }
+    ensures judged { OnOk result (JudgedFit (has_all_edges count state.now) labels.now) }
+    ensures written { OnOk result (RestFitsAText labels.now) }
     ensures err { IfErr result (IsStateRefusal (has_all_edges count state.now) labels.now state.now.number) }
 {
     if is_full(count, state) {
         return Ok(None);
     }
-    judge_apart(alloc, labels, state.number)?;
-    missing(alloc, labels, state.number)
+    let state = StateLabels {
+        number: state.number,
+        labels,
+    };
+    judge_apart(alloc, &state)?;
+    missing(alloc, &state)
 }
 
 /// Whether `state` has an edge for each valuation of `count` propositions, and no labels.
@@ -131,25 +133,22 @@ fn turned_edges(
     let mut edges = RawEdges::new(alloc);
     for (at, label) in labels.iter().enumerate() {
         let edge = state.edges.edge(at);
-        let turned = turned_edge(alloc, count, state, label, &edge, at)?;
+        let turned = turned_edge(alloc, state, label, &edge)?;
         edges.push(alloc, turned)?;
     }
     Ok(edges)
 }
 
-/// Returns the edge `edge` of `state` with its label. Fails with [TaskFault::TooLarge] if the written label is deeper
-/// than `MOST_DEPTH` or has over `MOST_SIZE` atoms and operators. Only the contract reads the count and the index.
+/// Returns the edge `edge` of `state` with the label `label`. Fails with [TaskFault::TooLarge] if the written label is
+/// deeper than `MOST_DEPTH` or has over `MOST_SIZE` atoms and operators.
 fn turned_edge(
     alloc: Global,
-    _count: usize,
     state: &State,
     label: &Label,
     edge: &EdgeRef<'_>,
-    _at: usize,
 ) -> Result<RawEdge, Refusal>
-    requires label { label.now ≡ label_at _count state.now _at edge.now }
-    requires fits { FitsALabel label.now }
-    ensures edge { IfOk result (λ turned. turned ≡ edge_turned _count state.now _at edge.now) }
+    requires { FitsALabel label.now }
+    ensures edge { IfOk result (λ turned. turned ≡ turned_with label.now state.now edge.now) }
     ensures written { OnOk result (FitsAText label.now) }
     ensures err { IfErr result (IsLarge (FitsAText label.now → ⊥)) }
 {
@@ -168,7 +167,7 @@ fn turned_edge(
 /// Appends `others` to `numbers`.
 fn add_all(alloc: Global, numbers: &mut Numbers, others: &[u32]) -> Result<(), Refusal>
     ensures numbers { OnOk result (numbers.new ≡ numbers.old ++ others.now) }
-    ensures err { IfErr result IsMemory }
+    ensures memory { IsOkUnless result Refusal.Memory }
 {
     for other in others {
         numbers.push(alloc, *other)?;
@@ -184,7 +183,7 @@ fn add_further(
     sink: u32,
 ) -> Result<(), Refusal>
     ensures edges { OnOk result (edges.new ≡ edges.old ++ further_edges sink missing) }
-    ensures err { IfErr result IsMemory }
+    ensures memory { IsOkUnless result Refusal.Memory }
 {
     if let Some(label) = missing {
         edges.push(
@@ -202,7 +201,7 @@ fn add_further(
 /// Copies the name of `state`.
 fn name_of(alloc: Global, state: &State) -> Result<StateName, Refusal>
     ensures name { IfOk result (λ name. name ≡ state.now.name) }
-    ensures err { IfErr result IsMemory }
+    ensures memory { IsOkUnless result Refusal.Memory }
 {
     match state.name.as_slice() {
         None => Ok(StateName::absent()),

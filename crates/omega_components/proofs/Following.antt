@@ -4,8 +4,8 @@ use Rattle.std.proofs.lemmas.Bool.{cases_eq, cases_lt}
 use Rattle.omega_components.specs.declared.met.Met.{Met}
 use Rattle.omega_components.specs.private.Links.{last_before}
 use Rattle.omega_components.specs.private.Searching.{AreFollowed, Grows, IsStep, Trace, mark_at, meeting, met_at}
-use Rattle.omega_components.proofs.Linking.{last_below, last_has, last_after}
-use Rattle.omega_components.proofs.Growing.{grows_none, grows_more, meeting_marks, meeting_keeps}
+use Rattle.omega_components.proofs.Linking.{last_after, last_below, last_has}
+use Rattle.omega_components.proofs.Growing.{grows_more, grows_none, meeting_keeps, meeting_marks}
 
 -- the edges from an index on that leave the state are followed, and the next one is the last before it
 pub record IsFollowing (leaves enters : List ℕ) (origin : ℕ) (before after : Trace) (left : ℕ) : Type 0 where
@@ -31,7 +31,7 @@ module _ (leaves enters : List ℕ) (origin : ℕ) (before : Trace) where
     pub left_within : left ≤ length leaves
     left_within = let below = last_below leaves (met_at before.met origin).state so_far.bound in omega (arith, so_far.next, so_far.within)
 
-    -- where none is left all are followed
+    -- if no edge is left, all are followed
     pub following_ends : left ≡ 0 → AreFollowed leaves enters (met_at before.met origin).state after.marks
     following_ends none i within same = go (cases_lt i so_far.bound)
       where

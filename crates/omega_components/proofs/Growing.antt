@@ -31,7 +31,7 @@ one_fewer marks p below unmarked =
     let one : cond {A = ℕ} (not (mark_at marks p)) 1 0 ≡ 1 = ap {B = ℕ} (λ b. cond (not b) 1 0) unmarked in
     omega arith
 
--- where no mark is set no state is marked
+-- if no mark is set, no state is marked
 pub unmarked : (n v : ℕ) → mark_at (replicate n false) v ≡ false
 unmarked n v = go (cases_lt v n)
   where

@@ -8,7 +8,7 @@ module _ (states : List ℕ) (state : ℕ) where
   unfolding last_before
   step n = refl
 
-  -- one index further it is that index, where the list has the state there
+  -- one index further it is that index, if the list has the state there
   pub last_here : (n : ℕ) → get_or states n 0 ≡ state → last_before states state (n + 1) ≡ n + 1
   last_here n is =
       ap (last_before states state) (add-one n) ∙ step n ∙ cond-true (eqb (get_or states n 0) state) (suc n) (last_before states state n) (eq-eqb _ _ is) ∙ sym (add-one n)
@@ -18,7 +18,7 @@ module _ (states : List ℕ) (state : ℕ) where
   last_there n other =
       ap (last_before states state) (add-one n) ∙ step n ∙ cond-false (eqb (get_or states n 0) state) (suc n) (last_before states state n) (ne_eqb _ _ other)
 
-  -- there is none below 0
+  -- no index is below 0
   pub last_none : last_before states state 0 ≡ 0
   unfolding last_before
   last_none = refl

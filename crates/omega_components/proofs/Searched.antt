@@ -83,7 +83,7 @@ module _ (leaves enters sources : List ℕ) (count : ℕ) where
           let earlier : k < index = omega arith in
           grows.kept (get_or enters i 0) (so_far.done k earlier i within (same ∙ ap (λ (m : Met). m.state) (grows.same k (omega arith))))
 
-  -- and ends where nothing is left
+  -- and ends if nothing is left
   pub searching_ends : (trace : Trace) (index : ℕ) → IsSearching trace index → length trace.met ≤ index → IsSearched leaves enters sources count trace
   searching_ends trace index so_far all = record {
     count_is = so_far.count_is;

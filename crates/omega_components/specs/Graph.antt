@@ -9,6 +9,10 @@ pub record Shape : Type 0 where
   pub states : ℕ
   pub edges : List Edge
 
+-- the edge from a state to another
+abbrev pub edge_of : ℕ → ℕ → Edge
+edge_of from to = record { from = from; to = to }
+
 -- both ends of an edge are states
 abbrev pub IsInside : ℕ → Edge → Type 0
 IsInside states edge = (edge.from < states) × (edge.to < states)
@@ -20,11 +24,15 @@ pub record IsGraphShape (shape : Shape) : Type 0 where
 
 -- the edge of a number
 abbrev pub ends_at : Shape → ℕ → Edge
-ends_at shape number = slice_index_or shape.edges number (record { from = 0; to = 0 })
+ends_at shape number = slice_index_or shape.edges number (edge_of 0 0)
 
 -- the graph with marks at its edges
 abbrev pub marked : Shape → (ℕ → List ℕ) → MarkedGraph
-marked shape marks number = record { from = (ends_at shape number).from; to = (ends_at shape number).to; marks = marks number }
+marked shape marks number = record {
+  from = (ends_at shape number).from;
+  to = (ends_at shape number).to;
+  marks = marks number;
+}
 
 -- the set of the edges of a list
 abbrev pub listed : List ℕ → EdgeSet

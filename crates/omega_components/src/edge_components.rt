@@ -1,6 +1,6 @@
 ghost use Rattle.std.specs.Prelude.{◌≡◌, ◌<◌, ◌+◌, [], ◌∷◌, ◌++◌, length, slice_index_or, OnOk, OnErr};
 ghost use Rattle.omega_components.specs.Components.{edge_component_at};
-ghost use Rattle.omega_components.specs.private.Lists.{list_at, AreStarts};
+ghost use Rattle.omega_components.specs.private.Lists.{AreStarts, list_at};
 
 use std::alloc::{AllocError, Global};
 use std::marker::Model;
@@ -8,7 +8,7 @@ use std::marker::Model;
 /// Groups of edges, one after the other in one list.
 #[derive(Debug, Drop)]
 pub struct EdgeComponents {
-    // The edges of all components, and where each component starts.
+    // The edges of all components, and the index at which each component starts.
     starts: Vec<usize>,
     edges: Vec<u32>,
 }
@@ -87,7 +87,7 @@ fn list_in<'a>(starts: &[usize], items: &'a [u32], index: usize) -> &'a [u32]
     &items[start..end]
 }
 
-/// Returns where the list at `index` ends: at the start of the next one, or at `size`.
+/// Returns the end of the list at `index`: the start of the next one, or `size`.
 fn end_in(starts: &[usize], size: usize, index: usize) -> usize
     requires { index < length starts.now }
     ensures { result ≡ slice_index_or starts.now (index + 1) size }

@@ -1,5 +1,5 @@
 ghost use Rattle.std.specs.Prelude.{◌≡◌, ◌<◌, ◌^◌, [], ◌∷◌, ◌++◌, length, OnOk, OnErr, IsOkUnless};
-ghost use Rattle.omega_components.specs.Graph.{ends_at};
+ghost use Rattle.omega_components.specs.Graph.{edge_of, ends_at};
 
 use crate::edge::Edge;
 use omega_text::Refusal;
@@ -37,12 +37,12 @@ impl Graph {
     }
 
     /// Adds an edge from `from` to `to`. Its number is the count of edges before. Refuses an edge past 2^32 - 1 edges
-    /// by [`Refusal::Memory`] too. A refusal leaves the graph as it was.
+    /// by [`Refusal::Memory`] too.
     pub fn add(&mut self, from: u32, to: u32) -> Result<(), Refusal>
         requires from { from < self.old.states }
         requires to { to < self.old.states }
         ensures states { self.new.states ≡ self.old.states }
-        ensures ok { OnOk result (self.new.edges ≡ self.old.edges ++ record { from = from; to = to } ∷ []) }
+        ensures ok { OnOk result (self.new.edges ≡ self.old.edges ++ edge_of from to ∷ []) }
         ensures err { OnErr result (self.new ≡ self.old) }
         ensures memory { IsOkUnless result Refusal.Memory }
     {

@@ -4,6 +4,7 @@
 mod decomposing;
 mod edge;
 mod edge_components;
+mod edges;
 mod ends;
 mod entering;
 mod graph;

@@ -8,8 +8,8 @@ use std::marker::Model;
 #[derive(Drop)]
 pub(crate) struct Links<'a> {
     states: &'a [u32],
-    // By state one more than its last index, and by index one more than the one before it of the same state: 0 where
-    // there is none.
+    // By state one more than its last index, and by index one more than the one before it of the same state: 0 without
+    // such an index.
     last: Vec<u32>,
     before: Vec<u32>,
 }
@@ -26,7 +26,7 @@ impl<'a> Model for Links<'a> {
 }
 
 impl<'a> Links<'a> {
-    /// Links the indices of `states`, of which there are at most 2^32 - 1. Linear in `states` and `count`.
+    /// Links the indices of `states`, which has at most 2^32 - 1 items. Linear in `states` and `count`.
     pub(crate) fn new(
         alloc: Global,
         count: usize,
@@ -52,7 +52,7 @@ impl<'a> Links<'a> {
         })
     }
 
-    /// Returns one more than the last index of `state`, or 0 if there is none.
+    /// Returns one more than the last index of `state`, or 0 without an index.
     pub(crate) fn last(&self, state: usize) -> u32
         requires { state < self.now.count }
         ensures { result ≡ last_before self.now.states state (length self.now.states) }
@@ -60,7 +60,7 @@ impl<'a> Links<'a> {
         self.last[state]
     }
 
-    /// Returns one more than the previous index with the state at `index`, or 0 if there is none.
+    /// Returns one more than the previous index with the state at `index`, or 0 without such an index.
     pub(crate) fn before(&self, index: usize) -> u32
         requires { index < length self.now.states }
         ensures { result ≡ last_before self.now.states (slice_index self.now.states index) index }

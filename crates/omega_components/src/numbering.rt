@@ -1,6 +1,6 @@
 //! States numbered from 0 on, so that a search takes no more room than the edges that it follows.
 ghost use Rattle.std.specs.Prelude.{◌≡◌, ◌<◌, length, All, IfOk};
-ghost use Rattle.omega_components.specs.private.Numbering.{IsNumbering, Numbers};
+ghost use Rattle.omega_components.specs.private.Numbering.{IsNumberingOf, Numbers};
 
 use std::alloc::{AllocError, Global};
 
@@ -11,7 +11,7 @@ pub(crate) struct Numbering {
     pub states: Vec<u32>,
 }
 
-/// Numbers the states of a list in the order in which they first come. Linear in the list.
+/// Gives numbers to the states of a list, in the order in which they first come. Linear in the list.
 pub(crate) fn number_all(
     alloc: Global,
     numbers: &mut Vec<u32>,
@@ -19,7 +19,7 @@ pub(crate) fn number_all(
 ) -> Result<Numbering, AllocError>
     requires { All (λ state. state < length numbers.old.items) listed.now }
     ensures count { length numbers.new.items ≡ length numbers.old.items }
-    ensures numbering { IfOk result (λ numbering. IsNumbering listed.now numbering.numbers.items numbering.states.items) }
+    ensures numbering { IfOk result (IsNumberingOf listed.now) }
 {
     let mut given = Vec::new(alloc);
     let mut states = Vec::new(alloc);
@@ -38,7 +38,8 @@ pub(crate) fn number_all(
 fn number_one(numbers: &mut Vec<u32>, states: &mut Vec<u32>, state: u32) -> Result<u32, AllocError>
     requires { state < length numbers.old.items }
     ensures count { length numbers.new.items ≡ length numbers.old.items }
-    ensures numbers { IfOk result (λ number. Numbers numbers.old.items states.old.items state number numbers.new.items states.new.items) }
+    ensures numbers { IfOk result (λ number.
+        Numbers numbers.old.items states.old.items state number numbers.new.items states.new.items) }
 {
     let before = numbers[state as usize];
     if let Some(known) = states.get(before as usize) {

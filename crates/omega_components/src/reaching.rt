@@ -1,7 +1,7 @@
 //! The states that some edges reach.
-ghost use Rattle.std.specs.Prelude.{◌≡◌, ◌↔◌, ℕ, List, IsTrue, false, slice_index_or, vec_len, IfOk, IsOkUnless};
-ghost use Rattle.omega_components.specs.Graph.{AreEdges, AreStates, listed, marked};
-ghost use Rattle.omega_components.specs.Reaching.{IsReachedAlong};
+ghost use Rattle.std.specs.Prelude.{◌≡◌, vec_len, IfOk, IsOkUnless};
+ghost use Rattle.omega_components.specs.Graph.{AreEdges, AreStates};
+ghost use Rattle.omega_components.specs.Reaching.{TellReached};
 ghost use Rattle.omega_components.specs.private.Searching.{IsSearchOf};
 
 use crate::ends::{enters_of, leaves_of};
@@ -21,7 +21,7 @@ pub fn reached(
     requires edges { AreEdges graph.now edges.now }
     requires sources { AreStates graph.now sources.now }
     ensures count { IfOk result (λ reached. vec_len reached ≡ graph.now.states) }
-    ensures reached { IfOk result (λ reached. (marks : ℕ → List ℕ) (state : ℕ) → IsTrue (slice_index_or reached.items state false) ↔ IsReachedAlong (marked graph.now marks) (listed edges.now) sources.now state) }
+    ensures reached { IfOk result (λ reached. TellReached graph.now edges.now sources.now reached.items) }
     ensures memory { IsOkUnless result Refusal.Memory }
 {
     let search = search_edges(alloc, graph, edges, sources)?;

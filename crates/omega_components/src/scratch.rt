@@ -1,5 +1,5 @@
 ghost use Rattle.std.specs.Prelude.{◌≡◌, ◌<◌, All, IfOk, IsOkUnless};
-ghost use Rattle.omega_components.specs.private.Numbering.{IsNumbering};
+ghost use Rattle.omega_components.specs.private.Numbering.{IsNumberingOf};
 
 use crate::numbering::{Numbering, number_all};
 use omega_text::Refusal;
@@ -32,11 +32,11 @@ impl Scratch {
         Ok(Scratch { numbers })
     }
 
-    /// Numbers the states of `listed` in the order in which they first come.
+    /// Gives numbers to the states of `listed`, in the order in which they first come.
     pub(crate) fn number(&mut self, alloc: Global, listed: &[u32]) -> Result<Numbering, AllocError>
         requires { All (λ state. state < self.old) listed.now }
         ensures scratch { self.new ≡ self.old }
-        ensures numbering { IfOk result (λ numbering. IsNumbering listed.now numbering.numbers.items numbering.states.items) }
+        ensures numbering { IfOk result (IsNumberingOf listed.now) }
     {
         number_all(alloc, &mut self.numbers, listed)
     }

@@ -1,10 +1,6 @@
 //! Breadth-first search: each state that is reached is met on a shortest walk.
-ghost use Rattle.std.specs.Prelude.{◌≡◌, ◌+◌, ◌<◌, ℕ, [], List, false, IsTrue, length, replicate, vec_len, All, Contains, IfOk, IfNone, IfSome, OnOk};
-ghost use Rattle.omega_walk_laws.specs.Walks.{MarkedGraph};
-ghost use Rattle.omega_components.specs.Graph.{listed};
-ghost use Rattle.omega_components.specs.Reaching.{IsWalkFrom};
-ghost use Rattle.omega_components.specs.private.Ends.{AreEnds};
-ghost use Rattle.omega_components.specs.private.Searching.{AreFollowed, Grows, IsMet, IsSearched, IsSearchedTo, IsStart, IsStep, LeadBack, mark_at, meeting, met_at};
+ghost use Rattle.std.specs.Prelude.{◌≡◌, ◌<◌, [], false, length, replicate, vec_len, All, IfOk, IfNone, IfSome, OnOk};
+ghost use Rattle.omega_components.specs.private.Searching.{AreFollowed, AreMarked, Grows, GrowsFrom, IsMetAt, IsSearched, IsSearchedTo, IsStart, IsUnmet, IsWalkToMet, LeadBack, mark_at, meeting, met_at};
 
 use crate::links::Links;
 use crate::met::Met;
@@ -58,7 +54,7 @@ impl Search {
     fn begin(&mut self, sources: &[u32]) -> Result<(), AllocError>
         requires { All (λ source. source < length self.old.marks) sources.now }
         ensures grows { OnOk result (Grows (IsStart sources.now) self.old self.new) }
-        ensures met { OnOk result ((v : ℕ) → Contains sources.now v → IsTrue (mark_at self.new.marks v)) }
+        ensures met { OnOk result (AreMarked sources.now self.new.marks) }
     {
         for source in sources {
             self.meet(Met {
@@ -77,8 +73,9 @@ impl Search {
         requires state { (met_at self.old.met origin).state < links.now.count }
         requires even { length enters.now ≡ length links.now.states }
         requires enters { All (λ state. state < length self.old.marks) enters.now }
-        ensures grows { OnOk result (Grows (IsStep links.now.states enters.now (met_at self.old.met origin).state origin) self.old self.new) }
-        ensures followed { OnOk result (AreFollowed links.now.states enters.now (met_at self.old.met origin).state self.new.marks) }
+        ensures grows { OnOk result (GrowsFrom links.now.states enters.now origin self.old self.new) }
+        ensures followed { OnOk result
+            (AreFollowed links.now.states enters.now (met_at self.old.met origin).state self.new.marks) }
     {
         let mut left = links.last(self.met[origin as usize].state as usize);
         while left > 0 {
@@ -112,8 +109,8 @@ impl Search {
 
     /// Returns the index at which `state` was met, or none.
     pub(crate) fn index_of(&self, state: u32) -> Option<usize>
-        ensures some { IfSome result (λ index. (index < length self.now.met) × ((met_at self.now.met index).state ≡ state)) }
-        ensures none { IfNone result ((k : ℕ) → k < length self.now.met → (met_at self.now.met k).state ≡ state → ⊥) }
+        ensures some { IfSome result (IsMetAt self.now.met state) }
+        ensures none { IfNone result (IsUnmet self.now.met state) }
     {
         for (index, met) in self.met.iter().enumerate() {
             if met.state == state {
@@ -132,7 +129,7 @@ impl Search {
     ) -> Result<Vec<u32>, AllocError>
         requires index { index < length self.now.met }
         requires back { LeadBack (length edges.now) self.now.met }
-        ensures { IfOk result (λ walk. (graph : MarkedGraph) (leaves enters sources : List ℕ) → AreEnds graph edges.now leaves enters → ((i : ℕ) → i < length self.now.met → IsMet leaves enters sources self.now.met i) → IsWalkFrom graph (listed edges.now) sources walk.items (met_at self.now.met index).state) }
+        ensures { IfOk result (λ walk. IsWalkToMet self.now.met edges.now index walk.items) }
     {
         let mut walk = Vec::new(alloc);
         let mut at = index;

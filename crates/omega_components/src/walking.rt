@@ -1,7 +1,8 @@
 //! Walks of some edges.
-ghost use Rattle.std.specs.Prelude.{◌≡◌, ◌<◌, ℕ, List, IfOk, IfNone, IfSome, IsOkUnless};
-ghost use Rattle.omega_components.specs.Graph.{AreEdges, AreStates, listed, marked};
-ghost use Rattle.omega_components.specs.Reaching.{IsReachedAlong, IsWalkFrom};
+ghost use Rattle.std.specs.Prelude.{◌<◌, IfOk, IsOkUnless};
+ghost use Rattle.omega_components.specs.Found.{IfFound, IfNothing};
+ghost use Rattle.omega_components.specs.Graph.{AreEdges, AreStates};
+ghost use Rattle.omega_components.specs.Reaching.{IsOutOfReach, IsWalkTo};
 ghost use Rattle.omega_components.specs.private.Searching.{IsSearchFor};
 
 use crate::ends::{enters_of, leaves_of};
@@ -10,8 +11,8 @@ use crate::searching::{Search, search_to};
 use omega_text::Refusal;
 use std::alloc::{AllocError, Global};
 
-/// Returns a walk in `edges` from one of `sources` to `target`, or none if there is none. Linear in the graph's states,
-/// `edges` and `sources`.
+/// Returns a walk in `edges` from one of `sources` to `target`, or none if `target` is out of reach. Linear in the
+/// graph's states, `edges` and `sources`.
 ///
 /// It is a breadth-first search, so the walk is a shortest one, and empty if `target` is one of `sources`. No clause
 /// says so.
@@ -25,8 +26,8 @@ pub fn path(
     requires edges { AreEdges graph.now edges.now }
     requires sources { AreStates graph.now sources.now }
     requires target { target < graph.now.states }
-    ensures walk { IfOk result (λ found. IfSome found (λ walk. (marks : ℕ → List ℕ) → IsWalkFrom (marked graph.now marks) (listed edges.now) sources.now walk.items target)) }
-    ensures none { IfOk result (λ found. IfNone found ((marks : ℕ → List ℕ) → ¬ IsReachedAlong (marked graph.now marks) (listed edges.now) sources.now target)) }
+    ensures walk { IfFound result (λ walk. IsWalkTo graph.now edges.now sources.now target walk.items) }
+    ensures none { IfNothing result (IsOutOfReach graph.now edges.now sources.now target) }
     ensures memory { IsOkUnless result Refusal.Memory }
 {
     let search = search_for(alloc, graph, edges, sources, target)?;

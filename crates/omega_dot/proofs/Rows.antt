@@ -32,7 +32,7 @@ row_more text first xs i d front before after below so_far step =
     ∙ append_assoc front (numbered text first (take i xs)) (text (first + i) (get_or xs i d))
     ∙ ap (λ list. front ++ list) (sym (numbered_more text first xs i d below))
 
--- the same where the numbers begin with 0
+-- the same if the numbers begin with 0
 pub first_row_more : {X : Type 0} (text : ℕ → X → List ℕ) (xs : List X) (i : ℕ) (d : X) (front before after : List ℕ) → i < length xs
     → before ≡ front ++ numbered text 0 (take i xs) → after ≡ before ++ text i (get_or xs i d)
     → after ≡ front ++ numbered text 0 (take (i + 1) xs)

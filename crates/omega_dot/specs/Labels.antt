@@ -1,5 +1,5 @@
--- Lines of the labels that DOT draws, and how names stand in them (the DOT language,
--- graphviz.org/doc/info/lang.html; escString).
+-- Lines of the labels that DOT draws, and the names in them (the DOT language, graphviz.org/doc/info/lang.html;
+-- escString).
 use Rattle.std.specs.Prelude.{ℕ, ◌==◌, nat_lt, if◌then◌else◌, Option, Some, None, List, [], ◌∷◌, ◌++◌, codes}
 use Rattle.std.specs.List.{flat_map}
 use Rattle.std.specs.Str.Lossy.{utf8_lossy}
@@ -18,9 +18,9 @@ escaped_byte byte =
 abbrev pub escaped_bytes : List ℕ → List ℕ
 escaped_bytes bytes = flat_map escaped_byte bytes
 
--- a name, so that DOT draws it: in UTF-8 (RFC 3629), with U+FFFD for each longest sequence of bytes that begins a
--- character and does not end it, and for each other byte of no character (the Unicode Standard, section 3.9,
--- substitution of maximal subparts); and with spaces for control bytes
+-- A name, so that DOT draws it, with spaces for control bytes and in UTF-8 (RFC 3629). U+FFFD replaces each longest
+-- sequence of bytes that begins a character and does not end it, and each other byte of no character (the Unicode
+-- Standard, section 3.9, substitution of maximal subparts).
 abbrev pub escaped : List ℕ → List ℕ
 escaped name = escaped_bytes (utf8_lossy name)
 

@@ -5,8 +5,9 @@ ghost use Rattle.omega_dot.specs.Labels.{escaped, escaped_byte, escaped_bytes, n
 
 use omega_text::Refusal;
 
-/// Appends a name so that DOT draws it: in UTF-8, with U+FFFD for what is not, as `String::from_utf8_lossy` reads it,
-/// and with a space for each control byte but a line feed. Refusal 60, where part of it may be appended.
+/// Appends `name` so that DOT draws it: in UTF-8, with U+FFFD in place of bytes that are not, as
+/// `String::from_utf8_lossy` reads them, and with a space for each control byte except a line feed. After
+/// [Refusal::Memory] part of it may be appended.
 pub fn write_escaped(name: &[u8], out: &mut Vec<u8>) -> Result<(), Refusal>
     ensures ok { OnOk result (out.new.items ≡ out.old.items ++ escaped name.now) }
     ensures memory { IsOkUnless result Refusal.Memory }
@@ -20,7 +21,7 @@ pub fn write_escaped(name: &[u8], out: &mut Vec<u8>) -> Result<(), Refusal>
     Ok(())
 }
 
-/// Appends bytes, each escaped.
+/// Appends `bytes`, each escaped.
 fn write_escaped_bytes(bytes: &[u8], out: &mut Vec<u8>) -> Result<(), Refusal>
     ensures ok { OnOk result (out.new.items ≡ out.old.items ++ escaped_bytes bytes.now) }
     ensures memory { IsOkUnless result Refusal.Memory }
@@ -31,7 +32,7 @@ fn write_escaped_bytes(bytes: &[u8], out: &mut Vec<u8>) -> Result<(), Refusal>
     Ok(())
 }
 
-/// Appends a byte of a name.
+/// Appends a byte of a name, escaped.
 fn write_escaped_byte(byte: u8, out: &mut Vec<u8>) -> Result<(), Refusal>
     ensures ok { OnOk result (out.new.items ≡ out.old.items ++ escaped_byte byte) }
     ensures memory { IsOkUnless result Refusal.Memory }
@@ -52,9 +53,10 @@ fn write_escaped_byte(byte: u8, out: &mut Vec<u8>) -> Result<(), Refusal>
     Ok(())
 }
 
-/// Appends the line of a name, if there is one. Refusal 60, where part of it may be appended.
+/// Appends the line of `name`, if there is one. After [Refusal::Memory] part of it may be appended.
 pub fn write_name_line(name: Option<&[u8]>, out: &mut Vec<u8>) -> Result<(), Refusal>
-    ensures ok { OnOk result (out.new.items ≡ out.old.items ++ name_label_line (option_map (λ name. name.now) name.entry)) }
+    ensures ok { OnOk result
+        (out.new.items ≡ out.old.items ++ name_label_line (option_map (λ name. name.now) name.entry)) }
     ensures memory { IsOkUnless result Refusal.Memory }
 {
     if let Some(name) = name {

@@ -1,4 +1,4 @@
-//! Labels in the DOT language: how names and lines stand in them.
+//! Labels in the DOT language: their names and lines.
 //!
 //! Numbers of refusals are those of `Refusal`; docs/formats.md says when each comes.
 #![tactic(auto)]

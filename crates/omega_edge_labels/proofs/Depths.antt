@@ -1,11 +1,11 @@
 -- Depths and sizes of labels, as they are and as they are written.
 use Rattle.std.proofs.Common.{ℕ, ◌+◌, ◌<◌, ◌≤◌, max, Bool, true, false, nat_le, nat_lt, arith}
-use Rattle.omega_acc.specs.Limits.{most_depth}
-use Rattle.omega_acc.specs.Writing.{label_text}
-use Rattle.omega_acc.specs.WritingLaws.{grouped, label_written}
-use Rattle.omega_acc.specs.label.Label.{LabelTree, conjunction, constant, disjunction, label_depth, negation, proposition}
-use Rattle.omega_acc.specs.label.Raw.{RawLabelTree, raw_depth}
-use Rattle.omega_acc.specs.label.Shape.{FitsALabel}
+use Rattle.omega_expression.specs.Limits.{most_depth}
+use Rattle.omega_label.specs.Writing.{label_text}
+use Rattle.omega_label.specs.Writing.{grouped, label_written}
+use Rattle.omega_label.specs.Label.{LabelTree, conjunction, constant, disjunction, label_depth, negation, proposition}
+use Rattle.omega_label.specs.Raw.{RawLabelTree, raw_depth}
+use Rattle.omega_label.specs.Shape.{FitsALabel}
 use Rattle.omega_edge_labels.specs.Fitting.{FitsAText}
 
 -- parentheses add no less than nothing
@@ -42,7 +42,7 @@ pub text_fits : (tree : LabelTree) → FitsAText tree → FitsALabel tree
 text_fits tree fits =
     let deeper = written_deeper tree in record { shallow = omega (arith, deeper, fits.shallow); small = fits.small }
 
--- what is no label is none in a text
+-- a label that is too deep or too large is so in a text too
 pub unfit_text : (tree : LabelTree) → (FitsALabel tree → ⊥) → FitsAText tree → ⊥
 unfit_text tree unfit fits = unfit (text_fits tree fits)
 

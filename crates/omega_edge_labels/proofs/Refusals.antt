@@ -1,8 +1,8 @@
 -- Refusals by one reason are refusals by another.
-use Rattle.std.proofs.Common.{◌≡◌, sym, subst}
+use Rattle.std.proofs.Common.{◌≡◌, refl, sym, subst}
 use Rattle.std.specs.Prelude.{Result, Ok, Err, IfErr, IsErrAnd}
-use Rattle.omega_acc.specs.Depth.{IsDeeper}
-use Rattle.omega_text.specs.Cases.{IsMemory, never, or_memory, or_task}
+use Rattle.omega_expression.specs.Depth.{IsDeeper}
+use Rattle.omega_text.specs.Cases.{never, or_memory, or_task}
 use Rattle.omega_text.specs.declared.refusal.Refusal.{Refusal}
 use Rattle.omega_text.specs.declared.refusal.Refusal.TheVariants.{Automaton, Game, Io, Memory, Task, Text}
 use Rattle.omega_text.specs.declared.refusal.task.TaskFault.{TaskFault}
@@ -33,19 +33,14 @@ passed_on (Ok x) P refusal is h = absurd is
 passed_on (Err e) P refusal is h = subst P (sym is) h
 
 -- a formula or label that is not too deep is refused for memory alone
-pub not_deeper : (deep : Type 0) → (deep → ⊥) → (refusal : Refusal) → IsDeeper deep refusal → IsMemory refusal
-not_deeper deep never (Text fault) h = h
-not_deeper deep never (Game fault) h = h
-not_deeper deep never (Automaton fault) h = never h.1
-not_deeper deep never (Task fault) h = h
-not_deeper deep never Memory h = tt
-not_deeper deep never Io h = h
+pub not_deeper : (deep : Type 0) → (deep → ⊥) → (refusal : Refusal) → IsDeeper deep refusal → refusal ≡ Memory
+not_deeper deep never (Text fault) h = absurd h
+not_deeper deep never (Game fault) h = absurd h
+not_deeper deep never (Automaton fault) h = absurd (never h.1)
+not_deeper deep never (Task fault) h = absurd h
+not_deeper deep never Memory h = refl
+not_deeper deep never Io h = absurd h
 
 -- memory is a refusal of each task
-pub memory_task : (P : TaskFault → Type 0) (refusal : Refusal) → IsMemory refusal → or_task P (or_memory never) refusal
-memory_task P (Text fault) h = h
-memory_task P (Game fault) h = h
-memory_task P (Automaton fault) h = h
-memory_task P (Task fault) h = absurd h
-memory_task P Memory h = tt
-memory_task P Io h = h
+pub memory_task : (P : TaskFault → Type 0) (refusal : Refusal) → refusal ≡ Memory → or_task P (or_memory never) refusal
+memory_task P refusal is = subst (or_task P (or_memory never)) (sym is) tt

@@ -2,7 +2,7 @@
 use Rattle.std.proofs.Common.{◌≡◌, ◌==◌, ℕ, zero, suc, ◌+◌, ◌<◌, ◌≤◌, ◌/◌, ◌%◌, ◌^◌, false, nat_lt, ap, sym, ◌∙◌, arith}
 use Rattle.std.proofs.Math.Nat.{div-eq_of_lt}
 use Rattle.std.proofs.Math.Pow.{pow_mono}
-use Rattle.omega_acc.specs.label.Label.{conjunction}
+use Rattle.omega_label.specs.Label.{conjunction}
 use Rattle.omega_edge_labels.specs.Labels.{literal, valuation_label}
 
 -- one proposition more

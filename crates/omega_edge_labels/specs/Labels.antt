@@ -2,11 +2,11 @@
 -- of its state or of its valuation.
 use Rattle.std.specs.Prelude.{ℕ, zero, suc, true, ◌/◌, ◌%◌, ◌^◌, ◌==◌, if◌then◌else◌}
 use Rattle.std.specs.Option.{option_or, unwrap_or}
-use Rattle.omega_acc.specs.label.Label.{LabelTree, conjunction, constant, negation, proposition}
+use Rattle.omega_label.specs.Label.{LabelTree, conjunction, constant, negation, proposition}
 use Rattle.omega_automaton.specs.declared.edge.Edge.{Edge}
 use Rattle.omega_automaton.specs.declared.state.State.{State}
 
--- the proposition p if it holds in the valuation of an index, else its negation
+-- the proposition `p` if it holds in the valuation of an index, else its negation
 abbrev pub literal : ℕ → ℕ → LabelTree
 literal index p = if (index / 2 ^ p) % 2 == 1 then proposition p else negation (proposition p)
 

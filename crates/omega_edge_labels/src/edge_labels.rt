@@ -1,12 +1,11 @@
 //! The labels of edges. An edge that is written without one has that of its state or of its valuation.
 
-ghost use Rattle.std.specs.Prelude.{◌≡◌, ◌==◌, ◌<◌, ◌/◌, ◌%◌, ◌^◌, IfErr, IfOk};
-ghost use Rattle.omega_text.specs.Cases.{IsMemory};
-ghost use Rattle.omega_acc.specs.label.Shape.{label_tree_of_shape};
+ghost use Rattle.std.specs.Prelude.{◌≡◌, ◌==◌, ◌<◌, ◌/◌, ◌%◌, ◌^◌, IfOk, IsOkUnless};
+ghost use Rattle.omega_label.specs.Shape.{label_tree_of_shape};
 ghost use Rattle.omega_edge_labels.specs.Labels.{label_at as label_of_edge, literal as literal_of, valuation_label};
 
-use omega_acc::LabelShape;
 use omega_automaton::{EdgeRef, State};
+use omega_label::LabelShape;
 use omega_text::Refusal;
 use std::alloc::Global;
 
@@ -21,7 +20,7 @@ pub fn label_at(
     at: usize,
 ) -> Result<LabelShape, Refusal>
     ensures label { IfOk result (λ shape. label_tree_of_shape shape ≡ label_of_edge count state.now at edge.now) }
-    ensures err { IfErr result IsMemory }
+    ensures memory { IsOkUnless result Refusal.Memory }
 {
     match (&state.label, edge.label()) {
         (Some(label), _) => label.shape(alloc),
@@ -34,7 +33,7 @@ pub fn label_at(
 #[tactic(auto, using(crate::proofs::Valuations::valuation_more))]
 fn valuation(alloc: Global, index: usize, count: usize) -> Result<LabelShape, Refusal>
     ensures label { IfOk result (λ shape. label_tree_of_shape shape ≡ valuation_label index count) }
-    ensures err { IfErr result IsMemory }
+    ensures memory { IsOkUnless result Refusal.Memory }
 {
     if count == 0 {
         return Ok(LabelShape::Constant(true));
@@ -51,7 +50,7 @@ fn valuation(alloc: Global, index: usize, count: usize) -> Result<LabelShape, Re
 /// [Refusal::Memory] if the number does not fit.
 fn literal(alloc: Global, index: usize, p: usize) -> Result<LabelShape, Refusal>
     ensures label { IfOk result (λ shape. label_tree_of_shape shape ≡ literal_of index p) }
-    ensures err { IfErr result IsMemory }
+    ensures memory { IsOkUnless result Refusal.Memory }
 {
     if p > u32::MAX as usize {
         return Err(Refusal::Memory);

@@ -1,8 +1,8 @@
 ghost use Rattle.std.specs.Prelude.{◌≡◌, IfErr, IfOk, OnOk};
-ghost use Rattle.omega_acc.specs.label.Shape.{FitsALabel, label_tree_of_shape};
+ghost use Rattle.omega_label.specs.Shape.{FitsALabel, label_tree_of_shape};
 ghost use Rattle.omega_edge_labels.specs.Fitting.{IsUnfit};
 
-use omega_acc::{Label, LabelShape};
+use omega_label::{Label, LabelShape};
 use omega_text::{Refusal, TaskFault};
 use std::alloc::Global;
 

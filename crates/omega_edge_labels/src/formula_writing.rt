@@ -1,15 +1,15 @@
 //! Acceptance formulas as a text writes them, with parentheses only if an operator needs them.
 
 ghost use Rattle.std.specs.Prelude.{◌≡◌, ◌<◌, ◌≤◌, IfErr, IfOk};
-ghost use Rattle.omega_acc.specs.Depth.{IsDeeper};
-ghost use Rattle.omega_acc.specs.Limits.{most_depth};
-ghost use Rattle.omega_acc.specs.Writing.{acc_text};
-ghost use Rattle.omega_acc.specs.WritingLaws.{acc_grouped, acc_written};
-ghost use Rattle.omega_acc.specs.formula.Raw.{raw_acc_depth};
-ghost use Rattle.omega_acc.specs.formula.Shape.{acc_tree_of_shape};
+ghost use Rattle.omega_expression.specs.Depth.{IsDeeper};
+ghost use Rattle.omega_expression.specs.Limits.{most_depth};
+ghost use Rattle.omega_formula.specs.Writing.{acc_text};
+ghost use Rattle.omega_formula.specs.Writing.{acc_grouped, acc_written};
+ghost use Rattle.omega_formula.specs.Raw.{raw_acc_depth};
+ghost use Rattle.omega_formula.specs.Shape.{acc_tree_of_shape};
 ghost use Rattle.omega_edge_labels.specs.Fitting.{IsLarge};
 
-use omega_acc::{AccShape, RawAcc};
+use omega_formula::{AccShape, RawAcc};
 use omega_text::{Refusal, TaskFault};
 use std::alloc::Global;
 

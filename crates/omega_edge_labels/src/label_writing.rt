@@ -1,15 +1,15 @@
 //! Labels as a text writes them, with parentheses only if an operator needs them.
 
 ghost use Rattle.std.specs.Prelude.{◌≡◌, ◌<◌, ◌≤◌, IfErr, IfOk, OnOk};
-ghost use Rattle.omega_acc.specs.Depth.{IsDeeper};
-ghost use Rattle.omega_acc.specs.Limits.{most_depth};
-ghost use Rattle.omega_acc.specs.Writing.{label_text};
-ghost use Rattle.omega_acc.specs.WritingLaws.{grouped, label_written};
-ghost use Rattle.omega_acc.specs.label.Raw.{raw_depth};
-ghost use Rattle.omega_acc.specs.label.Shape.{label_tree_of_shape};
+ghost use Rattle.omega_expression.specs.Depth.{IsDeeper};
+ghost use Rattle.omega_expression.specs.Limits.{most_depth};
+ghost use Rattle.omega_label.specs.Writing.{label_text};
+ghost use Rattle.omega_label.specs.Writing.{grouped, label_written};
+ghost use Rattle.omega_label.specs.Raw.{raw_depth};
+ghost use Rattle.omega_label.specs.Shape.{label_tree_of_shape};
 ghost use Rattle.omega_edge_labels.specs.Fitting.{IsLarge};
 
-use omega_acc::{LabelShape, RawLabel};
+use omega_label::{LabelShape, RawLabel};
 use omega_text::{Refusal, TaskFault};
 use std::alloc::Global;
 

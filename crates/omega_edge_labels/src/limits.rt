@@ -7,7 +7,7 @@ pub const MOST_STATES: usize = 1_048_576;
 /// The most edges of an automaton that is made of others. More are refused with [TaskFault::TooLarge].
 pub const MOST_EDGES: usize = 8_388_608;
 
-/// States that the limits are the numbers in the definitions.
+/// Shows that the limits are the numbers in the definitions.
 pub fn written_limits_are_stated()
     ensures states { MOST_STATES ≡ most_states }
     ensures edges { MOST_EDGES ≡ most_edges }

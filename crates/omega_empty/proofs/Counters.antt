@@ -1,14 +1,14 @@
--- Round the counters: marks that bring a counter back hold every set exactly where the greatest of
--- their priorities is even.
+-- Round the counters: marks that bring a counter back hold every set exactly if the greatest of their priorities is
+-- even.
 use Rattle.std.proofs.Common.{◌≡◌, ◌≢◌, ◌↔◌, ℕ, ◌+◌, ◌%◌, ◌<◌, ◌≤◌, ◌⊎◌, inl, inr, true, false, eqb, List, [], ◌∷◌, length, map, All, sym, ap, refl, ◌∙◌, arith}
 use Rattle.std.specs.Prelude.{IsTrue}
 use Rattle.std.proofs.lemmas.Bool.{cases_Bool, cases_lt, cases_eq, both_ways, eq-eqb, ne_eqb, or_parts, true_from_ne_false}
-use Rattle.omega_acc.specs.formula.Acceptance.{AccTree, accepts, holds, occurs}
-use Rattle.omega_acc.specs.formula.Kind.{buchi_formula, greatest_number, parity_formula, priority_of}
-use Rattle.omega_acc.specs.formula.KindLaws.{BuchiIsEverySet, ParityIsPriority}
-use Rattle.omega_acc.specs.declared.formula.kind.AccKind.{AccKind}
-use Rattle.omega_acc.specs.declared.formula.kind.AccKind.TheVariants.{Parity, GenBuchi}
-use Rattle.omega_acc.specs.declared.formula.kind.ParityKind.{ParityKind}
+use Rattle.omega_formula.specs.Acceptance.{AccTree, accepts, holds, occurs}
+use Rattle.omega_formula.specs.Kind.{buchi_formula, greatest_number, parity_formula, priority_of}
+use Rattle.omega_acc.specs.KindLaws.{BuchiIsEverySet, ParityIsPriority}
+use Rattle.omega_formula.specs.declared.kind.AccKind.{AccKind}
+use Rattle.omega_formula.specs.declared.kind.AccKind.TheVariants.{Parity, GenBuchi}
+use Rattle.omega_formula.specs.declared.kind.ParityKind.{ParityKind}
 use Rattle.omega_empty.specs.Counters.{counter_after, counters, priority_at_counter}
 
 -- the counter after marks, one after the other
@@ -22,7 +22,7 @@ priorities_from kind counter [] = []
 priorities_from kind counter (marks ∷ rest) =
     priority_at_counter kind counter marks ∷ priorities_from kind (counter_after kind counter marks) rest
 
--- what marks do at a counter of so many: the last goes round, another goes on, or it stays
+-- what marks do at one of `sets` counters: the last goes round, another goes on, or it stays
 pub data Turn (sets counter : ℕ) (marks : List ℕ) : Type 0 where
   round : holds counter marks ≡ true → counter + 1 ≡ sets → counter_after (GenBuchi sets) counter marks ≡ 0
       → priority_at_counter (GenBuchi sets) counter marks ≡ 2 → Turn sets counter marks
@@ -57,7 +57,7 @@ counter_after_marks_below kind counter [] below = below
 counter_after_marks_below kind counter (marks ∷ rest) below =
     counter_after_marks_below kind (counter_after kind counter marks) rest (counter_after_below kind counter marks below)
 
--- where no marks hold a set, a counter up to it does not pass it, and one above it goes round at most once
+-- if no marks hold a set, a counter up to it does not pass it, and one above it goes round at most once
 data Waits (sets set counter : ℕ) (forever : List (List ℕ)) : Type 0 where
   below : counter ≤ set → counter_after_marks (GenBuchi sets) counter forever ≤ set
       → greatest_number (priorities_from (GenBuchi sets) counter forever) ≤ 1 → Waits sets set counter forever

@@ -1,5 +1,5 @@
--- The nodes of an emptiness game as they are made: where edges stand, what is added when,
--- and that nothing is at fault.
+-- The nodes of an emptiness game as they are made: the ranges of edges, what is added when, and that nothing is at
+-- fault.
 pub mod Linking
 pub mod Ranges
 pub mod Rows

@@ -1,10 +1,11 @@
--- What the emptiness game says of accepting lassos, the other way: what player 0 wins accepts, start by start.
+-- What the emptiness game says of accepting lassos, from the game to the automaton: what player 0 wins accepts, start
+-- by start.
 use Rattle.std.specs.Prelude.{◌≡◌, ◌↔◌, ℕ, ◌-◌, ◌%◌, ◌<◌, if◌then◌else◌, nat_lt, List, [], ◌∷◌, length, Option}
 use Rattle.std.specs.List.{flat_map}
 use Rattle.omega_automaton.specs.Automaton.{Description, IsAutomaton}
-use Rattle.omega_game.specs.declared.player.Player.TheVariants.{Zero}
-use Rattle.omega_game.specs.Game.{Node, identifier_at}
-use Rattle.omega_game.specs.Winning.{InRegion, IsClosedWalk, IsWalk, end_of, greatest_on}
+use Rattle.omega_parity_game.specs.declared.player.Player.TheVariants.{Zero}
+use Rattle.omega_parity_game.specs.Game.{Node, identifier_at}
+use Rattle.omega_parity_game.specs.Winning.{InRegion, IsClosedWalk, IsWalk, end_of, greatest_on}
 use Rattle.omega_empty.specs.EmptinessGame.{IsEmptinessGame, span}
 use Rattle.omega_runs.specs.Lasso.{AcceptsFrom, IsAcceptingLasso, IsStart}
 
@@ -12,11 +13,11 @@ use Rattle.omega_runs.specs.Lasso.{AcceptsFrom, IsAcceptingLasso, IsStart}
 abbrev pub within_counter : Description → List Node → ℕ → ℕ
 within_counter a game v = identifier_at game v % span a
 
--- the number of the edge whose node stands at a place, alone; nothing where no edge's node does
+-- the number of the edge whose node is at a place, alone; nothing if no edge's node is there
 abbrev pub number_at : Description → List Node → ℕ → List ℕ
 number_at a game v = if nat_lt (within_counter a game v) a.states then [] else (within_counter a game v - a.states) ∷ []
 
--- the numbers of the edges whose nodes stand at places, in order
+-- the numbers of the edges whose nodes are at the places, in order
 abbrev pub numbers_on : Description → List Node → List ℕ → List ℕ
 numbers_on a game places = flat_map (number_at a game) places
 

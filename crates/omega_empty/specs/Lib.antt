@@ -6,6 +6,6 @@ pub mod EmptinessGame
 pub mod Refusing
 pub mod Laws
 pub mod GameLaws
-pub mod Verdict
+pub mod Deciding
 pub mod Observing
 pub mod private

@@ -1,13 +1,14 @@
--- Which refusal of the emptiness game applies: the least by number of 13, 40, 41 and 42, or want of memory.
+-- The refusal of the emptiness game: the first that applies of `TooManyNodes`, `NotParity`, `UniversalBranch` and
+-- `TooManyPropositions`, or want of memory.
 use Rattle.std.specs.Prelude.{◌≡◌, ◌⊎◌, ℕ, ◌+◌, ◌*◌, ◌<◌, ◌≤◌, true, false}
 use Rattle.omega_text.specs.Cases.{never, or_game, or_memory, or_task}
 use Rattle.omega_text.specs.declared.refusal.Refusal.{Refusal}
 use Rattle.omega_text.specs.declared.refusal.game.GameFault.TheVariants.{TooManyNodes}
 use Rattle.omega_text.specs.declared.refusal.task.TaskFault.{TaskFault}
 use Rattle.omega_text.specs.declared.refusal.task.TaskFault.TheVariants.{BadSolution, Budget, NotDeterministic, NotParity, TooLarge, TooManyPropositions, TooWide, UniversalBranch, UnknownNode}
-use Rattle.omega_acc.specs.declared.formula.kind.AccKind.{AccKind}
+use Rattle.omega_formula.specs.declared.kind.AccKind.{AccKind}
 use Rattle.omega_automaton.specs.Automaton.{Description}
-use Rattle.omega_game.specs.Limits.{most_nodes}
+use Rattle.omega_parity_game.specs.Limits.{most_nodes}
 use Rattle.omega_empty.specs.Counters.{counters}
 use Rattle.omega_automaton.specs.AcceptanceKind.{HasKind}
 use Rattle.omega_automaton.specs.Branching.{has_universal_branching}
@@ -22,11 +23,11 @@ IsUndecided a = (kind : AccKind) → HasKind a kind → ⊥
 abbrev pub IsDecided : Description → Type 0
 IsDecided a = (kind : AccKind) × HasKind a kind
 
--- how many counters an automaton needs: those of its kind, and one where it has none
+-- the number of counters that an automaton needs: that of its kind, or one if it has no kind
 abbrev pub NeedsCounters : Description → ℕ → Type 0
 NeedsCounters a count = ((kind : AccKind) × HasKind a kind × (count ≡ counters kind)) ⊎ (IsUndecided a × (count ≡ 1))
 
--- 13: the identifiers, the sink's with them, are more than a game may have nodes
+-- `TooManyNodes`: the identifiers, the sink's with them, are more than a game may have nodes
 abbrev pub IsTooLarge : Description → Type 0
 IsTooLarge a = (count : ℕ) × NeedsCounters a count × (most_nodes < count * span a + 1)
 
@@ -34,14 +35,14 @@ IsTooLarge a = (count : ℕ) × NeedsCounters a count × (most_nodes < count * s
 abbrev pub IsSmallEnough : Description → Type 0
 IsSmallEnough a = (count : ℕ) × NeedsCounters a count × (count * span a + 1 ≤ most_nodes)
 
--- none of 13, 40, 41 and 42 applies
+-- none of the refusals applies: the automaton has an emptiness game
 pub record IsGiven (a : Description) : Type 0 where
   pub fits : IsSmallEnough a
   pub decided : IsDecided a
   pub plain : has_universal_branching a ≡ false
   pub narrow : HasNarrowLabels a
 
--- 40, 41 or 42: it applies, and no fault of a lesser number does
+-- this task fault applies, and none that comes before it
 abbrev pub IsTaskFault : Description → TaskFault → Type 0
 IsTaskFault a NotParity = IsSmallEnough a × IsUndecided a
 IsTaskFault a UniversalBranch = IsSmallEnough a × IsDecided a × (has_universal_branching a ≡ true)

@@ -1,15 +1,15 @@
-ghost use Rattle.std.specs.Prelude.{◌≡◌, ◌≤◌, IfErr, IfOk, IsOkUnless, OnOk, drop, length, take};
-ghost use Rattle.omega_game.specs.declared.player.Player.TheVariants.{Zero};
+ghost use Rattle.std.specs.Prelude.{◌≡◌, ◌≤◌, IfErr, IfOk, IsOkUnless, OnOk, length};
+ghost use Rattle.omega_parity_game.specs.declared.player.Player.TheVariants.{Zero};
 ghost use Rattle.omega_solve.specs.Headline.{IsExact};
 ghost use Rattle.omega_solve.specs.Limits.{most_lifts};
 ghost use Rattle.omega_budget.specs.Observing.{IsObserved, refusal_in};
 ghost use Rattle.omega_budget.specs.Within.{IsFound, IsSolvingRefusal};
 ghost use Rattle.omega_empty.specs.EmptinessGame.{IsEmptinessGame};
 ghost use Rattle.omega_empty.specs.Refusing.{IsGiven};
-ghost use Rattle.omega_empty.specs.Verdict.{IsDecidedWithin, IsEmptinessRefusal, IsSolvedWithin};
+ghost use Rattle.omega_empty.specs.Deciding.{IsDecidedWithin, IsEmptinessRefusal, IsSolvedWithin};
 ghost use Rattle.omega_runs.specs.Verdict.{IsVerdict};
 ghost use Rattle.omega_empty.specs.Observing.{LiftsAutomaton};
-ghost use Rattle.omega_empty.specs.private.layout.Following.{IsWonStart};
+ghost use Rattle.omega_empty.specs.private.layout.Following.{IsWonStart, lasso_at};
 ghost use Rattle.omega_empty.specs.private.layout.Solving.{LiftsGame};
 
 use crate::following::follow_choices;
@@ -18,14 +18,16 @@ use crate::games::emptiness_game;
 use crate::starting::won_start;
 use omega_automaton::{Automaton, Refusal};
 use omega_budget::{Found, NoObserver, Reordered, Reporter};
-use omega_game::{ForwardGame, Player};
+use omega_parity_game::{ForwardGame, Player};
 use omega_runs::Verdict;
 use omega_text::Seq;
 use std::alloc::Global;
 
-/// Whether an automaton is empty, or an accepting lasso, found with at most so many lifts in its emptiness game.
-/// Refused as `emptiness_game` refuses, or else with 50 where the table of lifting would be too wide, with 51 where the
-/// budget does not suffice, or with 60.
+/// Decides whether `automaton` is empty, by lifting in its emptiness game: returns [Verdict::Empty] or an accepting
+/// lasso.
+///
+/// Fails as `emptiness_game` does, or else with [TaskFault::TooWide] if the table of measures would be too wide, or
+/// else with [TaskFault::Budget] if `budget` lifts do not suffice.
 pub fn emptiness(alloc: Global, automaton: &Automaton, budget: u64) -> Result<Verdict, Refusal>
     requires { budget ≤ most_lifts }
     ensures verdict { IfOk result (IsVerdict automaton.now) }
@@ -36,7 +38,7 @@ pub fn emptiness(alloc: Global, automaton: &Automaton, budget: u64) -> Result<Ve
     emptiness_observed(alloc, automaton, budget, &NoObserver, &mut ())
 }
 
-/// The same, while the run is reported to the observer.
+/// Decides emptiness as `emptiness` does, and reports the run to `observer`.
 pub fn emptiness_observed<L, W: Reporter<L>>(
     alloc: Global,
     automaton: &Automaton,
@@ -49,14 +51,16 @@ pub fn emptiness_observed<L, W: Reporter<L>>(
     ensures given { OnOk result (IsGiven automaton.now) }
     ensures budget { OnOk result (IsDecidedWithin budget automaton.now) }
     ensures refused { IfErr result (IsEmptinessRefusal automaton.now budget) }
-    ensures reported { IsObserved (LiftsAutomaton automaton.now) (refusal_in result) (W.tells reporter.now) (W.pace reporter.now) budget observer.old observer.new }
+    ensures reported { IsObserved (LiftsAutomaton automaton.now) (refusal_in result)
+        (W.tells reporter.now) (W.pace reporter.now) budget observer.old observer.new }
 {
     let game = emptiness_game(alloc, automaton)?;
     let found = found_in(alloc, &game, budget, reporter, observer)?;
     verdict_of(alloc, automaton, &game, &found)
 }
 
-/// What lifting finds in a game for player 0; the run is reported to the observer. 50, 51 or 60.
+/// Lifts `game` for player 0, returns what is found, and reports the run to `observer`. Fails with
+/// [TaskFault::TooWide], or else with [TaskFault::Budget].
 fn found_in<L, W: Reporter<L>>(
     alloc: Global,
     game: &ForwardGame,
@@ -68,14 +72,16 @@ fn found_in<L, W: Reporter<L>>(
     ensures found { IfOk result (IsFound game.now Zero budget) }
     ensures solved { OnOk result (IsSolvedWithin budget game.now) }
     ensures refused { IfErr result (IsSolvingRefusal game.now Zero budget) }
-    ensures reported { IsObserved (LiftsGame game.now) (refusal_in result) (W.tells reporter.now) (W.pace reporter.now) budget observer.old observer.new }
+    ensures reported { IsObserved (LiftsGame game.now) (refusal_in result)
+        (W.tells reporter.now) (W.pace reporter.now) budget observer.old observer.new }
 {
     let reordered = Reordered::of(alloc, game)?;
     reordered.solve(alloc, Player::Zero, budget, reporter, observer)
 }
 
-/// What an exact answer for player 0 in the emptiness game of an automaton says of it. The lasso begins at the first
-/// start that player 0 wins, and follows the choices until a state comes again at the same counter. 60 alone.
+/// Returns the verdict on `automaton` that `found` gives, an exact answer for player 0 in its emptiness `game`. The
+/// lasso begins at the first start that player 0 wins. It follows the choices until a state comes again at the same
+/// counter.
 pub fn verdict_of(
     alloc: Global,
     automaton: &Automaton,
@@ -95,7 +101,7 @@ pub fn verdict_of(
     }
 }
 
-/// The lasso that the choices of player 0 make from the place of a start's node. 60 alone.
+/// Returns the lasso that the choices of player 0 make from `start`, the place of a start's node.
 fn lasso_from(
     alloc: Global,
     automaton: &Automaton,
@@ -113,10 +119,10 @@ fn lasso_from(
     lasso_of(alloc, looped.edges.as_slice(), looped.loop_start)
 }
 
-/// The lasso whose cycle begins after so many of the edges. 60 alone.
+/// Returns the lasso of `edges` whose cycle begins after the first `loop_start` of them.
 fn lasso_of(alloc: Global, edges: &[u32], loop_start: usize) -> Result<Verdict, Refusal>
     requires { loop_start ≤ length edges.now }
-    ensures lasso { IfOk result (λ verdict. verdict ≡ Verdict.Lasso (take loop_start edges.now) (drop loop_start edges.now)) }
+    ensures lasso { IfOk result (λ verdict. verdict ≡ lasso_at edges.now loop_start) }
     ensures memory { IsOkUnless result Refusal.Memory }
 {
     let stem = Vec::from_slice(alloc, &edges[..loop_start])?;

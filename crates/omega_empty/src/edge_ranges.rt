@@ -1,19 +1,19 @@
 ghost use Rattle.std.specs.Prelude.{◌≡◌, ◌<◌, ◌≤◌, ◌^◌, IfOk, IsOkUnless};
 ghost use Rattle.omega_automaton.specs.Automaton.{edge_count};
-ghost use Rattle.omega_game.specs.Limits.{most_nodes};
+ghost use Rattle.omega_parity_game.specs.Limits.{most_nodes};
 ghost use Rattle.omega_empty.specs.private.layout.Ranges.{AreRanges};
 
 use omega_automaton::{Automaton, Refusal};
 use std::alloc::Global;
 
-/// Numbers of edges, from the first up to the end, which is excluded.
+/// Numbers of edges, from `first` up to `end`, which is excluded.
 #[derive(Clone, Copy)]
 pub(crate) struct EdgeRange {
     pub(crate) first: u32,
     pub(crate) end: u32,
 }
 
-/// The numbers of the edges of each state, by state. One entry for each state of the automaton. 60 alone.
+/// Returns for each state of `automaton` the numbers of the edges that leave it.
 pub(crate) fn edge_ranges(alloc: Global, automaton: &Automaton) -> Result<Vec<EdgeRange>, Refusal>
     requires { edge_count automaton.now < most_nodes }
     ensures ranges { IfOk result (λ ranges. AreRanges automaton.now ranges.items) }

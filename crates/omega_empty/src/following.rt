@@ -1,5 +1,5 @@
 ghost use Rattle.std.specs.Prelude.{IfOk, IsOkUnless};
-ghost use Rattle.omega_game.specs.declared.player.Player.TheVariants.{Zero};
+ghost use Rattle.omega_parity_game.specs.declared.player.Player.TheVariants.{Zero};
 ghost use Rattle.omega_solve.specs.Headline.{IsExact};
 ghost use Rattle.omega_empty.specs.EmptinessGame.{IsEmptinessGame};
 ghost use Rattle.omega_empty.specs.private.layout.Following.{IsLooped, IsWonStart};
@@ -7,20 +7,20 @@ ghost use Rattle.omega_empty.specs.private.layout.Following.{IsLooped, IsWonStar
 use crate::game_laws::won_walks_accept;
 use omega_automaton::{Automaton, Refusal};
 use omega_budget::Found;
-use omega_game::ForwardGame;
+use omega_parity_game::ForwardGame;
 use std::alloc::Global;
 
-/// Edges passed one after the other, of which the last leads back to where the cycle begins.
+/// A walk along edges whose last edge closes its cycle.
 #[derive(Drop)]
 pub(crate) struct LoopedWalk {
-    /// The numbers of the edges.
+    /// The numbers of the edges, in order.
     pub(crate) edges: Vec<u32>,
-    /// How many come before the cycle.
+    /// The number of edges before the cycle.
     pub(crate) loop_start: usize,
 }
 
-/// The edges that the choices of player 0 pass from the place of a start's node until a state's node comes again. A
-/// step passes two nodes: an edge's, and that of the state that it enters. 60 alone.
+/// Follows the choices of player 0 from `start`, the place of a start's node, until a state's node comes again, and
+/// returns the edges passed. A step passes two nodes: an edge's, and that of the state that it enters.
 pub(crate) fn follow_choices(
     alloc: Global,
     automaton: &Automaton,

@@ -5,8 +5,9 @@ ghost use Rattle.omega_empty.specs.GameLaws.{UnwonIsEmpty, WonStartsAccept, WonW
 use omega_acc::{buchi_is_every_set, parity_is_priority};
 use omega_region_laws::regions_cover;
 
-/// A walk from a start's node, at the first counter, to a node that is no edge's, and a closed walk from there whose
-/// greatest priority is even, pass the edges of an accepting lasso that begins at this start.
+/// States that two walks of the game pass the edges of an accepting lasso, which begins at a start. The first leads
+/// from the start's node, at the first counter, to a node that is no edge's. The second is closed, begins there, and
+/// its greatest priority is even.
 pub fn won_walks_accept()
     ensures { WonWalksAccept }
 {
@@ -14,7 +15,7 @@ pub fn won_walks_accept()
     buchi_is_every_set();
 }
 
-/// Player 0 wins the node of a start, at the first counter, exactly if an accepting lasso begins at this start.
+/// States that player 0 wins the node of a start, at the first counter, exactly if an accepting lasso begins there.
 pub fn won_starts_accept()
     ensures { WonStartsAccept }
 {
@@ -23,7 +24,7 @@ pub fn won_starts_accept()
     regions_cover();
 }
 
-/// Player 0 wins no start's node, at the first counter, exactly if the automaton has no accepting lasso.
+/// States that player 0 wins no start's node, at the first counter, exactly if the automaton has no accepting lasso.
 pub fn unwon_is_empty()
     ensures { UnwonIsEmpty }
 {

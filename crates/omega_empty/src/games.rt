@@ -1,29 +1,32 @@
 ghost use Rattle.std.specs.Prelude.{◌≡◌, ◌+◌, ◌*◌, ◌++◌, ◌≤◌, false, [], IfErr, IfOk, IsOkUnless, OnOk};
-ghost use Rattle.omega_acc.specs.Limits.{most_buchi_sets};
-ghost use Rattle.omega_game.specs.Building.{IsGameOf};
-ghost use Rattle.omega_game.specs.Limits.{most_nodes};
+ghost use Rattle.omega_expression.specs.Limits.{most_buchi_sets};
+ghost use Rattle.omega_parity_game.specs.Building.{IsGameOf};
+ghost use Rattle.omega_parity_game.specs.Limits.{most_nodes};
 ghost use Rattle.omega_empty.specs.Counters.{counters};
 ghost use Rattle.omega_automaton.specs.AcceptanceKind.{HasKind};
 ghost use Rattle.omega_automaton.specs.Branching.{has_universal_branching};
-ghost use Rattle.omega_empty.specs.EmptinessGame.{IsEmptinessGame, span, table};
+ghost use Rattle.omega_empty.specs.EmptinessGame.{IsEmptinessGame, span};
 ghost use Rattle.omega_empty.specs.Refusing.{IsGameRefusal, IsGiven, IsUndecided};
-ghost use Rattle.omega_empty.specs.private.layout.Ready.{IsReady};
+ghost use Rattle.omega_empty.specs.private.layout.Nodes.{game_nodes};
 
 use crate::edge_ranges::edge_ranges;
 use crate::judged::Judged;
 use crate::kinds::{counters_of, fits, kind_of};
 use crate::nodes::add_counter;
 use crate::usable::usable_edges;
-use omega_acc::AccKind;
 use omega_automaton::{Automaton, Refusal, has_universal_branching};
-use omega_game::{ForwardGame, GameBuilder, Player};
+use omega_formula::AccKind;
+use omega_parity_game::{ForwardGame, GameBuilder, Player};
 use omega_text::{GameFault, TaskFault};
 use std::alloc::Global;
 
-/// The emptiness game of an automaton, whose nodes are all owned by player 0: player 0 wins from the node of a start at
-/// the first counter exactly where an accepting lasso begins there. Its identifiers are those of states, of edges and
-/// of the sink, counter by counter. Refused with the least that applies of 13 (by identifiers), 40, 41 and 42 (any
-/// label, any edge), or 60. Linear in the automaton and the counters.
+/// Makes the emptiness game of `automaton`, all of whose nodes player 0 owns. Player 0 wins from the node of a start,
+/// at the first counter, exactly if an accepting lasso begins there. The identifiers are those of states, of edges and
+/// of the sink, counter by counter. The cost is linear in the automaton and in the number of counters.
+///
+/// Fails with the first that applies of [GameFault::TooManyNodes], by the number of identifiers,
+/// [TaskFault::NotParity], [TaskFault::UniversalBranch], and [TaskFault::TooManyPropositions], by any label of any
+/// edge.
 pub fn emptiness_game(alloc: Global, automaton: &Automaton) -> Result<ForwardGame, Refusal>
     ensures game { IfOk result (IsEmptinessGame automaton.now) }
     ensures given { OnOk result (IsGiven automaton.now) }
@@ -39,7 +42,8 @@ pub fn emptiness_game(alloc: Global, automaton: &Automaton) -> Result<ForwardGam
     game_of(alloc, automaton, kind)
 }
 
-/// The refusal of an automaton without an acceptance kind: 13 or else 40.
+/// Returns the refusal of `automaton`, which has no acceptance kind: [GameFault::TooManyNodes], or else
+/// [TaskFault::NotParity].
 fn undecided(automaton: &Automaton) -> Refusal
     requires { IsUndecided automaton.now }
     ensures { IsGameRefusal automaton.now result }
@@ -51,7 +55,8 @@ fn undecided(automaton: &Automaton) -> Refusal
     Refusal::Task(TaskFault::NotParity)
 }
 
-/// The emptiness game of an automaton of a kind that fits. 41, 42 or 60.
+/// Makes the emptiness game of `automaton`, which has this `kind` and whose game fits. Fails with
+/// [TaskFault::UniversalBranch], or else with [TaskFault::TooManyPropositions].
 fn game_of(alloc: Global, automaton: &Automaton, kind: AccKind) -> Result<ForwardGame, Refusal>
     requires kind { HasKind automaton.now kind }
     requires fits { counters kind * span automaton.now + 1 ≤ most_nodes }
@@ -75,12 +80,12 @@ fn game_of(alloc: Global, automaton: &Automaton, kind: AccKind) -> Result<Forwar
     Ok(game)
 }
 
-/// The game of the nodes. 60 alone.
+/// Builds the game: the nodes of each counter, and then the sink.
 fn built(alloc: Global, judged: &Judged<'_>) -> Result<ForwardGame, Refusal>
-    requires { IsReady judged.now.automaton.now judged.now.kind judged.now.usable.items judged.now.ranges.items }
-    ensures game { IfOk result (IsGameOf (table judged.now.kind judged.now.automaton.now judged.now.usable.items)) }
+    ensures game { IfOk result (IsGameOf (game_nodes judged.now)) }
     ensures memory { IsOkUnless result Refusal.Memory }
 {
+    judged.keeps_ready();
     let mut builder = GameBuilder::new(alloc);
     for counter in 0..judged.counters() {
         add_counter(&mut builder, judged, counter)?;

@@ -1,16 +1,16 @@
 ghost use Rattle.std.specs.Prelude.{◌≡◌, ◌≤◌, ◌<◌, ◌*◌, ◌+◌, ◌↔◌, IsTrue, MatchOption, IfSome};
-ghost use Rattle.omega_acc.specs.Limits.{most_buchi_sets};
-ghost use Rattle.omega_game.specs.Limits.{most_nodes};
+ghost use Rattle.omega_expression.specs.Limits.{most_buchi_sets};
+ghost use Rattle.omega_parity_game.specs.Limits.{most_nodes};
 ghost use Rattle.omega_empty.specs.Counters.{counters};
 ghost use Rattle.omega_automaton.specs.AcceptanceKind.{HasKind};
 ghost use Rattle.omega_empty.specs.EmptinessGame.{span};
 ghost use Rattle.omega_empty.specs.Refusing.{IsUndecided, NeedsCounters};
 
-use omega_acc::{AccKind, acceptance_kind};
 use omega_automaton::Automaton;
-use omega_game::MOST_NODES;
+use omega_formula::{AccKind, acceptance_kind};
+use omega_parity_game::MOST_NODES;
 
-/// The acceptance kind of an automaton, none where its emptiness is not decided. Takes no memory.
+/// Returns the acceptance kind of `automaton`, or none if its emptiness is not decided. Takes no memory.
 pub(crate) fn kind_of(automaton: &Automaton) -> Option<AccKind>
     ensures { MatchOption result (IsUndecided automaton.now) (HasKind automaton.now) }
 {
@@ -25,7 +25,7 @@ pub(crate) fn kind_of(automaton: &Automaton) -> Option<AccKind>
     }
 }
 
-/// How many counters a kind needs.
+/// Returns the number of counters that `kind` needs.
 pub(crate) fn counters_of(kind: AccKind) -> u32
     ensures { result ≡ counters kind }
 {
@@ -35,7 +35,7 @@ pub(crate) fn counters_of(kind: AccKind) -> u32
     }
 }
 
-/// Whether a game with so many counters has no more identifiers than a game may have nodes.
+/// Whether a game with this number of `counters` has no more identifiers than a game may have nodes.
 pub(crate) fn fits(automaton: &Automaton, counters: u32) -> bool
     requires { counters ≤ most_buchi_sets }
     ensures { IsTrue result ↔ (counters * span automaton.now + 1 ≤ most_nodes) }

@@ -1,6 +1,6 @@
 //! Emptiness of parity and generalized Büchi automata: the emptiness game, and accepting lassos.
 //!
-//! Numbers of refusals are those of `Refusal`; docs/formats.md says when each comes.
+//! docs/formats.md says when each refusal comes.
 #![tactic(auto)]
 
 mod deciding;

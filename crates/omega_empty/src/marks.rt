@@ -1,15 +1,15 @@
 ghost use Rattle.std.specs.Prelude.{◌≡◌, ◌++◌, ◌<◌, ◌≤◌, All};
-ghost use Rattle.omega_acc.specs.formula.Acceptance.{holds};
-ghost use Rattle.omega_acc.specs.formula.Kind.{priority_of};
-ghost use Rattle.omega_acc.specs.Limits.{most_depth};
+ghost use Rattle.omega_formula.specs.Acceptance.{holds};
+ghost use Rattle.omega_formula.specs.Kind.{priority_of};
+ghost use Rattle.omega_expression.specs.Limits.{most_depth};
 ghost use Rattle.omega_text.specs.Limits.{most_number};
 ghost use Rattle.omega_empty.specs.Counters.{counter_after, counters, priority_at_counter};
 ghost use Rattle.omega_empty.specs.private.layout.Marks.{AreMarksBelow, IsSmall};
 
-use omega_acc::{AccKind, ParityKind, priority};
 use omega_automaton::{EdgeRef, State};
+use omega_formula::{AccKind, ParityKind, priority};
 
-/// The priority of an edge at a counter.
+/// Returns the priority of `edge`, which leaves `state`, at `counter`.
 pub(crate) fn edge_priority(kind: AccKind, counter: u32, state: &State, edge: &EdgeRef<'_>) -> u32
     requires counter { counter < counters kind }
     requires small { IsSmall kind }
@@ -30,7 +30,7 @@ pub(crate) fn edge_priority(kind: AccKind, counter: u32, state: &State, edge: &E
     }
 }
 
-/// The counter after an edge at a counter.
+/// Returns the counter after `edge`, which leaves `state`, at `counter`.
 pub(crate) fn counter_after(kind: AccKind, counter: u32, state: &State, edge: &EdgeRef<'_>) -> u32
     requires { counter < counters kind }
     ensures value { result ≡ counter_after kind counter (state.now.marks ++ edge.now.marks) }
@@ -50,7 +50,7 @@ pub(crate) fn counter_after(kind: AccKind, counter: u32, state: &State, edge: &E
     }
 }
 
-/// Whether a set is among the marks of an edge of a state.
+/// Whether `set` is among the marks of `edge` or of its `state`.
 #[tactic(auto, using(crate::proofs::making::MarkLists::holds_on))]
 fn is_held(set: u32, state: &State, edge: &EdgeRef<'_>) -> bool
     ensures { result ≡ holds set (state.now.marks ++ edge.now.marks) }
@@ -60,14 +60,14 @@ fn is_held(set: u32, state: &State, edge: &EdgeRef<'_>) -> bool
     own || other
 }
 
-/// Whether a set is among marks.
+/// Whether `set` is among `marks`.
 fn holds(set: u32, marks: &[u32]) -> bool
     ensures { result ≡ holds set marks.now }
 {
     marks.iter().any(|mark| *mark == set)
 }
 
-/// The priority of an edge of a state for a parity kind: the greater one of those of its marks and the state's.
+/// Returns the priority of `edge` for a parity kind: the greater one of its marks' and of its `state`'s.
 #[tactic(auto, using(crate::proofs::making::MarkLists::priority_on, crate::proofs::making::MarkLists::priority_low))]
 fn parity_priority(kind: ParityKind, state: &State, edge: &EdgeRef<'_>) -> u32
     requires small { kind.count ≤ most_depth }

@@ -1,14 +1,15 @@
 ghost use Rattle.std.specs.Prelude.{◌≡◌, ℕ, MatchOption, [], ◌∷◌, length};
-ghost use Rattle.omega_empty.specs.private.layout.Following.{HasNoWonStart, IsWonAt, IsWonStart};
+ghost use Rattle.omega_empty.specs.private.layout.Following.{HasNoWonStart, IsWonAt, IsWonNowhere, IsWonStart};
 
 use omega_automaton::Automaton;
-use omega_game::ForwardGame;
+use omega_parity_game::ForwardGame;
 use omega_text::Numbers;
 
-/// The place of the node of the first start, at the first counter, that is among the places won.
+/// Returns the place of the node of the first start, at the first counter, that is among the places `won`.
 pub(crate) fn won_start(automaton: &Automaton, game: &ForwardGame, won: &[bool]) -> Option<u32>
     requires { length won.now ≡ length game.now }
-    ensures { MatchOption result (HasNoWonStart automaton.now game.now won.now) (IsWonStart automaton.now game.now won.now) }
+    ensures { MatchOption result
+        (HasNoWonStart automaton.now game.now won.now) (IsWonStart automaton.now game.now won.now) }
 {
     for start in automaton.starts() {
         if let Some(place) = won_single(game, won, start) {
@@ -18,7 +19,7 @@ pub(crate) fn won_start(automaton: &Automaton, game: &ForwardGame, won: &[bool])
     None
 }
 
-/// The place of the node of a start, if the start is a single state and its place is among those won.
+/// Returns the place of the node of `start` if this is a single state and its place is among those `won`.
 fn won_single(game: &ForwardGame, won: &[bool], start: &Numbers) -> Option<u32>
     requires { length won.now ≡ length game.now }
     ensures { MatchOption result
@@ -31,10 +32,10 @@ fn won_single(game: &ForwardGame, won: &[bool], start: &Numbers) -> Option<u32>
     won_place(game, won, start.as_slice()[0])
 }
 
-/// The place of the node with an identifier, if it is among the places won.
+/// Returns the place of the node with `identifier` if it is among the places `won`.
 fn won_place(game: &ForwardGame, won: &[bool], identifier: u32) -> Option<u32>
     requires { length won.now ≡ length game.now }
-    ensures { MatchOption result ((v : ℕ) → ¬ IsWonAt game.now won.now identifier v) (IsWonAt game.now won.now identifier) }
+    ensures { MatchOption result (IsWonNowhere game.now won.now identifier) (IsWonAt game.now won.now identifier) }
 {
     game.keeps_limits();
     match game.place_of(identifier) {

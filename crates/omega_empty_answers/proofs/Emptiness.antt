@@ -4,7 +4,7 @@ use Rattle.omega_text.specs.Cases.{or_memory}
 use Rattle.omega_text.specs.declared.refusal.Refusal.{Refusal}
 use Rattle.omega_text.specs.declared.refusal.Refusal.TheVariants.{Automaton, Game, Io, Memory, Task, Text}
 use Rattle.omega_automaton.specs.Automaton.{Description}
-use Rattle.omega_empty.specs.Verdict.{IsEmptinessRefusal}
+use Rattle.omega_empty.specs.Deciding.{IsEmptinessRefusal}
 use Rattle.omega_hoa.specs.Alone.{IsAutomatonRefusal, IsAutomatonText}
 use Rattle.omega_empty_answers.specs.empty.Answer.{IsEmptyRefusal}
 

@@ -5,8 +5,8 @@ use Rattle.omega_text.specs.declared.refusal.Refusal.TheVariants.{Task}
 use Rattle.omega_text.specs.declared.refusal.task.TaskFault.TheVariants.{Budget}
 use Rattle.omega_automaton.specs.Automaton.{Description}
 use Rattle.omega_empty.specs.Observing.{LiftsAutomaton}
-use Rattle.omega_game.specs.Game.{Node}
-use Rattle.omega_game.specs.declared.player.Player.{Player}
+use Rattle.omega_parity_game.specs.Game.{Node}
+use Rattle.omega_parity_game.specs.declared.player.Player.{Player}
 use Rattle.omega_hoa.specs.Alone.{IsAutomatonRefusal}
 use Rattle.omega_empty_answers.specs.Observing.{LiftsAutomatonText}
 use Rattle.omega_budget.proofs.Observed.{made_refused}

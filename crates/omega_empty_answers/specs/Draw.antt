@@ -8,18 +8,18 @@ use Rattle.omega_runs.specs.declared.verdict.Verdict.TheVariants.{Empty, Lasso}
 use Rattle.omega_hoa.specs.Alone.{IsAutomatonText}
 use Rattle.omega_lasso_search.specs.Searching.{IsSearchable}
 
--- the answer of `draw`: the text stands for an automaton, and its drawing is written
+-- the answer of `draw`: the text is that of an automaton, and its drawing is written
 pub record IsAutomatonDrawingAnswer (text output : List ℕ) : Type 0 where
   pub automaton : Description
   pub read : IsAutomatonText text automaton
   pub written : output ≡ drawing_of_automaton automaton
 
--- the drawing of an automaton with the lasso of a verdict, or alone
+-- the drawing of an automaton with the lasso of a verdict, if it has one
 abbrev pub drawing_of_verdict : Description → Verdict → List ℕ
 drawing_of_verdict automaton Empty = drawing_of_automaton automaton
 drawing_of_verdict automaton (Lasso stem cycle) = drawing_of_lasso automaton stem cycle
 
--- the answer of `draw --lasso`: the text stands for an automaton without universal branching, and its drawing is
+-- the answer of `draw --lasso`: the text is that of an automaton without universal branching, and its drawing is
 -- written, with an accepting lasso, or without one if no lasso accepts
 pub record IsLassoDrawingAnswer (text output : List ℕ) : Type 0 where
   pub automaton : Description

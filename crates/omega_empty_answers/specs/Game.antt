@@ -4,12 +4,12 @@ use Rattle.omega_text.specs.declared.refusal.Refusal.{Refusal}
 use Rattle.omega_automaton.specs.Automaton.{Description}
 use Rattle.omega_empty.specs.EmptinessGame.{IsEmptinessGame}
 use Rattle.omega_empty.specs.Refusing.{IsGameRefusal, IsGiven}
-use Rattle.omega_game.specs.Game.{Node}
+use Rattle.omega_parity_game.specs.Game.{Node}
 use Rattle.omega_hoa.specs.Alone.{IsAutomatonRefusal, IsAutomatonText}
 use Rattle.omega_pg.specs.game.Canonical.{canonical_game}
 
--- the answer of `game`: the text stands for an automaton, none of the refusals 13, 40, 41 and 42 applies to it, and the
--- canonical text of its emptiness game is written
+-- the answer of `game`: the text is that of an automaton that has an emptiness game, and the canonical text of the game
+-- is written
 pub record IsEmptinessGameAnswer (text output : List ℕ) : Type 0 where
   pub automaton : Description
   pub read : IsAutomatonText text automaton
@@ -18,7 +18,7 @@ pub record IsEmptinessGameAnswer (text output : List ℕ) : Type 0 where
   pub game_is : IsEmptinessGame automaton game
   pub written : output ≡ canonical_game game
 
--- the text stands for an automaton that has no emptiness game: 13, 40, 41 or 42
+-- the text is that of an automaton that has no emptiness game
 pub record RefusesEmptinessGame (text : List ℕ) (refusal : Refusal) : Type 0 where
   pub automaton : Description
   pub read : IsAutomatonText text automaton

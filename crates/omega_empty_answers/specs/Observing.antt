@@ -3,12 +3,13 @@ use Rattle.std.specs.Prelude.{ℕ, List, Option}
 use Rattle.omega_text.specs.declared.refusal.Refusal.{Refusal}
 use Rattle.omega_automaton.specs.Automaton.{Description}
 use Rattle.omega_empty.specs.Observing.{LiftsAutomaton}
-use Rattle.omega_game.specs.declared.player.Player.{Player}
-use Rattle.omega_game.specs.Game.{Node}
+use Rattle.omega_parity_game.specs.declared.player.Player.{Player}
+use Rattle.omega_parity_game.specs.Game.{Node}
 use Rattle.omega_hoa.specs.Alone.{IsAutomatonText}
 
 -- `empty` lifts an emptiness game of the automaton of the text
-pub record LiftsAutomatonText (text : List ℕ) (refusal : Option Refusal) (nodes : List Node) (players : List Player) : Type 0 where
+pub record LiftsAutomatonText (text : List ℕ) (refusal : Option Refusal) (nodes : List Node) (players : List Player)
+    : Type 0 where
   pub automaton : Description
   pub read : IsAutomatonText text automaton
   pub lifts : LiftsAutomaton automaton refusal nodes players

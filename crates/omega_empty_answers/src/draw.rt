@@ -1,7 +1,6 @@
 ghost use Rattle.std.specs.Prelude.{◌≡◌, IfOk, IfErr, IsOkUnless};
 ghost use Rattle.omega_hoa.specs.Alone.{IsAutomatonRefusal};
 ghost use Rattle.omega_text.specs.Cases.{or_memory};
-ghost use Rattle.omega_text.specs.declared.refusal.Refusal.TheVariants.{Memory};
 ghost use Rattle.omega_lasso_search.specs.Searching.{IsSearchRefusal};
 ghost use Rattle.omega_empty_answers.specs.Draw.{IsAutomatonDrawingAnswer, IsLassoDrawingAnswer, drawing_of_verdict};
 ghost use Rattle.omega_empty_answers.specs.empty.Answer.{IsEmptySearchRefusal};
@@ -43,10 +42,10 @@ fn draw_searched(alloc: Global, automaton: &Automaton) -> Result<Vec<u8>, Refusa
     draw_verdict(alloc, automaton, &verdict)
 }
 
-/// Returns the drawing of `automaton` with the lasso of `verdict`, or alone if there is none.
+/// Returns the drawing of `automaton` with the lasso of `verdict`, if it has one.
 fn draw_verdict(alloc: Global, automaton: &Automaton, verdict: &Verdict) -> Result<Vec<u8>, Refusal>
     ensures text { IfOk result (λ text. text.items ≡ drawing_of_verdict automaton.now verdict.now) }
-    ensures memory { IsOkUnless result Memory }
+    ensures memory { IsOkUnless result Refusal.Memory }
 {
     match verdict {
         Verdict::Empty => draw_automaton(alloc, automaton),

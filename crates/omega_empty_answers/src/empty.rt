@@ -2,21 +2,20 @@ ghost use Rattle.std.specs.Prelude.{◌≡◌, ◌≤◌, IfOk, IfErr, IsOkUnles
 ghost use Rattle.omega_empty_answers.specs.empty.Answer.{IsEmptyAnswer, IsEmptyRefusal, IsEmptySearchAnswer, IsEmptySearchRefusal, IsDecision, IsSearchDecision, emptiness_text, lasso_lines};
 ghost use Rattle.omega_empty_answers.specs.Observing.{LiftsAutomatonText};
 ghost use Rattle.omega_budget.specs.Observing.{IsObserved, refusal_in};
-ghost use Rattle.omega_empty.specs.Verdict.{IsEmptinessRefusal};
+ghost use Rattle.omega_empty.specs.Deciding.{IsEmptinessRefusal};
 ghost use Rattle.omega_empty.specs.Observing.{LiftsAutomaton};
 ghost use Rattle.omega_lasso_search.specs.Searching.{IsSearchRefusal};
 ghost use Rattle.omega_solve.specs.Limits.{most_lifts};
 ghost use Rattle.omega_text.specs.Cases.{or_memory};
-ghost use Rattle.omega_text.specs.declared.refusal.Refusal.TheVariants.{Memory};
 
 use crate::automaton_text::automaton_in;
 use omega_automaton::Automaton;
 use omega_budget::Reporter;
 use omega_empty::{Verdict, emptiness_observed};
-use omega_game::Refusal;
 use omega_lasso_search::lasso;
 use omega_lasso_text::write_lasso;
 use omega_lasso_word::word_of;
+use omega_parity_game::Refusal;
 use std::alloc::Global;
 
 /// Decides by lifting in the emptiness game whether the automaton of `text` is empty. Returns `empty`, or an accepting
@@ -36,7 +35,8 @@ pub fn decide_emptiness<L, W: Reporter<L>>(
     requires { budget ≤ most_lifts }
     ensures answer { IfOk result (λ output. IsEmptyAnswer text.items budget word output.items) }
     ensures refused { IfErr result (or_memory (IsEmptyRefusal text.items budget)) }
-    ensures reported { IsObserved (LiftsAutomatonText text.items) (refusal_in result) (W.tells reporter.now) (W.pace reporter.now) budget observer.old observer.new }
+    ensures reported { IsObserved (LiftsAutomatonText text.items) (refusal_in result)
+        (W.tells reporter.now) (W.pace reporter.now) budget observer.old observer.new }
 {
     let automaton = automaton_in(alloc, text)?;
     decided(alloc, automaton, word, budget, reporter, observer)
@@ -66,7 +66,8 @@ fn decided<L, W: Reporter<L>>(
     requires { budget ≤ most_lifts }
     ensures decision { IfOk result (λ output. IsDecision automaton budget word output.items) }
     ensures refused { IfErr result (IsEmptinessRefusal automaton budget) }
-    ensures reported { IsObserved (LiftsAutomaton automaton) (refusal_in result) (W.tells reporter.now) (W.pace reporter.now) budget observer.old observer.new }
+    ensures reported { IsObserved (LiftsAutomaton automaton) (refusal_in result)
+        (W.tells reporter.now) (W.pace reporter.now) budget observer.old observer.new }
 {
     decision(alloc, &automaton, word, budget, reporter, observer)
 }
@@ -83,7 +84,8 @@ fn decision<L, W: Reporter<L>>(
     requires { budget ≤ most_lifts }
     ensures decision { IfOk result (λ output. IsDecision automaton.now budget word output.items) }
     ensures refused { IfErr result (IsEmptinessRefusal automaton.now budget) }
-    ensures reported { IsObserved (LiftsAutomaton automaton.now) (refusal_in result) (W.tells reporter.now) (W.pace reporter.now) budget observer.old observer.new }
+    ensures reported { IsObserved (LiftsAutomaton automaton.now) (refusal_in result)
+        (W.tells reporter.now) (W.pace reporter.now) budget observer.old observer.new }
 {
     let verdict = emptiness_observed(alloc, automaton, budget, reporter, observer)?;
     emptiness_text(alloc, automaton, verdict, word)
@@ -116,7 +118,7 @@ fn emptiness_text(
     word: bool,
 ) -> Result<Vec<u8>, Refusal>
     ensures text { IfOk result (λ text. text.items ≡ emptiness_text automaton.now word verdict) }
-    ensures memory { IsOkUnless result Memory }
+    ensures memory { IsOkUnless result Refusal.Memory }
 {
     match verdict {
         Verdict::Empty => Ok(Vec::from_slice(alloc, b"empty\n")?),
@@ -135,7 +137,7 @@ fn lasso_lines(
     word: bool,
 ) -> Result<Vec<u8>, Refusal>
     ensures text { IfOk result (λ text. text.items ≡ lasso_lines automaton.now word stem.now cycle.now) }
-    ensures memory { IsOkUnless result Memory }
+    ensures memory { IsOkUnless result Refusal.Memory }
 {
     let mut lines = write_lasso(alloc, stem, cycle)?;
     if word {

@@ -7,7 +7,7 @@ ghost use Rattle.omega_text.specs.Cases.{or_memory};
 use crate::automaton_text::automaton_in;
 use omega_automaton::Automaton;
 use omega_empty::emptiness_game;
-use omega_game::{ForwardGame, Refusal};
+use omega_parity_game::{ForwardGame, Refusal};
 use omega_pg::write_game;
 use std::alloc::Global;
 

@@ -1,6 +1,6 @@
 //! What `empty`, `game` and `draw` answer to the text of one automaton.
 //!
-//! Numbers of refusals are those of `Refusal`; docs/formats.md says when each comes.
+//! docs/formats.md says when each refusal comes.
 #![tactic(auto)]
 
 mod automaton_text;

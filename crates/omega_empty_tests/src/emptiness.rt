@@ -23,7 +23,7 @@ fn says(answer: Result<Verdict, Refusal>, wanted: &[u32]) -> bool {
     }
 }
 
-// The number of a refusal, 0 where there is none.
+// The number of a refusal, or 0 for an answer.
 fn number_of(answer: Result<Verdict, Refusal>) -> u32 {
     match answer {
         Ok(_) => 0,

@@ -11,7 +11,7 @@ fn raw_in(alloc: Global, text: &str) -> Result<RawAutomaton, Refusal> {
     read_raw(alloc, &mut cursor)
 }
 
-/// The automaton that a text means.
+/// Returns the automaton that a text means.
 pub(crate) fn automaton_in(alloc: Global, text: &str) -> Result<Automaton, Refusal> {
     match raw_in(alloc, text) {
         Ok(raw) => automaton_of(alloc, raw),

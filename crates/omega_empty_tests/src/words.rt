@@ -10,7 +10,7 @@ fn assert_row(rt: &impl Abort, row: usize, holds: bool) {
     assert!(rt; holds, "row {row}");
 }
 
-// The word of a lasso, whose stem has so many of the numbers.
+// The word of a lasso, whose stem has the first `stem` of the numbers.
 fn word(
     alloc: Global,
     automaton: Automaton,
@@ -33,8 +33,8 @@ fn word_in(alloc: Global, text: &str, numbers: &[u32], stem: usize) -> Result<Ve
     }
 }
 
-// Labels of edges with names that are identifiers and with one that is none; parentheses; labels of states; edges
-// without labels, whose index is their valuation; and no propositions.
+// Labels of edges with names that are identifiers and with one that is no identifier; parentheses; labels of states;
+// edges without labels, whose index is their valuation; and no propositions.
 static AUTOMATA: [&str; 5] = [
     "HOA: v1 States: 2 Start: 0 AP: 2 \"a\" \"b b\" Acceptance: 1 Inf(0) --BODY-- State: 0 [0&!1] 1 State: 1 [0|1] 1 {0} [t] 0 --END--",
     "HOA: v1 States: 1 Start: 0 AP: 3 \"a\" \"_b2\" \"2c\" Acceptance: 0 t --BODY-- State: 0 [!(0&1)] 0 [0&(1|2)] 0 [f] 0 --END--",

@@ -1,4 +1,4 @@
-//! An automaton is read, and it is asked for an accepting lasso.
+//! Reads an automaton, and searches it for an accepting lasso.
 ghost use Rattle.std.specs.Prelude.{IfOk};
 ghost use Rattle.omega_automaton.specs.Automaton.{Description};
 ghost use Rattle.omega_runs.specs.Verdict.{IsVerdict};

@@ -3,7 +3,8 @@ use omega_game::{ForwardGame, Lasso, Player, Refusal, Strategy, counterexample};
 use omega_text::write_number;
 use std::alloc::Global;
 
-/// What is written of a player's strategy at a place: `it wins`, or a walk to a cycle on which the player loses.
+/// Returns what is written of a player's strategy at a place: `it wins`, or a walk to a cycle on which the player
+/// loses.
 pub fn report(
     alloc: Global,
     game: &ForwardGame,
@@ -20,7 +21,7 @@ pub fn report(
     }
 }
 
-/// The places of a walk: those before its cycle, and those of the cycle.
+/// Returns the places of a walk: those before its cycle, and those of the cycle.
 fn walk_text(alloc: Global, lasso: &Lasso) -> Result<Vec<u8>, Refusal> {
     let mut out = Vec::from_slice(alloc, b"it loses: by")?;
     write_places(lasso.stem.as_slice(), &mut out)?;

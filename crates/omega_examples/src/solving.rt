@@ -7,7 +7,8 @@ use omega_game::{ForwardGame, GameBuilder, Player, Refusal};
 use omega_solve::MOST_LIFTS;
 use std::alloc::Global;
 
-/// The game of `examples/three_nodes.pg`: player 0 moves from node 0 to node 1 or 2, and player 1 back to node 0.
+/// Returns the game of `examples/three_nodes.pg`: player 0 moves from node 0 to node 1 or 2, and player 1 back to node
+/// 0.
 pub fn three_nodes(alloc: Global) -> Result<ForwardGame, Refusal> {
     let mut nodes = GameBuilder::new(alloc);
     add_three(&mut nodes)?;
@@ -24,7 +25,7 @@ fn add_three(nodes: &mut GameBuilder) -> Result<(), Refusal>
     nodes.add_node(2, 2, Player::One, 0)
 }
 
-/// The nodes that a player wins, and the player's choices, with as many lifts as it takes.
+/// Returns the nodes that a player wins, and the player's choices, with as many lifts as it takes.
 pub fn solved_for(alloc: Global, game: &ForwardGame, player: Player) -> Result<Found, Refusal>
     ensures exact { IfOk result (λ found. IsExact game.now player found.won.items found.choice.items) }
 {

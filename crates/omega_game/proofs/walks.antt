@@ -1,8 +1,7 @@
 -- Walks along edges left possible, and places that recur.
-pub mod Choosing
+pub mod Closing
 pub mod Recurrence
 pub mod Standing
-pub mod Marking
 pub mod Meeting
 pub mod Ways
 pub mod Lassos

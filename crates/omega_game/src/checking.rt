@@ -1,8 +1,9 @@
 //! Whether a strategy wins, without a solver.
-ghost use Rattle.std.specs.Prelude.{◌≡◌, ◌↔◌, ℕ, ◌<◌, length, All, IfOk, IfSome, IsTrue, IsOkUnless};
-ghost use Rattle.omega_game.specs.declared.player.Player.TheVariants.{One, Zero};
-ghost use Rattle.omega_game.specs.Solution.{WinsAsGiven};
-ghost use Rattle.omega_game.specs.Winning.{IsStrategy, Wins};
+ghost use Rattle.std.specs.Prelude.{◌≡◌, ◌↔◌, ◌<◌, length, All, IfOk, IfSome, IsTrue, IsOkUnless};
+ghost use Rattle.omega_parity_game.specs.declared.player.Player.TheVariants.{One, Zero};
+ghost use Rattle.omega_parity_game.specs.Solution.{WinsAsGiven};
+ghost use Rattle.omega_parity_game.specs.Winning.{IsStrategy};
+ghost use Rattle.omega_game.specs.Checking.{WinsFrom};
 
 mod components;
 pub(crate) mod deciding;
@@ -19,25 +20,22 @@ mod rounds;
 mod top_nodes;
 mod union_find;
 
-use crate::forward_game::ForwardGame;
-use crate::player::Player;
-use crate::reaching::followed_from;
-use crate::solution::Solution;
-use crate::strategy::Strategy;
+use crate::following::followed_from;
 use deciding::{decide, decide_fast};
 use given::shows_given;
+use omega_parity_game::{ForwardGame, Player, Solution, Strategy};
 use omega_text::Refusal;
 use ordering::shows_none;
 use std::alloc::{AllocError, Global};
 
-/// Whether a strategy of the player wins from each of the places, which may come in any order and repeatedly: yes where
-/// none is listed. `Memory` where a request for memory is refused. A walk may take each edge that the choices leave
-/// possible: at a node with a choice that one, at each other node all.
+/// Whether a strategy of the player wins from each of the places, which may come in any order and repeatedly: yes if
+/// there are none. A walk may take each edge that the choices leave possible: at a node with a choice the chosen one,
+/// at each other node all. Returns [`Refusal::Memory`] if a request for memory is refused.
 ///
-/// A few searches for strongly connected components (Tarjan 1972) suggest an answer, which is checked. Where they give
-/// up, one for each halving of the priorities in use does. For n nodes, m edges and d priorities in use, whether
-/// they lose or not, the cost is near (m + n) · log d, after the nodes are sorted by priority, where the suggestion is
-/// confirmed. Else each place of a losing priority is tested by a search of its own: n · m at worst. Tests show no
+/// A few searches for strongly connected components (Tarjan 1972) suggest an answer, which is checked. If they give up,
+/// one search for each halving of the priorities in use suggests it. If the suggestion is confirmed, the cost is near
+/// (m + n) · log d for n nodes, m edges and d priorities in use, whether they lose or not, after the nodes are sorted
+/// by priority. Else each place of a losing priority is tested by a search of its own: n · m at worst. Tests show no
 /// suggestion that is not confirmed, and no proof excludes one.
 pub fn check_strategy(
     alloc: Global,
@@ -48,15 +46,15 @@ pub fn check_strategy(
 ) -> Result<bool, Refusal>
     requires places { All (λ place. place < length game.now) places.now }
     requires fits { IsStrategy game.now player strategy.now.choice }
-    ensures wins { IfOk result (λ answer. IsTrue answer ↔ All (λ place. Wins game.now player strategy.now.choice place) places.now) }
+    ensures wins { IfOk result (λ answer. IsTrue answer ↔ WinsFrom game.now player strategy.now.choice places.now) }
     ensures memory { IsOkUnless result Refusal.Memory }
 {
     let answer = wins_from(alloc, game, player, places, strategy.choice.as_slice())?;
     Ok(answer)
 }
 
-/// The answer of `check_strategy` where what its fast search suggests is confirmed, else none: so the cost is near
-/// (m + n) · log d in each case. `Memory` where a request for memory is refused.
+/// Returns the answer of `check_strategy` if the suggestion of its fast search is confirmed, else `None`: so the cost
+/// is near (m + n) · log d in each case. Returns [`Refusal::Memory`] if a request for memory is refused.
 pub fn check_strategy_fast(
     alloc: Global,
     game: &ForwardGame,
@@ -66,17 +64,18 @@ pub fn check_strategy_fast(
 ) -> Result<Option<bool>, Refusal>
     requires places { All (λ place. place < length game.now) places.now }
     requires fits { IsStrategy game.now player strategy.now.choice }
-    ensures wins { IfOk result (λ found. IfSome found (λ answer. IsTrue answer ↔ All (λ place. Wins game.now player strategy.now.choice place) places.now)) }
+    ensures wins { IfOk result (λ found. IfSome found
+        (λ answer. IsTrue answer ↔ WinsFrom game.now player strategy.now.choice places.now)) }
     ensures memory { IsOkUnless result Refusal.Memory }
 {
     let found = wins_fast(alloc, game, player, places, strategy.choice.as_slice())?;
     Ok(found)
 }
 
-/// Whether an order of places shows that a strategy of the player wins from each of the places: each edge that it
-/// leaves possible where it reaches leads forward in the order, or back to a place whose priority does not lose and is
-/// the greatest on the way. No says nothing. For n nodes and m edges the cost is n + m. `Memory` where a request for
-/// memory is refused.
+/// Whether `order` shows that a strategy of the player wins from each of the places. At the places that it reaches,
+/// each edge that it leaves possible has to lead forward in the order, or back to a place whose priority does not lose
+/// and is the greatest on the way. If the order does not show it, the strategy may win all the same. The cost is n + m
+/// for n nodes and m edges. Returns [`Refusal::Memory`] if a request for memory is refused.
 pub fn check_strategy_by_order(
     alloc: Global,
     game: &ForwardGame,
@@ -87,7 +86,7 @@ pub fn check_strategy_by_order(
 ) -> Result<bool, Refusal>
     requires places { All (λ place. place < length game.now) places.now }
     requires fits { IsStrategy game.now player strategy.now.choice }
-    ensures wins { IfOk result (λ answer. IsTrue answer → All (λ place. Wins game.now player strategy.now.choice place) places.now) }
+    ensures wins { IfOk result (λ answer. IsTrue answer → WinsFrom game.now player strategy.now.choice places.now) }
     ensures memory { IsOkUnless result Refusal.Memory }
 {
     let shown = shows_wins(
@@ -101,11 +100,11 @@ pub fn check_strategy_by_order(
     Ok(shown)
 }
 
-/// Whether an order of places shows that each player's strategy of a solution wins from all nodes given to the player:
-/// each edge that it leaves possible there leads to a node given to the same player, and forward in the order, or back
-/// to a place whose priority does not lose and is the greatest on the way. No says nothing. For n nodes and m edges the
-/// cost is n + m, and eight bytes a node and four a place in the order are kept beside it. `Memory` where a request for
-/// memory is refused.
+/// Whether `order` shows that each player's strategy of a solution wins from all nodes given to the player. Each edge
+/// that it leaves possible there has to lead to a node given to the same player. It also has to lead forward in the
+/// order, or back to a place whose priority does not lose and is the greatest on the way. If the order does not show
+/// it, the strategies may win all the same. The cost is n + m for n nodes and m edges, with eight bytes a node and four
+/// a place of the order. Returns [`Refusal::Memory`] if a request for memory is refused.
 pub fn check_solution_by_order(
     alloc: Global,
     game: &ForwardGame,
@@ -132,7 +131,7 @@ fn wins_from(
 ) -> Result<bool, AllocError>
     requires places { All (λ place. place < length game.now) places.now }
     requires strategy { IsStrategy game.now player choices.now }
-    ensures wins { IfOk result (λ answer. IsTrue answer ↔ All (λ place. Wins game.now player choices.now place) places.now) }
+    ensures wins { IfOk result (λ answer. IsTrue answer ↔ WinsFrom game.now player choices.now places.now) }
 {
     game.keeps_limits();
     let marks = followed_from(alloc, game, choices, places)?;
@@ -140,7 +139,7 @@ fn wins_from(
     Ok(decision.is_won())
 }
 
-/// The same where what the fast search suggests is confirmed, else none.
+/// Returns the answer of `wins_from` if the suggestion of the fast search is confirmed, else `None`.
 fn wins_fast(
     alloc: Global,
     game: &ForwardGame,
@@ -150,7 +149,8 @@ fn wins_fast(
 ) -> Result<Option<bool>, AllocError>
     requires places { All (λ place. place < length game.now) places.now }
     requires strategy { IsStrategy game.now player choices.now }
-    ensures wins { IfOk result (λ found. IfSome found (λ answer. IsTrue answer ↔ All (λ place. Wins game.now player choices.now place) places.now)) }
+    ensures wins { IfOk result (λ found. IfSome found
+        (λ answer. IsTrue answer ↔ WinsFrom game.now player choices.now places.now)) }
 {
     game.keeps_limits();
     let marks = followed_from(alloc, game, choices, places)?;
@@ -171,7 +171,7 @@ fn shows_wins(
 ) -> Result<bool, AllocError>
     requires places { All (λ place. place < length game.now) places.now }
     requires strategy { IsStrategy game.now player choices.now }
-    ensures wins { IfOk result (λ answer. IsTrue answer → All (λ place. Wins game.now player choices.now place) places.now) }
+    ensures wins { IfOk result (λ answer. IsTrue answer → WinsFrom game.now player choices.now places.now) }
 {
     game.keeps_limits();
     let marks = followed_from(alloc, game, choices, places)?;

@@ -1,8 +1,9 @@
 //! Why a strategy does not win, without a solver.
-ghost use Rattle.std.specs.Prelude.{◌≡◌, ◌↔◌, ℕ, ◌<◌, length, All, IfOk, IfSome, IsNone, IsOkUnless};
+ghost use Rattle.std.specs.Prelude.{◌↔◌, ◌<◌, length, All, IfOk, IfSome, IsNone, IsOkUnless};
+ghost use Rattle.omega_parity_game.specs.Winning.{IsStrategy};
+ghost use Rattle.omega_parity_game.specs.Reaching.{LeadsInside};
+ghost use Rattle.omega_game.specs.Checking.{WinsFrom};
 ghost use Rattle.omega_game.specs.Counterexample.{IsCounterexample};
-ghost use Rattle.omega_game.specs.Winning.{IsStrategy, Wins};
-ghost use Rattle.omega_game.specs.private.checking.Reaching.{LeadsInside};
 ghost use Rattle.omega_game.specs.private.checking.Recurring.{Recurs};
 ghost use Rattle.omega_game.specs.private.refuting.Ways.{IsCycle};
 
@@ -11,18 +12,16 @@ mod ways;
 
 use crate::checking::deciding::decide;
 use crate::checking::decision::Decision;
-use crate::forward_game::ForwardGame;
+use crate::following::followed_from;
 use crate::lasso::Lasso;
-use crate::player::Player;
-use crate::reaching::{edges_left, followed_from};
-use crate::strategy::Strategy;
+use omega_parity_game::{ForwardGame, Player, Strategy, edges_left};
 use omega_text::{Refusal, Seq};
 use std::alloc::{AllocError, Global};
 use ways::way_to;
 
-/// Why a strategy of the player does not win from each of the places, which may come in any order and repeatedly: a
-/// walk from one of them that the strategy leaves possible, to a cycle on which the player loses. None exactly where it
-/// wins from each. `Memory` where a request for memory is refused.
+/// Returns why a strategy of the player does not win from each of the places: a walk from one of them that the strategy
+/// leaves possible, to a cycle on which the player loses. The places may come in any order and repeatedly. Returns
+/// `None` exactly if the strategy wins from each, and [`Refusal::Memory`] if a request for memory is refused.
 ///
 /// The decision is that of `check_strategy`, at its cost, and rests on a place of a losing priority that comes back to
 /// itself. The cycle begins there. The stem is a shortest walk to it from one of the places, and the cycle a shortest
@@ -37,15 +36,16 @@ pub fn counterexample(
 ) -> Result<Option<Lasso>, Refusal>
     requires places { All (λ place. place < length game.now) places.now }
     requires fits { IsStrategy game.now player strategy.now.choice }
-    ensures none { IfOk result (λ found. IsNone found ↔ All (λ place. Wins game.now player strategy.now.choice place) places.now) }
-    ensures lasso { IfOk result (λ found. IfSome found (IsCounterexample game.now player strategy.now.choice places.now)) }
+    ensures none { IfOk result (λ found. IsNone found ↔ WinsFrom game.now player strategy.now.choice places.now) }
+    ensures lasso { IfOk result (λ found. IfSome found
+        (IsCounterexample game.now player strategy.now.choice places.now)) }
     ensures memory { IsOkUnless result Refusal.Memory }
 {
     let found = lasso_against(alloc, game, player, places, strategy.choice.as_slice())?;
     Ok(found)
 }
 
-/// A lasso that shows why choices that are a strategy of the player do not win, none where they do.
+/// Returns a lasso that shows why choices that are a strategy of the player do not win, or `None` if they do.
 fn lasso_against(
     alloc: Global,
     game: &ForwardGame,
@@ -55,7 +55,7 @@ fn lasso_against(
 ) -> Result<Option<Lasso>, AllocError>
     requires places { All (λ place. place < length game.now) places.now }
     requires strategy { IsStrategy game.now player choices.now }
-    ensures none { IfOk result (λ found. IsNone found ↔ All (λ place. Wins game.now player choices.now place) places.now) }
+    ensures none { IfOk result (λ found. IsNone found ↔ WinsFrom game.now player choices.now places.now) }
     ensures lasso { IfOk result (λ found. IfSome found (IsCounterexample game.now player choices.now places.now)) }
 {
     game.keeps_limits();
@@ -73,7 +73,7 @@ fn lasso_against(
     }
 }
 
-/// A place that recurs, and the places before it on a shortest way from it to itself.
+/// Returns a place that recurs, and the places before it on a shortest way from it to itself.
 fn cycle_at(
     alloc: Global,
     game: &ForwardGame,

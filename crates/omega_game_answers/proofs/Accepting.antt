@@ -6,20 +6,20 @@ use Rattle.omega_text.specs.Limits.{most_text}
 use Rattle.omega_text.specs.declared.refusal.Refusal.{Refusal}
 use Rattle.omega_text.specs.declared.refusal.Refusal.TheVariants.{Automaton, Game, Io, Memory, Task, Text}
 use Rattle.omega_game.specs.declared.lasso.Lasso.{Lasso}
-use Rattle.omega_game.specs.declared.player.Player.{Player}
+use Rattle.omega_parity_game.specs.declared.player.Player.{Player}
 use Rattle.omega_game.specs.Counterexample.{IsCounterexample}
-use Rattle.omega_game.specs.Game.{IsGame, IsWithinLimits, Node}
-use Rattle.omega_game.specs.Laws.{PartsAreGames, PartsKeepNodes}
-use Rattle.omega_game.specs.Player.{loses}
-use Rattle.omega_game.specs.Winning.{IsClosedWalk, Wins, end_of, greatest_on}
+use Rattle.omega_parity_game.specs.Game.{IsGame, IsWithinLimits, Node}
+use Rattle.omega_parity_game.specs.Laws.{PartsAreGames, PartsKeepNodes}
+use Rattle.omega_parity_game.specs.Player.{loses}
+use Rattle.omega_parity_game.specs.Winning.{IsClosedWalk, Wins, end_of, greatest_on}
 use Rattle.omega_io.specs.declared.exit.Exit.{Exit}
 use Rattle.omega_io.specs.declared.exit.Exit.TheVariants.{Done, No}
 use Rattle.omega_pg.specs.game.Laws.{GamesAreNotRefused, GamesOfTextsAreOne}
 use Rattle.omega_pg.specs.solution.Canonical.{solution_text}
 use Rattle.omega_pg.specs.solution.Laws.{SolutionsAreNotRefused, SolutionsOfTextsAreOne, WrittenSolutionsAreRead}
-use Rattle.omega_game.specs.Solution.{WinsAsGiven, choices_of}
+use Rattle.omega_parity_game.specs.Solution.{WinsAsGiven, choices_of}
 use Rattle.omega_pg.specs.solution.Text.{IsSolutionText}
-use Rattle.omega_game.specs.declared.solution.Solution.{Solution}
+use Rattle.omega_parity_game.specs.declared.solution.Solution.{Solution}
 use Rattle.omega_game_answers.specs.Verify.{IsJudgedGame, IsJudgedGameRefusal, IsSolutionVerdict, IsVerifyAnswer, IsVerifyRefusal, LosesGiven}
 use Rattle.omega_game_answers.specs.solve.Solution.{IsExactSolutionOf}
 use Rattle.omega_game_answers.proofs.Parts.{part-limits, part_from-unique}
@@ -39,7 +39,7 @@ only-member : (x u : ℕ) → Contains (x ∷ []) u → u ≡ x
 only-member x u (zero, h, e) = sym e
 only-member x u (suc j, h, e) = absurd (omega arith)
 
--- a lasso against choices that win from where it begins
+-- a lasso against choices that win from its first place
 lost_won : (nodes : List Node) (player : Player) (choices : List (Option ℕ)) (start : ℕ) (lasso : Lasso)
     → IsCounterexample nodes player choices (start ∷ []) lasso → Wins nodes player choices start → ⊥
 lost_won nodes player choices start lasso lost wins =
@@ -87,7 +87,7 @@ judged-game text (Some identifier) nodes games keeps judged =
       part-limits judged.game part.place part.reached.0 nodes keeps game judged.read.limits part.reached.1,
     )
 
--- the refusal of a text that has a game that is judged is none
+-- a text that has a game to be judged is not refused
 judged-not_refused : (text : List ℕ) (from : Option ℕ) (nodes : List Node) (refusal : Refusal) → GamesOfTextsAreOne → GamesAreNotRefused
     → IsJudgedGame text from nodes → IsJudgedGameRefusal text from refusal → ⊥
 judged-not_refused text None nodes refusal games refused judged h = refused text nodes refusal judged h
@@ -102,7 +102,7 @@ judged-not_refused text (Some identifier) nodes Io games refused judged h = refu
 
 -- ---- what is written of an exact solution
 
--- the text of an exact solution stands for it
+-- the text of an exact solution is that of the solution
 exact-read : (nodes : List Node) (output : List ℕ) → WrittenSolutionsAreRead → IsGame nodes → IsWithinLimits nodes
     → (exact : IsExactSolutionOf nodes output) → length output ≤ most_text → IsSolutionText nodes output exact.solution
 exact-read nodes output written game limits exact short =

@@ -5,13 +5,13 @@ use Rattle.omega_text.specs.declared.refusal.Refusal.{Refusal}
 use Rattle.omega_io.specs.Refused.{IsAbout}
 use Rattle.omega_io.specs.declared.refused.Which.{Which}
 use Rattle.omega_io.specs.declared.refused.Which.TheVariants.{File, Input}
-use Rattle.omega_game.specs.Game.{Node}
+use Rattle.omega_parity_game.specs.Game.{Node}
 use Rattle.omega_pg.specs.game.Text.{IsGameText}
 use Rattle.omega_game_answers.specs.Draw.{RefusesDrawnSolution}
 use Rattle.omega_game_answers.specs.Verify.{IsJudgedGameRefusal}
 use Rattle.omega_game_answers.specs.private.steps.Drawn.{IsDrawnRefusal, IsUnknownFrom}
 
--- a refusal of one of two texts, where what refuses them is said otherwise
+-- a refusal of one of two texts, if what refuses them is said otherwise
 pub about_as : (none file input file' input' : Refusal → Type 0) (text : Option Which) (refusal : Refusal) → (file refusal → file' refusal)
     → (input refusal → input' refusal) → IsAbout none file input text refusal → IsAbout none file' input' text refusal
 about_as none file input file' input' None refusal of_file of_input about = about

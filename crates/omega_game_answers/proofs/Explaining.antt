@@ -5,19 +5,19 @@ use Rattle.std.specs.Prelude.{IfNone, IfSome, IsNone}
 use Rattle.std.proofs.lemmas.List.{get_or_append_left, length_push}
 use Rattle.std.proofs.lemmas.List.Elements.{All-cons, All-nil, All-contains, Contains-push}
 use Rattle.omega_game.specs.declared.lasso.Lasso.{Lasso}
-use Rattle.omega_game.specs.declared.player.Player.{Player}
-use Rattle.omega_game.specs.declared.player.Player.TheVariants.{One, Zero}
+use Rattle.omega_parity_game.specs.declared.player.Player.{Player}
+use Rattle.omega_parity_game.specs.declared.player.Player.TheVariants.{One, Zero}
 use Rattle.omega_game.specs.Counterexample.{IsCounterexample}
-use Rattle.omega_game.specs.Game.{Node, IsGame}
-use Rattle.omega_game.specs.Player.{player_number}
-use Rattle.omega_game.specs.Winning.{IsWalk}
-use Rattle.omega_game.specs.declared.solution.Solution.{Solution}
-use Rattle.omega_game.specs.Solution.{ArePlacesGiven, WinsGiven, choices_of}
+use Rattle.omega_parity_game.specs.Game.{Node, IsGame}
+use Rattle.omega_parity_game.specs.Player.{player_number}
+use Rattle.omega_parity_game.specs.Winning.{IsWalk}
+use Rattle.omega_parity_game.specs.declared.solution.Solution.{Solution}
+use Rattle.omega_parity_game.specs.Solution.{ArePlacesGiven, WinsGiven, choices_of}
 use Rattle.omega_game_answers.specs.Verify.{IsExplained, LosesGiven, explained_text}
 
--- ---- where a lasso begins
+-- ---- the start of a lasso
 
--- a counterexample from some of the places is one from the place where it begins
+-- a counterexample from some of the places is one from its first place
 from_its_start : (nodes : List Node) (player : Player) (choices : List (Option ℕ)) (places : List ℕ) (lasso : Lasso)
     → (lost : IsCounterexample nodes player choices places lasso) → IsCounterexample nodes player choices (lost.start ∷ []) lasso
 from_its_start nodes player choices places lasso lost = record {
@@ -86,7 +86,7 @@ module _ (nodes : List Node) (player : Player) (choices : List (Option ℕ)) (ga
 
 -- ---- the verdict
 
--- where player 0's choices do not win, that is explained
+-- if player 0's choices do not win, that is explained
 pub zero-explained : (nodes : List Node) (solution : Solution) (lasso : Lasso) (output : List ℕ)
     → LosesGiven nodes solution Zero lasso → output ≡ explained_text nodes Zero lasso → IsExplained nodes solution output
 zero-explained nodes solution lasso output loses written = record {
@@ -97,7 +97,7 @@ zero-explained nodes solution lasso output loses written = record {
   written = written;
 }
 
--- where they do and player 1's do not, that is
+-- if they do and player 1's do not, that is
 pub one-explained : (nodes : List Node) (solution : Solution) (lasso : Lasso) (output : List ℕ)
     → WinsGiven nodes solution Zero → LosesGiven nodes solution One lasso → output ≡ explained_text nodes One lasso → IsExplained nodes solution output
 one-explained nodes solution lasso output wins loses written = record {
@@ -112,7 +112,7 @@ one-explained nodes solution lasso output wins loses written = record {
     least Zero below = wins
     least One below = absurd (omega arith)
 
--- where a lasso is found, or none
+-- whether a lasso is found or none
 pub found-none : (found : Option Lasso) (P : Type 0) → (IsNone found → P) → IfNone found P
 found-none None P gives = gives refl
 found-none (Some lasso) P gives = tt

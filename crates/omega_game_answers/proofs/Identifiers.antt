@@ -5,7 +5,7 @@ use Rattle.std.proofs.lemmas.Bool.{eqb-false, eqb-true, ltb-false}
 use Rattle.std.proofs.lemmas.List.{get_or-map, length-map}
 use Rattle.std.proofs.lemmas.List.Quantifiers.{position-Some}
 use Rattle.std.proofs.lemmas.List.Sums.{fails_before_first}
-use Rattle.omega_game.specs.Game.{Node, identifiers, no_node, node_at}
+use Rattle.omega_parity_game.specs.Game.{Node, identifiers, no_node, node_at}
 use Rattle.omega_game_answers.specs.Part.{HasIdentifier, IsUnknownIdentifier}
 
 identifier-at : (nodes : List Node) (v : ℕ) → v < length nodes → get_or (identifiers nodes) v 0 ≡ (node_at nodes v).identifier
@@ -23,7 +23,7 @@ none_before : (b : Bool) (n : ℕ) → cond b (Some n) None ≡ None → b ≡ f
 none_before true n e = cc
 none_before false n e = refl
 
--- no place has an identifier that stands nowhere
+-- no place has an identifier that is not in the list
 pub identified-nowhere : (nodes : List Node) (identifier : ℕ) → position (λ x. x == identifier) (identifiers nodes) ≡ None
     → IsUnknownIdentifier nodes identifier
 identified-nowhere nodes identifier e place identified =

@@ -3,8 +3,8 @@ use Rattle.std.proofs.Common.{◌≢◌, List, [], Option, None, Some, ℕ, inl,
 use Rattle.omega_text.specs.declared.refusal.Refusal.{Refusal}
 use Rattle.omega_text.specs.declared.refusal.Refusal.TheVariants.{Task}
 use Rattle.omega_text.specs.declared.refusal.task.TaskFault.TheVariants.{Budget}
-use Rattle.omega_game.specs.Game.{Node}
-use Rattle.omega_game.specs.declared.player.Player.{Player}
+use Rattle.omega_parity_game.specs.Game.{Node}
+use Rattle.omega_parity_game.specs.declared.player.Player.{Player}
 use Rattle.omega_pg.specs.game.Refusing.{IsReadRefusal}
 use Rattle.omega_game_answers.specs.Observing.{AreRuns}
 use Rattle.omega_game_answers.specs.private.steps.Lifts.{LiftsWholeGame}

@@ -6,9 +6,9 @@ use Rattle.std.proofs.lemmas.List.{drop-drop, get_or-map, length-map}
 use Rattle.std.proofs.lemmas.List.Elements.{All-map, Contains-get_or}
 use Rattle.std.proofs.lemmas.List.Kept.{AllPairs-from_increasing}
 use Rattle.std.proofs.lemmas.List.Sums.{sum_by-cons, sum_by-drop_more, sum_by-take-drop}
-use Rattle.omega_game.specs.Game.{IsGame, IsWithinLimits, IsWritableNode, Node, successor_count, identifiers, no_node, node_at}
-use Rattle.omega_game.specs.Laws.{PartsKeepNodes}
-use Rattle.omega_game.specs.Part.{IsPart, IsPartAt, new_place, restricted}
+use Rattle.omega_parity_game.specs.Game.{IsGame, IsWithinLimits, IsWritableNode, Node, successor_count, identifiers, no_node, node_at}
+use Rattle.omega_parity_game.specs.Laws.{PartsKeepNodes}
+use Rattle.omega_parity_game.specs.Part.{IsPart, IsPartAt, new_place, restricted}
 use Rattle.omega_game_answers.specs.Part.{HasIdentifier, IsPartFrom}
 
 -- ---- rising lists with the same members
@@ -76,7 +76,7 @@ part-unique nodes one other v (kept, first) (kept', second) =
 identifier-at : (nodes : List Node) (v : ℕ) → v < length nodes → get_or (identifiers nodes) v 0 ≡ (node_at nodes v).identifier
 identifier-at nodes v h = get_or-map (λ (node : Node). node.identifier) nodes v no_node 0 h
 
--- of two nodes of a game with the same identifier neither stands before the other
+-- of two nodes of a game with the same identifier neither is before the other
 not_before : (nodes : List Node) (identifier p q : ℕ) → IsGame nodes → HasIdentifier nodes identifier p
     → HasIdentifier nodes identifier q → p < q → ⊥
 not_before nodes identifier p q game one other h =

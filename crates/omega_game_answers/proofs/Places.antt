@@ -1,12 +1,12 @@
--- The places at which true stands, and the nodes chosen there.
+-- The places of true flags, and the nodes chosen there.
 use Rattle.std.proofs.Common.{◌≡◌, ℕ, zero, suc, ◌+◌, ◌<◌, ◌≤◌, Bool, true, false, List, [], ◌∷◌, Option, Some, None, IfSome, length, get_or, slice_index, ◌⊎◌, inl, inr, refl, ap, subst, ◌∙◌, arith}
 use Rattle.std.specs.List.{Contains, slice_get}
 use Rattle.std.specs.List.Sorted.{IsStrictlyIncreasing}
 use Rattle.std.proofs.lemmas.List.Elements.{Contains-get_or}
 use Rattle.std.proofs.lemmas.Option.{slice_get-get_or}
-use Rattle.omega_game.specs.declared.player.Player.{Player}
-use Rattle.omega_game.specs.Game.{IsGame, Node}
-use Rattle.omega_game.specs.Winning.{IsStrategy}
+use Rattle.omega_parity_game.specs.declared.player.Player.{Player}
+use Rattle.omega_parity_game.specs.Game.{IsGame, Node}
+use Rattle.omega_parity_game.specs.Winning.{IsStrategy}
 use Rattle.omega_game_answers.specs.private.steps.Places.{places_from}
 
 -- ---- members of a list with a first element
@@ -24,7 +24,7 @@ IsStrictlyIncreasing-cons x xs least rising zero h = least 0 (omega arith)
 IsStrictlyIncreasing-cons x xs least rising (suc j) h =
     let next : suc j + 1 ≡ suc (j + 1) = omega arith in rw next (rising j (omega arith))
 
--- ---- the places at which true stands
+-- ---- the places of true flags
 
 pub places_from-true : (place : ℕ) (flags : List Bool) (v : ℕ) → Contains (places_from place flags) v
     → (i : ℕ) × (v ≡ place + i) × (slice_get flags i ≡ Some true)

@@ -3,7 +3,7 @@ use Rattle.std.proofs.Common.{List, ℕ}
 use Rattle.omega_text.specs.Cases.{or_memory}
 use Rattle.omega_text.specs.declared.refusal.Refusal.{Refusal}
 use Rattle.omega_text.specs.declared.refusal.Refusal.TheVariants.{Automaton, Game, Io, Memory, Task, Text}
-use Rattle.omega_game.specs.Game.{Node}
+use Rattle.omega_parity_game.specs.Game.{Node}
 use Rattle.omega_pg.specs.game.Text.{IsGameText}
 use Rattle.omega_game_answers.specs.Part.{IsPartTextRefusal}
 use Rattle.omega_game_answers.specs.private.steps.PartRefusal.{IsPartRefusal}

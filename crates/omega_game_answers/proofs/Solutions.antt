@@ -3,13 +3,13 @@ use Rattle.std.proofs.Common.{◌≡◌, ◌↔◌, ℕ, ◌<◌, inl, inr, Bool
 use Rattle.std.specs.List.{slice_get}
 use Rattle.std.proofs.lemmas.List.{get_or-map, length-map}
 use Rattle.std.proofs.lemmas.Option.{get_or_from_slice_get, slice_get-get_or}
-use Rattle.omega_game.specs.declared.player.Player.{Player}
-use Rattle.omega_game.specs.declared.player.Player.TheVariants.{One, Zero}
-use Rattle.omega_game.specs.Game.{IsGame, Node, owner_at, priorities}
-use Rattle.omega_game.specs.Winning.{Chooses, InRegion, choice_at}
+use Rattle.omega_parity_game.specs.declared.player.Player.{Player}
+use Rattle.omega_parity_game.specs.declared.player.Player.TheVariants.{One, Zero}
+use Rattle.omega_parity_game.specs.Game.{IsGame, Node, owner_at, priorities}
+use Rattle.omega_parity_game.specs.Winning.{Chooses, InRegion, choice_at}
 use Rattle.omega_measure.specs.Table.{is_too_wide}
-use Rattle.omega_game.specs.declared.solution.Solution.{Solution}
-use Rattle.omega_game.specs.Solution.{GivesRegions, choices_of, winner_at}
+use Rattle.omega_parity_game.specs.declared.solution.Solution.{Solution}
+use Rattle.omega_parity_game.specs.Solution.{GivesRegions, choices_of, winner_at}
 use Rattle.omega_region_laws.specs.Laws.{RegionsAreApart, RegionsCover}
 use Rattle.omega_solve.specs.Headline.{IsExact}
 use Rattle.omega_budget.specs.Within.{EndsWithin, IsFound}
@@ -41,7 +41,7 @@ flag-region nodes won choices v exact h =
       λ region. get_or_from_slice_get won v true false ((exact.exactly v).1 region),
     )
 
--- a flag that is false stands at a node of player 1's region
+-- a flag that is false is that of a node of player 1's region
 false-One : (nodes : List Node) (v : ℕ) (flag : Bool) → IsGame nodes → v < length nodes → RegionsAreApart → RegionsCover
     → (flag ≡ true) ↔ InRegion nodes Zero v → (flag ≡ false) ↔ InRegion nodes One v
 false-One nodes v true game h apart cover region =
@@ -78,7 +78,7 @@ chooses-some : (choices : List (Option ℕ)) (v : ℕ) (choice : Option ℕ) →
 chooses-some choices v None e some = cc
 chooses-some choices v (Some w) e some = (w, e)
 
--- a choice stands exactly where the owner wins
+-- there is a choice exactly if the owner wins
 chosen-exactly : (nodes : List Node) (player winner : Player) (won : List Bool) (choices : List (Option ℕ)) (v : ℕ)
     → IsExact nodes player won choices → v < length nodes → (winner ≡ player) ↔ InRegion nodes player v
     → IsSome (choice_at choices v) ↔ ((owner_at nodes v ≡ player) × (winner ≡ player))
@@ -96,7 +96,7 @@ chosen-exactly nodes player winner won choices v exact h region =
 
 -- ---- the solution
 
--- what was found for a player, where the solution has its choices
+-- what was found for a player, if the solution has its choices
 abbrev IsFoundFor : List Node → ℕ → Solution → Player → Type 0
 IsFoundFor nodes budget solution player =
     (won : List Bool) × (lifts : ℕ) × IsExact nodes player won (choices_of solution player) × EndsWithin nodes player budget lifts

@@ -1,8 +1,8 @@
 -- What `solve` writes of both players is the text of an exact solution of the game that `verify` judges.
 use Rattle.std.proofs.Common.{◌≡◌, ℕ, List, Option, Some, None}
-use Rattle.omega_game.specs.declared.player.Player.{Player}
-use Rattle.omega_game.specs.declared.player.Player.TheVariants.{One, Zero}
-use Rattle.omega_game.specs.Game.{Node}
+use Rattle.omega_parity_game.specs.declared.player.Player.{Player}
+use Rattle.omega_parity_game.specs.declared.player.Player.TheVariants.{One, Zero}
+use Rattle.omega_parity_game.specs.Game.{Node}
 use Rattle.omega_game_answers.specs.Laws.{IsSolved}
 use Rattle.omega_game_answers.specs.Verify.{IsJudgedGame}
 use Rattle.omega_game_answers.specs.declared.solve.asked.Asked.{Asked}

@@ -5,8 +5,8 @@ use Rattle.std.proofs.lemmas.Option.{get_or_from_slice_get, slice_get_within}
 use Rattle.omega_text.specs.declared.refusal.Refusal.{Refusal}
 use Rattle.omega_text.specs.declared.refusal.Refusal.TheVariants.{Automaton, Game, Io, Memory, Task, Text}
 use Rattle.omega_text.specs.declared.refusal.task.TaskFault.TheVariants.{BadSolution, Budget, NotDeterministic, NotParity, TooLarge, TooManyPropositions, TooWide, UniversalBranch, UnknownNode}
-use Rattle.omega_game.specs.declared.player.Player.{Player}
-use Rattle.omega_game.specs.Game.{Node, priorities}
+use Rattle.omega_parity_game.specs.declared.player.Player.{Player}
+use Rattle.omega_parity_game.specs.Game.{Node, priorities}
 use Rattle.omega_measure.specs.Table.{is_too_wide}
 use Rattle.omega_solve.specs.Headline.{IsExact}
 use Rattle.omega_budget.specs.Observing.{ReportsSolving}
@@ -69,8 +69,8 @@ right_answer nodes player budget found output narrow is_found written = record {
 
 -- ---- refusals
 
--- what refuses solving for a player refuses the game: where it is too wide for this player,
--- or else for no player for whom it is solved
+-- what refuses solving for a player refuses the game: it is too wide for this player, or else for no player for whom it
+-- is solved
 pub refused-solving : (nodes : List Node) (asked : Asked) (player : Player) (budget : ℕ) (refusal : Refusal)
     → (is_too_wide player (priorities nodes) ≡ false → (other : Player) → IsSolvedFor asked other → is_too_wide other (priorities nodes) ≡ false)
     → IsSolvedFor asked player → IsSolvingRefusal nodes player budget refusal → IsSolveGameRefusal nodes asked None budget refusal

@@ -1,9 +1,9 @@
 -- The verdict on a solution, as the choices of both players win.
 use Rattle.std.proofs.Common.{◌≡◌, ◌↔◌, ℕ, Bool, true, false, IsTrue, List, refl}
-use Rattle.omega_game.specs.declared.player.Player.TheVariants.{One, Zero}
-use Rattle.omega_game.specs.declared.solution.Solution.{Solution}
-use Rattle.omega_game.specs.Game.{Node}
-use Rattle.omega_game.specs.Solution.{WinsAsGiven, WinsGiven}
+use Rattle.omega_parity_game.specs.declared.player.Player.TheVariants.{One, Zero}
+use Rattle.omega_parity_game.specs.declared.solution.Solution.{Solution}
+use Rattle.omega_parity_game.specs.Game.{Node}
+use Rattle.omega_parity_game.specs.Solution.{WinsAsGiven, WinsGiven}
 use Rattle.omega_io.specs.declared.exit.Exit.{Exit}
 use Rattle.omega_game_answers.specs.Verify.{IsSolutionVerdict}
 use Rattle.omega_game_answers.specs.private.steps.Verdict.{verdict_exit, verdict_text}
@@ -16,12 +16,12 @@ both-win nodes solution zero one One = one
 
 -- ---- the verdict
 
--- where player 0's choices don't win, the solution is not right
+-- if player 0's choices don't win, the solution is not right
 pub zero-decides : (nodes : List Node) (solution : Solution) (zero : Bool) → zero ≡ false → IsTrue zero ↔ WinsGiven nodes solution Zero
     → IsTrue false ↔ WinsAsGiven nodes solution
 zero-decides nodes solution zero e wins = (λ t. cc, λ all. let t : zero ≡ true = wins.1 (all Zero) in cc)
 
--- and where they do, player 1's choices decide
+-- and if they do, player 1's choices decide
 pub one-decides : (nodes : List Node) (solution : Solution) (zero one : Bool) → zero ≡ true → IsTrue zero ↔ WinsGiven nodes solution Zero
     → IsTrue one ↔ WinsGiven nodes solution One → IsTrue one ↔ WinsAsGiven nodes solution
 one-decides nodes solution zero one e wins wins' =

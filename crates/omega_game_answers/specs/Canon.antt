@@ -1,11 +1,11 @@
 -- The answer of `canon` for a game text, whole or from a node on.
 use Rattle.std.specs.Prelude.{◌≡◌, List, ℕ}
-use Rattle.omega_game.specs.Game.{Node}
+use Rattle.omega_parity_game.specs.Game.{Node}
 use Rattle.omega_pg.specs.game.Canonical.{canonical_game}
 use Rattle.omega_pg.specs.game.Text.{IsGameText}
 use Rattle.omega_game_answers.specs.Part.{IsPartText}
 
--- the answer of `canon`: the text stands for a game, and its canonical text is written
+-- the answer of `canon`: the text is that of a game, and the canonical text of the game is written
 pub record IsCanonAnswer (text output : List ℕ) : Type 0 where
   pub game : List Node
   pub read : IsGameText text game

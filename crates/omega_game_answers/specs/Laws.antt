@@ -2,7 +2,7 @@
 use Rattle.std.specs.Prelude.{◌≡◌, ◌≤◌, Bool, List, Option, ℕ, codes, length}
 use Rattle.omega_text.specs.Limits.{most_text}
 use Rattle.omega_text.specs.declared.refusal.Refusal.{Refusal}
-use Rattle.omega_game.specs.declared.player.Player.{Player}
+use Rattle.omega_parity_game.specs.declared.player.Player.{Player}
 use Rattle.omega_io.specs.declared.exit.Exit.{Exit}
 use Rattle.omega_io.specs.declared.exit.Exit.TheVariants.{Done}
 use Rattle.omega_game_answers.specs.Verify.{IsVerifyAnswer, IsVerifyRefusal}
@@ -24,7 +24,8 @@ pub record IsSolved (text : List ℕ) (from : Option ℕ) (output : List ℕ) : 
 abbrev pub SolvedIsVerified : Type 0
 SolvedIsVerified =
     (text : List ℕ) (from : Option ℕ) (solved : List ℕ) (explain : Bool) (exit : Exit) (output : List ℕ)
-    → IsSolved text from solved → IsVerifyAnswer text from solved explain exit output → (exit ≡ Done) × (output ≡ codes "yes\n")
+    → IsSolved text from solved → IsVerifyAnswer text from solved explain exit output
+    → (exit ≡ Done) × (output ≡ codes "yes\n")
 
 -- `verify` does not refuse it
 abbrev pub SolvedIsNotRefused : Type 0

@@ -1,9 +1,9 @@
 -- The answer of `show` for a game text: the size of the game, and the bounds on lifts.
 use Rattle.std.specs.Prelude.{◌≡◌, ◌++◌, ◌^◌, List, ℕ, codes, decimal, length, nat_lt, if◌then◌else◌}
-use Rattle.omega_game.specs.declared.player.Player.{Player}
-use Rattle.omega_game.specs.declared.player.Player.TheVariants.{One, Zero}
-use Rattle.omega_game.specs.Bound.{bound_of}
-use Rattle.omega_game.specs.Game.{Node, successor_count, priorities, greatest_identifier}
+use Rattle.omega_parity_game.specs.declared.player.Player.{Player}
+use Rattle.omega_parity_game.specs.declared.player.Player.TheVariants.{One, Zero}
+use Rattle.omega_parity_game.specs.Bound.{bound_of}
+use Rattle.omega_parity_game.specs.Game.{Node, successor_count, priorities, greatest_identifier}
 use Rattle.omega_pg.specs.game.Text.{IsGameText}
 use Rattle.omega_game_answers.specs.PlayerText.{player_text}
 
@@ -26,7 +26,7 @@ size_line nodes =
 abbrev pub description : List Node → List ℕ
 description nodes = size_line nodes ++ bound_line Zero nodes ++ bound_line One nodes
 
--- the answer of `show`: the text stands for a game, and its description is written
+-- the answer of `show`: the text is that of a game, and its description is written
 pub record IsShowAnswer (text output : List ℕ) : Type 0 where
   pub game : List Node
   pub read : IsGameText text game

@@ -1,14 +1,14 @@
 -- The answer of `verify` for a game text, or a part of its game, and a solution text.
-use Rattle.std.specs.Prelude.{◌≡◌, ◌⊎◌, ◌<◌, ◌++◌, ◌∷◌, [], Bool, true, false, List, Option, Some, None, ℕ, codes, decimal, length}
+use Rattle.std.specs.Prelude.{◌≡◌, ◌⊎◌, ◌<◌, ◌++◌, ◌∷◌, [], All, Bool, true, false, List, Option, Some, None, ℕ, codes, decimal, length}
 use Rattle.std.specs.List.{flat_map}
 use Rattle.omega_text.specs.declared.refusal.Refusal.{Refusal}
 use Rattle.omega_game.specs.declared.lasso.Lasso.{Lasso}
-use Rattle.omega_game.specs.declared.player.Player.{Player}
-use Rattle.omega_game.specs.declared.solution.Solution.{Solution}
+use Rattle.omega_parity_game.specs.declared.player.Player.{Player}
+use Rattle.omega_parity_game.specs.declared.solution.Solution.{Solution}
 use Rattle.omega_game.specs.Counterexample.{IsCounterexample}
-use Rattle.omega_game.specs.Game.{Node, identifier_at}
-use Rattle.omega_game.specs.Player.{player_number}
-use Rattle.omega_game.specs.Solution.{WinsAsGiven, WinsGiven, choices_of, winner_at}
+use Rattle.omega_parity_game.specs.Game.{Node, identifier_at}
+use Rattle.omega_parity_game.specs.Player.{player_number}
+use Rattle.omega_parity_game.specs.Solution.{WinsAsGiven, WinsGiven, choices_of, winner_at}
 use Rattle.omega_pg.specs.game.Refusing.{IsRefusal}
 use Rattle.omega_pg.specs.solution.Refusing.{IsSolutionRefusal}
 use Rattle.omega_pg.specs.solution.Text.{IsSolutionText}
@@ -26,6 +26,10 @@ abbrev pub explained_text : List Node → Player → Lasso → List ℕ
 explained_text nodes player lasso =
     codes "no\nplayer " ++ (decimal (player_number player) ++ (codes "\nstem" ++ (identifiers_text nodes lasso.stem
     ++ (codes "\ncycle" ++ (identifiers_text nodes lasso.cycle ++ codes "\n")))))
+
+-- the places are those of nodes of the game
+abbrev pub ArePlacesOf : List Node → List ℕ → Type 0
+ArePlacesOf nodes places = All (λ place. place < length nodes) places
 
 -- a lasso shows that the player's choices do not win from a node that is given to the player
 pub record LosesGiven (nodes : List Node) (solution : Solution) (player : Player) (lasso : Lasso) : Type 0 where
@@ -54,8 +58,10 @@ abbrev pub IsJudgedGame : List ℕ → Option ℕ → List Node → Type 0
 IsJudgedGame game_text None game = IsGameText game_text game
 IsJudgedGame game_text (Some identifier) game = IsPartText game_text identifier game
 
--- the answer of `verify`: the texts stand for a game to be judged and for a solution of it, and the verdict is written
-pub record IsVerifyAnswer (game_text : List ℕ) (from : Option ℕ) (text : List ℕ) (explain : Bool) (exit : Exit) (output : List ℕ) : Type 0 where
+-- the answer of `verify`: the texts are those of a game to be judged and of a solution of it, and the verdict is
+-- written
+pub record IsVerifyAnswer (game_text : List ℕ) (from : Option ℕ) (text : List ℕ) (explain : Bool) (exit : Exit) (output : List ℕ)
+    : Type 0 where
   pub game : List Node
   pub judged : IsJudgedGame game_text from game
   pub solution : Solution
@@ -67,7 +73,7 @@ abbrev pub IsJudgedGameRefusal : List ℕ → Option ℕ → Refusal → Type 0
 IsJudgedGameRefusal game_text None refusal = IsRefusal game_text refusal
 IsJudgedGameRefusal game_text (Some identifier) refusal = IsPartTextRefusal game_text identifier refusal
 
--- the one text stands for a game to be judged, and the other is refused as a solution of it
+-- the one text is that of a game to be judged, and the other is refused as a solution of it
 pub record RefusesSolution (game_text : List ℕ) (from : Option ℕ) (text : List ℕ) (refusal : Refusal) : Type 0 where
   pub game : List Node
   pub judged : IsJudgedGame game_text from game
@@ -75,4 +81,5 @@ pub record RefusesSolution (game_text : List ℕ) (from : Option ℕ) (text : Li
 
 -- the refusal of `verify`: that of the game to be judged, or else that of the solution's text
 abbrev pub IsVerifyRefusal : List ℕ → Option ℕ → List ℕ → Refusal → Type 0
-IsVerifyRefusal game_text from text refusal = IsJudgedGameRefusal game_text from refusal ⊎ RefusesSolution game_text from text refusal
+IsVerifyRefusal game_text from text refusal =
+    IsJudgedGameRefusal game_text from refusal ⊎ RefusesSolution game_text from text refusal

@@ -1,5 +1,4 @@
 ghost use Rattle.std.specs.Prelude.{◌≡◌, IfOk, IfErr, IsOkUnless, codes};
-ghost use Rattle.omega_text.specs.declared.refusal.Refusal.TheVariants.{Memory};
 ghost use Rattle.omega_pg.specs.game.Refusing.{IsReadRefusal};
 ghost use Rattle.omega_game_answers.specs.Check.{IsCheckAnswer};
 
@@ -19,7 +18,7 @@ pub fn check_game(alloc: Global, text: Vec<u8>) -> Result<Vec<u8>, Refusal>
 /// Returns the output for a text that is accepted.
 fn accepted(alloc: Global) -> Result<Vec<u8>, Refusal>
     ensures text { IfOk result (λ output. output.items ≡ codes "accepted\n") }
-    ensures memory { IsOkUnless result Memory }
+    ensures memory { IsOkUnless result Refusal.Memory }
 {
     Ok(Vec::from_slice(alloc, b"accepted\n")?)
 }

@@ -1,8 +1,6 @@
 ghost use Rattle.std.specs.Prelude.{◌≡◌, IfOk, IfErr};
 ghost use Rattle.omega_io.specs.Refused.{IsRefusedOf};
 ghost use Rattle.omega_text.specs.Cases.{or_memory};
-ghost use Rattle.omega_text.specs.declared.refusal.Refusal.TheVariants.{Task};
-ghost use Rattle.omega_text.specs.declared.refusal.task.TaskFault.TheVariants.{UnknownNode};
 ghost use Rattle.omega_game_drawing.specs.Extent.{IsPlaced};
 ghost use Rattle.omega_pg.specs.solution.Refusing.{IsReadSolutionRefusal};
 ghost use Rattle.omega_game_answers.specs.Draw.{IsExtent, IsGameDrawingAnswer, IsSolutionDrawingAnswer, RefusesDrawnSolution};
@@ -46,8 +44,10 @@ pub fn draw_solution_text(
     depth: Option<u32>,
     legend: bool,
 ) -> Result<Vec<u8>, Refused>
-    ensures answer { IfOk result (λ output. IsSolutionDrawingAnswer text.items solution.now from depth legend output.items) }
-    ensures refused { IfErr result (IsRefusedOf (RefusesDrawnSolution text.items from depth solution.now) (IsJudgedGameRefusal text.items from)) }
+    ensures answer { IfOk result
+        (λ output. IsSolutionDrawingAnswer text.items solution.now from depth legend output.items) }
+    ensures refused { IfErr result
+        (IsRefusedOf (RefusesDrawnSolution text.items from depth solution.now) (IsJudgedGameRefusal text.items from)) }
 {
     match forward_game_of(alloc, text) {
         Ok(game) => draw_with(alloc, &game, solution, from, depth, legend),
@@ -66,7 +66,8 @@ fn draw_with(
     legend: bool,
 ) -> Result<Vec<u8>, Refused>
     ensures drawn { IfOk result (λ output. IsSolvedDrawn game.now from depth solution.now legend output.items) }
-    ensures refused { IfErr result (IsRefusedOf (IsDrawnRefusal game.now from depth solution.now) (IsUnknownFrom game.now from)) }
+    ensures refused { IfErr result
+        (IsRefusedOf (IsDrawnRefusal game.now from depth solution.now) (IsUnknownFrom game.now from)) }
 {
     match extent_of(game, from, depth) {
         Ok(extent) => match draw_solved(alloc, game, extent, solution, legend) {

@@ -1,5 +1,4 @@
 ghost use Rattle.std.specs.Prelude.{◌≡◌, ◌++◌, OnOk, IsOkUnless};
-ghost use Rattle.omega_text.specs.declared.refusal.Refusal.TheVariants.{Memory};
 ghost use Rattle.omega_game_answers.specs.PlayerText.{player_text};
 
 use omega_game::{Player, Refusal};
@@ -8,7 +7,7 @@ use omega_text::write_number;
 /// Appends the beginning of a line about `player`. If a request for memory is refused, part of it may be appended.
 pub fn append_player(player: Player, out: &mut Vec<u8>) -> Result<(), Refusal>
     ensures text { OnOk result (out.new.items ≡ out.old.items ++ player_text player) }
-    ensures memory { IsOkUnless result Memory }
+    ensures memory { IsOkUnless result Refusal.Memory }
 {
     out.extend_from_slice(b"player ")?;
     write_number(u128::from(player.number()), out)

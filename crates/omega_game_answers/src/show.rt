@@ -1,5 +1,4 @@
 ghost use Rattle.std.specs.Prelude.{◌≡◌, ◌++◌, IfOk, IfErr, OnOk, IsOkUnless};
-ghost use Rattle.omega_text.specs.declared.refusal.Refusal.TheVariants.{Memory};
 ghost use Rattle.omega_pg.specs.game.Refusing.{IsReadRefusal};
 ghost use Rattle.omega_game_answers.specs.Show.{IsShowAnswer, bound_line, description, size_line};
 
@@ -21,7 +20,7 @@ pub fn show_game(alloc: Global, text: Vec<u8>) -> Result<Vec<u8>, Refusal>
 
 fn describe(alloc: Global, game: &ForwardGame) -> Result<Vec<u8>, Refusal>
     ensures text { IfOk result (λ output. output.items ≡ description game.now) }
-    ensures memory { IsOkUnless result Memory }
+    ensures memory { IsOkUnless result Refusal.Memory }
 {
     let mut out = Vec::new(alloc);
     append_size(game, &mut out)?;
@@ -32,7 +31,7 @@ fn describe(alloc: Global, game: &ForwardGame) -> Result<Vec<u8>, Refusal>
 
 fn append_size(game: &ForwardGame, out: &mut Vec<u8>) -> Result<(), Refusal>
     ensures text { OnOk result (out.new.items ≡ out.old.items ++ size_line game.now) }
-    ensures memory { IsOkUnless result Memory }
+    ensures memory { IsOkUnless result Refusal.Memory }
 {
     let nodes = game.len();
     let greatest = game.id((nodes - 1) as u32);
@@ -48,7 +47,7 @@ fn append_size(game: &ForwardGame, out: &mut Vec<u8>) -> Result<(), Refusal>
 
 fn append_bound(game: &ForwardGame, player: Player, out: &mut Vec<u8>) -> Result<(), Refusal>
     ensures text { OnOk result (out.new.items ≡ out.old.items ++ bound_line player game.now) }
-    ensures memory { IsOkUnless result Memory }
+    ensures memory { IsOkUnless result Refusal.Memory }
 {
     append_player(player, out)?;
     out.extend_from_slice(b" ")?;

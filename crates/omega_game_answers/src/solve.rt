@@ -42,8 +42,10 @@ pub fn solve_game<L, W: Reporter<L>>(
     requires { budget ≤ most_lifts }
     ensures answer { IfOk result (λ output. IsSolveAnswer text.items asked from budget output.items) }
     ensures refused { IfErr result (or_memory (IsSolveRefusal text.items asked from budget)) }
-    ensures reported { IsObserved (LiftsText text.items asked from) (refusal_in result) (W.tells reporter.now) (W.pace reporter.now) budget observer.old observer.new }
-    ensures counted { IfOk result (λ output. CountsReportedOfText (W.tells reporter.now) (W.pace reporter.now) text.items asked from budget output.items observer.old observer.new) }
+    ensures reported { IsObserved (LiftsText text.items asked from) (refusal_in result)
+        (W.tells reporter.now) (W.pace reporter.now) budget observer.old observer.new }
+    ensures counted { IfOk result (λ output. CountsReportedOfText (W.tells reporter.now) (W.pace reporter.now)
+        text.items asked from budget output.items observer.old observer.new) }
 {
     let game = forward_game_of(alloc, text)?;
     match from {
@@ -68,8 +70,10 @@ fn solve_part<L, W: Reporter<L>>(
     requires { budget ≤ most_lifts }
     ensures answer { IfOk result (λ output. SolvesPart game asked identifier budget output.items) }
     ensures refused { IfErr result (IsSolveGameRefusal game asked (Some identifier) budget) }
-    ensures reported { IsObserved (LiftsPart game asked identifier) (refusal_in result) (W.tells reporter.now) (W.pace reporter.now) budget observer.old observer.new }
-    ensures counted { IfOk result (λ output. CountsReportedOfPart (W.tells reporter.now) (W.pace reporter.now) game asked identifier budget output.items observer.old observer.new) }
+    ensures reported { IsObserved (LiftsPart game asked identifier) (refusal_in result)
+        (W.tells reporter.now) (W.pace reporter.now) budget observer.old observer.new }
+    ensures counted { IfOk result (λ output. CountsReportedOfPart (W.tells reporter.now) (W.pace reporter.now)
+        game asked identifier budget output.items observer.old observer.new) }
 {
     regions_of_parts();
     game.keeps_limits();
@@ -89,8 +93,10 @@ fn solve_whole<L, W: Reporter<L>>(
     requires { budget ≤ most_lifts }
     ensures answer { IfOk result (λ output. SolvesWhole game asked budget output.items) }
     ensures refused { IfErr result (IsSolveGameRefusal game asked None budget) }
-    ensures reported { IsObserved (LiftsWholeGame game asked) (refusal_in result) (W.tells reporter.now) (W.pace reporter.now) budget observer.old observer.new }
-    ensures counted { IfOk result (λ output. CountsReported (W.tells reporter.now) (W.pace reporter.now) game asked budget output.items observer.old observer.new) }
+    ensures reported { IsObserved (LiftsWholeGame game asked) (refusal_in result)
+        (W.tells reporter.now) (W.pace reporter.now) budget observer.old observer.new }
+    ensures counted { IfOk result (λ output. CountsReported (W.tells reporter.now) (W.pace reporter.now)
+        game asked budget output.items observer.old observer.new) }
 {
     match asked {
         Asked::Both => solve_both(alloc, &game, budget, reporter, observer),

@@ -1,7 +1,6 @@
 ghost use Rattle.std.specs.Prelude.{◌≡◌, ◌↔◌, IfOk, IfErr, IsOkUnless, IsTrue};
 ghost use Rattle.omega_text.specs.Cases.{or_memory};
-ghost use Rattle.omega_text.specs.declared.refusal.Refusal.TheVariants.{Memory};
-ghost use Rattle.omega_game.specs.Solution.{IsSolution, WinsAsGiven, WinsGiven};
+ghost use Rattle.omega_parity_game.specs.Solution.{IsSolution, WinsAsGiven, WinsGiven};
 ghost use Rattle.omega_pg.specs.solution.Refusing.{IsReadSolutionRefusal};
 ghost use Rattle.omega_pg.specs.solution.Text.{IsSolutionText};
 ghost use Rattle.omega_game_answers.specs.Part.{IsPartText, IsPartTextRefusal};
@@ -33,7 +32,8 @@ pub fn verify_solution(
     explain: bool,
 ) -> Result<(Exit, Vec<u8>), Refused>
     ensures answer { IfOk result (λ made. IsVerifyAnswer game.items from text.items explain made.0 made.1.items) }
-    ensures refused { IfErr result (IsRefusedOf (IsJudgedGameRefusal game.items from) (RefusesSolution game.items from text.items)) }
+    ensures refused { IfErr result
+        (IsRefusedOf (IsJudgedGameRefusal game.items from) (RefusesSolution game.items from text.items)) }
 {
     match judged_game(alloc, game, from) {
         Ok(game) => match judged(alloc, &game, text, explain) {
@@ -90,7 +90,7 @@ fn verdict_on(
 ) -> Result<(Exit, Vec<u8>), Refusal>
     requires { IsSolution game.now solution.now }
     ensures verdict { IfOk result (λ made. IsSolutionVerdict game.now solution.now explain made.0 made.1.items) }
-    ensures memory { IsOkUnless result Memory }
+    ensures memory { IsOkUnless result Refusal.Memory }
 {
     if explain {
         return explained(alloc, game, solution);
@@ -102,7 +102,7 @@ fn verdict_on(
 /// Returns how the command ends for a solution that is right or not, and its output.
 fn verdict(alloc: Global, is_right: bool) -> Result<(Exit, Vec<u8>), Refusal>
     ensures made { IfOk result (λ made. (made.0 ≡ verdict_exit is_right) × (made.1.items ≡ verdict_text is_right)) }
-    ensures memory { IsOkUnless result Memory }
+    ensures memory { IsOkUnless result Refusal.Memory }
 {
     if is_right {
         Ok((Exit::Done, Vec::from_slice(alloc, b"yes\n")?))
@@ -123,7 +123,7 @@ fn solution_in(alloc: Global, game: &ForwardGame, text: Vec<u8>) -> Result<Solut
 fn wins_as_given(alloc: Global, game: &ForwardGame, solution: &Solution) -> Result<bool, Refusal>
     requires { IsSolution game.now solution.now }
     ensures wins { IfOk result (λ answer. IsTrue answer ↔ WinsAsGiven game.now solution.now) }
-    ensures memory { IsOkUnless result Memory }
+    ensures memory { IsOkUnless result Refusal.Memory }
 {
     if !wins_given(alloc, game, solution, Player::Zero)? {
         return Ok(false);
@@ -140,7 +140,7 @@ fn wins_given(
 ) -> Result<bool, Refusal>
     requires { IsSolution game.now solution.now }
     ensures wins { IfOk result (λ answer. IsTrue answer ↔ WinsGiven game.now solution.now player) }
-    ensures memory { IsOkUnless result Memory }
+    ensures memory { IsOkUnless result Refusal.Memory }
 {
     game.keeps_limits();
     let places = solution.places_given(alloc, player)?;

@@ -3,12 +3,12 @@ use Rattle.std.proofs.Common.{◌≡◌, ◌⊎◌, inl, inr, ℕ, ◌+◌, ◌<
 use Rattle.std.proofs.lemmas.Bool.{cases_eq}
 use Rattle.std.proofs.lemmas.List.{length-set, length_push, take_more}
 use Rattle.std.proofs.lemmas.List.Elements.{Contains-append_left, Contains-push, Contains-push_cases}
-use Rattle.omega_game.specs.Game.{Node, HasEdge, successors_at}
-use Rattle.omega_game.proofs.walks.Marking.{mark_kept, mark_other, mark_set, one_fewer}
+use Rattle.omega_parity_game.specs.Game.{Node, HasEdge, successors_at}
+use Rattle.omega_parity_game.proofs.walks.Marking.{mark_kept, mark_other, mark_set, one_fewer}
 use Rattle.omega_game_drawing.specs.Extent.{is_drawn}
 use Rattle.omega_game_drawing.specs.private.Entering.{AreEntered, IsAfter}
 
--- where nothing is entered
+-- if nothing is entered
 pub entered_none : (Holds : ℕ → Type 0) (drawn : List Bool) (next : List ℕ) → ((v : ℕ) → Holds v → ⊥) → AreEntered Holds drawn next drawn next
 entered_none Holds drawn next none = record {
   count = refl;
@@ -54,7 +54,7 @@ module _ (drawn : List Bool) (next : List ℕ) (p : ℕ) where
       waiting v (inl before) = inl before
       waiting v (inr is) = inr (mark_set drawn p v below is)
 
--- the same, where the flags and the next are known by equations
+-- the same, if the flags and the next are known by equations
 pub old_entered : (drawn : List Bool) (next : List ℕ) (p : ℕ) (drawn' : List Bool) (next' : List ℕ) → drawn' ≡ drawn → next' ≡ next
     → IsTrue (is_drawn drawn p) → AreEntered (λ v. p ≡ v) drawn next drawn' next'
 old_entered drawn next p drawn' next' same_drawn same_next flagged = rw (same_drawn, same_next) (entered_old drawn next p flagged)

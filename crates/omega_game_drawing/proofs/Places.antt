@@ -1,7 +1,7 @@
 -- Places of a game.
 use Rattle.std.proofs.Common.{◌≡◌, ℕ, ◌<◌, List, length, get_or, sym, subst}
 use Rattle.std.proofs.lemmas.List.Elements.{Contains-get_or}
-use Rattle.omega_game.specs.Game.{IsGame, Node, successors_at}
+use Rattle.omega_parity_game.specs.Game.{IsGame, Node, successors_at}
 
 -- each listed successor of a node is a place
 pub successor_is_place : (nodes : List Node) (v : ℕ) (listed : List ℕ) (i d : ℕ) → IsGame nodes → listed ≡ successors_at nodes v → i < length listed

@@ -4,15 +4,15 @@ use Rattle.std.proofs.lemmas.Bool.{false≢true}
 use Rattle.std.proofs.lemmas.List.{length-replicate}
 use Rattle.std.proofs.lemmas.List.Elements.{Contains-get_or}
 use Rattle.std.specs.Option.{option_eq}
-use Rattle.omega_game.specs.Game.{Node, IsGame, HasEdge}
-use Rattle.omega_game.proofs.elements.Membership.{Contains-cases, Contains-here, Contains-nothing}
-use Rattle.omega_game.proofs.walks.Marking.{marked_below, unmarked}
+use Rattle.omega_parity_game.specs.Game.{Node, IsGame, HasEdge}
+use Rattle.omega_parity_game.proofs.elements.Membership.{Contains-cases, Contains-here, Contains-nothing}
+use Rattle.omega_parity_game.proofs.walks.Marking.{marked_below, unmarked}
 use Rattle.omega_game_drawing.specs.Extent.{IsNear, ReachesWithin, is_drawn}
 use Rattle.omega_game_drawing.specs.private.Entering.{AreEntered, IsAfter}
 use Rattle.omega_game_drawing.proofs.Walks.{IsLed, all_along, near_reached, none_within, within_back, within_none, within_on}
 
 module _ (nodes : List Node) (depth : Option ℕ) (place : ℕ) where
-  -- a search on its way, by so many steps: what is reached by so many edges is flagged and nothing else,
+  -- a search after some steps: the places that are reached by as many edges are flagged and no others,
   -- and edges lead from it to what is flagged, but from the front
   pub record IsSearch (drawn : List Bool) (front : List ℕ) (left : Option ℕ) : Type 0 where
     pub count : length drawn ≡ length nodes
@@ -128,18 +128,18 @@ module _ (nodes : List Node) (depth : Option ℕ) (place : ℕ) where
       let longer : ReachesWithin nodes (rest + steps) place v = record { walk = reaches.walk; short = omega (arith, reaches.short) } in
       subst (λ most. IsNear nodes most place v) counted longer
 
-  -- where no step is left, what is near is reached by the steps that were made
+  -- if no step is left, what is near is reached by the steps that were made
   near_within : (steps v : ℕ) → Some (0 + steps) ≡ depth → IsNear nodes depth place v → ReachesWithin nodes steps place v
   near_within steps v counted near =
       let reaches : ReachesWithin nodes (0 + steps) place v = subst (λ most. IsNear nodes most place v) (sym counted) near in
       record { walk = reaches.walk; short = omega (arith, reaches.short) }
 
-  -- where the number of steps that are left is 0, none is
+  -- if the number of steps that are left is 0, none is
   pub spent : (left : Option ℕ) → option_eq ◌==◌ left (Some 0) ≡ true → left ≡ Some 0
   spent None same = cc
   spent (Some rest) same = ap {B = Option ℕ} Some (eqb-true rest 0 same)
 
-  -- where the front is empty or no step is left, what is near is flagged and nothing else
+  -- if the front is empty or no step is left, what is near is flagged and nothing else
   pub search_ends : (drawn : List Bool) (front : List ℕ) (left : Option ℕ) → IsSearch drawn front left → (front ≡ []) ⊎ (left ≡ Some 0)
       → (v : ℕ) → IsTrue (is_drawn drawn v) ↔ IsNear nodes depth place v
   search_ends drawn front left search over v =

@@ -1,9 +1,9 @@
--- Walks of so many edges, and their last edges.
+-- Walks of a given length, and their last edges.
 use Rattle.std.proofs.Common.{◌≡◌, ◌⊎◌, inl, inr, ℕ, ◌+◌, ◌<◌, ◌≤◌, List, [], ◌∷◌, ◌++◌, length, Option, None, Some, refl, sym, subst, arith}
 use Rattle.std.proofs.lemmas.List.{length_push}
-use Rattle.omega_game.specs.Game.{Node, IsGame, HasEdge}
-use Rattle.omega_game.specs.Part.{IsPath, Reaches}
-use Rattle.omega_game.specs.Winning.{end_of}
+use Rattle.omega_parity_game.specs.Game.{Node, IsGame, HasEdge}
+use Rattle.omega_parity_game.specs.Part.{IsPath, Reaches}
+use Rattle.omega_parity_game.specs.Winning.{end_of}
 use Rattle.omega_game_drawing.specs.Extent.{IsNear, ReachesWithin}
 
 -- a walk goes on along an edge
@@ -11,7 +11,7 @@ walk_on : (nodes : List Node) (v w : ℕ) (us : List ℕ) → IsGame nodes → I
 walk_on nodes v w [] game path edge = (edge, game.closed v w edge)
 walk_on nodes v w (u ∷ us) game path edge = (path.0, walk_on nodes u w us game path.1 edge)
 
--- and ends where the edge leads
+-- and ends at the target of the edge
 end_on : (v w : ℕ) (us : List ℕ) → end_of v (us ++ w ∷ []) ≡ w
 end_on v w [] = refl
 end_on v w (u ∷ us) = end_on u w us

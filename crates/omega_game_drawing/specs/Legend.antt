@@ -1,24 +1,24 @@
--- The legend of a drawing with a solution: which colour is which winner, and what a bold edge is.
+-- The legend of a drawing with a solution: the colours of the winners, and a bold edge.
 use Rattle.std.specs.Prelude.{ℕ, true, Some, List, ◌++◌, codes, decimal}
-use Rattle.omega_game.specs.declared.player.Player.{Player}
-use Rattle.omega_game.specs.declared.player.Player.TheVariants.{One, Zero}
-use Rattle.omega_game.specs.Player.{player_number}
+use Rattle.omega_parity_game.specs.declared.player.Player.{Player}
+use Rattle.omega_parity_game.specs.declared.player.Player.TheVariants.{One, Zero}
+use Rattle.omega_parity_game.specs.Player.{player_number}
 use Rattle.omega_game_drawing.specs.Nodes.{edge_end, fill_part}
 
--- that a player wins
+-- the words that a player wins
 abbrev pub winner_label : Player → List ℕ
 winner_label player = codes " [shape=plaintext, label=\"player " ++ (decimal (player_number player) ++ codes " wins")
 
--- a field in the colour of what a player wins, which says so
+-- a field in the colour of a winner, with these words
 abbrev pub winner_field : Player → List ℕ
 winner_field player =
     codes "    legend" ++ (decimal (player_number player) ++ (winner_label player ++ (codes "\"" ++ (fill_part (Some player) ++ codes "];\n"))))
 
--- what an edge to a choice leads to in the legend
+-- the end of an edge to a choice in the legend
 abbrev pub choice_label : List ℕ
 choice_label = codes "    chosen [shape=plaintext, label=\"the winner's choice\"];\n"
 
--- an edge as that to a choice, which says so
+-- an edge to a choice, as the drawing has them
 abbrev pub choice_sample : List ℕ
 choice_sample = choice_label ++ (codes "    choosing [shape=point];\n" ++ (codes "    choosing -> chosen" ++ edge_end true))
 

@@ -1,9 +1,9 @@
 -- How a node of a game and its edges are drawn: player 0's nodes are diamonds and player 1's are boxes.
 use Rattle.std.specs.Prelude.{ℕ, ◌==◌, Bool, false, not, if◌then◌else◌, Option, Some, None, List, [], ◌++◌, codes, decimal}
 use Rattle.std.specs.List.{flat_map, list_any}
-use Rattle.omega_game.specs.Game.{Node, identifier_at}
-use Rattle.omega_game.specs.declared.player.Player.{Player}
-use Rattle.omega_game.specs.declared.player.Player.TheVariants.{One, Zero}
+use Rattle.omega_parity_game.specs.Game.{Node, identifier_at}
+use Rattle.omega_parity_game.specs.declared.player.Player.{Player}
+use Rattle.omega_parity_game.specs.declared.player.Player.TheVariants.{One, Zero}
 use Rattle.omega_game_drawing.specs.Extent.{is_drawn}
 use Rattle.omega_dot.specs.Labels.{line_end, name_label_line}
 
@@ -12,7 +12,7 @@ abbrev pub shape_of : Player → List ℕ
 shape_of Zero = codes "diamond"
 shape_of One = codes "box"
 
--- the colour of what a player wins
+-- the colour of the nodes that a player wins
 abbrev pub colour_of : Player → List ℕ
 colour_of Zero = codes "lightblue"
 colour_of One = codes "orange"
@@ -48,9 +48,13 @@ successor_line nodes choice node place =
     codes "  " ++ (decimal node.identifier ++ (codes " -> " ++ (decimal (identifier_at nodes place)
     ++ edge_end (is_chosen choice place))))
 
--- the edge to a place, where the node there is drawn
+-- the edge to a place, if the node there is drawn
 abbrev pub edge_to : List Node → List Bool → Option ℕ → Node → ℕ → List ℕ
 edge_to nodes drawn choice node place = if is_drawn drawn place then successor_line nodes choice node place else []
+
+-- the edges from a node to nodes that are drawn, in the order of its list
+abbrev pub drawn_edges : List Node → List Bool → Option ℕ → Node → List ℕ
+drawn_edges nodes drawn choice node = flat_map (edge_to nodes drawn choice node) node.successors
 
 -- whether the node leads on, to a node that is not drawn
 abbrev pub leads_on : List Bool → Node → Bool
@@ -64,15 +68,16 @@ dots node = codes "  more" ++ (decimal node.identifier ++ codes " [shape=plainte
 abbrev pub edge_to_dots : Node → List ℕ
 edge_to_dots node = codes "  " ++ (decimal node.identifier ++ (codes " -> more" ++ (decimal node.identifier ++ codes ";\n")))
 
--- both, where the node leads on
+-- both, if the node leads on
 abbrev pub edge_beyond : List Bool → Node → List ℕ
 edge_beyond drawn node = if leads_on drawn node then dots node ++ edge_to_dots node else []
 
--- a node and its edges: one for each listed successor that is drawn, and one to `...` where it leads on
+-- a node and its edges: one for each listed successor that is drawn, and one to `...` if it leads on
 abbrev pub node_text : List Node → List Bool → Option Player → Option ℕ → Node → List ℕ
 node_text nodes drawn winner choice node =
-    drawn_node winner node ++ (flat_map (edge_to nodes drawn choice node) node.successors ++ edge_beyond drawn node)
+    drawn_node winner node ++ (drawn_edges nodes drawn choice node ++ edge_beyond drawn node)
 
--- what stands for the node at a place: nothing where it is not drawn
+-- the text of the node at a place, which is empty if the node is not drawn
 abbrev pub node_text_if_drawn : List Node → List Bool → Option Player → Option ℕ → ℕ → Node → List ℕ
-node_text_if_drawn nodes drawn winner choice place node = if is_drawn drawn place then node_text nodes drawn winner choice node else []
+node_text_if_drawn nodes drawn winner choice place node =
+    if is_drawn drawn place then node_text nodes drawn winner choice node else []

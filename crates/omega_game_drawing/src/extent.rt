@@ -2,19 +2,19 @@ ghost use Rattle.std.specs.Prelude.{IfOk, IsOkUnless};
 ghost use Rattle.omega_game_drawing.specs.Extent.{AreDrawn, IsPlaced};
 
 use crate::near::places_near;
-use omega_game::{ForwardGame, Refusal};
+use omega_parity_game::{ForwardGame, Refusal};
 use std::alloc::Global;
 
-/// Which nodes of a game are drawn.
+/// The nodes of a game that are drawn.
 #[derive(Clone, Copy, Debug, PartialEq, Eq)]
 pub enum Extent {
     /// All of them.
     Whole,
-    /// Those that a place reaches, itself included; where a depth is given, by at most so many edges.
+    /// Those that `place` reaches, itself included. With a `depth` they are reached by at most that number of edges.
     Part { place: u32, depth: Option<u32> },
 }
 
-/// Flags the places that are to be drawn. 60 alone.
+/// Flags the places of `extent`.
 pub(crate) fn drawn_places(
     alloc: Global,
     game: &ForwardGame,

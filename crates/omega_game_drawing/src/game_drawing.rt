@@ -1,21 +1,20 @@
 //! Drawings of games.
 
-ghost use Rattle.std.specs.Prelude.{◌≡◌, ◌<◌, ◌≤◌, ◌++◌, IfOk, IsOkUnless, OnOk, Some, length};
-ghost use Rattle.omega_game.specs.Game.{node_at};
-ghost use Rattle.omega_game.specs.Solution.{IsSolution, winner_at};
+ghost use Rattle.std.specs.Prelude.{◌≡◌, ◌<◌, ◌≤◌, ◌++◌, IfOk, IsOkUnless, OnOk, length};
+ghost use Rattle.omega_parity_game.specs.Solution.{IsSolution};
 ghost use Rattle.omega_game_drawing.specs.Extent.{IsPlaced};
-ghost use Rattle.omega_game_drawing.specs.GameDrawing.{IsGameDrawing, IsSolutionDrawing, choice_in, legend_part};
-ghost use Rattle.omega_game_drawing.specs.Nodes.{node_text_if_drawn};
+ghost use Rattle.omega_game_drawing.specs.GameDrawing.{IsGameDrawing, IsSolutionDrawing, legend_part, solved_node_text};
 
 use crate::extent::{Extent, drawn_places};
 use crate::legend::write_legend;
 use crate::nodes::write_place;
-use omega_game::{ForwardGame, Refusal, Solution};
+use omega_parity_game::{ForwardGame, Refusal, Solution};
 use std::alloc::Global;
 
-/// The drawing of a game, or of a part of it, as a graph in DOT: player 0's nodes as diamonds and player 1's as boxes,
-/// each with its identifier, name and priority, and an edge for each listed successor that is drawn. Where a node leads
-/// on to one that is not drawn, an edge leads to `...`. 60 alone.
+/// Draws a game, or a part of it, as a graph in DOT.
+///
+/// Nodes of player 0 are diamonds, and those of player 1 are boxes, each with its identifier, name and priority. Each
+/// listed successor that is drawn has an edge. If a node leads on to one that is not drawn, an edge leads to `...`.
 ///
 /// The text is in the DOT language (graphviz.org/doc/info/lang.html). The cost is linear in it, and in the game's
 /// nodes.
@@ -35,9 +34,10 @@ pub fn draw_game(alloc: Global, game: &ForwardGame, extent: Extent) -> Result<Ve
     Ok(out)
 }
 
-/// The drawing of a game, or of a part of it, with a solution of the game: as that of the game, each node filled in its
-/// winner's colour, light blue for player 0 and orange for player 1, and each edge to a choice bold; where that is
-/// asked for, with a legend that says so. 60 alone.
+/// Draws a game, or a part of it, with a `solution` of the game.
+///
+/// Nodes and edges are drawn as without it. Each node is filled in its winner's colour, light blue for player 0 and
+/// orange for player 1, and each edge to a choice is bold. If `legend` is set, a legend says so.
 pub fn draw_solution(
     alloc: Global,
     game: &ForwardGame,
@@ -62,7 +62,7 @@ pub fn draw_solution(
     Ok(out)
 }
 
-/// The room that is asked for at first, of the room for the drawing of the whole game: a part may be small.
+/// Returns the capacity to begin with, if the whole game needs `whole` bytes: a part may be small.
 fn room_for(extent: Extent, whole: usize) -> usize
     ensures { result ≤ whole }
 {
@@ -72,7 +72,7 @@ fn room_for(extent: Extent, whole: usize) -> usize
     }
 }
 
-/// Appends what stands for the node at a place, with its winner and its owner's choice.
+/// Appends the text of the node at `place`, with its winner and its owner's choice by `solution`.
 fn write_solved(
     game: &ForwardGame,
     drawn: &[bool],
@@ -83,7 +83,7 @@ fn write_solved(
     requires solution { IsSolution game.now solution.now }
     requires place { place < length game.now }
     requires entries { length drawn.now ≡ length game.now }
-    ensures ok { OnOk result (out.new.items ≡ out.old.items ++ node_text_if_drawn game.now drawn.now (Some (winner_at solution.now place)) (choice_in game.now solution.now place) place (node_at game.now place)) }
+    ensures ok { OnOk result (out.new.items ≡ out.old.items ++ solved_node_text game.now drawn.now solution.now place) }
     ensures memory { IsOkUnless result Refusal.Memory }
 {
     let winner = solution.winners.as_slice()[place as usize];
@@ -91,7 +91,7 @@ fn write_solved(
     write_place(game, drawn, place, Some(winner), choice, out)
 }
 
-/// Appends the legend, if it is asked for.
+/// Appends the legend, if `legend` is set.
 fn write_legend_part(legend: bool, out: &mut Vec<u8>) -> Result<(), Refusal>
     ensures ok { OnOk result (out.new.items ≡ out.old.items ++ legend_part legend) }
     ensures memory { IsOkUnless result Refusal.Memory }

@@ -1,10 +1,10 @@
-//! What the colours and the bold edges of a drawing mean.
+//! The legend of a drawing: its colours and its bold edges.
 
 ghost use Rattle.std.specs.Prelude.{◌≡◌, ◌++◌, IsOkUnless, OnOk};
 ghost use Rattle.omega_game_drawing.specs.Legend.{choice_label, choice_sample, legend_text, winner_field, winner_label};
 
 use crate::nodes::{write_edge_end, write_fill};
-use omega_game::{Player, Refusal};
+use omega_parity_game::{Player, Refusal};
 use omega_text::write_number;
 
 /// Appends the legend of a drawing with a solution.
@@ -21,7 +21,7 @@ pub(crate) fn write_legend(out: &mut Vec<u8>) -> Result<(), Refusal>
     Ok(())
 }
 
-/// Appends the field of what a player wins.
+/// Appends the field of the nodes that `player` wins.
 fn write_winner(player: Player, out: &mut Vec<u8>) -> Result<(), Refusal>
     ensures ok { OnOk result (out.new.items ≡ out.old.items ++ winner_field player) }
     ensures memory { IsOkUnless result Refusal.Memory }
@@ -32,7 +32,7 @@ fn write_winner(player: Player, out: &mut Vec<u8>) -> Result<(), Refusal>
     write_fill(Some(player), out)
 }
 
-/// Appends that a player wins.
+/// Appends the words that `player` wins.
 fn write_winner_label(player: Player, out: &mut Vec<u8>) -> Result<(), Refusal>
     ensures ok { OnOk result (out.new.items ≡ out.old.items ++ winner_label player) }
     ensures memory { IsOkUnless result Refusal.Memory }
@@ -54,7 +54,7 @@ fn write_choice(out: &mut Vec<u8>) -> Result<(), Refusal>
     write_edge_end(true, out)
 }
 
-/// Appends what the sample leads to.
+/// Appends the end of the sample.
 fn write_choice_label(out: &mut Vec<u8>) -> Result<(), Refusal>
     ensures ok { OnOk result (out.new.items ≡ out.old.items ++ choice_label) }
     ensures memory { IsOkUnless result Refusal.Memory }

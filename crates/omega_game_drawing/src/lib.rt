@@ -1,6 +1,6 @@
 //! Drawings of parity games, as graphs in the DOT language.
 //!
-//! Numbers of refusals are those of `Refusal`; docs/formats.md says when each comes.
+//! docs/formats.md says when each `Refusal` comes.
 #![tactic(auto)]
 
 mod extent;

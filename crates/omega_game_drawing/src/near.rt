@@ -1,14 +1,14 @@
-//! The search for the nodes that a place reaches.
+//! A breadth-first search for the nodes that a place reaches.
 ghost use Rattle.std.specs.Prelude.{◌≡◌, ◌≢◌, ◌+◌, ◌<◌, ◌↔◌, [], ℕ, All, Contains, IfOk, IsTrue, OnOk, Some, length, option_map, vec_len};
 ghost use Rattle.omega_game_drawing.specs.Extent.{IsNear, is_drawn};
 ghost use Rattle.omega_game_drawing.specs.private.Entering.{AreEntered, IsAfter};
 
-use omega_game::ForwardGame;
+use omega_parity_game::ForwardGame;
 use std::alloc::{AllocError, Global};
 
-/// Flags the places that a place reaches, itself included; where a depth is given, by at most so many edges.
+/// Flags the places that `place` reaches, itself included, with a `depth` by at most that number of edges.
 ///
-/// Breadth first, so that each edge of what is reached is followed once.
+/// This is a breadth-first search, so that each edge of a reached node is followed once.
 pub(crate) fn places_near(
     alloc: Global,
     game: &ForwardGame,
@@ -17,7 +17,8 @@ pub(crate) fn places_near(
 ) -> Result<Vec<bool>, AllocError>
     requires { place < length game.now }
     ensures entries { IfOk result (λ drawn. vec_len drawn ≡ length game.now) }
-    ensures exactly { IfOk result (λ drawn. (v : ℕ) → IsTrue (is_drawn drawn.items v) ↔ IsNear game.now depth place v) }
+    ensures exactly { IfOk result
+        (λ drawn. (v : ℕ) → IsTrue (is_drawn drawn.items v) ↔ IsNear game.now depth place v) }
 {
     game.keeps_limits();
     let mut drawn = vec![in alloc; false; game.len()]?;
@@ -31,7 +32,7 @@ pub(crate) fn places_near(
     Ok(drawn)
 }
 
-/// How many edges are left to follow, of which one is followed.
+/// Returns how many edges may be followed after one more, if `left` may be now.
 fn one_less(left: Option<u32>) -> Option<u32>
     requires { left ≢ Some 0 }
     ensures { option_map (λ rest. rest + 1) result ≡ left }
@@ -42,7 +43,7 @@ fn one_less(left: Option<u32>) -> Option<u32>
     }
 }
 
-/// Flags the places to which an edge leads from one of the front, and gives those that were not flagged before.
+/// Flags the places to which an edge leads from one of `front`, and returns those that were not flagged before.
 fn enter_after(
     alloc: Global,
     game: &ForwardGame,
@@ -51,7 +52,8 @@ fn enter_after(
 ) -> Result<Vec<u32>, AllocError>
     requires front { All (λ place. place < length game.now) front.now }
     requires entries { vec_len drawn.old ≡ length game.now }
-    ensures entered { IfOk result (λ next. AreEntered (IsAfter game.now front.now) drawn.old.items [] drawn.new.items next.items) }
+    ensures entered { IfOk result
+        (λ next. AreEntered (IsAfter game.now front.now) drawn.old.items [] drawn.new.items next.items) }
 {
     game.keeps_limits();
     let mut next = Vec::new(alloc);
@@ -61,10 +63,11 @@ fn enter_after(
     Ok(next)
 }
 
-/// Flags the places, and appends those that were not flagged before.
+/// Flags `places`, and appends those that were not flagged before to `next`.
 fn enter(places: &[u32], drawn: &mut Vec<bool>, next: &mut Vec<u32>) -> Result<(), AllocError>
     requires { All (λ place. place < vec_len drawn.old) places.now }
-    ensures { OnOk result (AreEntered (Contains places.now) drawn.old.items next.old.items drawn.new.items next.new.items) }
+    ensures { OnOk result
+        (AreEntered (Contains places.now) drawn.old.items next.old.items drawn.new.items next.new.items) }
 {
     for place in places {
         let index = *place as usize;

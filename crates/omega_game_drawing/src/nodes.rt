@@ -1,16 +1,15 @@
-//! The nodes of a game and their edges.
+//! Nodes of a game and their edges.
 
 ghost use Rattle.std.specs.Prelude.{◌≡◌, ◌<◌, ◌++◌, All, IsOkUnless, OnOk, codes, decimal, length};
-ghost use Rattle.std.specs.List.{flat_map};
-ghost use Rattle.omega_game.specs.Game.{node_at};
-ghost use Rattle.omega_game_drawing.specs.Nodes.{colour_of, drawn_node, dots, edge_beyond, edge_end, edge_to, edge_to_dots, fill_part, is_chosen, leads_on, node_label, node_text, node_text_if_drawn, shape_of, successor_line};
+ghost use Rattle.omega_parity_game.specs.Game.{node_at};
+ghost use Rattle.omega_game_drawing.specs.Nodes.{colour_of, drawn_node, dots, edge_beyond, edge_end, edge_to, edge_to_dots, drawn_edges, fill_part, is_chosen, leads_on, node_label, node_text, node_text_if_drawn, shape_of, successor_line};
 
 use omega_dot::write_name_line;
-use omega_game::{ForwardGame, Player, Refusal};
+use omega_parity_game::{ForwardGame, Player, Refusal};
 use omega_text::write_number;
 
-/// Appends what stands for the node at a place, with its winner and its choice if they are known: nothing where it is
-/// not drawn.
+/// Appends the lines of the node at `place` and of its edges, with its `winner` and its owner's `choice` if they are
+/// known. Nothing is appended if the node is not drawn.
 pub(crate) fn write_place(
     game: &ForwardGame,
     drawn: &[bool],
@@ -21,7 +20,8 @@ pub(crate) fn write_place(
 ) -> Result<(), Refusal>
     requires place { place < length game.now }
     requires entries { length drawn.now ≡ length game.now }
-    ensures ok { OnOk result (out.new.items ≡ out.old.items ++ node_text_if_drawn game.now drawn.now winner choice place (node_at game.now place)) }
+    ensures ok { OnOk result (out.new.items ≡ out.old.items
+        ++ node_text_if_drawn game.now drawn.now winner choice place (node_at game.now place)) }
     ensures memory { IsOkUnless result Refusal.Memory }
 {
     if !drawn[place as usize] {
@@ -32,7 +32,7 @@ pub(crate) fn write_place(
     write_edge_beyond(game, drawn, place, out)
 }
 
-/// Appends the line of the node at a place.
+/// Appends the line of the node at `place`, with its `winner` if that is known.
 fn write_line(
     game: &ForwardGame,
     place: u32,
@@ -50,9 +50,10 @@ fn write_line(
     write_fill(winner, out)
 }
 
-/// Appends the shape of a player's nodes.
+/// Appends the shape of the nodes of `owner`, and the beginning of their label.
 fn write_shape(owner: Player, out: &mut Vec<u8>) -> Result<(), Refusal>
-    ensures ok { OnOk result (out.new.items ≡ out.old.items ++ (codes " [shape=" ++ (shape_of owner ++ codes ", label=\""))) }
+    ensures ok { OnOk result (out.new.items ≡ out.old.items
+        ++ (codes " [shape=" ++ (shape_of owner ++ codes ", label=\""))) }
     ensures memory { IsOkUnless result Refusal.Memory }
 {
     out.extend_from_slice(b" [shape=")?;
@@ -64,7 +65,7 @@ fn write_shape(owner: Player, out: &mut Vec<u8>) -> Result<(), Refusal>
     Ok(())
 }
 
-/// Appends the label of the node at a place.
+/// Appends the label of the node at `place`.
 fn write_label(game: &ForwardGame, place: u32, out: &mut Vec<u8>) -> Result<(), Refusal>
     requires { place < length game.now }
     ensures ok { OnOk result (out.new.items ≡ out.old.items ++ node_label (node_at game.now place)) }
@@ -79,7 +80,7 @@ fn write_label(game: &ForwardGame, place: u32, out: &mut Vec<u8>) -> Result<(), 
     Ok(())
 }
 
-/// Appends the end of a node's line, with the colour of its winner if that is known.
+/// Appends the end of a node's line, with the colour of its `winner` if that is known.
 pub(crate) fn write_fill(winner: Option<Player>, out: &mut Vec<u8>) -> Result<(), Refusal>
     ensures ok { OnOk result (out.new.items ≡ out.old.items ++ (codes "\"" ++ (fill_part winner ++ codes "];\n"))) }
     ensures memory { IsOkUnless result Refusal.Memory }
@@ -93,7 +94,7 @@ pub(crate) fn write_fill(winner: Option<Player>, out: &mut Vec<u8>) -> Result<()
     Ok(())
 }
 
-/// Appends the colour of what a player wins.
+/// Appends the colour of the nodes that `winner` wins.
 fn write_colour(winner: Player, out: &mut Vec<u8>) -> Result<(), Refusal>
     ensures ok { OnOk result (out.new.items ≡ out.old.items ++ colour_of winner) }
     ensures memory { IsOkUnless result Refusal.Memory }
@@ -105,7 +106,7 @@ fn write_colour(winner: Player, out: &mut Vec<u8>) -> Result<(), Refusal>
     Ok(())
 }
 
-/// Appends the edges of the node at a place to nodes that are drawn.
+/// Appends the edges from the node at `place` to nodes that are drawn.
 fn write_edges(
     game: &ForwardGame,
     drawn: &[bool],
@@ -115,7 +116,8 @@ fn write_edges(
 ) -> Result<(), Refusal>
     requires place { place < length game.now }
     requires entries { length drawn.now ≡ length game.now }
-    ensures ok { OnOk result (out.new.items ≡ out.old.items ++ flat_map (edge_to game.now drawn.now choice (node_at game.now place)) (node_at game.now place).successors) }
+    ensures ok { OnOk result (out.new.items ≡ out.old.items
+        ++ drawn_edges game.now drawn.now choice (node_at game.now place)) }
     ensures memory { IsOkUnless result Refusal.Memory }
 {
     game.keeps_limits();
@@ -125,7 +127,7 @@ fn write_edges(
     Ok(())
 }
 
-/// Appends the edge to a successor, where the node there is drawn.
+/// Appends the edge from the node at `place` to `successor`, if the node there is drawn.
 fn write_edge_to(
     game: &ForwardGame,
     drawn: &[bool],
@@ -137,7 +139,8 @@ fn write_edge_to(
     requires place { place < length game.now }
     requires successor { successor < length game.now }
     requires entries { length drawn.now ≡ length game.now }
-    ensures ok { OnOk result (out.new.items ≡ out.old.items ++ edge_to game.now drawn.now choice (node_at game.now place) successor) }
+    ensures ok { OnOk result (out.new.items ≡ out.old.items
+        ++ edge_to game.now drawn.now choice (node_at game.now place) successor) }
     ensures memory { IsOkUnless result Refusal.Memory }
 {
     if drawn[successor as usize] {
@@ -147,7 +150,7 @@ fn write_edge_to(
     }
 }
 
-/// Appends the edge from the node at a place to a successor.
+/// Appends the edge from the node at `place` to `successor`, bold if that is the `choice`.
 fn write_edge(
     game: &ForwardGame,
     place: u32,
@@ -157,7 +160,8 @@ fn write_edge(
 ) -> Result<(), Refusal>
     requires place { place < length game.now }
     requires successor { successor < length game.now }
-    ensures ok { OnOk result (out.new.items ≡ out.old.items ++ successor_line game.now choice (node_at game.now place) successor) }
+    ensures ok { OnOk result (out.new.items ≡ out.old.items
+        ++ successor_line game.now choice (node_at game.now place) successor) }
     ensures memory { IsOkUnless result Refusal.Memory }
 {
     out.extend_from_slice(b"  ")?;
@@ -180,7 +184,7 @@ pub(crate) fn write_edge_end(chosen: bool, out: &mut Vec<u8>) -> Result<(), Refu
     Ok(())
 }
 
-/// Whether a choice, if there is one, is this place.
+/// Whether there is a `choice`, and it is `place`.
 fn is_chosen(choice: Option<u32>, place: u32) -> bool
     ensures { result ≡ is_chosen choice place }
 {
@@ -190,7 +194,7 @@ fn is_chosen(choice: Option<u32>, place: u32) -> bool
     }
 }
 
-/// Appends an edge to `...` where the node at a place leads on to a node that is not drawn.
+/// Appends an edge to `...` if the node at `place` leads on to a node that is not drawn.
 fn write_edge_beyond(
     game: &ForwardGame,
     drawn: &[bool],
@@ -210,7 +214,7 @@ fn write_edge_beyond(
     }
 }
 
-/// Whether an edge leads from the node at a place to a node that is not drawn.
+/// Whether an edge leads from the node at `place` to a node that is not drawn.
 fn leads_on(game: &ForwardGame, drawn: &[bool], place: u32) -> bool
     requires place { place < length game.now }
     requires entries { length drawn.now ≡ length game.now }
@@ -225,7 +229,7 @@ fn leads_on(game: &ForwardGame, drawn: &[bool], place: u32) -> bool
     false
 }
 
-/// Appends `...` after the node at a place.
+/// Appends `...` after the node at `place`.
 fn write_dots(game: &ForwardGame, place: u32, out: &mut Vec<u8>) -> Result<(), Refusal>
     requires { place < length game.now }
     ensures ok { OnOk result (out.new.items ≡ out.old.items ++ dots (node_at game.now place)) }
@@ -237,7 +241,7 @@ fn write_dots(game: &ForwardGame, place: u32, out: &mut Vec<u8>) -> Result<(), R
     Ok(())
 }
 
-/// Appends the edge from the node at a place to `...`.
+/// Appends the edge from the node at `place` to `...`.
 fn write_edge_to_dots(game: &ForwardGame, place: u32, out: &mut Vec<u8>) -> Result<(), Refusal>
     requires { place < length game.now }
     ensures ok { OnOk result (out.new.items ≡ out.old.items ++ edge_to_dots (node_at game.now place)) }

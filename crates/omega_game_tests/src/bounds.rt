@@ -20,7 +20,7 @@ const BOUNDS: [(&'static [Row], u128, u128); 5] = [
     (&SHARED, 32, 4),
 ];
 
-/// Whether these are the bounds of a game for player 0 and player 1, 0 where there is none.
+/// Whether these are the bounds of a game for player 0 and player 1; 0 means no bound.
 fn are_bounds(built: Result<Game, Refusal>, zero: u128, one: u128) -> bool {
     match built {
         Ok(game) => is_bound(&game, Zero, zero) && is_bound(&game, One, one),
@@ -28,7 +28,7 @@ fn are_bounds(built: Result<Game, Refusal>, zero: u128, one: u128) -> bool {
     }
 }
 
-/// Whether this is the bound of a game for a player, 0 where there is none.
+/// Whether this is the bound of a game for a player; 0 means no bound.
 fn is_bound(game: &Game, player: Player, wanted: u128) -> bool {
     match bound(game.forward(), player) {
         Some(lifts) => lifts == wanted && lifts > 0,
@@ -78,7 +78,7 @@ fn add_odd_loops(builder: &mut GameBuilder, nodes: u16) -> Result<(), Refusal> {
     Ok(())
 }
 
-/// The game of so many odd loops.
+/// Returns the game of `nodes` odd loops.
 fn odd_loops(alloc: Global, nodes: u16) -> Result<Game, Refusal> {
     let mut builder = GameBuilder::new(alloc);
     match add_odd_loops(&mut builder, nodes) {
@@ -90,7 +90,7 @@ fn odd_loops(alloc: Global, nodes: u16) -> Result<Game, Refusal> {
 /// 121 times the 121st power of 2, the greatest bound of such a game that is a `u128`.
 const GREATEST: u128 = 321_673_174_979_949_641_242_721_308_587_843_387_392;
 
-/// So many nodes, and the bounds of their game, 0 where there is none.
+/// How many nodes, and the bounds of their game; 0 means no bound.
 const LOOPS: [(u16, u128, u128); 2] = [(121, GREATEST, 121), (122, 0, 122)];
 
 #[test]

@@ -4,7 +4,7 @@ use omega_game::Player::{One, Zero};
 use omega_game::{Game, GameBuilder, Refusal};
 use std::alloc::Global;
 
-/// Names the last node, or answers Io where there is none.
+/// Gives the last node a name, or answers [Refusal::Io] if no node was added.
 fn name(builder: &mut GameBuilder, letter: u8) -> Result<(), Refusal> {
     if builder.len() == 0 || !letter.is_ascii_lowercase() {
         return Err(Refusal::Io);
@@ -55,7 +55,7 @@ fn specifications_handed_over_with_room(rt: HostRuntime) {
     assert!(rt; are_handed_over_with_room(rt.alloc()));
 }
 
-/// The number of a refusal, 0 for a game.
+/// Returns the number of a refusal, or 0 for a game.
 fn number(built: Result<Game, Refusal>) -> u32 {
     match built {
         Ok(_) => 0,
@@ -95,7 +95,7 @@ fn duplicates_and_undefined_successors(rt: HostRuntime) {
     }
 }
 
-/// Adds nodes from 0 on, each its own only successor, listed so many times.
+/// Adds nodes from 0 on, each its own only successor, listed `times` times.
 fn add_loops(builder: &mut GameBuilder, nodes: u32, times: u32) -> Result<(), Refusal> {
     for id in 0..nodes {
         add(builder, id, 0, Zero, id)?;
@@ -106,7 +106,7 @@ fn add_loops(builder: &mut GameBuilder, nodes: u32, times: u32) -> Result<(), Re
     Ok(())
 }
 
-/// The game of so many loops, each listed so often.
+/// Returns the game of `nodes` loops, each listed `times` times.
 fn loops(alloc: Global, nodes: u32, times: u32) -> Result<Game, Refusal> {
     let mut builder = GameBuilder::new(alloc);
     match add_loops(&mut builder, nodes, times) {
@@ -115,7 +115,7 @@ fn loops(alloc: Global, nodes: u32, times: u32) -> Result<Game, Refusal> {
     }
 }
 
-/// So many loops, each listed so often, and the number of the refusal.
+/// How many loops, how often each is listed, and the number of the refusal.
 static LIMITS: [(u32, u32, u32); 4] = [
     (1_048_576, 1, 0),
     (1_048_577, 1, 13),

@@ -5,7 +5,7 @@ use omega_game::{Game, Player, Refusal, check_strategy};
 use std::alloc::Global;
 use std::process::Abort;
 
-/// The checker's answer, or Io where a place is not there or the choices do not fit.
+/// Returns the checker's answer, or [Refusal::Io] if a place is not there or the choices do not fit.
 fn answer(
     alloc: Global,
     game: &Game,
@@ -128,8 +128,8 @@ fn assert_game(rt: &impl Abort, alloc: Global, rows: &[Row], asked: &[Asked]) {
     }
 }
 
-// A losing closed walk apart from the listed place, one choice of two that wins, a wrong choice far from the listed
-// place, nodes without a choice that keep all edges, the greatest priority above the least and the other way round, and
+// A losing closed walk apart from the listed place, one choice of two that wins, and a wrong choice far from the listed
+// place. Nodes without a choice that keep all edges. The greatest priority above the least and the other way round, and
 // a losing closed walk inside a winning one.
 #[test]
 fn small_games(rt: HostRuntime) {

@@ -1,6 +1,6 @@
 //! Tests of the public calls of `omega_game`, and of `omega_pg`, `omega_measure`, `omega_solve` and
-//! `omega_judged_search` in a module each, apart from them, so that each library is proved once. They stand in one
-//! crate, since each crate of tests has to load what it tests.
+//! `omega_judged_search` in a module each, apart from them, so that each library is proved once. They are one crate,
+//! since each crate of tests has to load what it tests.
 #![tactic(auto)]
 
 #[cfg(test)]

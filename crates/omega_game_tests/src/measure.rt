@@ -9,7 +9,7 @@ use std::cmp::Ordering::{Equal, Greater, Less};
 use std::process::Abort;
 use std::test::Fail;
 
-/// A game in which each node is its own successor: measures depend on the priorities alone.
+/// Returns a game in which each node is its own successor: measures depend on the priorities alone.
 fn game_of(alloc: Global, priorities: &[u16]) -> Result<Game, Refusal>
     requires some { 0 < length priorities.now }
     requires few { length priorities.now < 2 ^ 16 }
@@ -22,8 +22,8 @@ fn game_of(alloc: Global, priorities: &[u16]) -> Result<Game, Refusal>
     builder.finish()
 }
 
-/// A game in which node i has priority 2 * i + 1, or that of the node `most` if i is above it,
-/// and is its own successor.
+/// Returns a game in which node i has priority 2 * i + 1, or that of the node `most` if i is above it, and is its own
+/// successor.
 fn odd_game(alloc: Global, nodes: u16, most: u16) -> Result<Game, Refusal> {
     let mut builder = GameBuilder::new(alloc);
     builder.add_node(0, 1, Player::Zero, 0)?;
@@ -34,7 +34,7 @@ fn odd_game(alloc: Global, nodes: u16, most: u16) -> Result<Game, Refusal> {
     builder.finish()
 }
 
-/// A new table, and how many places it has.
+/// Returns a new table, and how many places it has.
 fn prepared<T: MeasureTable>(
     alloc: Global,
     game: &Game,
@@ -45,7 +45,7 @@ fn prepared<T: MeasureTable>(
     Ok((T::prepare(alloc, game, player)?, game.len() as u32))
 }
 
-/// Raises `v` to its allowance towards `w` where that is due, and says whether it was.
+/// Raises `v` to its allowance towards `w` if that is due, and says whether it was.
 fn lift<T: MeasureTable>(table: &mut T, places: u32, v: u32, w: u32) -> bool
     requires places { length (T.content table.old).measures ≡ places }
     requires lifted { v < places }
@@ -63,7 +63,7 @@ fn lift<T: MeasureTable>(table: &mut T, places: u32, v: u32, w: u32) -> bool
 /// the first compares with it there; and whether the first is then at top.
 type Step = ((u32, u32), bool, (u32, u32), Ordering, bool);
 
-/// Takes a table over so many places through the steps.
+/// Takes a table over `places` places through the steps.
 fn follow<T: MeasureTable, R: Abort>(rt: &R, table: &mut T, places: u32, steps: &[Step])
     requires { length (T.content table.old).measures ≡ places }
 {
@@ -80,7 +80,7 @@ fn follow<T: MeasureTable, R: Abort>(rt: &R, table: &mut T, places: u32, steps: 
 static EXAMPLE: [u16; 3] = [1, 3, 4];
 
 /// Entries of (3, 1), by hand. The allowance of node 0 (priority 1, which loses) towards itself goes through (0, 1),
-/// (1, 0), (1, 1) and top; that of node 1 (priority 3) towards node 2 is (1, 0); node 2 (priority 4) has none to raise.
+/// (1, 0), (1, 1) and top. That of node 1 (priority 3) towards node 2 is (1, 0). Node 2 (priority 4) has none to raise.
 fn lifts_of_zero() -> &'static [Step] {
     &[
         ((2, 2), false, (1, 0), Equal, false),
@@ -110,9 +110,9 @@ fn lifts_of_one() -> &'static [Step] {
     ]
 }
 
-/// Entries of the odd priorities from 127 down to 1, each at most 1: packed, that for 1 stands alone in a second word.
-/// Node 0 (priority 1) counts there and carries to the entry for 3, the last of the first word, and from there to that
-/// for 5.
+/// Entries of the odd priorities from 127 down to 1, each at most 1: packed, that for 1 is alone in a second word. Node
+/// 0 (priority 1) counts there and carries to the entry for 3, the last of the first word, and from there to that for
+/// 5.
 fn lifts_over_words() -> &'static [Step] {
     &[
         ((0, 0), true, (1, 1), Greater, false),
@@ -193,7 +193,7 @@ fn packed_lifts(rt: HostRuntime) -> Result<(), Fail> {
     Ok(())
 }
 
-/// Why there is no table of a player over an odd game; none where there is one.
+/// Returns why a player has no table over an odd game, or `None` if the player has one.
 fn refusal_of<T: MeasureTable>(
     alloc: Global,
     nodes: u16,

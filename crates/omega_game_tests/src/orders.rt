@@ -7,7 +7,7 @@ use omega_game::{
 };
 use std::alloc::Global;
 
-/// The answer for the first place and the strategy without a choice, or Io where it does not fit.
+/// Returns the answer for the first place and the strategy without a choice, or [Refusal::Io] if it does not fit.
 fn answer(alloc: Global, game: &Game, player: Player, order: &[u32]) -> Result<bool, Refusal> {
     match strategy_for(alloc, game, player, &[0], &[None, None]) {
         Ok(strategy) => check_strategy_by_order(
@@ -30,7 +30,7 @@ const GREATER_LAST: [Row; 2] = [(0, 1, Zero, &[1], None), (1, 2, Zero, &[0], Non
 /// A game, a player, an order, and whether it shows that the player wins.
 type Asked = (&'static [Row], Player, &'static [u32], bool);
 
-/// The place of the greater priority has to stand first, each place has to stand, and the order shows nothing for the
+/// The place of the greater priority has to come first, and each place has to come; the order shows nothing for the
 /// player who loses.
 const ASKED: [Asked; 9] = [
     (&GREATER_FIRST, Zero, &[0, 1], true),
@@ -107,7 +107,7 @@ const ASKED_OF_BOTH: [AskedOfBoth; 7] = [
     (&APART, &[Zero, Zero], &[Some(0), Some(1)], &[0, 1], false),
 ];
 
-/// The answer where player 1 has no choice, or Io where a strategy does not fit.
+/// Returns the answer if player 1 has no choice, or [Refusal::Io] if a strategy does not fit.
 fn answer_for_both(alloc: Global, game: &Game, asked: &AskedOfBoth) -> Result<bool, Refusal> {
     let (_, winners, choices, order, _) = *asked;
     let solution = Solution {

@@ -4,7 +4,7 @@ use omega_game::Player::{One, Zero};
 use omega_game::{Game, Refusal};
 use std::alloc::Global;
 
-/// The part of the node with an identifier, or Io where there is none.
+/// Returns the part of the node with an identifier, or [Refusal::Io] if no node has it.
 fn part_of(alloc: Global, game: &Game, id: u32) -> Result<Game, Refusal> {
     match game.place_of(id) {
         Some(place) => game.part(alloc, place),

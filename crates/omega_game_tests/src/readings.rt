@@ -21,7 +21,7 @@ pub(crate) const THREE: [Reading; 3] = [
     (2, 2, One, None, &[0], &[0]),
 ];
 
-/// Whether a game has so many listed successors and at its places the nodes that are read there, and no others.
+/// Whether a game has `edges` listed successors and at its places the nodes that are read there, and no others.
 pub(crate) fn reads(game: &Game, edges: usize, readings: &[Reading]) -> bool {
     if game.len() != readings.len() || game.edges() != edges {
         return false;

@@ -5,7 +5,7 @@ use omega_game::{Game, Lasso, Player, Refusal, counterexample};
 use std::alloc::Global;
 use std::process::Abort;
 
-/// The counterexample, or Io where a place is not there or the choices do not fit.
+/// Returns the counterexample, or [Refusal::Io] if a place is not there or the choices do not fit.
 fn answer(
     alloc: Global,
     game: &Game,
@@ -19,7 +19,7 @@ fn answer(
     }
 }
 
-/// Whether these are the places of the stem and of the cycle that were found; an empty cycle stands for none.
+/// Whether these are the places of the stem and of the cycle that were found; an empty cycle means no counterexample.
 fn is_found(found: Result<Option<Lasso>, Refusal>, stem: &[u32], cycle: &[u32]) -> bool {
     match found {
         Ok(Some(lasso)) => {
@@ -30,8 +30,8 @@ fn is_found(found: Result<Option<Lasso>, Refusal>, stem: &[u32], cycle: &[u32]) 
     }
 }
 
-/// A player, the listed places, the player's choices, and the places of the stem and of the cycle; an empty cycle
-/// stands for none.
+/// A player, the listed places, the player's choices, and the places of the stem and of the cycle; an empty cycle means
+/// no counterexample.
 type Asked = (
     Player,
     &'static [u32],

@@ -3,9 +3,9 @@
 //! A test here is proved before it runs, which takes long for a message that is put together and for a game that is
 //! owned over a `?`. So tests are tables, with one step that says whether a row holds.
 ghost use Rattle.std.specs.Prelude.{◌<◌, ◌≤◌, length, All, IfOk, IfSome, IsOk, IsTrue};
-ghost use Rattle.omega_game.specs.Building.{IsWellFormed};
-ghost use Rattle.omega_game.specs.Game.{IsNameByte};
-ghost use Rattle.omega_game.specs.Winning.{IsStrategy};
+ghost use Rattle.omega_parity_game.specs.Building.{IsWellFormed};
+ghost use Rattle.omega_parity_game.specs.Game.{IsNameByte};
+ghost use Rattle.omega_parity_game.specs.Winning.{IsStrategy};
 ghost use Rattle.omega_text.specs.Limits.{most_number};
 
 use omega_game::Player::{One, Zero};
@@ -45,7 +45,7 @@ pub(crate) const NAMES: [Row; 3] = [
 
 pub(crate) const GREATEST: [Row; 1] = [(2_147_483_647, 0, Zero, &[2_147_483_647], None)];
 
-/// The game of the rows by `Game::build`, or Io where they are none or one is not well formed.
+/// Returns the game of the rows by `Game::build`, or [Refusal::Io] if no row is given or one is not well formed.
 pub(crate) fn game_of(alloc: Global, rows: &[Row]) -> Result<Game, Refusal> {
     let specs = specs_of(alloc, rows)?;
     if specs.is_empty() {
@@ -54,7 +54,7 @@ pub(crate) fn game_of(alloc: Global, rows: &[Row]) -> Result<Game, Refusal> {
     Game::build(alloc, specs)
 }
 
-/// The game of a builder, or Io where nothing was added.
+/// Returns the game of a builder, or [Refusal::Io] if nothing was added.
 pub(crate) fn finish(builder: GameBuilder) -> Result<Game, Refusal> {
     if builder.len() == 0 {
         return Err(Refusal::Io);
@@ -70,7 +70,7 @@ pub(crate) fn is_given(given: Result<bool, Refusal>, wanted: bool) -> bool {
     }
 }
 
-/// Adds a node, or answers Io where a number is too great.
+/// Adds a node, or answers [Refusal::Io] if a number is too great.
 pub(crate) fn add(
     builder: &mut GameBuilder,
     id: u32,
@@ -84,7 +84,7 @@ pub(crate) fn add(
     builder.add_node(id, priority, owner, first)
 }
 
-/// Lists a successor more at the last node, or answers Io where there is none.
+/// Lists a successor more at the last node, or answers [Refusal::Io] if no node was added.
 pub(crate) fn list(builder: &mut GameBuilder, successor: u32) -> Result<(), Refusal> {
     if builder.len() == 0 || successor > MOST_NUMBER {
         return Err(Refusal::Io);
@@ -92,7 +92,7 @@ pub(crate) fn list(builder: &mut GameBuilder, successor: u32) -> Result<(), Refu
     builder.add_successor(successor)
 }
 
-/// The specifications of the rows, or Io where one is not well formed.
+/// Returns the specifications of the rows, or [Refusal::Io] if one is not well formed.
 pub(crate) fn specs_of(alloc: Global, rows: &[Row]) -> Result<Vec<NodeSpec>, Refusal>
     ensures { IfOk result (λ specs. All IsWellFormed specs.items) }
 {
@@ -104,7 +104,7 @@ pub(crate) fn specs_of(alloc: Global, rows: &[Row]) -> Result<Vec<NodeSpec>, Ref
     Ok(specs)
 }
 
-/// The specification of a row, or Io where it is not well formed.
+/// Returns the specification of a row, or [Refusal::Io] if it is not well formed.
 fn spec_of(alloc: Global, row: Row) -> Result<NodeSpec, Refusal>
     ensures { IfOk result IsWellFormed }
 {
@@ -131,7 +131,7 @@ fn are_numbers(numbers: &[u32]) -> bool
     !numbers.is_empty() && numbers.iter().all(|number| *number <= MOST_NUMBER)
 }
 
-/// The name of these bytes, or Io where one may not stand in a name.
+/// Returns the name of these bytes, or [Refusal::Io] if one is not allowed in a name.
 fn name_of(alloc: Global, bytes: Option<&[u8]>) -> Result<Option<Seq<u8>>, Refusal>
     ensures { IfOk result (λ name. IfSome name (All IsNameByte)) }
 {
@@ -144,7 +144,7 @@ fn name_of(alloc: Global, bytes: Option<&[u8]>) -> Result<Option<Seq<u8>>, Refus
     Ok(Some(Seq::from_vec(Vec::from_slice(alloc, bytes)?)))
 }
 
-/// Whether each byte may stand in a name.
+/// Whether each byte is allowed in a name.
 fn are_name_bytes(bytes: &[u8]) -> bool
     ensures { IsTrue result → All IsNameByte bytes.now }
 {
@@ -153,7 +153,7 @@ fn are_name_bytes(bytes: &[u8]) -> bool
         .all(|byte| 32 <= *byte && *byte <= 126 && *byte != 34)
 }
 
-/// The strategy of these choices, or Io where a place is not there or the choices do not fit.
+/// Returns the strategy of these choices, or [Refusal::Io] if a place is not there or the choices do not fit.
 pub(crate) fn strategy_for(
     alloc: Global,
     game: &Game,

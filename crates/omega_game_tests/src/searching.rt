@@ -6,7 +6,8 @@ use omega_game::Player::{One, Zero};
 use omega_game::{Game, GameBuilder, Player, Refusal, check_strategy_fast};
 use std::alloc::Global;
 
-/// What the fast search alone answers for all places and the strategy without a choice, or Io where it does not fit.
+/// Returns what the fast search alone answers for all places and the strategy without a choice, or [Refusal::Io] if
+/// that does not fit.
 fn answer(alloc: Global, game: &Game, player: Player) -> Result<Option<bool>, Refusal> {
     let none = vec![in alloc; None; game.len()]?;
     let places = all_places(alloc, game)?;
@@ -22,7 +23,7 @@ fn answer(alloc: Global, game: &Game, player: Player) -> Result<Option<bool>, Re
     }
 }
 
-/// The places of a game.
+/// Returns the places of a game.
 fn all_places(alloc: Global, game: &Game) -> Result<Vec<u32>, Refusal> {
     let mut places = Vec::new(alloc);
     for place in 0..game.len() as u32 {
@@ -31,21 +32,21 @@ fn all_places(alloc: Global, game: &Game) -> Result<Vec<u32>, Refusal> {
     Ok(places)
 }
 
-/// The number after another in a pseudo-random order.
+/// Returns the number after another in a pseudo-random order.
 fn next(number: u64) -> u64 {
     number
         .wrapping_mul(6_364_136_223_846_793_005)
         .wrapping_add(1_442_695_040_888_963_407)
 }
 
-/// A number below another, drawn by a number of a pseudo-random order.
+/// Returns a number below another, drawn by a number of a pseudo-random order.
 fn drawn(number: u64, below: u32) -> u32
     ensures { result < 65536 }
 {
     (number >> 48) as u32 % below.max(1)
 }
 
-/// Adds so many nodes with pseudo-random priorities below `most`, and one to three successors for each. In a tame game
+/// Adds `nodes` nodes with pseudo-random priorities below `most`, and one to three successors for each. In a tame game
 /// place 0 bears an even priority from `most` on, and odd priorities lead to it alone.
 fn add_random(
     builder: &mut GameBuilder,
@@ -70,7 +71,7 @@ fn add_random(
     Ok(())
 }
 
-/// The priority of a node: drawn, or even and not below `most`.
+/// Returns the priority of a node: drawn, or even and not below `most`.
 fn priority_at(id: u32, most: u32, tame: bool, number: u64) -> u32 {
     if tame && id == 0 {
         most.wrapping_add(most % 2)
@@ -79,7 +80,7 @@ fn priority_at(id: u32, most: u32, tame: bool, number: u64) -> u32 {
     }
 }
 
-/// A pseudo-random game, tame where its seed is even.
+/// Returns a pseudo-random game, tame if its seed is even.
 fn random(alloc: Global, nodes: u32, most: u32, seed: u32) -> Result<Game, Refusal> {
     let mut builder = GameBuilder::new(alloc);
     match add_random(&mut builder, nodes, most, seed % 2 == 0, u64::from(seed)) {
@@ -88,7 +89,7 @@ fn random(alloc: Global, nodes: u32, most: u32, seed: u32) -> Result<Game, Refus
     }
 }
 
-/// Whether what the fast search suggests for a player is confirmed, and is as it should be where that is given.
+/// Whether what the fast search suggests for a player is confirmed, and is as it should be if that is given.
 fn is_confirmed(alloc: Global, game: &Game, player: Player, wins: Option<bool>) -> bool {
     match answer(alloc, game, player) {
         Ok(Some(found)) => found == wins.unwrap_or(found),
@@ -96,8 +97,8 @@ fn is_confirmed(alloc: Global, game: &Game, player: Player, wins: Option<bool>) 
     }
 }
 
-/// Whether what the fast search suggests is confirmed for both players, the second of whom never wins where it is given
-/// whether the first one does.
+/// Whether what the fast search suggests is confirmed for both players. If `wins` is given, the first player wins as it
+/// says, and the second never wins.
 fn are_confirmed(alloc: Global, built: Result<Game, Refusal>, wins: Option<bool>) -> bool {
     let lost = if wins.is_some() { Some(false) } else { None };
     match built {
@@ -126,10 +127,11 @@ fn large_random_games_are_confirmed(rt: HostRuntime) {
     }
 }
 
-/// Adds components that nest as in a binary tree: component i, from 1 on, is a cycle of an even place and an odd one of
-/// the priority below, both above all inside, and has the components 2i and 2i + 1 inside. These go back to the even
-/// place, so that no odd place recurs; but that of component `flaw`, if there is one,
-/// goes back to the odd place around it too.
+/// Adds components that nest as in a binary tree. Component i, from 1 on, is a cycle of an even place and an odd one of
+/// the priority below, both above all inside, and has the components 2i and 2i + 1 inside.
+///
+/// These go back to the even place, so that no odd place recurs. But component `flaw`, if there is one, goes back to
+/// the odd place around it too.
 fn add_nested(builder: &mut GameBuilder, components: u16, flaw: u16) -> Result<(), Refusal> {
     for component in 1..=components {
         add_component(builder, u32::from(component), u32::from(components))?;
@@ -140,7 +142,7 @@ fn add_nested(builder: &mut GameBuilder, components: u16, flaw: u16) -> Result<(
     Ok(())
 }
 
-/// Adds one of so many components.
+/// Adds one of `count` components.
 fn add_component(builder: &mut GameBuilder, component: u32, count: u32) -> Result<(), Refusal> {
     let even = component.wrapping_mul(2);
     let priority = component.leading_zeros().wrapping_mul(2).wrapping_add(2);
@@ -163,7 +165,7 @@ fn add_component(builder: &mut GameBuilder, component: u32, count: u32) -> Resul
     Ok(())
 }
 
-/// The game of such components.
+/// Returns the game of such components.
 fn nested(alloc: Global, components: u16, flaw: u16) -> Result<Game, Refusal> {
     let mut builder = GameBuilder::new(alloc);
     match add_nested(&mut builder, components, flaw) {

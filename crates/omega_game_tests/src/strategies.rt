@@ -20,7 +20,7 @@ fn fits(
 type Asked = (&'static [Row], Player, &'static [Option<u32>], bool);
 
 /// Choices at three nodes, the first of player 0 with the successors 1 and 2; and at two, which have the identifiers 4
-/// and 9 and stand at 0 and 1: choices are places.
+/// and 9 and the places 0 and 1: choices are places.
 const ASKED: [Asked; 15] = [
     (&samples::THREE, Zero, &[None, None, None], true),
     (&samples::THREE, Zero, &[Some(1), None, None], true),

@@ -32,7 +32,7 @@ is_plain Meet = refl
 is_plain Complement = refl
 is_plain Draw = refl
 
--- the options stand after those that the command has
+-- the options come after those that the command has
 pub rules_added : (app : App) (rules : List Rule) → (with_rules app rules).top ≡ record app.top { rules = app.top.rules ++ rules }
 rules_added app [] = rw (append-nil app.top.rules) refl
 rules_added app (rule ∷ rules) = rules_added (with_rule app rule) rules ∙ rw append_assoc refl

@@ -8,7 +8,7 @@ use Rattle.clap.specs.declared.builder.action.ArgAction.TheVariants.{SetTrue}
 abbrev pub flag : Text → Rule
 flag name = record (new_rule name) { long = Some name; action = Some SetTrue }
 
--- an option without a text, for which a letter stands too
+-- an option without a text, which also has a letter
 abbrev pub lettered : ℕ → Text → Rule
 lettered letter name = record (flag name) { short = Some letter }
 
@@ -20,7 +20,7 @@ optional name = record (new_rule name) { long = Some name; value_names = 1 }
 abbrev pub required : Text → Rule
 required name = record (new_rule name) { long = Some name; value_names = 1; required = true }
 
--- a text that stands alone, and may be left out
+-- a text without an option's name, which may be left out
 abbrev pub operand : Text → Rule
 operand name = record (new_rule name) { value_names = 1 }
 
@@ -30,7 +30,7 @@ with_options name options = record (new_shape name) { rules = options }
 
 -- ---- the subcommands, each with the flag for more on a refusal and the operand that names a file
 
--- the flag that asks for what is said of a refusal besides its line; 118 is the letter v
+-- the flag for more on a refusal than its line; 118 is the letter v
 abbrev pub verbose : Rule
 verbose = lettered 118 (codes "verbose")
 
@@ -75,7 +75,7 @@ draw =
 
 -- ---- the program
 
--- the subcommands stand in the order in which help lists them, and one has to be named
+-- the subcommands are in the order in which help lists them, and one has to be named
 abbrev pub program : App
 program = record {
   top = record (new_shape (codes "omega")) { is_leaf = false; has_version = true; subcommand_required = true };

@@ -63,7 +63,7 @@ const OPTIONS: &[OptionHelp] = &[
     FILE,
 ];
 
-/// The subcommand that writes canonical texts.
+/// Returns the subcommand that writes canonical texts.
 pub fn canon_command<'a>(alloc: Global) -> Result<Command<'a>, AllocError>
     ensures { IfOk result (λ command. shape_of command ≡ canon) }
 {

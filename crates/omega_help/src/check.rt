@@ -49,7 +49,7 @@ or a write failed.";
 
 const OPTIONS: &[OptionHelp] = &[FORMAT, VERBOSE, FILE];
 
-/// The subcommand that judges a text.
+/// Returns the subcommand that judges a text.
 pub fn check_command<'a>(alloc: Global) -> Result<Command<'a>, AllocError>
     ensures { IfOk result (λ command. shape_of command ≡ check) }
 {

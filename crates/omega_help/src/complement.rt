@@ -59,7 +59,7 @@ a read or a write failed.";
 
 const OPTIONS: &[OptionHelp] = &[VERBOSE, FILE];
 
-/// The subcommand that writes the complement of a deterministic automaton.
+/// Returns the subcommand that writes the complement of a deterministic automaton.
 pub fn complement_command<'a>(alloc: Global) -> Result<Command<'a>, AllocError>
     ensures { IfOk result (λ command. shape_of command ≡ complement) }
 {

@@ -82,7 +82,7 @@ const OPTIONS: &[OptionHelp] = &[
     FILE,
 ];
 
-/// The subcommand that draws a game or an automaton.
+/// Returns the subcommand that draws a game or an automaton.
 pub fn draw_command<'a>(alloc: Global) -> Result<Command<'a>, AllocError>
     ensures { IfOk result (λ command. shape_of command ≡ draw) }
 {

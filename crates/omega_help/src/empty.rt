@@ -89,7 +89,7 @@ const OPTIONS: &[OptionHelp] = &[
     FILE,
 ];
 
-/// The subcommand that says whether an automaton accepts anything.
+/// Returns the subcommand that says whether an automaton accepts anything.
 pub fn empty_command<'a>(alloc: Global) -> Result<Command<'a>, AllocError>
     ensures { IfOk result (λ command. shape_of command ≡ empty) }
 {

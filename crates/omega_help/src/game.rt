@@ -56,7 +56,7 @@ a read or a write failed.";
 
 const OPTIONS: &[OptionHelp] = &[VERBOSE, FILE];
 
-/// The subcommand that writes the emptiness game of an automaton.
+/// Returns the subcommand that writes the emptiness game of an automaton.
 pub fn game_command<'a>(alloc: Global) -> Result<Command<'a>, AllocError>
     ensures { IfOk result (λ command. shape_of command ≡ game) }
 {

@@ -68,7 +68,7 @@ read or a write failed.";
 
 const OPTIONS: &[OptionHelp] = &[WITH, VERBOSE, FILE];
 
-/// The subcommand that writes an automaton of the words that two automata accept.
+/// Returns the subcommand that writes an automaton of the words that two automata accept.
 pub fn meet_command<'a>(alloc: Global) -> Result<Command<'a>, AllocError>
     ensures { IfOk result (λ command. shape_of command ≡ meet) }
 {

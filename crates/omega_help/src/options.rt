@@ -1,4 +1,4 @@
-//! The options of the subcommands. What their texts stand for is judged after `clap`.
+//! The options of the subcommands. Their texts are judged after `clap`.
 ghost use Rattle.std.specs.Prelude.{◌≡◌, false};
 ghost use Rattle.clap.specs.Words.{rule_of};
 ghost use Rattle.omega_help.specs.private.building.Building.{rule_for};
@@ -14,22 +14,22 @@ pub struct OptionHelp {
     pub help: &'static str,
 }
 
-/// What follows the name of an option; where it is a text, with the name that help has for it.
+/// What follows the name of an option. A text has the name that help gives it.
 pub enum Value {
-    /// Nothing: it is a flag, which is not set where it is not given.
+    /// Nothing: it is a flag, which is not set unless it is given.
     None,
-    /// The same of a flag for which this letter stands too, after one dash.
+    /// A flag that also has this letter, after one dash.
     Letter(char),
     /// A text. The option may be left out.
     Optional(&'static str),
     /// A text. The option has to be given.
     Required(&'static str),
-    /// It is no option but the operand: a text that stands alone, and may be left out.
+    /// The operand: a text without an option's name, which may be left out.
     Operand(&'static str),
 }
 
 impl OptionHelp {
-    /// The option as `clap` takes it.
+    /// Returns the option as `clap` takes it.
     pub fn arg<'a>(&self, alloc: Global) -> Arg<'a>
         ensures rule { rule_of result ≡ rule_for self.now }
         ensures local { result.global ≡ false }

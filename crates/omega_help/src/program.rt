@@ -57,8 +57,8 @@ Exit status:
 
 `omega <COMMAND> --help` says more about a command.";
 
-/// What `clap` finds in the words of a command line, of which the first is the program's name. Where help or the
-/// version is asked for, the error has the text.
+/// Returns what `clap` finds in `words`, whose first is the program's name. If help or the version is requested, the
+/// error has the text.
 pub fn matches_of<'a>(alloc: Global, words: &'a [String]) -> Result<ArgMatches<'a>, Error>
     ensures found { IfOk result (λ found.
         subcommand_rows_of found ≡ subcommand_of program (map string_bytes words.now)) }
@@ -116,8 +116,8 @@ impl Subcommand {
     }
 }
 
-/// The text that says what is wrong with the options of a subcommand, with its usage, in the form of the faults that
-/// `clap` finds.
+/// Returns the text that says what is wrong with the options of `subcommand`. It has the usage line, in the form of the
+/// faults that `clap` finds.
 pub fn fault_text(alloc: Global, subcommand: &str, message: &str) -> Result<String, AllocError> {
     let name = format!(in alloc; "omega {subcommand}")?;
     let mut command = command_named(alloc, subcommand)?.bin_name(name.as_str())?;
@@ -126,7 +126,7 @@ pub fn fault_text(alloc: Global, subcommand: &str, message: &str) -> Result<Stri
         .to_string(alloc)
 }
 
-/// The subcommand of this name; the program without subcommands, where none has it.
+/// Returns the subcommand of this name, or the program without subcommands if none has it.
 fn command_named<'a>(alloc: Global, name: &str) -> Result<Command<'a>, AllocError> {
     match subcommand_named(name) {
         Some(subcommand) => subcommand.command(alloc),
@@ -150,7 +150,7 @@ fn subcommand_named(name: &str) -> Option<Subcommand> {
     }
 }
 
-/// The program's command line.
+/// Returns the program's command line.
 fn whole_program<'a>(alloc: Global) -> Result<Command<'a>, AllocError>
     ensures { IfOk result (λ command. app_of command ≡ program) }
 {
@@ -162,26 +162,28 @@ fn whole_program<'a>(alloc: Global) -> Result<Command<'a>, AllocError>
     Ok(program)
 }
 
-/// The program with one subcommand more.
+/// Returns `program` with one subcommand more.
 fn with<'a>(
     alloc: Global,
     program: Command<'a>,
     subcommand: Subcommand,
 ) -> Result<Command<'a>, AllocError>
-    ensures { IfOk result (λ command. app_of command ≡ with_subcommand (app_of program.entry) (shape_for subcommand)) }
+    ensures { IfOk result
+        (λ command. app_of command ≡ with_subcommand (app_of program.entry) (shape_for subcommand)) }
 {
     let added = subcommand.command(alloc)?;
     let whole = program.subcommand(added)?;
     Ok(whole)
 }
 
-/// What is said of the program as a whole.
+/// Returns the program with its version and help, without subcommands.
 fn without_subcommands<'a>(alloc: Global) -> Result<Command<'a>, AllocError>
     ensures { IfOk result (λ command. app_of command ≡ without_subcommands) }
 {
     Command::new(alloc, "omega")
         .about(
-            "Reads, checks, writes and draws parity games and omega-automata, solves games, says whether an automaton accepts anything, verifies such answers, and forms products and complements of automata.",
+            "Reads, checks, writes and draws parity games and omega-automata, solves games, says whether an \
+             automaton accepts anything, verifies such answers, and forms products and complements of automata.",
         )
         .version(VERSION)
         .after_help("`omega <COMMAND> --help` says more about a command.")

@@ -43,7 +43,7 @@ a write failed.";
 
 const OPTIONS: &[OptionHelp] = &[FORMAT, VERBOSE, FILE];
 
-/// The subcommand that describes a text.
+/// Returns the subcommand that describes a text.
 pub fn show_command<'a>(alloc: Global) -> Result<Command<'a>, AllocError>
     ensures { IfOk result (λ command. shape_of command ≡ show) }
 {

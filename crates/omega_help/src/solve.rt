@@ -82,7 +82,7 @@ const OPTIONS: &[OptionHelp] = &[
     FILE,
 ];
 
-/// The subcommand that solves a game.
+/// Returns the subcommand that solves a game.
 pub fn solve_command<'a>(alloc: Global) -> Result<Command<'a>, AllocError>
     ensures { IfOk result (λ command. shape_of command ≡ solve) }
 {

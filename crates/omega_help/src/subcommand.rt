@@ -7,7 +7,7 @@ use crate::options::OptionHelp;
 use clap::Command;
 use std::alloc::{AllocError, Global};
 
-/// The subcommand of this name, with one line on what it does, and in long help with details after its options.
+/// Returns the subcommand of this name. Help has the line `about`, and long help has `details` after the options.
 pub fn subcommand<'a>(
     alloc: Global,
     name: &'a str,

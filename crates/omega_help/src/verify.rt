@@ -101,7 +101,7 @@ const OPTIONS: &[OptionHelp] = &[
     FILE,
 ];
 
-/// The subcommand that checks a solution of a game, or a lasso of an automaton.
+/// Returns the subcommand that checks a solution of a game, or a lasso of an automaton.
 pub fn verify_command<'a>(alloc: Global) -> Result<Command<'a>, AllocError>
     ensures { IfOk result (λ command. shape_of command ≡ verify) }
 {

@@ -48,7 +48,7 @@ module _ {Kind : Type 0} (format : TextFormat Kind) (exact : GoesOneWay format) 
       let rest = cuts_forward source lexeme.span.end to lexemes part.within cuts.1 in
       (omega (arith, part.forward, part.nonempty, rest.0), rest.1)
 
--- a token's bytes stand at its place
+-- a token's bytes are at its place
 pub token_text : (source : List ℕ) (from : ℕ) (lexeme : Lexeme HoaKind) → Follows source from lexeme
     → take (lexeme.span.end - lexeme.span.start) (drop lexeme.span.start source) ≡ lexeme.text
 token_text source from lexeme follows =
@@ -72,7 +72,7 @@ longest_before_fewer text rest count longest = λ more following sort is longer 
     longest more (following ++ drop count rest) sort
     (sym (take-append-drop count rest) ∙ ap (λ bytes. bytes ++ drop count rest) is ∙ append_assoc more following (drop count rest)) longer unit
 
--- so many bytes of a gap, a token and a rest
+-- the first bytes of a gap, a token and a rest
 take_three : (gap text rest : List ℕ) (count more : ℕ) → count ≡ length gap + (length text + more) → take count (gap ++ (text ++ rest)) ≡ gap ++ (text ++ take more rest)
 take_three gap text rest count more is = ap (λ n. take n (gap ++ (text ++ rest))) is ∙ take-append-add gap (text ++ rest) (length text + more)
     ∙ ap (λ bytes. gap ++ bytes) (take-append-add text rest more)
@@ -110,7 +110,7 @@ part_cuts exact source base to at end (lexeme ∷ lexemes) following within cuts
       part_cuts exact source base to lexeme.span.end end lexemes (omega (arith, place.forward, place.nonempty)) within cuts.1,
     )
 
--- a part of a text that ends with a token has the tokens that stand there
+-- a part of a text that ends with a token has the tokens that are there
 pub part_cut : GoesOneWay hoa_format → (source : List ℕ) (base to : ℕ) (lexemes : List (Lexeme HoaKind)) → base ≤ length source
     → Cuts hoa_format source base lexemes to → IsCut hoa_format (part source base to) (map (moved base) lexemes)
 part_cut exact source base to lexemes inside cuts =

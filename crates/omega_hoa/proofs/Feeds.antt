@@ -9,6 +9,7 @@ use Rattle.omega_text.specs.Lexeme.{Lexeme}
 use Rattle.omega_text.specs.Limits.{most_text}
 use Rattle.omega_text.specs.hoa.Format.{hoa_format}
 use Rattle.omega_text.specs.hoa.Pieces.{Settles}
+use Rattle.omega_text.specs.contracts.hoa.tokenizer.HoaTokenizerByteTokenizer.TheImpl.{ghosts as hoa_tokenizer}
 use Rattle.omega_text.specs.private.hoa.scanning.Reading.{Any, HasRead, IsAt, IsKept}
 use Rattle.omega_text.specs.declared.hoa.tokenizer.HoaTokenizer.{HoaTokenizer}
 use Rattle.omega_text.specs.declared.hoa.kind.HoaKind.{HoaKind}
@@ -28,7 +29,7 @@ use Rattle.omega_hoa.proofs.Results.{holds_after}
 use Rattle.omega_text.proofs.formats.Cutting.{cuts_join}
 use Rattle.omega_text.proofs.hoa_texts.Pieces.{kept_settled}
 
--- where nothing was refused, the bytes were taken
+-- if nothing was refused, the bytes were taken
 pub taken_of : (seen : List ℕ) (items : List Item) (kept : Kept) → kept.refused ≡ None → IsFed seen items kept → IsTaken seen items kept
 taken_of seen items kept is fed = subst (λ refused. MatchOption refused (IsTaken seen items kept) (IsRefusedSoFar seen items kept)) is fed
 
@@ -44,7 +45,7 @@ known_some kept tokenizer is known = subst (λ refused. MatchOption refused (Has
 pub fed_of : (seen : List ℕ) (items : List Item) (kept : Kept) → kept.refused ≡ None → IsTaken seen items kept → IsFed seen items kept
 fed_of seen items kept is taken = subst (λ refused. MatchOption refused (IsTaken seen items kept) (IsRefusedSoFar seen items kept)) (sym is) taken
 
--- what the end refuses where nothing was refused before
+-- what the end refuses if nothing was refused before
 pub answered_now : (refusal : Refusal) (seen : List ℕ) (items : List Item) (kept : Kept) → kept.refused ≡ None → IsStreamFault seen items refusal → IsAnsweredAtEnd seen items kept (Some refusal)
 answered_now refusal seen items kept none fault = subst (λ before. MatchOption before (IsStreamFault seen items refusal) (λ said. refusal ≡ said)) (sym none) fault
 
@@ -56,7 +57,7 @@ pub answered_of : {A : Type 0} (result : Result A Refusal) (seen : List ℕ) (it
 answered_of (Ok value) seen items kept none fed ok err = ok seen items fed
 answered_of (Err refusal) seen items kept none fed ok err = answered_now refusal seen items kept none (err seen items fed)
 
--- and where something was
+-- and if something was
 pub answered_before : (refusal : Refusal) (seen : List ℕ) (items : List Item) (kept : Kept) → kept.refused ≡ Some refusal → IsAnsweredAtEnd seen items kept (Some refusal)
 answered_before refusal seen items kept is = subst (λ before. MatchOption before (IsStreamFault seen items refusal) (λ said. refusal ≡ said)) (sym is) refl
 
@@ -136,7 +137,7 @@ module _ (exact : GoesOneWay hoa_format) (seen : List ℕ) (items : List Item) (
   same_with rest = drop-append-le kept.begins known.seen rest begins_inside.0 ∙ ap (λ bytes. bytes ++ rest) same_after
       ∙ sym (drop-append-le kept.begins seen rest begins_inside.1)
 
-  -- those after the whole segments stand in both
+  -- those after the whole segments are in both
   known_following : (rest : List ℕ) → Cuts hoa_format (known.seen ++ rest) kept.begins known.divided.rest at.end
   known_following rest =
       let all = subst (λ ls. Cuts hoa_format (known.seen ++ rest) 0 ls at.end) known.divided.split (at.cuts rest tt) in
@@ -202,7 +203,7 @@ module _ (seen : List ℕ) (items : List Item) (kept : Kept) (piece all : List �
   progress_before exact tokenizer known fits = record {
     there = sym (length-take-le kept.begins seen (omega (arith, taken.total)));
     lexemes = known_lexemes exact seen items kept tokenizer taken known;
-    read = subst (λ bytes. HasRead bytes (known_lexemes exact seen items kept tokenizer taken known) tokenizer) (sym read_before) (known_read exact seen items kept tokenizer taken known);
+    read = subst (λ bytes. hoa_tokenizer.read tokenizer bytes (known_lexemes exact seen items kept tokenizer taken known)) (sym read_before) (known_read exact seen items kept tokenizer taken known);
     sound = known.sound;
     divided = subst (λ bytes. IsDivided bytes (known_lexemes exact seen items kept tokenizer taken known) items kept.begins kept.inside) (sym read_before)
         (known_divided exact seen items kept tokenizer taken known);
@@ -211,12 +212,12 @@ module _ (seen : List ℕ) (items : List Item) (kept : Kept) (piece all : List �
   }
 
 -- what a tokenizer has read without a fault is settled
-pub read_settled : (seen : List ℕ) (lexemes : List (Lexeme HoaKind)) (tokenizer : HoaTokenizer) → HasRead seen lexemes tokenizer → tokenizer.fault ≡ None → Settles seen lexemes
+pub read_settled : (seen : List ℕ) (lexemes : List (Lexeme HoaKind)) (tokenizer : HoaTokenizer) → hoa_tokenizer.read tokenizer seen lexemes → hoa_tokenizer.fault tokenizer ≡ None → Settles seen lexemes
 read_settled seen lexemes tokenizer read sound =
     kept_settled None seen lexemes tokenizer.pending (kept_sound seen lexemes tokenizer read sound)
 
 -- before the first byte
-module _ (bytes : List ℕ) (tokenizer : HoaTokenizer) (empty : bytes ≡ []) (read : HasRead [] [] tokenizer) (sound : tokenizer.fault ≡ None) where
+module _ (bytes : List ℕ) (tokenizer : HoaTokenizer) (empty : bytes ≡ []) (read : hoa_tokenizer.read tokenizer [] []) (sound : hoa_tokenizer.fault tokenizer ≡ None) where
   nothing_divided : IsDivided [] [] [] 0 false
   nothing_divided = record { front = []; rest = []; split = refl; before = refl; following = refl; cuts = λ more. refl }
 
@@ -250,8 +251,8 @@ module _ (exact : GoesOneWay hoa_format) (all : List ℕ) (first : ℕ) (after :
   all_divided : IsDivided (prior ++ all) progress.lexemes items after.division.begins after.division.inside
   all_divided = subst (λ seen. IsDivided seen progress.lexemes items after.division.begins after.division.inside) whole progress.divided
 
-  all_read : HasRead (prior ++ all) progress.lexemes after.tokenizer
-  all_read = subst (λ seen. HasRead seen progress.lexemes after.tokenizer) whole progress.read
+  all_read : hoa_tokenizer.read after.tokenizer (prior ++ all) progress.lexemes
+  all_read = subst (λ seen. hoa_tokenizer.read after.tokenizer seen progress.lexemes) whole progress.read
 
   -- what is kept
   pub kept_after : IsTaken (prior ++ all) items (record { bytes = bytes; begins = after.division.begins; inside = after.division.inside; refused = refused })

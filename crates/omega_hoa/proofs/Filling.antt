@@ -9,7 +9,7 @@ use Rattle.omega_text.specs.declared.hoa.kind.HoaKind.TheVariants as kind
 use Rattle.omega_text.specs.hoa.Format.{hoa_format}
 use Rattle.omega_text.specs.hoa.Forms.{IsForm}
 use Rattle.omega_text.specs.hoa.Forms as forms
-use Rattle.omega_acc.specs.Symbols.{EndsThere}
+use Rattle.omega_expression.specs.Symbols.{EndsThere}
 use Rattle.omega_raw.specs.Grammar.{ReadsAutomaton, automaton_symbols}
 use Rattle.omega_raw.specs.Symbols.{ReadsSymbol, Shows, ReadsSymbols, AutomatonSymbol, formula, header, label, without_last}
 use Rattle.omega_raw.specs.declared.raw_automaton.RawAutomaton.{RawAutomaton}

@@ -24,7 +24,7 @@ use Rattle.omega_hoa.proofs.Cutting.{cuts_split}
 use Rattle.omega_hoa.proofs.Dividing.{ended, stream_push}
 use Rattle.omega_hoa.proofs.Places.{first_start}
 
--- a mark that ends a segment, and what stands before and after it
+-- a mark that ends a segment, and the tokens before and after it
 record Marked (lexemes : List (Lexeme HoaKind)) : Type 0 where
   inside : List (Lexeme HoaKind)
   last : Lexeme HoaKind
@@ -33,7 +33,7 @@ record Marked (lexemes : List (Lexeme HoaKind)) : Type 0 where
   unended : NoneEnds inside
   ends : is_end last.kind ≡ true
 
--- a mark stands among the tokens or none does
+-- a mark is among the tokens or none is
 marked_or_not : (lexemes : List (Lexeme HoaKind)) → NoneEnds lexemes ⊎ Marked lexemes
 marked_or_not [] = inl tt
 marked_or_not (lexeme ∷ lexemes) =
@@ -192,7 +192,7 @@ module _ (there : MeaningsAreThere) (exact : GoesOneWay hoa_format) (source : Li
   lexical_inside front rest items at (Syntax place) stream cuts begun faults lexical = lexical
   lexical_inside front rest items at TooLong stream cuts begun faults lexical = lexical
 
-  -- where the tokens end outside segments
+  -- if the tokens end outside segments
   stops_outside : (front : List (Lexeme HoaKind)) (items : List Item) (at : ℕ) → IsStream front items → Cuts hoa_format source 0 front at → Stops source at → ⊥
   stops_outside front items at stream cuts stops = elim stops [
     | inl ends ↦ no_stream items (record { short = short; lexemes = front; cut = record { end = at; cuts = cuts; rest = ends }; stream = stream })
@@ -225,7 +225,7 @@ module _ (there : MeaningsAreThere) (exact : GoesOneWay hoa_format) (source : Li
       (λ automaton is. onward automaton (stream_push front segment items (AutomatonItem automaton) stream (whole, is)))
       (λ refusal fault. no_fault items refusal (record { front = front; rest = segment; from = at; cuts = cuts; before = stream; refused = inr (inr (whole, fault)) }))
 
-  -- so many tokens at most are left after whole segments
+  -- at most this number of tokens is left after whole segments
   walked : (count : ℕ) (front : List (Lexeme HoaKind)) (items : List Item) (at end : ℕ) (tokens : List (Lexeme HoaKind)) → length tokens ≤ count → IsStream front items
       → Cuts hoa_format source 0 front at → Cuts hoa_format source at tokens end → Stops source end → ⊥
   walked count front items at end [] few stream cuts more stops = stops_outside front items at stream cuts (subst (Stops source) (sym more) stops)

@@ -34,7 +34,7 @@ unfolding mark_of
 ends_marked (AutomatonItem automaton) segment is = is.0
 ends_marked Aborted segment is = is
 
--- no segment with an item stands at the front of the tokens
+-- no segment with an item is at the front of the tokens
 abbrev NoItem : List (Lexeme HoaKind) → Type 0
 NoItem lexemes = (item : Item) (segment more : List (Lexeme HoaKind)) → IsItemOf segment item → lexemes ≡ segment ++ more → ⊥
 
@@ -122,7 +122,7 @@ module _ (exact : GoesOneWay hoa_format) (source : List ℕ) where
         | inr goes ↦ inr (record { more = goes.more; is = ap (λ it. it ∷ ones) same ∙ ap (λ all. other ∷ all) goes.is; cuts = goes.cuts })
       ]
 
--- two refusals after these tokens are the same, or both are 3 and of these as one segment
+-- two refusals after these tokens are the same, or both are `Syntax` and of these as one segment
 abbrev Agree : List (Lexeme HoaKind) → Refusal → Refusal → Type 0
 Agree left one other = (one ≡ other) ⊎ AreOfSegment left one other
 
@@ -182,11 +182,11 @@ part_or_whole lexemes more others part whole same = elim part [
   | inr begun ↦ open_or_whole lexemes more others begun whole same
 ]
 
--- where nothing is appended
+-- if nothing is appended
 self_append : (lexemes more others : List (Lexeme HoaKind)) → more ≡ [] → lexemes ++ more ≡ others → lexemes ≡ others
 self_append lexemes more others none same = sym (append-nil lexemes) ∙ ap (λ ls. lexemes ++ ls) (sym none) ∙ same
 
--- nothing stands before what is appended
+-- nothing is before what is appended
 none_append : (lexemes more others : List (Lexeme HoaKind)) → lexemes ≡ [] → lexemes ++ more ≡ others → more ≡ others
 none_append lexemes more others none same = sym (ap (λ ls. ls ++ more) none) ∙ same
 
@@ -195,7 +195,7 @@ part_has_none : (rest : List (Lexeme HoaKind)) → IsPart rest → NoItem rest
 part_has_none rest part = elim part [ inl none ↦ subst NoItem (sym none) none_at_end | inr begun ↦ none_in_open rest begun ]
 
 module _ (readings : Readings) (exact : GoesOneWay hoa_format) (source : List ℕ) where
-  -- no token stands where a fault of tokens does, or the end
+  -- no token is at the place of a fault of tokens, or of the end
   none_at : (from to : ℕ) (more : List (Lexeme HoaKind)) → ((lexeme : Lexeme HoaKind) → hoa_format.follows source from lexeme → ⊥) → Cuts hoa_format source from more to
       → (more ≡ []) × (from ≡ to)
   none_at from to [] none cuts = (refl, cuts)
@@ -214,7 +214,7 @@ module _ (readings : Readings) (exact : GoesOneWay hoa_format) (source : List �
       let head : next ≡ first = cc in
       other (subst Opens (sym head ∙ exact.one_token source from next lexeme cuts.0 follows) opens)
 
-  -- no segment with an item stands where a text is refused
+  -- no segment with an item is at the place of a refusal
   refused_none : (rest more : List (Lexeme HoaKind)) (from to : ℕ) (refusal : Refusal) → Why source rest from refusal → Cuts hoa_format source from more to → NoItem (rest ++ more)
   refused_none rest more from to refusal (lexical part fault is faults) cuts =
       let none = none_at from to more (λ lexeme follows. exact.no_token_and_fault source from lexeme fault follows faults) cuts in
@@ -328,7 +328,7 @@ module _ (readings : Readings) (exact : GoesOneWay hoa_format) (source : List �
         | inr goes ↦ let back = faults_alike others items other one there here goes in (sym back.0, flipped other one back.1)
       ]
 
-  -- where a text is refused its tokens are not all
+  -- if a text is refused its tokens are not all
   refused_goes_on : (rest more : List (Lexeme HoaKind)) (from to : ℕ) (refusal : Refusal) → Why source rest from refusal → Cuts hoa_format source from more to → hoa_format.ends source to → rest ++ more ≡ [] → ⊥
   refused_goes_on rest more from to refusal (lexical part fault is faults) cuts ends same =
       let none = none_at from to more (λ lexeme follows. exact.no_token_and_fault source from lexeme fault follows faults) cuts in

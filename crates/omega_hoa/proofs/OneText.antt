@@ -12,7 +12,7 @@ use Rattle.omega_text.specs.declared.refusal.Refusal.TheVariants.{Automaton as A
 use Rattle.omega_text.specs.declared.refusal.automaton.AutomatonFault.{AutomatonFault}
 use Rattle.omega_text.specs.declared.refusal.automaton.AutomatonFault.TheVariants.{AcceptanceAtom, Alias, Expansion, ImplicitCount, MissingAcceptance, MixedLabels, Proposition, RepeatedHeader, SetRange, StateRange, StateTwice, TooDeep, UnknownHeader, Version}
 use Rattle.omega_text.specs.declared.refusal.text.TextFault.{TextFault}
-use Rattle.omega_text.specs.declared.refusal.text.TextFault.TheVariants.{Lex, Syntax, TooLong}
+use Rattle.omega_text.specs.declared.refusal.text.TextFault.TheVariants.{Syntax, TooLong}
 use Rattle.omega_automaton.specs.Automaton.{Description}
 use Rattle.omega_hoa.specs.Alone.{AreRefused, HasNoSegmentAt, IsAutomatonRefusal, IsAutomatonText, IsSegmentRefused}
 use Rattle.omega_hoa.specs.Laws.{AreAlike, AreOfSegment}
@@ -65,13 +65,13 @@ no_three AcceptanceAtom is = cc
 no_three TooDeep is = cc
 no_three Expansion is = cc
 
--- tokens of a segment that are refused 3 are those of no automaton
+-- tokens of a segment that are refused with `Syntax` are those of no automaton
 three_unread : (segment : List (Lexeme HoaKind)) (refusal : Refusal) → number_of refusal ≡ 3 → IsSegmentFault segment refusal → IsNoRaw segment
 three_unread segment (Text said) is fault = fault.0
 three_unread segment (AutomatonRefusal said) is fault = absurd (no_three said is)
 three_unread segment refusal is fault = absurd fault
 
--- where tokens without a segment ended by `--END--` are refused 3, in four cases
+-- tokens without a segment ended by `--END--` are refused with `Syntax`, in four cases
 data Unsegmented (count : ℕ) (lexemes : List (Lexeme HoaKind)) (at : ℕ) : Type 0 where
   bare : lexemes ≡ [] → at ≡ count → Unsegmented count lexemes at
   stray : (first : Lexeme HoaKind) → (rest : List (Lexeme HoaKind)) → lexemes ≡ first ∷ rest → (Opens first → ⊥) → at ≡ first.span.start → Unsegmented count lexemes at
@@ -127,7 +127,7 @@ place_one count lexemes at place (aborted inside last rest is begun kind here) (
     let parts = first_end inside front rest more last mark (open_unended inside begun) (open_unended front begins) (ap is_end kind) (ap is_end sort) (sym is ∙ same) in
     here ∙ ap (λ it. it.span.start) parts.mark ∙ sym there
 
--- two refusals of tokens are the same, or both are 3 and of the segment with which they begin
+-- two refusals of tokens are the same, or both are `Syntax` and of the segment with which they begin
 abbrev Agree : List (Lexeme HoaKind) → Refusal → Refusal → Type 0
 Agree lexemes one other = (one ≡ other) ⊎ ((segment : List (Lexeme HoaKind)) × (rest : List (Lexeme HoaKind)) × (lexemes ≡ segment ++ rest) × AreOfSegment segment one other)
 

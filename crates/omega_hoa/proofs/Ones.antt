@@ -45,7 +45,7 @@ memory_says Says Wanted (AutomatonRefusal fault) follows says = follows says
 memory_says Says Wanted (Task fault) follows says = follows says
 memory_says Says Wanted Io follows says = follows says
 
--- a case, where memory is one too
+-- a case, if memory is one too
 pub of_memory : (Says : Refusal → Type 0) (refusal : Refusal) → Says refusal → or_memory Says refusal
 of_memory Says Memory says = tt
 of_memory Says (Text fault) says = says
@@ -74,7 +74,7 @@ followed_cuts source end at has =
     let parts = cuts_split hoa_format source 0 has.cut.end has.is.front (has.is.next ∷ has.is.rest) (subst (λ ls. Cuts hoa_format source 0 ls has.cut.end) has.is.split has.cut.cuts) in
     ends_there source has.is.front end parts.0 has.is.whole parts.1
 
--- the front of a text up to a token's end has the tokens that stand there
+-- the front of a text up to a token's end has the tokens that are there
 pub front_cut : GoesOneWay hoa_format → (source : List ℕ) (end : ℕ) (front : List (Lexeme HoaKind)) → Cuts hoa_format source 0 front end → IsCut hoa_format (take end source) (map (moved 0) front)
 front_cut exact source end front cuts =
     let same : end - 0 ≡ end = omega arith in

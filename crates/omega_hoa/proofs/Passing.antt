@@ -5,7 +5,7 @@ use Rattle.omega_text.specs.Lexeme.{Lexeme}
 use Rattle.omega_text.specs.declared.hoa.kind.HoaKind.{HoaKind}
 use Rattle.omega_text.specs.declared.hoa.kind.HoaKind.TheVariants.{End, Abort}
 use Rattle.omega_text.specs.declared.hoa.tokenizer.HoaTokenizer.{HoaTokenizer}
-use Rattle.omega_text.specs.private.hoa.scanning.Reading.{HasRead}
+use Rattle.omega_text.specs.contracts.hoa.tokenizer.HoaTokenizerByteTokenizer.TheImpl.{ghosts as hoa_tokenizer}
 use Rattle.omega_text.specs.hoa.Pieces.{HasPassed, HasRoom, NoneMarks, is_mark}
 use Rattle.omega_hoa.specs.Feeding.{IsDivided, IsRest}
 use Rattle.omega_hoa.specs.Stream.{IsOpen, NoneEnds, is_end}
@@ -61,7 +61,7 @@ read_up_to prior bytes from to forward =
     ∙ ap (λ bs. prior ++ bs) (sym (take-add from (to - from) bytes) ∙ ap (λ n. take n bytes) all)
 
 -- places can be counted up to the end of the bytes
-pub room_inside : (bytes : List ℕ) (first place : ℕ) (progress : ReadProgress) → place ≤ length bytes → IsProgressSome bytes first place progress → HasRoom (λ seen lexemes. HasRead seen lexemes progress.tokenizer) (length bytes - place)
+pub room_inside : (bytes : List ℕ) (first place : ℕ) (progress : ReadProgress) → place ≤ length bytes → IsProgressSome bytes first place progress → HasRoom (hoa_tokenizer.read progress.tokenizer) (length bytes - place)
 room_inside bytes first place progress within some =
     let so_far = some.2 in
     let seen = some.0 ++ take place bytes in
@@ -69,8 +69,8 @@ room_inside bytes first place progress within some =
 
 -- the bytes that were passed were read
 pub passed_on : (bytes : List ℕ) (first from to : ℕ) (progress : ReadProgress) (tokenizer : HoaTokenizer) (prior : List ℕ) (items : List Item) → from ≤ to → progress.division.inside ≡ true
-    → (so_far : IsProgress bytes first from progress prior items) → HasPassed (λ seen lexemes. HasRead seen lexemes tokenizer) (prior ++ take from bytes) so_far.lexemes (take (to - from) (drop from bytes))
-    → tokenizer.fault ≡ progress.tokenizer.fault
+    → (so_far : IsProgress bytes first from progress prior items) → HasPassed (hoa_tokenizer.read tokenizer) (prior ++ take from bytes) so_far.lexemes (take (to - from) (drop from bytes))
+    → hoa_tokenizer.fault tokenizer ≡ hoa_tokenizer.fault progress.tokenizer
     → IsProgress bytes first to (record { tokenizer = tokenizer; division = progress.division }) prior items
 passed_on bytes first from to progress tokenizer prior items forward inside so_far passed same =
     let lexemes = so_far.lexemes ++ passed.passed in
@@ -80,7 +80,7 @@ passed_on bytes first from to progress tokenizer prior items forward inside so_f
     record {
       there = so_far.there;
       lexemes = lexemes;
-      read = subst (λ seen. HasRead seen lexemes tokenizer) all passed.read;
+      read = subst (λ seen. hoa_tokenizer.read tokenizer seen lexemes) all passed.read;
       sound = same ∙ so_far.sound;
       divided = subst (λ seen. IsDivided seen lexemes items begins progress.division.inside) all
           (divided_on (prior ++ take from bytes) more lexemes items begins progress.division.inside

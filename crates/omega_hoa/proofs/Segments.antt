@@ -6,7 +6,7 @@ use Rattle.omega_text.specs.declared.refusal.Refusal.{Refusal}
 use Rattle.omega_text.specs.declared.refusal.Refusal.TheVariants.{Automaton as AutomatonRefusal, Memory, Text}
 use Rattle.omega_text.specs.declared.refusal.text.TextFault.{TextFault}
 use Rattle.omega_text.specs.declared.refusal.text.TextFault.TheVariants.{Syntax}
-use Rattle.omega_acc.specs.Symbols.{IsUnread}
+use Rattle.omega_expression.specs.Symbols.{IsUnread}
 use Rattle.omega_raw.specs.Grammar.{ReadsAutomaton, ReadsNoAutomaton}
 use Rattle.omega_raw.specs.declared.raw_automaton.RawAutomaton.{RawAutomaton}
 use Rattle.omega_automaton.specs.Meaning.{IsMeaningless}
@@ -19,7 +19,7 @@ use Rattle.omega_hoa.proofs.Writing.{nothing_left}
 pub all_read : (tokens lexemes rest : List (Lexeme HoaKind)) (raw : RawAutomaton) (mark : HoaKind) → tokens ≡ lexemes → ReadsAutomaton tokens raw rest → IsSegment mark lexemes → IsRawOf lexemes raw
 all_read tokens lexemes rest raw mark same reads segment = nothing_left lexemes rest raw mark segment (subst (λ ls. ReadsAutomaton ls raw rest) same reads)
 
--- where none is read the tokens are no automaton's
+-- if none is read the tokens are no automaton's
 pub none_read : (tokens lexemes : List (Lexeme HoaKind)) (refusal : Refusal) (fault : TextFault) (at : ℕ) → tokens ≡ lexemes → refusal ≡ Text fault → fault ≡ Syntax at
     → IsUnread (ReadsNoAutomaton tokens) refusal → IsNoRaw lexemes
 none_read tokens lexemes refusal fault at same is syntax unread =

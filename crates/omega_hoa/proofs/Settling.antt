@@ -6,7 +6,7 @@ use Rattle.omega_text.specs.Lexeme.{Lexeme}
 use Rattle.omega_text.specs.hoa.Fault.{HasFaultFrom}
 use Rattle.omega_text.specs.hoa.Format.{hoa_format}
 use Rattle.omega_text.specs.hoa.Pieces.{IsSettled, SettlesFault, lexemes_in, settled_lexemes}
-use Rattle.omega_text.specs.private.hoa.scanning.Reading.{HasRead}
+use Rattle.omega_text.specs.contracts.hoa.tokenizer.HoaTokenizerByteTokenizer.TheImpl.{ghosts as hoa_tokenizer}
 use Rattle.omega_text.specs.declared.hoa.kind.HoaKind.{HoaKind}
 use Rattle.omega_text.specs.declared.hoa.placed.PlacedToken.{PlacedToken}
 use Rattle.omega_text.specs.declared.hoa.placed.Settled.{Settled}
@@ -37,7 +37,7 @@ fault_inside source from (Number at) faults = faults
 fault_inside source from (Syntax at) faults = absurd faults.fault_there
 fault_inside source from TooLong faults = absurd faults.fault_there
 
--- and wherever it stands
+-- and wherever it is
 pub fault_after : (source : List ℕ) (rest : List (Lexeme HoaKind)) (from : ℕ) (inside : Bool) (fault : TextFault) → IsRest inside rest → HasFaultFrom source from fault → IsRefusedAfter source rest from (Text fault)
 fault_after source rest from true fault following faults = inr (inl (following, fault_inside source from fault faults))
 fault_after source rest from false fault following faults = inl (following, fault_outside source from fault faults)
@@ -177,8 +177,8 @@ module _ (bytes : List ℕ) (first place : ℕ) (progress : ReadProgress) (prior
   }
 
   -- the byte was read
-  pub progressed : (byte : ℕ) (settled : Settled) (tokenizer : HoaTokenizer) (division : Division) (all : List Item) → byte ≡ get_or bytes place 0 → progress.division.begins ≤ division.begins → tokenizer.fault ≡ None
-      → HasRead ((prior ++ take place bytes) ++ byte ∷ []) (so_far.lexemes ++ settled_lexemes ((prior ++ take place bytes) ++ byte ∷ []) settled) tokenizer
+  pub progressed : (byte : ℕ) (settled : Settled) (tokenizer : HoaTokenizer) (division : Division) (all : List Item) → byte ≡ get_or bytes place 0 → progress.division.begins ≤ division.begins → hoa_tokenizer.fault tokenizer ≡ None
+      → hoa_tokenizer.read tokenizer ((prior ++ take place bytes) ++ byte ∷ []) (so_far.lexemes ++ settled_lexemes ((prior ++ take place bytes) ++ byte ∷ []) settled)
       → IsDivided ((prior ++ take place bytes) ++ byte ∷ []) (so_far.lexemes ++ settled_lexemes ((prior ++ take place bytes) ++ byte ∷ []) settled) all division.begins division.inside
       → IsProgress bytes first (place + 1) (record { tokenizer = tokenizer; division = division }) prior all
   progressed byte settled tokenizer division all is forward sound read divided =
@@ -186,7 +186,7 @@ module _ (bytes : List ℕ) (first place : ℕ) (progress : ReadProgress) (prior
       record {
         there = so_far.there;
         lexemes = lexemes;
-        read = subst (λ seen. HasRead seen lexemes tokenizer) (one_more byte is) read;
+        read = subst (λ seen. hoa_tokenizer.read tokenizer seen lexemes) (one_more byte is) read;
         sound = sound;
         divided = subst (λ seen. IsDivided seen lexemes all division.begins division.inside) (one_more byte is) divided;
         from = omega (arith, so_far.from, forward);
@@ -201,7 +201,7 @@ module _ (bytes : List ℕ) (first place : ℕ) (progress : ReadProgress) (prior
     | inr more ↦ inr (record { added = more.added; is = more.is; holds = refused_on byte (items ++ more.added) refusal is more.holds })
   ]
 
--- a refusal after some items that were appended, where nothing was appended then
+-- a refusal after some items that were appended, if nothing was appended then
 pub refused_after : (seen : List ℕ) (old middle new items added : List Item) (refusal : Refusal) → middle ≡ old ++ added → new ≡ middle
     → IsRefusedNow seen (items ++ added) refusal → IsRefusedThen seen old new items refusal
 refused_after seen old middle new items added refusal is same refused = elim refused [

@@ -1,4 +1,4 @@
--- The next token of a stream: where it stands, and what it makes of the segments.
+-- The next token of a stream: its place, and the segments with it.
 use Rattle.std.proofs.Common.{◌≡◌, ℕ, ◌+◌, ◌-◌, ◌≤◌, ◌⊎◌, true, false, Some, List, [], ◌∷◌, ◌++◌, length, map, take, drop, refl, sym, ap, subst, ◌∙◌, inl, inr, arith, append_assoc, append-nil, length-drop}
 use Rattle.std.proofs.lemmas.List.{drop-drop, drop-append-le, take-append-le}
 use Rattle.omega_text.specs.Cases.{or_memory}
@@ -64,7 +64,7 @@ module _ (exact : GoesOneWay hoa_format) (bytes : List ℕ) (first : ℕ) (divis
   split_next : next.divided.front ++ (next.divided.rest ++ lexeme_in seen token ∷ []) ≡ lexemes ++ lexeme_in seen token ∷ []
   split_next = sym (append_assoc next.divided.front next.divided.rest (lexeme_in seen token ∷ [])) ∙ ap (λ all. all ++ lexeme_in seen token ∷ []) (sym next.divided.split)
 
-  -- where the next token stands
+  -- the place of the next token
   pub following : (more : List ℕ) → IsAfter (seen ++ more) next.divided.front next.divided.rest division.begins (lexeme_in seen token)
   following more =
       let source = seen ++ more in
@@ -87,7 +87,7 @@ module _ (exact : GoesOneWay hoa_format) (bytes : List ℕ) (first : ℕ) (divis
         segment = subst (λ n. Cuts hoa_format source division.begins (rest ++ last ∷ []) n) (sym parts.3) (subst (λ n. Cuts hoa_format source n (rest ++ last ∷ []) cut.0) begin all.2);
       }
 
-  -- it stands after the whole segments, within the text
+  -- it is after the whole segments, within the text
   pub next_place : (division.begins ≤ token.span.start) × (token.span.start ≤ token.span.end) × (token.span.end ≤ length seen) × (division.begins ≤ length seen)
   next_place =
       let there = following [] in
@@ -98,7 +98,7 @@ module _ (exact : GoesOneWay hoa_format) (bytes : List ℕ) (first : ℕ) (divis
       let place = exact.following source there.middle (lexeme_in seen token) there.follows in
       (omega (arith, inside.0, place.forward), omega (arith, place.nonempty), omega (arith, long, place.within), omega (arith, long, whole.1))
 
-  -- its bytes, where they are given
+  -- its bytes, if they are given
   pub next_text : take (token.span.end - token.span.start) (drop (token.span.start - first) bytes) ≡ (lexeme_in seen token).text
   next_text = let place = next_place in
       window_bytes bytes first seen token.span.start token.span.end next.window (omega (arith, next.from, place.0)) place.1 place.2

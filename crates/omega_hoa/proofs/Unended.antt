@@ -4,13 +4,13 @@ use Rattle.omega_text.specs.Lexeme.{Lexeme}
 use Rattle.omega_text.specs.declared.hoa.kind.HoaKind.{HoaKind}
 use Rattle.omega_text.specs.declared.hoa.kind.HoaKind.TheVariants as kind
 use Rattle.std.specs.List.{AllByRecursion}
-use Rattle.omega_acc.specs.formula.Reading.{formula_symbols}
-use Rattle.omega_acc.specs.formula.Raw.{RawAccTree}
-use Rattle.omega_acc.specs.formula.Raw as acc
-use Rattle.omega_acc.specs.label.Raw.{RawLabelTree}
-use Rattle.omega_acc.specs.label.Raw as tree
-use Rattle.omega_acc.specs.label.Reading.{label_symbols}
-use Rattle.omega_acc.specs.Symbols as seen
+use Rattle.omega_formula.specs.Reading.{formula_symbols}
+use Rattle.omega_formula.specs.Raw.{RawAccTree}
+use Rattle.omega_formula.specs.Raw as acc
+use Rattle.omega_label.specs.Raw.{RawLabelTree}
+use Rattle.omega_label.specs.Raw as tree
+use Rattle.omega_label.specs.Reading.{label_symbols}
+use Rattle.omega_expression.specs.Symbols as seen
 use Rattle.omega_raw.specs.Symbols.{ReadsSymbol, AutomatonSymbol, alias, formula, header, label, number, sign, text, word}
 use Rattle.omega_hoa.specs.Stream.{NoneEnds, is_end}
 
@@ -61,7 +61,7 @@ abbrev pub MarksNone : AutomatonSymbol → Type 0
 MarksNone (sign kind) = is_end kind ≡ false
 MarksNone symbol = Unit {0}
 
--- tokens of which none ends a segment stand in front of what is left
+-- tokens that end no segment are in front of those that are left
 abbrev pub StandsBefore : List (Lexeme HoaKind) → List (Lexeme HoaKind) → Type 0
 StandsBefore tokens rest = (front : List (Lexeme HoaKind)) × (tokens ≡ front ++ rest) × NoneEnds front
 

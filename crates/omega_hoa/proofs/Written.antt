@@ -1,12 +1,12 @@
--- An automaton is written by the same tokens wherever they stand.
+-- An automaton is written by the same tokens wherever they are.
 use Rattle.std.proofs.Common.{◌≡◌, ℕ, List, [], ◌∷◌, ◌++◌, map, refl, sym, ap, subst, ◌∙◌}
 use Rattle.omega_text.specs.Lexeme.{Lexeme}
 use Rattle.omega_text.specs.declared.hoa.kind.HoaKind.{HoaKind}
-use Rattle.omega_acc.specs.formula.Reading.{ReadsAcc}
-use Rattle.omega_acc.specs.formula.Raw.{RawAccTree}
-use Rattle.omega_acc.specs.label.Raw.{RawLabelTree}
-use Rattle.omega_acc.specs.label.Reading.{Reads}
-use Rattle.omega_acc.specs.Symbols.{EndsThere, seen_as, expression_symbol_of}
+use Rattle.omega_formula.specs.Reading.{ReadsAcc}
+use Rattle.omega_formula.specs.Raw.{RawAccTree}
+use Rattle.omega_label.specs.Raw.{RawLabelTree}
+use Rattle.omega_label.specs.Reading.{Reads}
+use Rattle.omega_expression.specs.Symbols.{EndsThere, seen_as, expression_symbol_of}
 use Rattle.omega_raw.specs.Grammar.{automaton_symbols}
 use Rattle.omega_raw.specs.Symbols.{ReadsSymbol, IsNext, Shows, ReadsSymbols, AutomatonSymbol, alias, formula, header, label, number, sign, text, without_last, word}
 use Rattle.omega_text.specs.Forms.{between_quotes}

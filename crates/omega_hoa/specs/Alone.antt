@@ -24,13 +24,15 @@ pub record IsAutomatonText (source : List ℕ) (automaton : Description) : Type 
   pub segment : IsSegment End lexemes
   pub value : IsAutomatonOf lexemes automaton
 
--- the tokens begin with no segment, or with one that has no `--END--`:
--- 3 at the first token or at the length of an empty text, at the length, or at `--ABORT--`
+-- the tokens begin with no segment, or with one that has no `--END--`: `Syntax` is at the first token or at the length
+-- of an empty text, at the length, or at `--ABORT--`
 abbrev pub HasNoSegmentAt : ℕ → List (Lexeme HoaKind) → ℕ → Type 0
 HasNoSegmentAt length lexemes at = ((lexemes ≡ []) × (at ≡ length))
-    ⊎ (((first : Lexeme HoaKind) × (rest : List (Lexeme HoaKind)) × (lexemes ≡ first ∷ rest) × (Opens first → ⊥) × (at ≡ first.span.start))
+    ⊎ (((first : Lexeme HoaKind) × (rest : List (Lexeme HoaKind))
+    × (lexemes ≡ first ∷ rest) × (Opens first → ⊥) × (at ≡ first.span.start))
     ⊎ ((IsOpen lexemes × (at ≡ length))
-    ⊎ ((inside : List (Lexeme HoaKind)) × (last : Lexeme HoaKind) × (rest : List (Lexeme HoaKind)) × (lexemes ≡ inside ++ last ∷ rest) × IsOpen inside × (last.kind ≡ Abort) × (at ≡ last.span.start))))
+    ⊎ ((inside : List (Lexeme HoaKind)) × (last : Lexeme HoaKind) × (rest : List (Lexeme HoaKind))
+    × (lexemes ≡ inside ++ last ∷ rest) × IsOpen inside × (last.kind ≡ Abort) × (at ≡ last.span.start))))
 
 -- the tokens of a segment are in the grammar: an automaton is written so, whatever it means
 abbrev pub IsInGrammar : List (Lexeme HoaKind) → Type 0
@@ -48,9 +50,10 @@ pub record IsSegmentRefused (lexemes : List (Lexeme HoaKind)) (refusal : Refusal
 
 -- the refusal of tokens that do not make one automaton, in a text of this length
 abbrev pub AreRefused : ℕ → List (Lexeme HoaKind) → Refusal → Type 0
-AreRefused length lexemes refusal = ((at : ℕ) × (refusal ≡ Text (Syntax at)) × HasNoSegmentAt length lexemes at) ⊎ IsSegmentRefused lexemes refusal
+AreRefused length lexemes refusal =
+    ((at : ℕ) × (refusal ≡ Text (Syntax at)) × HasNoSegmentAt length lexemes at) ⊎ IsSegmentRefused lexemes refusal
 
--- the refusal of a text that is not that of one automaton: its length first, then a fault of tokens wherever it stands,
+-- the refusal of a text that is not that of one automaton: its length first, then a fault of tokens wherever it is,
 -- then what the tokens are
 abbrev pub IsAutomatonRefusal : List ℕ → Refusal → Type 0
 IsAutomatonRefusal source refusal = ((refusal ≡ Text TooLong) × (most_text < length source))

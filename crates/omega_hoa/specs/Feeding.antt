@@ -10,7 +10,7 @@ use Rattle.omega_text.specs.declared.refusal.Refusal.{Refusal}
 use Rattle.omega_text.specs.declared.refusal.Refusal.TheVariants.{Memory, Text}
 use Rattle.omega_text.specs.declared.refusal.text.TextFault.TheVariants.{TooLong}
 use Rattle.omega_hoa.specs.Kept.{Kept}
-use Rattle.omega_hoa.specs.Stream.{IsOpen, IsStream, IsStreamFault}
+use Rattle.omega_hoa.specs.Stream.{IsOpen, IsStream, IsStreamFault, IsStreamText}
 use Rattle.omega_hoa.specs.declared.item.Item.{Item}
 
 -- the tokens after the last whole segment: the beginning of one that has not ended, or none
@@ -57,7 +57,17 @@ IsFed seen items kept = MatchOption kept.refused (IsTaken seen items kept) (IsRe
 -- with one more piece, whatever was fed before, a stream was fed with the bytes before and these, and gave these items
 -- after those before
 abbrev pub TakesPiece : Kept → List ℕ → List Item → Kept → Type 0
-TakesPiece old piece given new = (seen : List ℕ) (items : List Item) → IsFed seen items old → IsFed (seen ++ piece) (items ++ given) new
+TakesPiece old piece given new =
+    (seen : List ℕ) (items : List Item) → IsFed seen items old → IsFed (seen ++ piece) (items ++ given) new
+
+-- all texts that may have been fed to a stream are streams of the items that it gave
+abbrev pub EndsAsStream : Kept → Type 0
+EndsAsStream kept = (seen : List ℕ) (items : List Item) → IsFed seen items kept → IsStreamText seen items
+
+-- all texts that may have been fed to a stream have this refusal after the items that it gave
+abbrev pub EndsInFault : Kept → Refusal → Type 0
+EndsInFault kept refusal =
+    (seen : List ℕ) (items : List Item) → IsFed seen items kept → IsStreamFault seen items refusal
 
 -- some values were appended to a list, and of others with these after them a fact holds
 pub record Appends {X : Type 0} (old new values : List X) (Holds : List X → Type 0) : Type 0 where
@@ -67,4 +77,10 @@ pub record Appends {X : Type 0} (old new values : List X) (Holds : List X → Ty
 
 -- memory was refused, or the text is, however it goes on, after the items that were appended
 abbrev pub IsRefusedThen : List ℕ → (old new items : List Item) → Refusal → Type 0
-IsRefusedThen seen old new items refusal = (refusal ≡ Memory) ⊎ Appends old new items (λ all. (more : List ℕ) → IsStreamFault (seen ++ more) all refusal)
+IsRefusedThen seen old new items refusal =
+    (refusal ≡ Memory) ⊎ Appends old new items (λ all. (more : List ℕ) → IsStreamFault (seen ++ more) all refusal)
+
+-- with one more piece, whatever was fed before, the text is refused so
+abbrev pub IsRefusedWith : Kept → List ℕ → (old new : List Item) → Refusal → Type 0
+IsRefusedWith kept piece old new refusal =
+    (seen : List ℕ) (items : List Item) → IsFed seen items kept → IsRefusedThen (seen ++ piece) old new items refusal

@@ -2,7 +2,7 @@
 use Rattle.std.specs.Prelude.{ℕ, Bool, Option, List}
 use Rattle.omega_text.specs.declared.refusal.Refusal.{Refusal}
 
--- the bytes after the last whole segment, where they begin, whether a segment has begun in them,
+-- the bytes after the last whole segment, the place at which they begin, whether a segment has begun in them,
 -- and the refusal once there is one
 pub record Kept : Type 0 where
   pub bytes : List ℕ

@@ -21,7 +21,7 @@ use Rattle.omega_hoa.specs.Segment.{IsNoRaw, IsRawOf, IsSyntaxWithin}
 use Rattle.omega_hoa.specs.Stream.{IsSegment, IsStreamFault, IsStreamRefusal, IsStreamText}
 use Rattle.omega_hoa.specs.declared.item.Item.{Item}
 
--- two refusals 3 of the tokens of one whole segment that no automaton is written as: each is at the start of one of the
+-- two refusals `Syntax` of the tokens of one whole segment that spell no automaton: each is at the start of one of the
 -- tokens; only tests show at which
 pub record AreOfSegment (segment : List (Lexeme HoaKind)) (one other : Refusal) : Type 0 where
   pub whole : IsSegment End segment
@@ -29,51 +29,67 @@ pub record AreOfSegment (segment : List (Lexeme HoaKind)) (one other : Refusal) 
   pub first : or_text (IsSyntaxWithin segment) never one
   pub second : or_text (IsSyntaxWithin segment) never other
 
--- two refusals of a text are the same, or both are 3 and of one segment of it that ends with `--END--`
+-- two refusals of a text are the same, or both are `Syntax` and of one segment of it that ends with `--END--`
 abbrev pub AreAlike : List ℕ → Refusal → Refusal → Type 0
 AreAlike source one other = (one ≡ other)
     ⊎ ((front : List (Lexeme HoaKind)) × (segment : List (Lexeme HoaKind)) × (end : ℕ) × Cuts hoa_format source 0 (front ++ segment) end × AreOfSegment segment one other)
 
 -- a text is that of at most one automaton
 abbrev pub AutomataAreOne : Type 0
-AutomataAreOne = (source : List ℕ) (one other : Description) → IsAutomatonText source one → IsAutomatonText source other → one ≡ other
+AutomataAreOne =
+    (source : List ℕ) (one other : Description) → IsAutomatonText source one → IsAutomatonText source other
+    → one ≡ other
 
 -- a text that is not that of one automaton has at most one refusal
 abbrev pub RefusalsAreOne : Type 0
-RefusalsAreOne = (source : List ℕ) (one other : Refusal) → IsAutomatonRefusal source one → IsAutomatonRefusal source other → AreAlike source one other
+RefusalsAreOne =
+    (source : List ℕ) (one other : Refusal) → IsAutomatonRefusal source one → IsAutomatonRefusal source other
+    → AreAlike source one other
 
 -- the text of an automaton has no refusal
 abbrev pub AutomataAreUnrefused : Type 0
-AutomataAreUnrefused = (source : List ℕ) (automaton : Description) (refusal : Refusal) → IsAutomatonText source automaton → IsAutomatonRefusal source refusal → ⊥
+AutomataAreUnrefused =
+    (source : List ℕ) (automaton : Description) (refusal : Refusal) → IsAutomatonText source automaton
+    → IsAutomatonRefusal source refusal → ⊥
 
 -- no text is neither
 abbrev pub AutomataOrRefused : Type 0
-AutomataOrRefused = (source : List ℕ) → ((automaton : Description) → IsAutomatonText source automaton → ⊥) → ((refusal : Refusal) → IsAutomatonRefusal source refusal → ⊥) → ⊥
+AutomataOrRefused =
+    (source : List ℕ) → ((automaton : Description) → IsAutomatonText source automaton → ⊥)
+    → ((refusal : Refusal) → IsAutomatonRefusal source refusal → ⊥) → ⊥
 
 -- a text is a stream with at most one list of items
 abbrev pub StreamsAreOne : Type 0
-StreamsAreOne = (source : List ℕ) (one other : List Item) → IsStreamText source one → IsStreamText source other → one ≡ other
+StreamsAreOne =
+    (source : List ℕ) (one other : List Item) → IsStreamText source one → IsStreamText source other → one ≡ other
 
 -- a text that is no stream is refused after at most one list of items, and has at most one refusal
 abbrev pub StreamFaultsAreOne : Type 0
-StreamFaultsAreOne = (source : List ℕ) (items others : List Item) (one other : Refusal) → IsStreamFault source items one → IsStreamFault source others other
+StreamFaultsAreOne =
+    (source : List ℕ) (items others : List Item) (one other : Refusal) → IsStreamFault source items one
+    → IsStreamFault source others other
     → (items ≡ others) × AreAlike source one other
 
 -- a stream has no refusal
 abbrev pub StreamsAreUnrefused : Type 0
-StreamsAreUnrefused = (source : List ℕ) (items : List Item) (refusal : Refusal) → IsStreamText source items → IsStreamRefusal source refusal → ⊥
+StreamsAreUnrefused =
+    (source : List ℕ) (items : List Item) (refusal : Refusal) → IsStreamText source items
+    → IsStreamRefusal source refusal → ⊥
 
 -- no text is neither
 abbrev pub StreamsOrRefused : Type 0
-StreamsOrRefused = (source : List ℕ) → ((items : List Item) → IsStreamText source items → ⊥) → ((refusal : Refusal) → IsStreamRefusal source refusal → ⊥) → ⊥
+StreamsOrRefused =
+    (source : List ℕ) → ((items : List Item) → IsStreamText source items → ⊥)
+    → ((refusal : Refusal) → IsStreamRefusal source refusal → ⊥) → ⊥
 
 -- the answer at its end of a stream that was fed with these bytes and gave these items: nothing if they are a stream,
 -- else their refusal, or the refusal that came before
 abbrev pub IsAnsweredAtEnd : List ℕ → List Item → Kept → Option Refusal → Type 0
 IsAnsweredAtEnd seen items kept None = IsStreamText seen items
-IsAnsweredAtEnd seen items kept (Some refusal) = MatchOption kept.refused (IsStreamFault seen items refusal) (λ before. refusal ≡ before)
+IsAnsweredAtEnd seen items kept (Some refusal) =
+    MatchOption kept.refused (IsStreamFault seen items refusal) (λ before. refusal ≡ before)
 
--- two answers about a text are the same, but for the place of a 3 inside a segment
+-- two answers about a text are the same, except for the place of `Syntax` inside a segment
 abbrev pub AnswersAreAlike : List ℕ → Option Refusal → Option Refusal → Type 0
 AnswersAreAlike source None None = Unit {0}
 AnswersAreAlike source None (Some other) = ⊥
@@ -83,8 +99,11 @@ AnswersAreAlike source (Some one) (Some other) = AreAlike source one other
 -- two streams that were fed with the same bytes, in any pieces, gave the same items and answer alike at their ends,
 -- unless one passed the limit
 abbrev pub CutsChangeNothing : Type 0
-CutsChangeNothing = (seen : List ℕ) (items others : List Item) (kept left : Kept) (one other : Option Refusal) → IsFed seen items kept → IsFed seen others left
-    → (one ≡ Some (Text TooLong) → ⊥) → (other ≡ Some (Text TooLong) → ⊥) → IsAnsweredAtEnd seen items kept one → IsAnsweredAtEnd seen others left other
+CutsChangeNothing =
+    (seen : List ℕ) (items others : List Item) (kept left : Kept) (one other : Option Refusal) → IsFed seen items kept
+    → IsFed seen others left
+    → (one ≡ Some (Text TooLong) → ⊥) → (other ≡ Some (Text TooLong) → ⊥) → IsAnsweredAtEnd seen items kept one
+    → IsAnsweredAtEnd seen others left other
     → (items ≡ others) × AnswersAreAlike seen one other
 
 -- the bytes of pieces, one piece after the other
@@ -95,7 +114,9 @@ bytes_of pieces = flat_map (λ piece. piece) pieces
 -- and append these items
 abbrev pub TakesPieces : Kept → List (List ℕ) → List Item → Kept → Type 0
 TakesPieces old [] items new = (old ≡ new) × (items ≡ [])
-TakesPieces old (piece ∷ pieces) items new = (next : Kept) × (first : List Item) × (rest : List Item) × TakesPiece old piece first next × TakesPieces next pieces rest new × (items ≡ first ++ rest)
+TakesPieces old (piece ∷ pieces) items new =
+    (next : Kept) × (first : List Item) × (rest : List Item) × TakesPiece old piece first next
+    × TakesPieces next pieces rest new × (items ≡ first ++ rest)
 
 -- a stream was fed with these pieces, one after the other, from the first on, and gave these items
 pub record IsFedIn (pieces : List (List ℕ)) (items : List Item) (kept : Kept) : Type 0 where
@@ -105,13 +126,18 @@ pub record IsFedIn (pieces : List (List ℕ)) (items : List Item) (kept : Kept) 
 
 -- a stream that was fed with pieces was fed with their bytes
 abbrev pub PiecesAreFed : Type 0
-PiecesAreFed = (pieces : List (List ℕ)) (items : List Item) (kept : Kept) → IsFedIn pieces items kept → IsFed (bytes_of pieces) items kept
+PiecesAreFed =
+    (pieces : List (List ℕ)) (items : List Item) (kept : Kept) → IsFedIn pieces items kept
+    → IsFed (bytes_of pieces) items kept
 
 -- two lists of pieces with the same bytes, each fed to a stream that did not pass the limit, gave the same items,
 -- and the streams answer alike at their ends
 abbrev pub PiecesChangeNothing : Type 0
-PiecesChangeNothing = (pieces recut : List (List ℕ)) (items others : List Item) (kept left : Kept) (one other : Option Refusal) → bytes_of pieces ≡ bytes_of recut
-    → IsFedIn pieces items kept → IsFedIn recut others left → (one ≡ Some (Text TooLong) → ⊥) → (other ≡ Some (Text TooLong) → ⊥)
+PiecesChangeNothing =
+    (pieces recut : List (List ℕ)) (items others : List Item) (kept left : Kept) (one other : Option Refusal)
+    → bytes_of pieces ≡ bytes_of recut
+    → IsFedIn pieces items kept → IsFedIn recut others left → (one ≡ Some (Text TooLong) → ⊥)
+    → (other ≡ Some (Text TooLong) → ⊥)
     → IsAnsweredAtEnd (bytes_of pieces) items kept one → IsAnsweredAtEnd (bytes_of recut) others left other
     → (items ≡ others) × AnswersAreAlike (bytes_of pieces) one other
 
@@ -125,5 +151,6 @@ pub record FillsSegment (tokens : List (Lexeme HoaKind)) (raw : RawAutomaton) (r
 
 -- an automaton as it is written that tokens of texts begin with fills a whole segment: no token but its last ends one
 abbrev pub AutomataFillSegments : Type 0
-AutomataFillSegments = (tokens rest : List (Lexeme HoaKind)) (raw : RawAutomaton) → AllByRecursion (IsTokenOf hoa_format) tokens
+AutomataFillSegments =
+    (tokens rest : List (Lexeme HoaKind)) (raw : RawAutomaton) → AllByRecursion (IsTokenOf hoa_format) tokens
     → ReadsAutomaton tokens raw rest → FillsSegment tokens raw rest

@@ -43,6 +43,7 @@ abbrev pub IsSyntaxWithin : List (Lexeme HoaKind) → TextFault → Type 0
 IsSyntaxWithin lexemes (Syntax at) = IsStartOf lexemes at
 IsSyntaxWithin lexemes fault = ⊥
 
--- why the tokens are not an automaton's: 3 at one of them if they spell no automaton, else a fault of its meaning
+-- why the tokens are not an automaton's: `Syntax` at one of them if they spell no automaton, else a fault of meaning
 abbrev pub IsSegmentFault : List (Lexeme HoaKind) → Refusal → Type 0
-IsSegmentFault lexemes = or_text (λ fault. IsNoRaw lexemes × IsSyntaxWithin lexemes fault) (or_automaton (HasMeaningFault lexemes) never)
+IsSegmentFault lexemes =
+    or_text (λ fault. IsNoRaw lexemes × IsSyntaxWithin lexemes fault) (or_automaton (HasMeaningFault lexemes) never)

@@ -60,15 +60,16 @@ IsStream lexemes [] = lexemes ≡ []
 IsStream lexemes (item ∷ items) = (segment : List (Lexeme HoaKind)) × (rest : List (Lexeme HoaKind))
     × (lexemes ≡ segment ++ rest) × IsItemOf segment item × IsStream rest items
 
--- outside segments, a text goes on from a place with a fault of tokens, or with a token other than `HOA:`, at which it
--- is refused 3
+-- outside segments, a text goes on from a place with a fault of tokens, or with a token other than `HOA:`, which is
+-- the place of `Syntax`
 abbrev pub IsFaultOutside : List ℕ → ℕ → TextFault → Type 0
 IsFaultOutside source from (Lex at) = HasFaultFrom source from (Lex at)
 IsFaultOutside source from (Number at) = HasFaultFrom source from (Number at)
-IsFaultOutside source from (Syntax at) = (lexeme : Lexeme HoaKind) × Follows source from lexeme × (Opens lexeme → ⊥) × (at ≡ lexeme.span.start)
+IsFaultOutside source from (Syntax at) =
+    (lexeme : Lexeme HoaKind) × Follows source from lexeme × (Opens lexeme → ⊥) × (at ≡ lexeme.span.start)
 IsFaultOutside source from TooLong = ⊥
 
--- inside a segment, it goes on with a fault of tokens, or ends, and is refused 3 at its length
+-- inside a segment, it goes on with a fault of tokens, or ends, and its length is the place of `Syntax`
 abbrev pub IsFaultInside : List ℕ → ℕ → TextFault → Type 0
 IsFaultInside source from (Lex at) = HasFaultFrom source from (Lex at)
 IsFaultInside source from (Number at) = HasFaultFrom source from (Number at)

@@ -66,6 +66,7 @@ fn read_followed(alloc: Global, bytes: &[u8], end: usize, next: usize) -> Refusa
     }
 }
 
+/// Returns [TextFault::Syntax] at the place `at`.
 fn syntax_fault(at: usize) -> Refusal
     ensures { result ≡ Text (Syntax at) }
 {

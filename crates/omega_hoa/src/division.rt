@@ -1,11 +1,8 @@
-ghost use Rattle.std.specs.Prelude.{◌≡◌, [], ◌∷◌, ◌++◌, ◌+◌, ◌-◌, ◌≤◌, ◌↔◌, List, None, Some, false, true, ℕ, codes, drop, length, take, IfErr, IfNone, IfOk, IfSome, IsTrue, OnErr};
-ghost use Rattle.omega_text.specs.Lexeme.{Lexeme};
-ghost use Rattle.omega_text.specs.hoa.Pieces.{lexeme_in};
-ghost use Rattle.omega_text.specs.declared.hoa.kind.HoaKind.{HoaKind};
+ghost use Rattle.std.specs.Prelude.{◌≡◌, ◌+◌, ◌-◌, ◌≤◌, ◌↔◌, List, None, Some, false, true, codes, drop, length, take, IfErr, IfNone, IfOk, IfSome, IsTrue, OnErr};
 ghost use Rattle.omega_text.specs.declared.hoa.kind.HoaKind.TheVariants.{HeaderName};
-ghost use Rattle.omega_hoa.specs.Stream.{IsItemOf, is_end};
+ghost use Rattle.omega_hoa.specs.Stream.{is_end};
 ghost use Rattle.omega_hoa.specs.declared.item.Item.{Item};
-ghost use Rattle.omega_hoa.specs.private.dividing.Next.{AreRefusedAt, AreTakenAs, Extends, IsNextDivision, IsNextSettledSome, IsNextSome, IsRefusedAt, IsTakenAs};
+ghost use Rattle.omega_hoa.specs.private.dividing.Next.{AreRefusedAt, AreTakenAs, Extends, IsItemAt, IsNextSettledSome, IsNextSome, IsRefusedAt, IsTakenAs};
 
 use crate::item::Item;
 use crate::segment::read_segment;
@@ -77,7 +74,7 @@ fn take_settled(
     }
 }
 
-/// Adds a token inside a segment: the mark of its end ends it, any other token is one more.
+/// Adds `token` inside a segment: the mark of its end ends it, any other token is one more.
 fn take_inside(
     alloc: Global,
     bytes: &[u8],
@@ -117,8 +114,7 @@ fn item_at(
 ) -> Result<Option<Item>, Refusal>
     requires next { IsNextSome bytes.now first division (Some token) }
     requires inside { division.inside ≡ true }
-    ensures item { IfOk result (λ found. IfSome found (λ item. (seen : List ℕ) (lexemes : List (Lexeme HoaKind)) (items : List Item)
-        → (next : IsNextDivision bytes.now first division (Some token) seen lexemes items) → IsItemOf (next.divided.rest ++ lexeme_in seen token ∷ []) item)) }
+    ensures item { IfOk result (λ found. IfSome found (IsItemAt bytes.now first division token)) }
     ensures none { IfOk result (λ found. IfNone found (is_end token.kind ≡ false)) }
     ensures refused { IfErr result (IsRefusedAt bytes.now first division (Some token)) }
 {
@@ -137,7 +133,7 @@ fn item_at(
     }
 }
 
-/// Adds a token outside segments: `HOA:` begins one, and any other token is refused with [TextFault::Syntax].
+/// Adds `token` outside segments: `HOA:` begins one, and any other token is refused with [TextFault::Syntax].
 fn begin_segment(
     bytes: &[u8],
     first: usize,
@@ -146,7 +142,8 @@ fn begin_segment(
 ) -> Result<Division, Refusal>
     requires next { IsNextSome bytes.now first division (Some token) }
     requires outside { division.inside ≡ false }
-    ensures taken { IfOk result (λ after. (out : List Item) → IsTakenAs bytes.now first division (Some token) out out after) }
+    ensures taken { IfOk result
+        (λ after. (out : List Item) → IsTakenAs bytes.now first division (Some token) out out after) }
     ensures forward { IfOk result (λ after. division.begins ≤ after.begins) }
     ensures refused { IfErr result (IsRefusedAt bytes.now first division (Some token)) }
 {

@@ -1,14 +1,10 @@
-ghost use Rattle.std.specs.Prelude.{◌≡◌, ◌≢◌, false, true, length, IfErr, List, OnOk, ℕ};
-ghost use Rattle.omega_text.specs.Lexeme.{Lexeme};
-ghost use Rattle.omega_text.specs.declared.hoa.kind.HoaKind.{HoaKind};
+ghost use Rattle.std.specs.Prelude.{◌≢◌, false, IfErr, OnOk};
 ghost use Rattle.omega_text.specs.declared.refusal.Refusal.TheVariants.{Memory};
-ghost use Rattle.omega_hoa.specs.Stream.{IsStreamFault};
-ghost use Rattle.omega_hoa.specs.declared.item.Item.{Item};
-ghost use Rattle.omega_hoa.specs.private.dividing.Ending.{EndsRefused, EndsWhole, IsAtEnd, IsLast};
+ghost use Rattle.omega_hoa.specs.private.dividing.Ending.{EndsOpen, EndsRefused, EndsWhole, IsLast};
 
 use omega_text::{Refusal, Settled, TextFault};
 
-/// Ends the bytes outside segments. A token that is settled there is refused with [TextFault::Syntax], since `HOA:` is
+/// Ends the bytes outside segments. A token that `settled` has is refused with [TextFault::Syntax], since `HOA:` is
 /// settled before; then comes the fault of tokens.
 pub(crate) fn end_outside(settled: Settled) -> Result<(), Refusal>
     requires { IsLast settled }
@@ -31,8 +27,7 @@ pub(crate) fn end_outside(settled: Settled) -> Result<(), Refusal>
 /// end. The marks that end a segment are settled before.
 pub(crate) fn end_inside(settled: Settled, count: usize) -> Refusal
     requires { IsLast settled }
-    ensures refused { (seen : List ℕ) (lexemes : List (Lexeme HoaKind)) (items : List Item) (begins : ℕ) → count ≡ length seen → IsAtEnd settled true seen lexemes items begins
-        → IsStreamFault seen items result }
+    ensures refused { EndsOpen settled count result }
     ensures memory { result ≢ Memory }
 {
     match settled.fault {

@@ -1,10 +1,9 @@
-ghost use Rattle.std.specs.Prelude.{[], ◌∷◌, ◌++◌, List, IfErr, IfOk};
+ghost use Rattle.std.specs.Prelude.{[], ◌∷◌, IfErr, IfOk};
 ghost use Rattle.omega_text.specs.Cut.{IsFault};
-ghost use Rattle.omega_text.specs.Lexeme.{Lexeme, lexeme_of};
+ghost use Rattle.omega_text.specs.Lexeme.{lexeme_of};
 ghost use Rattle.omega_text.specs.hoa.Format.{hoa_format};
-ghost use Rattle.omega_text.specs.declared.hoa.kind.HoaKind.{HoaKind};
-ghost use Rattle.omega_hoa.specs.Stream.{IsOpen};
-ghost use Rattle.omega_hoa.specs.private.outlines.Outline.{HasOutline, IsOutline};
+ghost use Rattle.omega_hoa.specs.declared.outline.TextOutline.TheVariants.{Open};
+ghost use Rattle.omega_hoa.specs.private.outlines.Outline.{GoesOnWith, HasOutline, IsOutline};
 
 use crate::division::opens;
 use omega_text::{HoaKind, TextFault, Token, next_hoa_token};
@@ -41,9 +40,9 @@ pub(crate) fn outline_of(source: &[u8]) -> Result<TextOutline, TextFault>
     Ok(outline)
 }
 
-/// Returns the outline of tokens after one more.
+/// Returns the outline of the tokens of `outline` and of `token` after them.
 fn with_token(outline: TextOutline, token: &Token<'_, HoaKind>) -> TextOutline
-    ensures { (lexemes : List (Lexeme HoaKind)) → IsOutline lexemes outline → IsOutline (lexemes ++ lexeme_of token.now ∷ []) result }
+    ensures { GoesOnWith outline (lexeme_of token.now) result }
 {
     match outline {
         TextOutline::Empty => begun(token),
@@ -56,7 +55,7 @@ fn with_token(outline: TextOutline, token: &Token<'_, HoaKind>) -> TextOutline
     }
 }
 
-/// Returns the outline of the first token.
+/// Returns the outline of `token` alone.
 fn begun(token: &Token<'_, HoaKind>) -> TextOutline
     ensures { IsOutline (lexeme_of token.now ∷ []) result }
 {
@@ -69,9 +68,9 @@ fn begun(token: &Token<'_, HoaKind>) -> TextOutline
     }
 }
 
-/// Returns the outline of an open segment after one more token.
+/// Returns the outline of an open segment and of `token` after it.
 fn gone_on(token: &Token<'_, HoaKind>) -> TextOutline
-    ensures { (lexemes : List (Lexeme HoaKind)) → IsOpen lexemes → IsOutline (lexemes ++ lexeme_of token.now ∷ []) result }
+    ensures { GoesOnWith Open (lexeme_of token.now) result }
 {
     match token.kind {
         HoaKind::Abort => TextOutline::Aborted {

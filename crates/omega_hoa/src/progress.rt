@@ -1,6 +1,5 @@
-ghost use Rattle.std.specs.Prelude.{◌+◌, ◌<◌, ◌≤◌, ℕ, List, length, IfErr, IfOk, IsTrue};
-ghost use Rattle.omega_hoa.specs.private.dividing.Next.{Extends, IsNothing, IsProgress, IsProgressSome, IsReadAs, IsRefusedFrom};
-ghost use Rattle.omega_hoa.specs.declared.item.Item.{Item};
+ghost use Rattle.std.specs.Prelude.{◌+◌, ◌<◌, ◌≤◌, length, IfErr, IfOk, IsTrue};
+ghost use Rattle.omega_hoa.specs.private.dividing.Next.{Extends, IsNothing, IsPassedTo, IsProgressSome, IsReadAs, IsRefusedFrom};
 
 use crate::division::{Division, take_all};
 use crate::item::Item;
@@ -59,7 +58,7 @@ fn pass_inside(
     requires so_far { IsProgressSome bytes.now first from progress }
     ensures forward { from ≤ result.1 }
     ensures end { result.1 ≤ length bytes.now }
-    ensures read { (prior : List ℕ) (items : List Item) → IsProgress bytes.now first from progress prior items → IsProgress bytes.now first result.1 result.0 prior items }
+    ensures read { IsPassedTo bytes.now first from result.1 progress result.0 }
 {
     if !progress.division.inside {
         return (progress, from);
@@ -103,7 +102,7 @@ fn read_byte(
     })
 }
 
-/// Whether neither a token nor a fault was settled.
+/// Whether `settled` has neither a token nor a fault.
 #[inline(always)]
 fn is_nothing(settled: &Settled) -> bool
     ensures { IsTrue result → IsNothing settled.now }

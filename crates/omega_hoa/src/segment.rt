@@ -3,10 +3,8 @@ ghost use Rattle.omega_text.specs.Cut.{IsCut};
 ghost use Rattle.omega_text.specs.Lexeme.{Lexeme};
 ghost use Rattle.omega_text.specs.hoa.Format.{hoa_format};
 ghost use Rattle.omega_text.specs.declared.hoa.kind.HoaKind.{HoaKind};
-ghost use Rattle.omega_text.specs.declared.hoa.kind.HoaKind.TheVariants.{End};
 ghost use Rattle.omega_hoa.specs.Segment.{IsAutomatonOf, IsRawOf, IsStartOf};
-ghost use Rattle.omega_hoa.specs.Stream.{IsSegment};
-ghost use Rattle.omega_hoa.specs.private.Places.{IsPartFault, IsPartUnread};
+ghost use Rattle.omega_hoa.specs.private.Places.{IsPartFault, IsPartUnread, OfSegment};
 
 use omega_automaton::{Automaton, automaton_of};
 use omega_raw::{RawAutomaton, read_raw};
@@ -14,18 +12,17 @@ use omega_text::laws::cuts_are_one;
 use omega_text::{HoaKind, Refusal, TextCursor, TextFault, TokenKind, TokenSource};
 use std::alloc::Global;
 
-/// Reads the automaton of a segment that ends with `--END--`, whose bytes begin at `begins` of a longer text. Refused
-/// with its [TextFault::Syntax] or `AutomatonFault`, or with [Refusal::Memory]. The place of [TextFault::Syntax] counts
-/// from the first byte of that text.
+/// Reads the automaton of a segment that ends with `--END--`. Its `bytes` begin at the place `begins` of a longer text.
+///
+/// Refused with its [TextFault::Syntax] or `AutomatonFault`, or with [Refusal::Memory]. The place of
+/// [TextFault::Syntax] counts from the first byte of that text.
 ///
 /// The bytes are read once, and up to the place of that fault once more.
 pub(crate) fn read_segment(alloc: Global, bytes: &[u8], begins: usize) -> Result<Automaton, Refusal>
     requires cut { (lexemes : List (Lexeme HoaKind)) × IsCut hoa_format bytes.now lexemes }
     requires room { begins + length bytes.now < 2 ^ 64 }
-    ensures automaton { IfOk result (λ automaton. (lexemes : List (Lexeme HoaKind)) → IsCut hoa_format bytes.now lexemes → IsSegment End lexemes
-        → IsAutomatonOf lexemes automaton) }
-    ensures refused { IfErr result (λ refusal. (lexemes : List (Lexeme HoaKind)) → IsCut hoa_format bytes.now lexemes → IsSegment End lexemes
-        → IsPartFault begins lexemes refusal) }
+    ensures automaton { IfOk result (λ automaton. OfSegment bytes.now (λ lexemes. IsAutomatonOf lexemes automaton)) }
+    ensures refused { IfErr result (λ refusal. OfSegment bytes.now (λ lexemes. IsPartFault begins lexemes refusal)) }
 {
     let raw = read_written(alloc, bytes, begins)?;
     automaton_of(alloc, raw)
@@ -40,10 +37,8 @@ pub(crate) fn read_written(
 ) -> Result<RawAutomaton, Refusal>
     requires cut { (lexemes : List (Lexeme HoaKind)) × IsCut hoa_format bytes.now lexemes }
     requires room { begins + length bytes.now < 2 ^ 64 }
-    ensures written { IfOk result (λ raw. (lexemes : List (Lexeme HoaKind)) → IsCut hoa_format bytes.now lexemes → IsSegment End lexemes
-        → IsRawOf lexemes raw) }
-    ensures refused { IfErr result (λ refusal. (lexemes : List (Lexeme HoaKind)) → IsCut hoa_format bytes.now lexemes → IsSegment End lexemes
-        → IsPartUnread begins lexemes refusal) }
+    ensures written { IfOk result (λ raw. OfSegment bytes.now (λ lexemes. IsRawOf lexemes raw)) }
+    ensures refused { IfErr result (λ refusal. OfSegment bytes.now (λ lexemes. IsPartUnread begins lexemes refusal)) }
 {
     HoaKind::goes_on_one_way();
     cuts_are_one::<HoaKind>();
@@ -57,10 +52,11 @@ pub(crate) fn read_written(
     }
 }
 
-/// Returns where the first token at `at` or after it begins, or where the last token begins if there is none.
+/// Returns the place of the first token of `bytes` that begins at `at` or after it, or of the last token if none does.
 fn token_start(bytes: &[u8], at: usize) -> usize
     requires { (lexemes : List (Lexeme HoaKind)) × IsCut hoa_format bytes.now lexemes }
-    ensures { (lexemes : List (Lexeme HoaKind)) → IsCut hoa_format bytes.now lexemes → (lexemes ≡ [] → ⊥) → IsStartOf lexemes result }
+    ensures { (lexemes : List (Lexeme HoaKind))
+        → IsCut hoa_format bytes.now lexemes → (lexemes ≡ [] → ⊥) → IsStartOf lexemes result }
 {
     cuts_are_one::<HoaKind>();
     let mut tokens = TextCursor::<HoaKind>::new(bytes);

@@ -3,7 +3,6 @@ ghost use Rattle.omega_text.specs.Limits.{most_text};
 ghost use Rattle.omega_text.specs.declared.refusal.Refusal.TheVariants.{Memory, Text};
 ghost use Rattle.omega_text.specs.declared.refusal.text.TextFault.TheVariants.{TooLong};
 ghost use Rattle.omega_hoa.specs.declared.item.Item.{Item};
-ghost use Rattle.omega_hoa.specs.Stream.{IsStreamFault, IsStreamText};
 ghost use Rattle.omega_hoa.specs.private.dividing.Next.{Extends, IsProgressSome, IsReadAs, IsRefusedFrom};
 
 use crate::division::Division;
@@ -16,8 +15,8 @@ use std::marker::Model;
 
 /// A reader of a stream of automata that comes in pieces, cut anywhere.
 ///
-/// It keeps the bytes after the last whole segment, the place where they begin, how they are cut so far, and a refusal
-/// once there is one.
+/// It keeps the bytes after the last whole segment, the place at which they begin, how they are cut so far, and a
+/// refusal once there is one.
 #[derive(Drop)]
 pub struct Stream {
     bytes: Vec<u8>,
@@ -29,19 +28,21 @@ pub struct Stream {
 
 impl Model for Stream {
     ghost use Rattle.omega_hoa.specs.Kept.{Kept};
-    ghost use Rattle.omega_hoa.specs.private.dividing.Fed.{IsFedSome};
 
     ghost Value = { Kept };
 
-    ghost view = { λ s. record { bytes = s.bytes.items; begins = s.begins; inside = s.inside; refused = s.refused } };
+    ghost use Rattle.omega_hoa.specs.private.dividing.Fed.{IsFedSome, kept_in};
 
-    ghost invariant = { λ s. IsFedSome (record { bytes = s.bytes.items; begins = s.begins; inside = s.inside; refused = s.refused }) s.tokenizer };
+    ghost view = { kept_in };
+
+    ghost invariant = { λ s. IsFedSome (kept_in s) s.tokenizer };
 }
 
 impl Stream {
     ghost use Rattle.std.specs.Result.{result_err};
-    ghost use Rattle.omega_hoa.specs.Feeding.{Appends, IsFed, IsRefusedThen, TakesPiece};
+    ghost use Rattle.omega_hoa.specs.Feeding.{EndsAsStream, EndsInFault, IsFed, IsRefusedWith, TakesPiece};
     ghost use Rattle.omega_hoa.specs.Laws.{IsAnsweredAtEnd};
+    ghost use Rattle.omega_hoa.specs.private.dividing.Fed.{AppendsItems};
 
     /// Makes a stream before its first byte. No memory is taken.
     pub fn new(alloc: Global) -> Stream
@@ -71,14 +72,21 @@ impl Stream {
     /// A piece is kept until its segments have ended. Each byte is scanned once, and those of a segment that ends once
     /// more.
     pub fn feed(&mut self, piece: &[u8], out: &mut Vec<Item>) -> Result<(), Refusal>
-        ensures refused_before { IfSome self.old.refused (λ refusal. (result ≡ Err refusal) × (self.new ≡ self.old) × (out.new.items ≡ out.old.items)) }
-        ensures too_long { self.old.refused ≡ None → most_text < self.old.begins + length self.old.bytes + length piece.now
-            → (result ≡ Err (Text TooLong)) × (self.new ≡ record self.old { refused = Some (Text TooLong) }) × (out.new.items ≡ out.old.items) }
+        ensures refused_before { IfSome self.old.refused
+            (λ refusal. (result ≡ Err refusal) × (self.new ≡ self.old) × (out.new.items ≡ out.old.items)) }
+        ensures too_long { self.old.refused ≡ None
+            → most_text < self.old.begins + length self.old.bytes + length piece.now
+            → (result ≡ Err (Text TooLong))
+            × (self.new ≡ record self.old { refused = Some (Text TooLong) })
+            × (out.new.items ≡ out.old.items) }
         ensures memory { result ≡ Err Memory → (self.new ≡ self.old) × (out.new.items ≡ out.old.items) }
         ensures taken { (result ≡ Err Memory → ⊥)
-            → (given : List Item) × (out.new.items ≡ out.old.items ++ given) × TakesPiece self.old piece.now given self.new }
-        ensures refused { self.old.refused ≡ None → self.old.begins + length self.old.bytes + length piece.now ≤ most_text
-            → IfErr result (λ refusal. (seen : List ℕ) (items : List Item) → IsFed seen items self.old → IsRefusedThen (seen ++ piece.now) out.old.items out.new.items items refusal) }
+            → (given : List Item)
+            × (out.new.items ≡ out.old.items ++ given)
+            × TakesPiece self.old piece.now given self.new }
+        ensures refused { self.old.refused ≡ None
+            → self.old.begins + length self.old.bytes + length piece.now ≤ most_text
+            → IfErr result (IsRefusedWith self.old piece.now out.old.items out.new.items) }
         ensures ok { OnOk result (self.new.refused ≡ None) }
         ensures kept { IfErr result (λ refusal. (refusal ≡ Memory) ⊎ (self.new.refused ≡ Some refusal)) }
     {
@@ -95,9 +103,10 @@ impl Stream {
     /// that the end settles, or at the length of the bytes inside one.
     pub fn finish(self) -> Result<(), Refusal>
         ensures refused_before { IfSome self.refused (λ refusal. result ≡ Err refusal) }
-        ensures ok { OnOk result ((seen : List ℕ) (items : List Item) → IsFed seen items self → IsStreamText seen items) }
-        ensures refused { self.refused ≡ None → IfErr result (λ refusal. (seen : List ℕ) (items : List Item) → IsFed seen items self → IsStreamFault seen items refusal) }
-        ensures answered { (seen : List ℕ) (items : List Item) → IsFed seen items self → IsAnsweredAtEnd seen items self (result_err result) }
+        ensures ok { OnOk result (EndsAsStream self) }
+        ensures refused { self.refused ≡ None → IfErr result (EndsInFault self) }
+        ensures answered { (seen : List ℕ) (items : List Item)
+            → IsFed seen items self → IsAnsweredAtEnd seen items self (result_err result) }
         ensures memory { IfErr result (λ refusal. refusal ≢ Memory) }
     {
         match self.refused {
@@ -118,13 +127,15 @@ impl Stream {
     fn feed_sound(&mut self, piece: &[u8], out: &mut Vec<Item>) -> Result<(), Refusal>
         requires { self.old.refused ≡ None }
         ensures too_long { most_text < self.old.begins + length self.old.bytes + length piece.now
-            → (result ≡ Err (Text TooLong)) × (self.new ≡ record self.old { refused = Some (Text TooLong) }) × (out.new.items ≡ out.old.items) }
+            → (result ≡ Err (Text TooLong))
+            × (self.new ≡ record self.old { refused = Some (Text TooLong) })
+            × (out.new.items ≡ out.old.items) }
         ensures memory { result ≡ Err Memory → (self.new ≡ self.old) × (out.new.items ≡ out.old.items) }
         ensures taken { (result ≡ Err Memory → ⊥)
-            → (seen : List ℕ) (items : List Item) → IsFed seen items self.old → Appends out.old.items out.new.items items (λ all. IsFed (seen ++ piece.now) all self.new) }
+            → AppendsItems self.old piece.now out.old.items out.new.items self.new }
         ensures extends { (result ≡ Err Memory → ⊥) → Extends out.old.items out.new.items }
         ensures refused { self.old.begins + length self.old.bytes + length piece.now ≤ most_text
-            → IfErr result (λ refusal. (seen : List ℕ) (items : List Item) → IsFed seen items self.old → IsRefusedThen (seen ++ piece.now) out.old.items out.new.items items refusal) }
+            → IfErr result (IsRefusedWith self.old piece.now out.old.items out.new.items) }
         ensures ok { OnOk result (self.new.refused ≡ None) }
         ensures kept { IfErr result (λ refusal. (refusal ≡ Memory) ⊎ (self.new.refused ≡ Some refusal)) }
     {

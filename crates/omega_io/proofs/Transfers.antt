@@ -5,14 +5,14 @@ use lib.Seq.{take-add}
 use Rattle.std.proofs.KnownBytes.{Appends-trans}
 use Rattle.std.specs.Io.KnownBytes.{Appends}
 
--- so many bytes of the text were written, and the rest was not
+-- `count` bytes of the text were written, and the rest was not
 pub record IsWriting (before now : Option (List ℕ)) (text rest : List ℕ) : Type 0 where
   pub count : ℕ
   pub within : count ≤ length text
   pub following : rest ≡ drop count text
   pub taken : Appends before now (take count text)
 
--- the next write took so many bytes of the rest
+-- the next write took `count` bytes of the rest
 pub IsWriting-goes_on : (before now after : Option (List ℕ)) (text rest next : List ℕ) (count : ℕ) → IsWriting before now text rest
     → count ≤ length rest → Appends now after (take count rest) → next ≡ drop count rest → IsWriting before after text next
 IsWriting-goes_on before now after text rest next count writing bound written left =

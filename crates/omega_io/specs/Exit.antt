@@ -5,7 +5,7 @@ use Rattle.omega_text.specs.declared.refusal.Refusal.{Refusal}
 use Rattle.omega_io.specs.declared.exit.Exit.{Exit}
 use Rattle.omega_io.specs.declared.exit.Exit.TheVariants.{Done, No}
 
--- the status after a refusal: 3 where the budget is used up, 4 for want of memory, 5 for a failed read or write,
+-- the status after a refusal: 3 if the budget is used up, 4 if memory is refused, 5 if a read or write failed,
 -- 1 for all others
 abbrev pub refusal_status : Refusal → ℕ
 refusal_status refusal =
@@ -14,7 +14,7 @@ refusal_status refusal =
     if number_of refusal == 61 then 5 else
     1
 
--- the status after a command: 0 where it is done, 6 where its answer is no, else that of the refusal
+-- the status after a command: 0 if it is done, 6 if its answer is no, else that of the refusal
 abbrev pub status_of : Result Exit Refusal → ℕ
 status_of (Ok Done) = 0
 status_of (Ok No) = 6

@@ -3,7 +3,7 @@ use Rattle.std.specs.Prelude.{ℕ, List, [], ◌++◌, Option, Some, None, codes
 use Rattle.omega_text.specs.Refusal.{name_of, number_of, place_of}
 use Rattle.omega_text.specs.declared.refusal.Refusal.{Refusal}
 
--- what the line says of the place of a refusal
+-- the part of the line with the place of a refusal
 abbrev pub place_text : Option ℕ → List ℕ
 place_text None = []
 place_text (Some place) = codes " at " ++ decimal place

@@ -1,4 +1,4 @@
--- Which of two texts a refusal is about.
+-- The text that a refusal is about, of two.
 use Rattle.std.specs.Prelude.{◌≡◌, Option, None, Some}
 use Rattle.omega_text.specs.declared.refusal.Refusal.{Refusal}
 use Rattle.omega_text.specs.declared.refusal.Refusal.TheVariants.{Memory}
@@ -10,17 +10,17 @@ use Rattle.omega_io.specs.declared.refused.Which.TheVariants.{File, Input}
 abbrev pub about_none : Refusal → Refused
 about_none refusal = record { refusal = refusal; text = None }
 
--- a refusal of this text; 60 is about no text
+-- a refusal of this text; `Memory` is about no text
 abbrev pub about : Which → Refusal → Refused
 about text Memory = about_none Memory
 about text refusal = record { refusal = refusal; text = Some text }
 
--- the refusal is one of the text that is named, or where none is, one of those that are about no text
+-- the refusal is one of the text that is named, or if none is, one of those that are about no text
 abbrev pub IsAbout : (none file input : Refusal → Type 0) → Option Which → Refusal → Type 0
 IsAbout none file input None refusal = none refusal
 IsAbout none file input (Some File) refusal = file refusal
 IsAbout none file input (Some Input) refusal = input refusal
 
--- one of two texts is refused so, or memory is wanting
+-- one of two texts is refused so, or memory is
 abbrev pub IsRefusedOf : (file input : Refusal → Type 0) → Refused → Type 0
 IsRefusedOf file input refused = IsAbout (λ refusal. refusal ≡ Memory) file input refused.text refused.refusal

@@ -12,8 +12,16 @@ pub enum Exit {
     No,
 }
 
-/// The status with which the program ends after a command: 0 done, 1 most refusals, 3 the budget is used up,
-/// 4 want of memory, 5 a read or a write failed, 6 the answer was no. It is 2 after a fault of the command line.
+/// Returns the status with which the program ends after a command.
+///
+/// - 0: the command is done.
+/// - 1: it is refused, and none of the next three applies.
+/// - 3: [TaskFault::Budget].
+/// - 4: [Refusal::Memory].
+/// - 5: [Refusal::Io].
+/// - 6: its answer is `no`.
+///
+/// After a fault of the command line the status is 2.
 pub fn exit_code(outcome: &Result<Exit, Refusal>) -> u8
     ensures { result ≡ status_of outcome.now }
 {
@@ -24,6 +32,7 @@ pub fn exit_code(outcome: &Result<Exit, Refusal>) -> u8
     }
 }
 
+/// Returns the status after `refusal`.
 fn refusal_status(refusal: Refusal) -> u8
     ensures { result ≡ refusal_status refusal }
 {

@@ -1,29 +1,29 @@
 ghost use Rattle.std.specs.Prelude.{◌≡◌, ℕ, ◌+◌, ◌-◌, ◌^◌, ◌<◌, ◌≤◌, List, Option, length, IfOk, IsOkUnless};
 ghost use Rattle.std.specs.Io.KnownBytes.{ReadConsumes};
-ghost use Rattle.omega_text.specs.declared.refusal.Refusal.TheVariants.{Io};
 ghost use Rattle.omega_io.specs.Failures.{failures_of};
 
 use omega_text::Refusal;
 use std::io::Read;
 
-/// What a command reads from. It is `std`'s reader that also tells how many of its reads failed. Every error is such a
-/// failure, an interrupted call too.
+/// A source that a command reads: a reader of `std` that also counts its failed reads. Every error is such a failure,
+/// an interrupted call too.
 pub trait Input {
-    /// The bytes that reads will give from here on, where they are known.
+    /// The bytes that reads will give from here on, if they are known.
     ghost remaining: { Self → Option (List ℕ) };
 
     /// How many reads failed.
     ghost failed: { Self → ℕ };
 
-    /// Reads some bytes, none only at the end or where there is no room for any. 61.
+    /// Reads some bytes into `into`: none only at the end of the input, or if `into` is empty. Refused with
+    /// [Refusal::Io].
     fn read(&mut self, into: &mut [u8]) -> Result<usize, Refusal>
         requires { failed self.old < 2 ^ 64 - 1 }
         ensures bound { IfOk result (λ count. count ≤ length into.new) }
         ensures bytes { ReadConsumes (remaining self.old) (remaining self.new) result into.new }
         ensures counted { failed self.new ≡ failed self.old + failures_of result }
-        ensures io { IsOkUnless result Io };
+        ensures io { IsOkUnless result Refusal.Io };
 
-    /// How many reads failed so far. Nothing else changes the count.
+    /// Returns how many reads failed so far. Nothing else changes the count.
     fn failures(&self) -> u64
         ensures { result ≡ failed self.now };
 }
@@ -36,7 +36,7 @@ pub struct FromRead<R: Read> {
 }
 
 impl<R: Read> FromRead<R> {
-    /// The reader's bytes as an input of which no read has failed.
+    /// Makes an input of the bytes of `inner`, without a failed read.
     pub fn new(inner: R) -> FromRead<R>
         ensures bytes { ⟦<FromRead<R> as Input>⟧.remaining result ≡ R.remaining inner }
         ensures failures { ⟦<FromRead<R> as Input>⟧.failed result ≡ 0 }

@@ -19,20 +19,20 @@ pub trait InputFiles {
     /// How the file of a name may be refused.
     ghost refuses: { Self → List ℕ → Refusal → Type 0 };
 
-    /// What the file of a name holds, up to its end or to the first byte past the greatest length of a text.
+    /// Reads the file of this `name`, up to its end or to the first byte past the greatest length of a text.
     fn read_file(&self, alloc: Global, name: &str) -> Result<Vec<u8>, Refusal>
         ensures read { IfOk result (λ text. reads self.now name.now text.items) }
         ensures refused { IfErr result (refuses self.now name.now) };
 }
 
-/// The files of the machine. Nothing is known of what they hold.
+/// The files of the machine. Nothing is known of their contents.
 #[derive(Drop)]
 pub struct HostFiles<'r, R: Files> {
     rt: &'r R,
 }
 
 impl<'r, R: Files> HostFiles<'r, R> {
-    /// The files that the machine's runtime opens.
+    /// Makes the files that the machine's runtime `rt` opens.
     pub fn new(rt: &'r R) -> HostFiles<'r, R> {
         HostFiles { rt }
     }
@@ -43,7 +43,8 @@ impl<'r, R: Files> InputFiles for HostFiles<'r, R> {
 
     ghost refuses = { λ _ _ refusal. IsTransferRefusal refusal };
 
-    /// 60, and 61 where the file can't be opened or read.
+    /// Reads a file of the machine. Refused with [Refusal::Memory], or with [Refusal::Io] if the file can't be opened
+    /// or read.
     fn read_file(&self, alloc: Global, name: &str) -> Result<Vec<u8>, Refusal> {
         match File::open(self.rt, name) {
             Ok(file) => read_all(alloc, &mut FromRead::new(file)),
@@ -52,7 +53,7 @@ impl<'r, R: Files> InputFiles for HostFiles<'r, R> {
     }
 }
 
-/// The refusal for a file that can't be opened.
+/// Returns the refusal of a file that can't be opened, by the `kind` of the error.
 fn refusal_of(kind: io::ErrorKind) -> Refusal
     ensures { IsTransferRefusal result }
 {

@@ -1,7 +1,7 @@
-//! What the program reads and writes, with its failures counted, and how it tells how it ended: exit statuses,
-//! the lines of refusals, and which text or file a refusal is about.
+//! Inputs and outputs of the program, with their failures counted, and reports of how it ended: exit statuses, the
+//! lines of refusals, and the text or file that a refusal is about.
 //!
-//! Numbers of refusals are those of `Refusal`; docs/formats.md says when each comes.
+//! docs/formats.md says when each `Refusal` comes.
 #![tactic(auto)]
 
 mod exit;

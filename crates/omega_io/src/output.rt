@@ -1,30 +1,29 @@
 ghost use Rattle.std.specs.Prelude.{◌≡◌, ℕ, ◌+◌, ◌-◌, ◌^◌, ◌<◌, ◌≤◌, List, Option, length, IfOk, IsOkUnless};
 ghost use Rattle.std.specs.Io.KnownBytes.{WriteAppends};
-ghost use Rattle.omega_text.specs.declared.refusal.Refusal.TheVariants.{Io};
 ghost use Rattle.omega_io.specs.Failures.{failures_of};
 
 use omega_text::Refusal;
 use std::io::Write;
 
-/// What a command writes to. It is `std`'s writer that also tells how many of its writes failed. Every error is such a
+/// A sink that a command writes to: a writer of `std` that also counts its failed writes. Every error is such a
 /// failure, and so is a write that takes no byte of a text that is not empty.
 pub trait Output {
-    /// The bytes that the writer holds, where they are known.
+    /// The bytes that the writer holds, if they are known.
     ghost contents: { Self → Option (List ℕ) };
 
     /// How many writes failed.
     ghost failed: { Self → ℕ };
 
-    /// Takes a beginning of the bytes, and at least one where there is one. 61: none is taken.
+    /// Takes a beginning of `from`, at least one byte if it has any. After [Refusal::Io] none is taken.
     fn write(&mut self, from: &[u8]) -> Result<usize, Refusal>
         requires { failed self.old < 2 ^ 64 - 1 }
         ensures bound { IfOk result (λ count. count ≤ length from.now) }
         ensures some { IfOk result (λ count. 0 < length from.now → 0 < count) }
         ensures bytes { WriteAppends (contents self.old) (contents self.new) result from.now }
         ensures counted { failed self.new ≡ failed self.old + failures_of result }
-        ensures io { IsOkUnless result Io };
+        ensures io { IsOkUnless result Refusal.Io };
 
-    /// How many writes failed so far. Nothing else changes the count.
+    /// Returns how many writes failed so far. Nothing else changes the count.
     fn failures(&self) -> u64
         ensures { result ≡ failed self.now };
 }
@@ -37,7 +36,7 @@ pub struct ToWrite<W: Write> {
 }
 
 impl<W: Write> ToWrite<W> {
-    /// The writer as an output to which no write has failed.
+    /// Makes an output of the writer `inner`, without a failed write.
     pub fn new(inner: W) -> ToWrite<W>
         ensures bytes { ⟦<ToWrite<W> as Output>⟧.contents result ≡ W.contents inner }
         ensures failures { ⟦<ToWrite<W> as Output>⟧.failed result ≡ 0 }
@@ -45,7 +44,7 @@ impl<W: Write> ToWrite<W> {
         ToWrite { inner, failures: 0 }
     }
 
-    /// The writer, with what was written to it.
+    /// Returns the writer, with the bytes that were written to it.
     pub fn into_inner(self) -> W
         ensures { W.contents result ≡ ⟦<ToWrite<W> as Output>⟧.contents self }
     {

@@ -1,17 +1,15 @@
 ghost use Rattle.std.specs.Prelude.{◌≡◌, ◌++◌, OnOk, OnErr, IsOkUnless};
 ghost use Rattle.std.specs.Io.{StartsWith};
-ghost use Rattle.omega_text.specs.declared.refusal.Refusal.TheVariants.{Memory};
 ghost use Rattle.omega_io.specs.RefusalLine.{line_of, place_text};
 
 use omega_text::{Refusal, write_number};
 
-/// Appends the line that the program prints for a refusal: its number and name, for 1, 2 and 3 its place,
-/// and for 56 the number of the state.
-/// 60: nothing is appended.
+/// Appends the line that the program prints for `refusal`: its number and name, the place of a `TextFault` that has
+/// one, and the state of [TaskFault::NotDeterministic]. If memory is refused, nothing is appended.
 pub fn refusal_line(refusal: &Refusal, out: &mut Vec<u8>) -> Result<(), Refusal>
     ensures ok { OnOk result (out.new.items ≡ out.old.items ++ line_of refusal.now) }
     ensures err { OnErr result (out.new.items ≡ out.old.items) }
-    ensures memory { IsOkUnless result Memory }
+    ensures memory { IsOkUnless result Refusal.Memory }
 {
     let before = out.len();
     match append_line(*refusal, out) {
@@ -23,10 +21,11 @@ pub fn refusal_line(refusal: &Refusal, out: &mut Vec<u8>) -> Result<(), Refusal>
     }
 }
 
+/// Appends that line, or a beginning of it if memory is refused.
 fn append_line(refusal: Refusal, out: &mut Vec<u8>) -> Result<(), Refusal>
     ensures ok { OnOk result (out.new.items ≡ out.old.items ++ line_of refusal) }
     ensures kept { StartsWith out.new.items out.old.items }
-    ensures memory { IsOkUnless result Memory }
+    ensures memory { IsOkUnless result Refusal.Memory }
 {
     out.extend_from_slice(b"omega: ")?;
     write_number(u128::from(refusal.number()), out)?;
@@ -37,10 +36,11 @@ fn append_line(refusal: Refusal, out: &mut Vec<u8>) -> Result<(), Refusal>
     Ok(())
 }
 
+/// Appends ` at ` and the `place`, if there is one.
 fn append_place(place: Option<usize>, out: &mut Vec<u8>) -> Result<(), Refusal>
     ensures ok { OnOk result (out.new.items ≡ out.old.items ++ place_text place) }
     ensures kept { StartsWith out.new.items out.old.items }
-    ensures memory { IsOkUnless result Memory }
+    ensures memory { IsOkUnless result Refusal.Memory }
 {
     let Some(at) = place else {
         return Ok(());

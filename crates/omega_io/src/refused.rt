@@ -3,7 +3,7 @@ ghost use Rattle.omega_io.specs.Refused.{about, about_none};
 
 use omega_text::Refusal;
 
-/// Which of two texts.
+/// One of two texts.
 #[derive(Clone, Copy, Debug, PartialEq, Eq)]
 pub enum Which {
     /// The text of the file that is named beside the input.
@@ -12,17 +12,17 @@ pub enum Which {
     Input,
 }
 
-/// Why there is no answer to two texts.
+/// The reason why there is no answer to two texts.
 #[derive(Clone, Copy, Debug, PartialEq, Eq)]
 pub struct Refused {
-    /// Of the text, or 60 or 61.
+    /// The refusal of the text, or [Refusal::Memory] or [Refusal::Io].
     pub refusal: Refusal,
-    /// The text that is refused; none for 60 and 61, which are about no text.
+    /// The text that is refused. [Refusal::Memory] and [Refusal::Io] are about no text.
     pub text: Option<Which>,
 }
 
 impl Refused {
-    /// A refusal of this text; 60 is about no text.
+    /// Makes `refusal` one of `text`, unless it is [Refusal::Memory], which is about no text.
     pub fn of(text: Which, refusal: Refusal) -> Refused
         ensures { result ≡ about text refusal }
     {
@@ -39,7 +39,7 @@ impl Refused {
 impl From<Refusal> for Refused {
     ghost from_gives = { λ refusal e. e ≡ about_none refusal };
 
-    /// A refusal that is about no text.
+    /// Makes `refusal` one that is about no text.
     fn from(refusal: Refusal) -> Refused {
         Refused {
             refusal,

@@ -1,11 +1,11 @@
 -- A solution that is accepted is exact, since no node is in the regions of both players.
 use Rattle.std.proofs.Common.{◌≡◌, ◌↔◌, ◌⊎◌, ℕ, ◌<◌, List, length, refl, inl, inr}
-use Rattle.omega_game.specs.declared.player.Player.{Player}
-use Rattle.omega_game.specs.declared.player.Player.TheVariants.{Zero, One}
-use Rattle.omega_game.specs.declared.solution.Solution.{Solution}
-use Rattle.omega_game.specs.Game.{Node, IsGame}
-use Rattle.omega_game.specs.Solution.{IsExactSolution, choices_of, winner_at}
-use Rattle.omega_game.specs.Winning.{InRegion, IsStrategy}
+use Rattle.omega_parity_game.specs.declared.player.Player.{Player}
+use Rattle.omega_parity_game.specs.declared.player.Player.TheVariants.{Zero, One}
+use Rattle.omega_parity_game.specs.declared.solution.Solution.{Solution}
+use Rattle.omega_parity_game.specs.Game.{Node, IsGame}
+use Rattle.omega_parity_game.specs.Solution.{IsExactSolution, choices_of, winner_at}
+use Rattle.omega_parity_game.specs.Winning.{InRegion, IsStrategy}
 use Rattle.omega_region_laws.specs.Laws.{RegionsAreApart}
 use Rattle.omega_judged_search.specs.private.judging.Judging.{ChoosesWhereWon, IsAccepted}
 

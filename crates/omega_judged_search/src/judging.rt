@@ -1,7 +1,7 @@
 //! Judges the suggestion of a search. The checker of strategies judges both players' choices at once, by an order of
 //! the places that the search suggests too. No node is in the regions of both players, so accepted winners are exact.
 ghost use Rattle.std.specs.Prelude.{◌≡◌, ◌<◌, ◌^◌, length, IfOk, IfSome, IsOkUnless, IsTrue};
-ghost use Rattle.omega_game.specs.Solution.{IsExactSolution};
+ghost use Rattle.omega_parity_game.specs.Solution.{IsExactSolution};
 ghost use Rattle.omega_judged_search.specs.private.judging.Judging.{ChoosesWhereWon, IsAccepted};
 
 use omega_game::{Game, Player, Refusal, Seq, Solution, Strategy, check_solution_by_order};

@@ -1,5 +1,5 @@
 ghost use Rattle.std.specs.Prelude.{IfOk, IfSome, IsOkUnless};
-ghost use Rattle.omega_game.specs.Solution.{IsExactSolution};
+ghost use Rattle.omega_parity_game.specs.Solution.{IsExactSolution};
 
 use crate::judging::judged;
 use omega_game::{Game, Refusal, Solution};

@@ -1,4 +1,4 @@
--- What `complement` answers for the text of one automaton: the canonical text of its complement; and its refusals.
+-- The answer of `complement` for the text of one automaton: the canonical text of its complement; and its refusals.
 use Rattle.std.specs.Prelude.{◌≡◌, ◌⊎◌, List, ℕ}
 use Rattle.omega_text.specs.declared.refusal.Refusal.{Refusal}
 use Rattle.omega_automaton.specs.Automaton.{Description}
@@ -7,8 +7,8 @@ use Rattle.omega_complement.specs.Complement.{HasComplement, IsComplement}
 use Rattle.omega_complement.specs.Refusing.{IsUncomplemented}
 use Rattle.omega_hoa.specs.Alone.{IsAutomatonRefusal, IsAutomatonText}
 
--- what `complement` answers: the text stands for a deterministic automaton, and the canonical text of its complement is
--- written
+-- the answer of `complement`: the text is that of a deterministic automaton, and the canonical text of its complement
+-- is written
 pub record IsComplementAnswer (text output : List ℕ) : Type 0 where
   pub automaton : Description
   pub read : IsAutomatonText text automaton
@@ -17,7 +17,7 @@ pub record IsComplementAnswer (text output : List ℕ) : Type 0 where
   pub right : IsComplement automaton complement
   pub written : output ≡ canonical_automaton complement
 
--- the text stands for an automaton of which no complement is made: 41, 42, 55 or 56
+-- the text is that of an automaton whose complement is refused
 pub record RefusesComplement (text : List ℕ) (refusal : Refusal) : Type 0 where
   pub automaton : Description
   pub read : IsAutomatonText text automaton

@@ -1,4 +1,4 @@
--- What `meet` answers for the texts of two automata, that of a file and that of the input.
+-- The answer of `meet` for the texts of two automata, that of a file and that of the input.
 use Rattle.std.specs.Prelude.{◌≡◌, ◌⊎◌, ℕ, List}
 use Rattle.omega_text.specs.declared.refusal.Refusal.{Refusal}
 use Rattle.omega_text.specs.declared.refusal.Refusal.TheVariants.{Memory}
@@ -9,8 +9,8 @@ use Rattle.omega_product.specs.Limits.{IsWithin}
 use Rattle.omega_product.specs.Product.{IsProduct}
 use Rattle.omega_product.specs.Refusing.{HaveNoBranch, IsProductRefusal}
 
--- what `meet` answers: both texts stand for automata without universal branching, and the canonical text of their
--- product is written, that of the input before that of the file
+-- the answer of `meet`: both texts are those of automata without universal branching, and the canonical text of their
+-- product is written, the automaton of the input first
 pub record IsMeetAnswer (file input output : List ℕ) : Type 0 where
   pub second : Description
   pub second_read : IsAutomatonText file second
@@ -22,13 +22,13 @@ pub record IsMeetAnswer (file input output : List ℕ) : Type 0 where
   pub within : IsWithin product
   pub written : output ≡ canonical_automaton product
 
--- the text of the file stands for an automaton, and that of the input is refused
+-- the text of the file is that of an automaton, and the text of the input is refused
 pub record IsTextRefused (file input : List ℕ) (refusal : Refusal) : Type 0 where
   pub second : Description
   pub second_read : IsAutomatonText file second
   pub refused : IsAutomatonRefusal input refusal
 
--- both texts stand for automata, whose product is refused: 41, 42 or 55
+-- both texts are those of automata, and their product is refused
 pub record IsProductRefused (file input : List ℕ) (refusal : Refusal) : Type 0 where
   pub second : Description
   pub second_read : IsAutomatonText file second
@@ -38,7 +38,8 @@ pub record IsProductRefused (file input : List ℕ) (refusal : Refusal) : Type 0
 
 -- the refusal of `meet`: that of the file's text, or else that of the input's, or else that of the product
 abbrev pub IsMeetRefusal : List ℕ → List ℕ → Refusal → Type 0
-IsMeetRefusal file input refusal = (IsAutomatonRefusal file refusal ⊎ IsTextRefused file input refusal) ⊎ IsProductRefused file input refusal
+IsMeetRefusal file input refusal =
+    (IsAutomatonRefusal file refusal ⊎ IsTextRefused file input refusal) ⊎ IsProductRefused file input refusal
 
 -- no text is at fault: want of memory, or the refusal of the product
 abbrev pub IsOfNoText : List ℕ → List ℕ → Refusal → Type 0

@@ -1,4 +1,4 @@
--- What `verify` answers for the text of an automaton, which a file has, and that of a lasso, which the input has.
+-- The answer of `verify` for the text of an automaton, that of a file, and the text of a lasso, that of the input.
 use Rattle.std.specs.Prelude.{◌≡◌, ◌⊎◌, ◌++◌, ℕ, Bool, true, false, List, codes}
 use Rattle.omega_text.specs.declared.refusal.Refusal.{Refusal}
 use Rattle.omega_automaton.specs.Automaton.{Description}
@@ -14,13 +14,13 @@ use Rattle.omega_lasso_text.specs.Refusing.{IsLassoRefusal}
 use Rattle.omega_lasso_text.specs.Text.{IsLassoText}
 use Rattle.omega_lasso_text.specs.declared.lasso.LassoText.{LassoText}
 
--- `no`, and where that is asked for, a line that says the fault
+-- `no`, and with `explain` a line that says the fault
 abbrev pub no_text : Bool → LassoFault → List ℕ
 no_text false fault = codes "no\n"
 no_text true fault = codes "no\n" ++ (fault_text fault ++ codes "\n")
 
--- `yes` where the lasso is an accepting one of the automaton, else `no`, with an exit of its own; this is explained by
--- its first fault where that is asked for
+-- `yes` if the lasso is an accepting one of the automaton, else `no`, with an exit of its own; with `explain` the first
+-- fault explains the `no`
 abbrev pub IsLassoVerdict : Description → LassoText → Bool → Exit → List ℕ → Type 0
 IsLassoVerdict automaton lasso explain Done output =
     IsAcceptingLasso automaton lasso.stem lasso.cycle × (output ≡ codes "yes\n")
@@ -28,7 +28,7 @@ IsLassoVerdict automaton lasso explain No output =
     (¬ IsAcceptingLasso automaton lasso.stem lasso.cycle)
     × ((fault : LassoFault) × IsLassoFault automaton lasso.stem lasso.cycle fault × (output ≡ no_text explain fault))
 
--- what `verify` answers: the texts stand for an automaton and for a lasso, and the verdict is written
+-- the answer of `verify`: the texts are those of an automaton and of a lasso, and the verdict is written
 pub record IsLassoAnswer (file input : List ℕ) (explain : Bool) (exit : Exit) (output : List ℕ) : Type 0 where
   pub automaton : Description
   pub automaton_read : IsAutomatonText file automaton
@@ -36,7 +36,7 @@ pub record IsLassoAnswer (file input : List ℕ) (explain : Bool) (exit : Exit) 
   pub read : IsLassoText input lasso
   pub verdict : IsLassoVerdict automaton lasso explain exit output
 
--- the texts stand for an automaton and a lasso, and the automaton is refused by the referee
+-- the texts are those of an automaton and of a lasso, and the referee refuses the automaton
 pub record RefusesJudging (file input : List ℕ) (refusal : Refusal) : Type 0 where
   pub automaton : Description
   pub automaton_read : IsAutomatonText file automaton
@@ -44,11 +44,11 @@ pub record RefusesJudging (file input : List ℕ) (refusal : Refusal) : Type 0 w
   pub read : IsLassoText input lasso
   pub refused : RefusesToJudge automaton lasso.stem lasso.cycle refusal
 
--- the automaton's text is refused, or its automaton as that of a lasso that is to be judged
+-- the refusal about the file: that of its text, or else that of its automaton by the referee
 abbrev pub RefusesAutomaton : (file input : List ℕ) → Refusal → Type 0
 RefusesAutomaton file input refusal = IsAutomatonRefusal file refusal ⊎ RefusesJudging file input refusal
 
--- the file's text stands for an automaton, and the input's is refused as that of a lasso
+-- the refusal about the input: the text of the file is that of an automaton, and the text of the input is no lasso's
 pub record RefusesLasso (file input : List ℕ) (refusal : Refusal) : Type 0 where
   pub automaton : Description
   pub automaton_read : IsAutomatonText file automaton

@@ -1,2 +1,2 @@
--- What only private contracts cite.
+-- What private contracts alone cite.
 pub mod Met

@@ -11,8 +11,12 @@ use omega_hoa::read_one;
 use omega_text::Refusal;
 use std::alloc::Global;
 
-/// The canonical text of the complement of the automaton that a text stands for. 1 to 4, 20 to 33, then 41, then 42, 55
-/// or 56 as `complement` orders them, or 60. The cost is that of `complement`, and linear in both texts.
+/// Returns the canonical text of the complement of the automaton of `text`. The cost is that of `complement`, and
+/// linear in both texts.
+///
+/// Fails with the [Refusal::Text] or [Refusal::Automaton] of the text, or else with [TaskFault::UniversalBranch], or
+/// else with the first of [TaskFault::TooManyPropositions], [TaskFault::TooLarge] and [TaskFault::NotDeterministic]
+/// that `complement` meets.
 pub fn complement_text(alloc: Global, text: &[u8]) -> Result<Vec<u8>, Refusal>
     ensures answer { IfOk result (λ output. IsComplementAnswer text.now output.items) }
     ensures refused { IfErr result (or_memory (IsComplementRefusal text.now)) }
@@ -22,7 +26,7 @@ pub fn complement_text(alloc: Global, text: &[u8]) -> Result<Vec<u8>, Refusal>
     canonical(alloc, &turned)
 }
 
-/// The complement of an automaton, which is dropped. 41, 42, 55, 56 or 60.
+/// Returns the complement of `automaton`, which is dropped. Fails as `complement` does.
 fn complemented(alloc: Global, automaton: Automaton) -> Result<Automaton, Refusal>
     ensures complement { IfOk result (IsComplement automaton) }
     ensures given { OnOk result (HasComplement automaton) }

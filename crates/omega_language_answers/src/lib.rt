@@ -1,6 +1,6 @@
 //! What `meet`, `complement` and `verify --automaton` answer.
 //!
-//! Numbers of refusals are those of `Refusal`; docs/formats.md says when each comes.
+//! docs/formats.md says when each refusal comes.
 #![tactic(auto)]
 
 mod complement;

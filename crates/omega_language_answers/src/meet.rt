@@ -12,9 +12,11 @@ use omega_io::{Refused, Which};
 use omega_product::product;
 use std::alloc::Global;
 
-/// Returns the canonical text of the product of the automaton that `input` stands for and of that of `file`, in this
-/// order; the text of `file` is judged first. It is refused for `file`, or else for `input`, or else for the product,
-/// which is about neither: 1 to 4, 20 to 33, 41, 42, 55 or 60.
+/// Returns the canonical text of the product of the automaton of `input` and that of `file`, in this order.
+///
+/// Fails with the [Refusal::Text] or [Refusal::Automaton] of `file`, or else with that of `input`. Or else fails with
+/// the refusal of the product, which is about neither text: [TaskFault::UniversalBranch],
+/// [TaskFault::TooManyPropositions] or [TaskFault::TooLarge].
 pub fn meet_texts(alloc: Global, file: &[u8], input: &[u8]) -> Result<Vec<u8>, Refused>
     ensures answer { IfOk result (λ output. IsMeetAnswer file.now input.now output.items) }
     ensures refused { IfErr result (λ refused. IsAbout (IsOfNoText file.now input.now)
@@ -34,7 +36,7 @@ pub fn meet_texts(alloc: Global, file: &[u8], input: &[u8]) -> Result<Vec<u8>, R
     }
 }
 
-/// Returns the canonical text of the product of two automata, or 41, 42, 55 or 60.
+/// Returns the canonical text of the product of `first` and `second`. Fails as `product` does.
 fn met(alloc: Global, first: &Automaton, second: &Automaton) -> Result<Vec<u8>, Refusal>
     ensures met { IfOk result (λ output. IsMet first.now second.now output.items) }
     ensures refused { IfErr result (IsProductRefusal first.now second.now) }

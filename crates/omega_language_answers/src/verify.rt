@@ -15,12 +15,13 @@ use omega_lasso_judge::{LassoFault, judge_lasso, write_lasso_fault};
 use omega_lasso_text::{LassoText, read_lasso};
 use std::alloc::Global;
 
-/// Says whether the lasso that `input` stands for, by the numbers of its edges, is an accepting lasso of the automaton
-/// of `file`, without a search for one; if it is not, also why, if `explain` asks for that. Both texts are dropped once
-/// they are read.
+/// Judges whether the lasso of `input`, given by the numbers of its edges, is an accepting lasso of the automaton of
+/// `file`, without a search for one. If it is not and `explain` is set, the answer also says why. Both texts are
+/// dropped once they are read.
 ///
-/// It is refused for the text of `file`, or else for that of `input`, or else, with 41 or 42, for the automaton, which
-/// is about `file` too: 1 to 4, 20 to 33, 41, 42 or 60.
+/// Fails with the [Refusal::Text] or [Refusal::Automaton] of `file`, or else with the [Refusal::Text] of `input`. Or
+/// else fails with [TaskFault::UniversalBranch] or [TaskFault::TooManyPropositions] of the automaton, which is about
+/// `file` too.
 pub fn verify_lasso(
     alloc: Global,
     file: Vec<u8>,
@@ -45,7 +46,7 @@ pub fn verify_lasso(
     }
 }
 
-/// The automaton of a text, which is dropped.
+/// Reads the automaton of `text`, which is dropped.
 fn automaton_in(alloc: Global, text: Vec<u8>) -> Result<Automaton, Refusal>
     ensures automaton { IfOk result (IsAutomatonText text.items) }
     ensures refused { IfErr result (or_memory (IsAutomatonRefusal text.items)) }
@@ -53,7 +54,7 @@ fn automaton_in(alloc: Global, text: Vec<u8>) -> Result<Automaton, Refusal>
     read_one(alloc, text.as_slice())
 }
 
-/// The lasso of a text, which is dropped.
+/// Reads the lasso of `text`, which is dropped.
 fn lasso_in(alloc: Global, text: Vec<u8>) -> Result<LassoText, Refusal>
     ensures lasso { IfOk result (IsLassoText text.items) }
     ensures refused { IfErr result (IsReadLassoRefusal text.items) }
@@ -61,7 +62,8 @@ fn lasso_in(alloc: Global, text: Vec<u8>) -> Result<LassoText, Refusal>
     read_lasso(alloc, text.as_slice())
 }
 
-/// The verdict on a lasso of an automaton. 41, 42 or 60.
+/// Returns the verdict on `lasso` as one of `automaton`, with the fault of the lasso if `explain` is set. Fails with
+/// [TaskFault::UniversalBranch] or [TaskFault::TooManyPropositions].
 fn verdict_on(
     alloc: Global,
     automaton: &Automaton,
@@ -82,7 +84,7 @@ fn verdict_on(
     }
 }
 
-/// `no`, with the fault on a line of its own, if that is asked for. 60 alone.
+/// Returns `no`, with `fault` on a line of its own if `explain` is set.
 fn no_text(alloc: Global, fault: LassoFault, explain: bool) -> Result<Vec<u8>, Refusal>
     ensures text { IfOk result (λ text. text.items ≡ no_text explain fault) }
     ensures memory { IsOkUnless result Refusal.Memory }

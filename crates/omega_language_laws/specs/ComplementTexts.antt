@@ -1,4 +1,4 @@
--- What holds of the canonical texts of complements.
+-- The law of the canonical texts of complements.
 use Rattle.std.specs.Prelude.{◌≤◌, length}
 use Rattle.omega_text.specs.Limits.{most_text}
 use Rattle.omega_automaton.specs.Automaton.{Description}
@@ -7,8 +7,8 @@ use Rattle.omega_complement.specs.Complement.{HasComplement, IsComplement}
 use Rattle.omega_hoa.specs.Alone.{IsAutomatonText}
 use Rattle.omega_round_trips.specs.Laws.{WasRead}
 
--- the canonical text of the complement of an automaton that was read is, within the limit of texts, the text of that
--- complement
+-- the canonical text of the complement of an automaton that was read is the text of that complement, if it is within
+-- the limit of texts
 abbrev pub ComplementsAreReadBack : Type 0
 ComplementsAreReadBack =
     (a complement : Description) → WasRead a → HasComplement a → IsComplement a complement

@@ -1,5 +1,5 @@
--- That a deterministic automaton and its complement part the words: each word is accepted by one of them, and by one
--- alone (HOA v1, acceptance).
+-- A deterministic automaton and its complement partition the words: each word is accepted by exactly one of them (HOA
+-- v1, acceptance).
 use Rattle.std.specs.Prelude.{◌≡◌, ◌⊎◌, ℕ, ◌≤◌, Bool, false, IsTrue, Some}
 use Rattle.omega_text.specs.declared.refusal.automaton.AutomatonFault.{AutomatonFault}
 use Rattle.omega_text.specs.declared.refusal.automaton.AutomatonFault.TheVariants.{Expansion, TooDeep}
@@ -16,24 +16,25 @@ ComplementsAreApart =
     (a complement : Description) (word : ℕ → ℕ → Bool) → IsAutomaton a → IsDeterministic a → IsComplement a complement
     → IsAccepted a word → IsAccepted complement word → ⊥
 
--- a test passes for ever, or at last no more
+-- a test of numbers passes infinitely often, or from some number on no more
 abbrev pub RecursOrCeases : (ℕ → Bool) → Type 0
-RecursOrCeases test = ((i : ℕ) → (j : ℕ) × (i ≤ j) × IsTrue (test j)) ⊎ ((from : ℕ) × ((j : ℕ) → from ≤ j → test j ≡ false))
+RecursOrCeases test =
+    ((i : ℕ) → (j : ℕ) × (i ≤ j) × IsTrue (test j)) ⊎ ((from : ℕ) × ((j : ℕ) → from ≤ j → test j ≡ false))
 
--- where each test is settled, as it is by the excluded middle, each word is accepted by a deterministic automaton or by
--- its complement
+-- if each test recurs or ceases, as it does by the excluded middle, each word is accepted by a deterministic automaton
+-- or by its complement
 abbrev pub ComplementsCover : Type 0
 ComplementsCover =
     ((test : ℕ → Bool) → RecursOrCeases test)
     → (a complement : Description) (word : ℕ → ℕ → Bool) → IsAutomaton a → IsDeterministic a → IsComplement a complement
     → IsAccepted a word ⊎ IsAccepted complement word
 
--- what is written of the complement of an automaton within the limits has no fault but 32 and 33
+-- the written complement of an automaton within the limits has no other fault than `TooDeep` and `Expansion`
 abbrev pub ComplementsAreWritable : Type 0
 ComplementsAreWritable =
-    (a : Description) (raw : RawAutomaton) (fault : AutomatonFault) → IsAutomaton a → IsDeterministic a → IsWrittenComplement a raw
-    → automaton_fault_of raw ≡ Some fault → (fault ≡ TooDeep) ⊎ (fault ≡ Expansion)
+    (a : Description) (raw : RawAutomaton) (fault : AutomatonFault) → IsAutomaton a → IsDeterministic a
+    → IsWrittenComplement a raw → automaton_fault_of raw ≡ Some fault → (fault ≡ TooDeep) ⊎ (fault ≡ Expansion)
 
--- an automaton has one complement
+-- an automaton has at most one complement
 abbrev pub ComplementsAreOne : Type 0
 ComplementsAreOne = (a one other : Description) → IsComplement a one → IsComplement a other → one ≡ other

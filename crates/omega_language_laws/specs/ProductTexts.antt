@@ -1,4 +1,4 @@
--- What holds of the canonical texts of products.
+-- The law of the canonical texts of products.
 use Rattle.std.specs.Prelude.{◌≤◌, length}
 use Rattle.omega_text.specs.Limits.{most_text}
 use Rattle.omega_automaton.specs.Automaton.{Description}
@@ -8,8 +8,8 @@ use Rattle.omega_product.specs.Limits.{IsWithin}
 use Rattle.omega_product.specs.Written.{IsWritten}
 use Rattle.omega_round_trips.specs.Laws.{WasRead}
 
--- the canonical text of the product of two automata that were read is, within the limit of texts, the text of that
--- product
+-- the canonical text of the product of two automata that were read is the text of that product, if it is within the
+-- limit of texts
 abbrev pub ProductsAreReadBack : Type 0
 ProductsAreReadBack =
     (one other a : Description) → WasRead one → WasRead other → IsWritten one other a → IsWithin a

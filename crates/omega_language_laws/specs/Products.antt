@@ -1,17 +1,17 @@
--- What holds of products, in the words of runs and words.
+-- The law of products: which words they accept.
 use Rattle.std.specs.Prelude.{◌≡◌, ◌↔◌, ℕ, Bool, false}
 use Rattle.omega_automaton.specs.Automaton.{Description, IsAutomaton}
 use Rattle.omega_automaton.specs.Branching.{has_universal_branching}
 use Rattle.omega_runs.specs.Words.{IsAccepted}
 use Rattle.omega_product.specs.Joining.{part_of_word}
-use Rattle.omega_product.specs.Pairs.{first_standing, second_standing}
+use Rattle.omega_product.specs.Pairs.{first_view, second_view}
 use Rattle.omega_product.specs.Product.{IsProduct}
 
--- the product of two automata without universal branching accepts a word over the names of both exactly if each accepts
--- its part of the word
+-- the product of two automata without universal branching accepts a word over the propositions of both exactly if each
+-- accepts its part of the word
 abbrev pub ProductsMeet : Type 0
 ProductsMeet =
     (one other a : Description) (word : ℕ → ℕ → Bool) → IsAutomaton one → IsAutomaton other
     → has_universal_branching one ≡ false → has_universal_branching other ≡ false → IsProduct one other a
-    → IsAccepted a word ↔ (IsAccepted one (part_of_word (first_standing one other).places word)
-    × IsAccepted other (part_of_word (second_standing one other).places word))
+    → IsAccepted a word ↔ (IsAccepted one (part_of_word (first_view one other).places word)
+    × IsAccepted other (part_of_word (second_view one other).places word))

@@ -15,8 +15,8 @@ use omega_text::hoa::laws::{
 };
 use omega_text::laws::cuts_join;
 
-/// The canonical text of the complement of an automaton that was read is, within the limit of texts, the text of that
-/// complement.
+/// Shows that the canonical text of the complement of an automaton that was read is the text of that complement, if it
+/// is within the limit of texts.
 pub fn complements_are_read_back()
     ensures { ComplementsAreReadBack }
 {

@@ -15,8 +15,8 @@ use omega_text::hoa::laws::{
 };
 use omega_text::laws::cuts_join;
 
-/// The canonical text of the product of two automata that were read is, within the limit of texts, the text of that
-/// product.
+/// Shows that the canonical text of the product of two automata that were read is the text of that product, if it is
+/// within the limit of texts.
 pub fn products_are_read_back()
     ensures { ProductsAreReadBack }
 {

@@ -8,7 +8,7 @@ use Rattle.omega_automaton.specs.Automaton.{BodyEdge, Description, edge_at}
 use Rattle.omega_runs.specs.Lasso.{IsLasso, IsStart, IsStep, IsUsable, Leads}
 use Rattle.omega_lasso_judge.specs.Conditions.{AreLinked, FollowsEdge, IsLassoWalk, IsUsableNumber, LeavesStart, once_round}
 
--- what holds of all of some items and others
+-- what holds of all items of two lists
 pub all_front : (P : ℕ → Type 0) (xs ys : List ℕ) → All P (xs ++ ys) → All P xs
 all_front P [] ys all = All-nil P
 all_front P (x ∷ xs) ys all = All-cons P x xs (All-head P x (xs ++ ys) all) (all_front P xs ys (All-tail P x (xs ++ ys) all))
@@ -32,7 +32,7 @@ first_round [] (first ∷ cycle) longer = refl
 first_round (number ∷ stem) cycle longer = refl
 
 module _ (a : Description) where
-  -- the state that an edge leaves, 0 where there is no edge
+  -- the state that an edge leaves, or 0 if there is no edge
   abbrev pub left_state : ℕ → ℕ
   left_state number = unwrap_or (option_map (λ edge. edge.source.number) (edge_at a number)) 0
 

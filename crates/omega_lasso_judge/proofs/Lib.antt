@@ -1,4 +1,4 @@
--- Lemmas of the referee: how far marks go on, what accepts, what connected edges are, faults, and verdicts.
+-- Lemmas of the referee: runs of marks, what accepts, what connected edges are, faults, and verdicts.
 pub mod Marking
 pub mod Connecting
 pub mod Excluding

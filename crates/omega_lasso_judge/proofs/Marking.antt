@@ -1,11 +1,11 @@
--- How far rows of marks have a mark, and which formulas then hold of them.
+-- Runs of marks in rows, and which formulas then hold of the rows.
 use Rattle.std.proofs.Common.{◌≡◌, ℕ, suc, ◌+◌, ◌<◌, ◌⊎◌, inl, inr, Bool, true, false, not, ◌||◌, cond, eqb, List, [], ◌∷◌, ◌++◌, length, take, get_or, map, Option, Some, None, refl, sym, ap, subst, ◌∙◌, arith, append_assoc}
 use Rattle.std.specs.List.{list_any, prefix_len}
 use Rattle.std.specs.Prelude.{option_map}
 use Rattle.std.specs.Option.{is_some, unwrap_or}
 use Rattle.std.proofs.lemmas.Bool.{cases_Bool, cases_eq, eq-eqb, ne_eqb, eqb-true, false≢true, or_right}
 use Rattle.std.proofs.lemmas.List.{map_more, take_more}
-use Rattle.omega_acc.specs.formula.Acceptance.{AccTree, accepts, conjunction, constant, disjunction, fin, holds, inf, occurs}
+use Rattle.omega_formula.specs.Acceptance.{AccTree, accepts, conjunction, constant, disjunction, fin, holds, inf, occurs}
 use Rattle.omega_automaton.specs.Automaton.{BodyEdge, Description, edge_at}
 use Rattle.omega_runs.specs.Lasso.{marks_at, marks_of}
 use Rattle.omega_lasso_judge.specs.private.Runs.{AreRuns, GoesOn, holds_by, longer_run, occurs_by, run_in}
@@ -94,7 +94,7 @@ module _ (mark : ℕ) (r s : List ℕ) (same : holds mark r ≡ holds mark s) wh
       ap (λ b. cond b (Some (prefix_len (holds mark) (rows ++ r ∷ []))) None) (any_same rows)
       ∙ ap (λ (n : ℕ). cond (list_any (holds mark) (rows ++ s ∷ [])) (Some n) None) (prefix_same rows)
 
--- what is not met has no run
+-- a mark in no row has no run
 pub run_or_none : (rows : List (List ℕ)) (mark : ℕ) → unwrap_or (run_in rows mark) 0 ≡ prefix_len (holds mark) rows
 run_or_none rows mark = go (cases_Bool (list_any (holds mark) rows))
   where

@@ -3,7 +3,7 @@ use Rattle.std.proofs.Common.{◌≡◌, ◌++◌, ◌↔◌, ℕ, Bool, true, f
 use Rattle.std.specs.Prelude.{IfNone, IsNone}
 use Rattle.std.proofs.lemmas.Bool.{false≢true}
 use Rattle.std.proofs.lemmas.Option.{MatchOption-at_none}
-use Rattle.omega_acc.specs.formula.Acceptance.{accepts}
+use Rattle.omega_formula.specs.Acceptance.{accepts}
 use Rattle.omega_automaton.specs.Automaton.{Description}
 use Rattle.omega_runs.specs.Lasso.{IsAcceptingLasso, marks_at}
 use Rattle.omega_lasso_judge.specs.Conditions.{IsLassoWalk, IsNumber, IsUsableNumber}
@@ -13,7 +13,7 @@ use Rattle.omega_lasso_judge.specs.private.Judged.{IsRefereed}
 use Rattle.omega_lasso_judge.proofs.Connecting.{all_after, lasso_of}
 use Rattle.omega_lasso_judge.proofs.Excluding.{not_accepting}
 
--- where there is none
+-- if there is no fault
 pub at_none : {X : Type 0} (found : Option X) (P : Type 0) → found ≡ None → IfNone found P → P
 at_none {X} found P is holds = MatchOption-at_none P (λ (x : X). Unit {0}) is holds
 
@@ -32,7 +32,7 @@ module _ (a : Description) (stem cycle : List ℕ) where
   judged_rejecting found is connected usable accepted means fails =
       subst (IsRefereed a stem cycle) (sym is) (lasso_of a stem cycle connected usable, sym means ∙ fails)
 
-  -- there is no fault exactly where the lasso accepts
+  -- there is no fault exactly if the lasso accepts
   pub none_exactly : (found : Option LassoFault) → IsRefereed a stem cycle found → IsNone found ↔ IsAcceptingLasso a stem cycle
   none_exactly None judged = (λ none. judged, λ accepting. refl)
   none_exactly (Some fault) judged =

@@ -1,10 +1,11 @@
--- What makes a lasso, given by numbers of edges, one of an automaton, condition by condition (HOA v1, section 3;
+-- The conditions by which a lasso, given by numbers of edges, is one of an automaton (HOA v1, section 3;
 -- docs/formats.md, automata).
-use Rattle.std.specs.Prelude.{◌≡◌, ℕ, ◌+◌, ◌<◌, List, [], ◌∷◌, ◌++◌, length, take, All, Some, slice_index}
+use Rattle.std.specs.Prelude.{◌≡◌, ℕ, ◌+◌, ◌<◌, Bool, List, [], ◌∷◌, ◌++◌, length, map, take, All, Some, slice_index}
+use Rattle.omega_formula.specs.Acceptance.{accepts}
 use Rattle.omega_automaton.specs.Automaton.{BodyEdge, Description, edge_at, edge_count}
-use Rattle.omega_runs.specs.Lasso.{IsStart, IsUsable}
+use Rattle.omega_runs.specs.Lasso.{IsStart, IsUsable, marks_at}
 
--- a number of a list stops, and each number in front of it passes
+-- `number` is in the list and stops, and each number before it passes
 pub record IsFirst (passes stops : ℕ → Type 0) (numbers : List ℕ) (number : ℕ) : Type 0 where
   pub place : ℕ
   pub within : place < length numbers
@@ -12,7 +13,7 @@ pub record IsFirst (passes stops : ℕ → Type 0) (numbers : List ℕ) (number 
   pub before : (earlier : ℕ) → earlier < place → passes (slice_index numbers earlier)
   pub stops_here : stops number
 
--- a number is the first of a list that fails a condition
+-- `number` is the first in the list that fails the condition
 abbrev pub FailsFirst : (ℕ → Type 0) → List ℕ → ℕ → Type 0
 FailsFirst condition numbers number = IsFirst condition (λ other. ¬ condition other) numbers number
 
@@ -32,7 +33,7 @@ pub record LeavesStart (a : Description) (number : ℕ) : Type 0 where
   pub numbered : edge_at a number ≡ Some edge
   pub starts : IsStart a edge.source.number
 
--- an edge follows another: it leaves the state that the other one enters
+-- the edge `number` follows the edge `before`: it leaves the one state that `before` enters
 pub record FollowsEdge (a : Description) (before number : ℕ) : Type 0 where
   pub entering : BodyEdge
   pub numbered_before : edge_at a before ≡ Some entering
@@ -42,9 +43,10 @@ pub record FollowsEdge (a : Description) (before number : ℕ) : Type 0 where
 
 -- each edge but the first follows the one before it
 abbrev pub AreLinked : Description → List ℕ → Type 0
-AreLinked a numbers = (k : ℕ) → k + 1 < length numbers → FollowsEdge a (slice_index numbers k) (slice_index numbers (k + 1))
+AreLinked a numbers =
+    (k : ℕ) → k + 1 < length numbers → FollowsEdge a (slice_index numbers k) (slice_index numbers (k + 1))
 
--- an edge is the first that does not follow the one before it
+-- `number` is the first edge in the list that does not follow the one before it
 pub record IsFirstApart (a : Description) (numbers : List ℕ) (number : ℕ) : Type 0 where
   pub before : ℕ
   pub within : before + 1 < length numbers
@@ -52,21 +54,25 @@ pub record IsFirstApart (a : Description) (numbers : List ℕ) (number : ℕ) : 
   pub linked : (k : ℕ) → k < before → FollowsEdge a (slice_index numbers k) (slice_index numbers (k + 1))
   pub apart : ¬ FollowsEdge a (slice_index numbers before) number
 
--- the edges of a lasso, and after the last one the first of the cycle again, to which it returns
+-- the edges of a lasso, and then the first of the cycle again, to which it returns
 abbrev pub once_round : List ℕ → List ℕ → List ℕ
 once_round stem cycle = stem ++ (cycle ++ take 1 cycle)
 
--- the cycle has an edge, and each number is that of an edge
+-- the cycle has an edge, and each number is an edge's
 pub record HasEdges (a : Description) (stem cycle : List ℕ) : Type 0 where
   pub longer : 0 < length cycle
   pub numbered : All (IsNumber a) (stem ++ cycle)
 
--- and the first edge leaves a start
+-- these are edges, and the first one leaves a start
 pub record IsBegun (a : Description) (stem cycle : List ℕ) : Type 0 where
   pub edges : HasEdges a stem cycle
   pub begins : LeavesStart a (slice_index (stem ++ cycle) 0)
 
--- and each edge follows the one before it, the first of the cycle also the last
+-- the edges begin at a start, and each follows the one before it, as the first of the cycle follows the last
 pub record IsLassoWalk (a : Description) (stem cycle : List ℕ) : Type 0 where
   pub begun : IsBegun a stem cycle
   pub linked : AreLinked a (once_round stem cycle)
+
+-- whether the acceptance formula holds of the marks of the cycle's edges
+abbrev pub cycle_accepts : Description → List ℕ → Bool
+cycle_accepts a cycle = accepts (map (marks_at a) cycle) a.acceptance

@@ -1,13 +1,12 @@
--- Which fault a lasso has, given by numbers of edges: the first of a list.
-use Rattle.std.specs.Prelude.{◌≡◌, ℕ, ◌<◌, ◌++◌, [], false, List, length, map, slice_index}
-use Rattle.omega_acc.specs.formula.Acceptance.{accepts}
+-- Which fault a lasso, given by numbers of edges, has: the first that applies, in the order of `LassoFault`.
+use Rattle.std.specs.Prelude.{◌≡◌, ℕ, ◌<◌, ◌++◌, [], false, List, length, slice_index}
 use Rattle.omega_automaton.specs.Automaton.{Description}
-use Rattle.omega_runs.specs.Lasso.{IsLasso, marks_at}
-use Rattle.omega_lasso_judge.specs.Conditions.{FailsFirst, HasEdges, IsBegun, IsFirstApart, IsLassoWalk, IsNumber, IsUsableNumber, LeavesStart, once_round}
+use Rattle.omega_runs.specs.Lasso.{IsLasso}
+use Rattle.omega_lasso_judge.specs.Conditions.{FailsFirst, HasEdges, IsBegun, IsFirstApart, IsLassoWalk, IsNumber, IsUsableNumber, LeavesStart, cycle_accepts, once_round}
 use Rattle.omega_lasso_judge.specs.declared.fault.LassoFault.{LassoFault}
 use Rattle.omega_lasso_judge.specs.declared.fault.LassoFault.TheVariants.{Apart, NeverTrue, NoCycle, NoStart, NotAccepted, NotThere}
 
--- the fault applies, and none before it in the list does
+-- the fault applies, and none before it in that order does
 abbrev pub IsLassoFault : Description → (stem cycle : List ℕ) → LassoFault → Type 0
 IsLassoFault a stem cycle NoCycle = cycle ≡ []
 IsLassoFault a stem cycle (NotThere number) = (0 < length cycle) × FailsFirst (IsNumber a) (stem ++ cycle) number
@@ -16,4 +15,4 @@ IsLassoFault a stem cycle (NoStart number) =
 IsLassoFault a stem cycle (Apart number) = IsBegun a stem cycle × IsFirstApart a (once_round stem cycle) number
 IsLassoFault a stem cycle (NeverTrue number) =
     IsLassoWalk a stem cycle × FailsFirst (IsUsableNumber a) (stem ++ cycle) number
-IsLassoFault a stem cycle NotAccepted = IsLasso a stem cycle × (accepts (map (marks_at a) cycle) a.acceptance ≡ false)
+IsLassoFault a stem cycle NotAccepted = IsLasso a stem cycle × (cycle_accepts a cycle ≡ false)

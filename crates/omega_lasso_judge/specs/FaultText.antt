@@ -1,9 +1,9 @@
--- What is said of a fault.
+-- The messages of faults.
 use Rattle.std.specs.Prelude.{ℕ, List, ◌++◌, codes, decimal}
 use Rattle.omega_lasso_judge.specs.declared.fault.LassoFault.{LassoFault}
 use Rattle.omega_lasso_judge.specs.declared.fault.LassoFault.TheVariants.{Apart, NeverTrue, NoCycle, NoStart, NotAccepted, NotThere}
 
--- the text of a fault, with the number of the edge
+-- the message of a fault, with the number of its edge
 abbrev pub fault_text : LassoFault → List ℕ
 fault_text NoCycle = codes "the cycle has no edge"
 fault_text (NotThere edge) = codes "edge " ++ (decimal edge ++ codes " is not there")

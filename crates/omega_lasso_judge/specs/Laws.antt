@@ -1,4 +1,4 @@
--- What holds of the faults of lassos.
+-- Laws of the faults of lassos.
 use Rattle.std.specs.Prelude.{◌≡◌, ℕ, List}
 use Rattle.omega_automaton.specs.Automaton.{Description}
 use Rattle.omega_lasso_judge.specs.Fault.{IsLassoFault}
@@ -7,4 +7,5 @@ use Rattle.omega_lasso_judge.specs.declared.fault.LassoFault.{LassoFault}
 -- a lasso has at most one fault
 abbrev pub LassoFaultsAreOne : Type 0
 LassoFaultsAreOne =
-    (a : Description) (stem cycle : List ℕ) (one other : LassoFault) → IsLassoFault a stem cycle one → IsLassoFault a stem cycle other → one ≡ other
+    (a : Description) (stem cycle : List ℕ) (one other : LassoFault)
+    → IsLassoFault a stem cycle one → IsLassoFault a stem cycle other → one ≡ other

@@ -1,4 +1,5 @@
--- Which refusal of the referee applies: 41, or 42 where a label of the lasso is not decided, or want of memory.
+-- Which refusal of the referee applies: `UniversalBranch`, or `TooManyPropositions` if a label of the lasso is not
+-- decided, or `Memory`.
 use Rattle.std.specs.Prelude.{◌≡◌, ◌++◌, true, false, ℕ, List, Some}
 use Rattle.omega_text.specs.Cases.{never, or_memory, or_task}
 use Rattle.omega_text.specs.declared.refusal.Refusal.{Refusal}
@@ -10,18 +11,18 @@ use Rattle.omega_runs.specs.Judging.{IsWide}
 use Rattle.omega_runs.specs.Lasso.{label_of}
 use Rattle.omega_lasso_judge.specs.Conditions.{IsFirst, IsLassoWalk, IsUsableNumber}
 
--- the label of an edge mentions more propositions than are always judged
+-- the edge with this number has a wide label, which may be given up
 pub record IsWideEdge (a : Description) (number : ℕ) : Type 0 where
   pub edge : BodyEdge
   pub numbered : edge_at a number ≡ Some edge
   pub wide : IsWide (label_of edge)
 
--- an edge has such a label, and those in front of it are usable
+-- an edge in the list has a wide label, and those before it are usable
 abbrev pub IsUndecidedAlong : Description → List ℕ → Type 0
 IsUndecidedAlong a numbers = (number : ℕ) × IsFirst (IsUsableNumber a) (IsWideEdge a) numbers number
 
--- 41 or 42: it applies, and no fault of a lesser number does; 42 only where the edges are connected and a label of
--- theirs has to be judged that mentions too many propositions
+-- the fault applies, and none with a lesser number does; `TooManyPropositions` only if the edges are connected and one
+-- of their labels that has to be judged is wide
 abbrev pub IsJudgingFault : Description → (stem cycle : List ℕ) → TaskFault → Type 0
 IsJudgingFault a stem cycle NotParity = ⊥
 IsJudgingFault a stem cycle UniversalBranch = has_universal_branching a ≡ true
@@ -34,10 +35,10 @@ IsJudgingFault a stem cycle UnknownNode = ⊥
 IsJudgingFault a stem cycle TooLarge = ⊥
 IsJudgingFault a stem cycle (NotDeterministic state) = ⊥
 
--- the refusal of an automaton by the referee of a lasso
+-- the refusal of an automaton by the referee, apart from memory
 abbrev pub RefusesToJudge : Description → (stem cycle : List ℕ) → Refusal → Type 0
 RefusesToJudge a stem cycle = or_task (IsJudgingFault a stem cycle) never
 
--- what the referee may answer in place of a verdict: memory, or the refusal
+-- the refusals of the referee
 abbrev pub IsJudgeRefusal : Description → (stem cycle : List ℕ) → Refusal → Type 0
 IsJudgeRefusal a stem cycle = or_memory (RefusesToJudge a stem cycle)

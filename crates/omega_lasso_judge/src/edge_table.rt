@@ -1,12 +1,9 @@
-//! The edges of an automaton by their numbers.
-ghost use Rattle.std.specs.Prelude.{◌≡◌, ◌<◌, Some};
-ghost use Rattle.omega_automaton.specs.Automaton.{edge_at, edge_count};
-ghost use Rattle.omega_runs.specs.Places.{ArePlaces};
+//! The edges of an automaton, by number.
 
 use omega_automaton::{Automaton, EdgeRef, State};
 use omega_runs::{EdgePlace, edge_of};
 
-/// An automaton, and where its edges stand, by their numbers.
+/// An automaton, and the places of its edges, by number.
 #[derive(Clone, Copy)]
 pub(crate) struct EdgeTable<'a> {
     pub(crate) automaton: &'a Automaton,
@@ -21,11 +18,14 @@ pub(crate) struct Found<'a> {
 }
 
 impl<'a> EdgeTable<'a> {
-    /// The edge of a number.
+    ghost use Rattle.omega_lasso_judge.specs.Conditions.{IsNumber};
+    ghost use Rattle.omega_lasso_judge.specs.private.EdgeTable.{IsEdgeAt, IsTable, automaton_of};
+
+    /// Returns the edge with this `number`.
     pub(crate) fn find(&self, number: u32) -> Found<'a>
-        requires places { ArePlaces self.now.automaton.now self.now.places.now }
-        requires there { number < edge_count self.now.automaton.now }
-        ensures { edge_at self.now.automaton.now number ≡ Some (record { source = result.source.now; edge = result.edge }) }
+        requires places { IsTable self.now }
+        requires there { IsNumber (automaton_of self.now) number }
+        ensures { IsEdgeAt self.now number result }
     {
         match edge_of(self.automaton, self.places, number) {
             Some(found) => Found {

@@ -1,7 +1,7 @@
 use thiserror::Error;
 
-/// Why a lasso is no accepting lasso of an automaton: the first that applies, in this order. An edge is named by its
-/// number, and it is the first along the lasso of which this is so.
+/// Why a lasso is no accepting lasso of an automaton: the first fault that applies, in this order. A fault of an edge
+/// names the first such edge along the lasso, by its number.
 #[derive(Clone, Copy, Debug, PartialEq, Eq, Error)]
 pub enum LassoFault {
     /// The cycle has no edge.
@@ -13,8 +13,8 @@ pub enum LassoFault {
     /// The first edge leaves a state that is no start.
     #[error("edge {0} leaves no start")]
     NoStart(u32),
-    /// The edge leaves another state than the edge before it enters. Before the first edge of the cycle stand the last
-    /// of the stem and, where the cycle returns, the last of the cycle.
+    /// The edge does not leave the state that the edge before it enters. The edge before the first of the cycle is the
+    /// last of the stem, and, as the cycle returns, the last of the cycle too.
     #[error("edge {0} does not follow")]
     Apart(u32),
     /// No set of propositions makes the label of the edge, or of the state that it leaves, true.

@@ -4,7 +4,7 @@ ghost use Rattle.omega_lasso_judge.specs.FaultText.{fault_text};
 use crate::fault::LassoFault;
 use omega_text::{Refusal, write_number};
 
-/// Appends what a fault says, as it displays itself. 60 alone.
+/// Appends the message of `fault`, as it displays itself.
 pub fn write_lasso_fault(fault: LassoFault, out: &mut Vec<u8>) -> Result<(), Refusal>
     ensures text { OnOk result (out.new.items ≡ out.old.items ++ fault_text fault) }
     ensures memory { IsOkUnless result Refusal.Memory }
@@ -19,7 +19,7 @@ pub fn write_lasso_fault(fault: LassoFault, out: &mut Vec<u8>) -> Result<(), Ref
     }
 }
 
-/// Appends the number of an edge between two texts. 60 alone.
+/// Appends the number of `edge` between `front` and `back`.
 fn write_edge(front: &[u8], edge: u32, back: &[u8], out: &mut Vec<u8>) -> Result<(), Refusal>
     ensures text { OnOk result (out.new.items ≡ out.old.items ++ (front.now ++ (decimal edge ++ back.now))) }
     ensures memory { IsOkUnless result Refusal.Memory }

@@ -1,10 +1,10 @@
-ghost use Rattle.std.specs.Prelude.{◌≡◌, ◌++◌, ◌<◌, ◌↔◌, false, length, IfErr, IfNone, IfOk, IfSome, IsNone, IsOkUnless, OnOk};
+ghost use Rattle.std.specs.Prelude.{◌≡◌, ◌++◌, ◌↔◌, false, IfErr, IfNone, IfOk, IfSome, IsNone, IsOkUnless, OnOk};
 ghost use Rattle.omega_automaton.specs.Branching.{has_universal_branching};
 ghost use Rattle.omega_runs.specs.Lasso.{IsAcceptingLasso};
-ghost use Rattle.omega_lasso_judge.specs.Conditions.{HasEdges, IsLassoWalk, IsFirstApart, AreLinked, once_round};
+ghost use Rattle.omega_lasso_judge.specs.Conditions.{HasEdges, IsLassoWalk};
 ghost use Rattle.omega_lasso_judge.specs.Fault.{IsLassoFault};
 ghost use Rattle.omega_lasso_judge.specs.Refusing.{IsJudgeRefusal};
-ghost use Rattle.omega_runs.specs.Places.{ArePlaces};
+ghost use Rattle.omega_lasso_judge.specs.private.EdgeTable.{IsTable, automaton_of};
 ghost use Rattle.omega_lasso_judge.specs.private.Judged.{IsLabelRefusal, IsRefereed};
 
 use crate::acceptance::is_accepted;
@@ -17,14 +17,16 @@ use omega_runs::edge_places;
 use omega_text::TaskFault;
 use std::alloc::Global;
 
-/// Why a lasso, given by the numbers of the edges of its stem and of its cycle, is no accepting lasso of an automaton;
-/// none exactly where it is one. Of several faults the first in the order of `LassoFault`. Any list of numbers may be
-/// given.
+/// Returns why a lasso, given by the numbers of the edges of its `stem` and `cycle`, is no accepting lasso of
+/// `automaton`; none exactly if it is one. Of several faults this is the first in the order of [LassoFault]. Any
+/// numbers may be given.
 ///
-/// Refused are, the first by number: 41 (a start or an edge lists several states), 42 (the label of an edge of the
-/// lasso mentions over `MOST_MENTIONED` propositions, and `is_satisfiable` gave it up), or 60. The cost is linear in
-/// the automaton and the lasso, and beyond that of `is_satisfiable` for each edge of the lasso; the acceptance formula
-/// is walked by a recursion as deep as it is.
+/// Fails with [TaskFault::UniversalBranch] if a start or an edge lists several states. Otherwise fails with
+/// [TaskFault::TooManyPropositions] if the label of an edge of the lasso mentions over `MOST_MENTIONED` propositions
+/// and `is_satisfiable` gives it up.
+///
+/// Takes time linear in the automaton and the lasso, and beyond that the time of `is_satisfiable` for each edge of the
+/// lasso. Recurses as deep as the acceptance formula.
 pub fn judge_lasso(
     alloc: Global,
     automaton: &Automaton,
@@ -48,16 +50,16 @@ pub fn judge_lasso(
     Ok(found)
 }
 
-/// The fault of a lasso, where there is one. 42 or 60.
+/// Returns the fault of a lasso, if it has one. Fails with [TaskFault::TooManyPropositions] if a label is given up.
 fn judged(
     alloc: Global,
     table: &EdgeTable<'_>,
     stem: &[u32],
     cycle: &[u32],
 ) -> Result<Option<LassoFault>, Refusal>
-    requires places { ArePlaces table.now.automaton.now table.now.places.now }
-    ensures judged { IfOk result (IsRefereed table.now.automaton.now stem.now cycle.now) }
-    ensures refused { IfErr result (IsLabelRefusal table.now.automaton.now stem.now cycle.now) }
+    requires places { IsTable table.now }
+    ensures judged { IfOk result (IsRefereed (automaton_of table.now) stem.now cycle.now) }
+    ensures refused { IfErr result (IsLabelRefusal (automaton_of table.now) stem.now cycle.now) }
 {
     if cycle.is_empty() {
         return Ok(Some(LassoFault::NoCycle));
@@ -81,17 +83,17 @@ fn judged(
     })
 }
 
-/// How a lasso of edges does not begin at a start or is not connected. 60 alone.
+/// Returns why a lasso does not begin at a start or is not connected, if that is so.
 fn link_fault(
     alloc: Global,
     table: &EdgeTable<'_>,
     stem: &[u32],
     cycle: &[u32],
 ) -> Result<Option<LassoFault>, Refusal>
-    requires places { ArePlaces table.now.automaton.now table.now.places.now }
-    requires edges { HasEdges table.now.automaton.now stem.now cycle.now }
-    ensures fault { IfOk result (λ found. IfSome found (IsLassoFault table.now.automaton.now stem.now cycle.now)) }
-    ensures none { IfOk result (λ found. IfNone found (IsLassoWalk table.now.automaton.now stem.now cycle.now)) }
+    requires places { IsTable table.now }
+    requires edges { HasEdges (automaton_of table.now) stem.now cycle.now }
+    ensures fault { IfOk result (λ found. IfSome found (IsLassoFault (automaton_of table.now) stem.now cycle.now)) }
+    ensures none { IfOk result (λ found. IfNone found (IsLassoWalk (automaton_of table.now) stem.now cycle.now)) }
     ensures memory { IsOkUnless result Refusal.Memory }
 {
     let mut walk = joined(alloc, stem, cycle)?;
@@ -106,7 +108,7 @@ fn link_fault(
     }
 }
 
-/// Some numbers, and others after them. 60 alone.
+/// Returns `first` followed by `second`.
 fn joined(alloc: Global, first: &[u32], second: &[u32]) -> Result<Vec<u32>, Refusal>
     ensures list { IfOk result (λ list. list.items ≡ first.now ++ second.now) }
     ensures memory { IsOkUnless result Refusal.Memory }

@@ -1,6 +1,6 @@
-//! A referee for lassos of automata: whether a lasso that is given by numbers of edges accepts, or else why not.
+//! A referee for lassos of automata: whether a lasso, given by numbers of edges, accepts, or else why not.
 //!
-//! Numbers of refusals are those of `Refusal`; docs/formats.md says when each comes.
+//! docs/formats.md says when each refusal comes.
 #![tactic(auto)]
 
 mod acceptance;

@@ -1,13 +1,13 @@
 //! Whether numbers are those of edges, and how the edges follow one another.
-ghost use Rattle.std.specs.Prelude.{◌≡◌, ◌<◌, ◌↔◌, [], ◌∷◌, All, IfNone, IfSome, IsTrue};
+ghost use Rattle.std.specs.Prelude.{◌≡◌, ◌↔◌, [], ◌∷◌, All, IfNone, IfSome, IsTrue};
 ghost use Rattle.omega_runs.specs.Lasso.{IsStart};
 ghost use Rattle.omega_lasso_judge.specs.Conditions.{AreLinked, FailsFirst, FollowsEdge, IsFirstApart, IsNumber, LeavesStart};
-ghost use Rattle.omega_runs.specs.Places.{ArePlaces};
+ghost use Rattle.omega_lasso_judge.specs.private.EdgeTable.{IsTable, automaton_of};
 
 use crate::edge_table::EdgeTable;
 use omega_automaton::Automaton;
 
-/// The first of some numbers that is not that of an edge.
+/// Returns the first of `numbers` that is no edge's.
 pub(crate) fn first_not_there(automaton: &Automaton, numbers: &[u32]) -> Option<u32>
     ensures some { IfSome result (FailsFirst (IsNumber automaton.now) numbers.now) }
     ensures none { IfNone result (All (IsNumber automaton.now) numbers.now) }
@@ -20,17 +20,17 @@ pub(crate) fn first_not_there(automaton: &Automaton, numbers: &[u32]) -> Option<
     None
 }
 
-/// Whether an edge leaves a start. Linear in the starts.
+/// Whether the edge with this `number` leaves a start. Linear in the starts.
 pub(crate) fn leaves_start(table: &EdgeTable<'_>, number: u32) -> bool
-    requires places { ArePlaces table.now.automaton.now table.now.places.now }
-    requires there { IsNumber table.now.automaton.now number }
-    ensures { IsTrue result ↔ LeavesStart table.now.automaton.now number }
+    requires places { IsTable table.now }
+    requires there { IsNumber (automaton_of table.now) number }
+    ensures { IsTrue result ↔ LeavesStart (automaton_of table.now) number }
 {
     let state = table.find(number).source.number;
     is_start(table.automaton, state)
 }
 
-/// Whether a state is a start.
+/// Whether `state` is a start of `automaton`.
 fn is_start(automaton: &Automaton, state: u32) -> bool
     ensures { IsTrue result ↔ IsStart automaton.now state }
 {
@@ -42,19 +42,19 @@ fn is_start(automaton: &Automaton, state: u32) -> bool
     false
 }
 
-/// Whether a list is that of one number.
+/// Whether `numbers` consists of `number` alone.
 fn is_alone(numbers: &[u32], number: u32) -> bool
     ensures { IsTrue result ↔ (numbers.now ≡ number ∷ []) }
 {
     numbers.len() == 1 && numbers[0] == number
 }
 
-/// The first of some edges that does not follow the one before it.
+/// Returns the first of the edges in `numbers` that does not follow the one before it.
 pub(crate) fn first_apart(table: &EdgeTable<'_>, numbers: &[u32]) -> Option<u32>
-    requires places { ArePlaces table.now.automaton.now table.now.places.now }
-    requires there { All (IsNumber table.now.automaton.now) numbers.now }
-    ensures some { IfSome result (IsFirstApart table.now.automaton.now numbers.now) }
-    ensures none { IfNone result (AreLinked table.now.automaton.now numbers.now) }
+    requires places { IsTable table.now }
+    requires there { All (IsNumber (automaton_of table.now)) numbers.now }
+    ensures some { IfSome result (IsFirstApart (automaton_of table.now) numbers.now) }
+    ensures none { IfNone result (AreLinked (automaton_of table.now) numbers.now) }
 {
     for at in 1..numbers.len() {
         if !follows(table, numbers[at - 1], numbers[at]) {
@@ -64,12 +64,12 @@ pub(crate) fn first_apart(table: &EdgeTable<'_>, numbers: &[u32]) -> Option<u32>
     None
 }
 
-/// Whether an edge leaves the state that another enters, and that one alone.
+/// Whether the edge `number` leaves the state that the edge `before` enters, and `before` enters that one alone.
 fn follows(table: &EdgeTable<'_>, before: u32, number: u32) -> bool
-    requires places { ArePlaces table.now.automaton.now table.now.places.now }
-    requires before { IsNumber table.now.automaton.now before }
-    requires there { IsNumber table.now.automaton.now number }
-    ensures { IsTrue result ↔ FollowsEdge table.now.automaton.now before number }
+    requires places { IsTable table.now }
+    requires before { IsNumber (automaton_of table.now) before }
+    requires there { IsNumber (automaton_of table.now) number }
+    ensures { IsTrue result ↔ FollowsEdge (automaton_of table.now) before number }
 {
     let entering = table.find(before);
     let leaving = table.find(number);

@@ -7,7 +7,7 @@ use Rattle.omega_components.specs.declared.edge.Edge.{Edge}
 use Rattle.omega_runs.specs.Lasso.{marks_of}
 use Rattle.omega_lasso_search.specs.private.Numbering.{ends_in, ends_of, first_of, name_in}
 
--- an edge of the graph stands for an edge
+-- an edge of the graph is one of the automaton
 pub record StandsFor (names : List ℕ) (edges : List Edge) (number : ℕ) (edge : BodyEdge) : Type 0 where
   pub below : number < length edges
   pub leaves : name_in names (get_or edges number (record { from = 0; to = 0 })).from ≡ edge.source.number

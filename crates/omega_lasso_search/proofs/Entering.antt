@@ -1,6 +1,6 @@
--- A lasso entered where its stem first comes to the cycle: the last edges that both share begin the cycle.
+-- A lasso whose stem is shortened: the common suffix of stem and cycle begins the cycle.
 use Rattle.std.proofs.Common.{◌≡◌, ℕ, zero, suc, ◌+◌, ◌-◌, ◌<◌, Bool, true, false, ◌&&◌, ◌||◌, not, List, [], ◌∷◌, ◌++◌, length, map, drop, slice_index_or, sym, ap, refl, ◌∙◌, subst, arith, length-append}
-use Rattle.omega_acc.specs.formula.Acceptance.{AccTree, accepts, conjunction, constant, disjunction, fin, inf, occurs}
+use Rattle.omega_formula.specs.Acceptance.{AccTree, accepts, conjunction, constant, disjunction, fin, inf, occurs}
 use Rattle.omega_automaton.specs.Automaton.{Description}
 use Rattle.omega_runs.specs.Lasso.{IsAcceptingLasso, Leads, marks_at}
 use Rattle.omega_runs.proofs.Leads.{leads_on, occurs_on}
@@ -30,7 +30,7 @@ map_on : (f : ℕ → List ℕ) (xs ys : List ℕ) → map f (xs ++ ys) ≡ map 
 map_on f [] ys = refl
 map_on f (x ∷ xs) ys = ap (λ list. f x ∷ list) (map_on f xs ys)
 
--- edges lead to where the first of them end, and the others on from there
+-- edges lead to the end of the first of them, and the others on from there
 parted : (a : Description) (s : ℕ) (xs ys : List ℕ) (u : ℕ) → Leads a s (xs ++ ys) u → (t : ℕ) × Leads a s xs t × Leads a t ys u
 parted a s [] ys u leads = (s, refl, leads)
 parted a s (x ∷ xs) ys u leads = let rest = parted a leads.0 xs ys u leads.2 in (rest.0, (leads.0, leads.1, rest.1), rest.2)
@@ -84,7 +84,7 @@ end_cons xs s within =
     ap (λ n. drop n xs) place ∙ drop_next xs (length xs - s - 1) (omega (arith, within))
     ∙ ap (λ n. slice_index_or xs (length xs - s - 1) 0 ∷ drop n xs) next
 
--- with one number more, where these are the same
+-- with one number more, if these are the same
 pub one_more_shared : (xs ys : List ℕ) (s : ℕ) → s < length xs → s < length ys
     → slice_index_or xs (length xs - s - 1) 0 ≡ slice_index_or ys (length ys - s - 1) 0 → drop (length xs - s) xs ≡ drop (length ys - s) ys
     → drop (length xs - (s + 1)) xs ≡ drop (length ys - (s + 1)) ys

@@ -1,21 +1,22 @@
 -- Lassos of the automaton, and closed walks of the graph that a source reaches.
-use Rattle.std.proofs.Common.{◌≡◌, ℕ, zero, suc, ◌<◌, Bool, true, false, ltb, ◌↔◌, IsTrue, List, [], ◌∷◌, length, get_or, filter, map, All, Contains, refl, sym, ap, subst, ◌∙◌, arith}
+use Rattle.std.proofs.Common.{◌≡◌, ℕ, zero, suc, ◌<◌, Bool, true, false, ltb, ◌↔◌, IsTrue, List, [], ◌∷◌, length, get_or, map, All, Contains, refl, sym, ap, subst, ◌∙◌, arith}
 use Rattle.std.specs.List.{list_any}
 use Rattle.std.proofs.lemmas.Bool.{ltb-false, or_parts}
 use Rattle.std.proofs.lemmas.List.{get_or-map, get_or_default, length-map}
 use Rattle.std.proofs.lemmas.List.Elements.{All-contains, Contains-get_or}
-use Rattle.omega_acc.specs.formula.Acceptance.{AccTree, accepts}
+use Rattle.omega_formula.specs.Acceptance.{accepts}
 use Rattle.omega_automaton.specs.Automaton.{AreTargets, Description, IsAutomaton, edges_of}
 use Rattle.omega_automaton.specs.Branching.{has_universal_branching, state_branches}
-use Rattle.omega_components.specs.Graph.{AreEdges, Shape, ends_at, listed, marked}
-use Rattle.omega_components.specs.Reaching.{IsReachedAlong, IsWalkFrom}
+use Rattle.omega_components.specs.Graph.{AreEdges, Shape, ends_at, listed}
+use Rattle.omega_components.specs.Reaching.{IsWalkFrom}
 use Rattle.omega_walk_laws.specs.Walks.{EdgeSet, HasAccepting, IsAccepting, IsClosedEdgeWalk, IsEdgeWalk, MarkedGraph, marks_on}
 use Rattle.omega_walk_laws.proofs.Walking.{on_edges, walk_in}
 use Rattle.omega_accepting_walk.specs.Rows.{row_at}
 use Rattle.omega_accepting_walk.proofs.Listing.{filter_has, listed_from, listed_has}
 use Rattle.omega_runs.specs.Lasso.{IsAcceptingLasso, IsStart, marks_of}
 use Rattle.omega_lasso_search.specs.private.Numbering.{AreNumbered, first_of, name_in}
-use Rattle.omega_lasso_search.specs.private.Searched.{IsReachedCycle, IsSearch}
+use Rattle.omega_lasso_search.specs.declared.search.Search.{Search}
+use Rattle.omega_lasso_search.specs.private.Searched.{IsAcceptingCycle, IsSearch, Reaches, beginning, edges_leaving, graph_of, usable_of}
 use Rattle.omega_lasso_search.proofs.Walks.{TracedWalk, counted, leads_from, leads_to, same_marks, walk_reached}
 
 -- a start lists one state
@@ -48,7 +49,7 @@ module _ (a : Description) (automaton : IsAutomaton a) (plain : has_universal_br
       ∙ get_or_default (map first_of a.starts) k (name_in names 0) 0 (let same = same_count in omega (arith, length-map a.starts first_of))
       ∙ get_or-map first_of a.starts k [] 0 (let same = same_count in omega arith)
 
-  -- a source stands for a start
+  -- a source represents a start
   pub source_starts : (source : ℕ) → Contains sources source → IsStart a (name_in names source)
   source_starts source has =
       let k : ℕ = has.0 in
@@ -59,7 +60,7 @@ module _ (a : Description) (automaton : IsAutomaton a) (plain : has_universal_br
       let name : first_of (get_or a.starts k []) ≡ name_in names source = sym (named_start k below) ∙ ap (name_in names) here in
       subst (Contains a.starts) (start_alone a automaton plain k low ∙ ap (λ (state : ℕ). state ∷ []) name) (Contains-get_or a.starts k [] low)
 
-  -- and for each start there is one
+  -- and each start has a source
   pub record SourceOf (state : ℕ) : Type 0 where
     pub source : ℕ
     pub has : Contains sources source
@@ -80,18 +81,13 @@ module _ (a : Description) (automaton : IsAutomaton a) (plain : has_universal_br
         named = named_start k below ∙ ap first_of here;
       }
 
--- those of some edges that leave a state with a flag
-abbrev pub kept : List Bool → Shape → List ℕ → List ℕ
-kept states graph edges = filter (λ number. get_or states (ends_at graph number).from false) edges
-
--- a graph with the marks of a list
-abbrev pub seen : List (List ℕ) → Shape → MarkedGraph
-seen rows graph = marked graph (row_at rows)
-
 -- the flags are those of the states that the edges reach
-abbrev pub AreReached : List (List ℕ) → Shape → List ℕ → List ℕ → List Bool → Type 0
-AreReached rows graph sources edges states =
-    (state : ℕ) → IsTrue (get_or states state false) ↔ IsReachedAlong (seen rows graph) (listed edges) sources state
+abbrev pub AreReached : Search → List Bool → Type 0
+AreReached search states = (state : ℕ) → IsTrue (get_or states state false) ↔ Reaches search state
+
+-- the usable edges that leave a state with a flag
+abbrev pub kept : List Bool → Search → List ℕ
+kept states search = edges_leaving states search.graph.now search.edges.now
 
 -- a closed walk begins where its first edge does
 first_leaves : (graph : MarkedGraph) (edges : EdgeSet) (walk : List ℕ) (closed : IsClosedEdgeWalk graph edges walk) → (graph (get_or walk 0 0)).from ≡ closed.loop_state
@@ -102,34 +98,53 @@ first_leaves graph edges walk closed = go walk closed.loop_state closed.longer c
     go (number ∷ walk) loop_state longer leads = leads.1
 
 -- an edge of a closed walk of the edges that are kept is kept
-kept_on : (rows : List (List ℕ)) (graph : Shape) (edges : List ℕ) (states : List Bool) (cycle : List ℕ)
-    → IsClosedEdgeWalk (seen rows graph) (listed (kept states graph edges)) cycle → (number : ℕ) → Contains cycle number
-    → Contains edges number × (get_or states (ends_at graph number).from false ≡ true)
-kept_on rows graph edges states cycle closed number has =
-    filter_has (λ n. get_or states (ends_at graph n).from false) edges number
-    (listed_has (kept states graph edges) number
-    (on_edges (seen rows graph) (listed (kept states graph edges)) closed.loop_state cycle closed.loop_state closed.leads number has))
+kept_on : (search : Search) (states : List Bool) (cycle : List ℕ) → IsClosedEdgeWalk (graph_of search) (listed (kept states search)) cycle
+    → (number : ℕ) → Contains cycle number → Contains search.edges.now number × (get_or states (ends_at search.graph.now number).from false ≡ true)
+kept_on search states cycle closed number has =
+    filter_has (λ n. get_or states (ends_at search.graph.now n).from false) search.edges.now number
+    (listed_has (kept states search) number
+    (on_edges (graph_of search) (listed (kept states search)) closed.loop_state cycle closed.loop_state closed.leads number has))
 
--- a closed walk of edges that accepts, to whose beginning they lead from a source
-record CycleOf (graph : MarkedGraph) (sources edges : List ℕ) (formula : AccTree) (cycle : List ℕ) : Type 0 where
+-- an accepting closed walk of usable edges, and a walk to it from a source
+record CycleOf (search : Search) (cycle : List ℕ) : Type 0 where
   pub loop_state : ℕ
-  pub come : IsReachedAlong graph (listed edges) sources loop_state
-  pub leads : IsEdgeWalk graph (listed edges) loop_state cycle loop_state
+  pub come : Reaches search loop_state
+  pub leads : IsEdgeWalk (graph_of search) (usable_of search) loop_state cycle loop_state
   pub longer : 0 < length cycle
-  pub accepted : IsTrue (accepts (marks_on graph cycle) formula)
+  pub accepted : IsTrue (accepts (marks_on (graph_of search) cycle) search.automaton.now.acceptance)
 
-module _ {a : Description} {rows : List (List ℕ)} {graph : Shape} {sources edges : List ℕ} where
-  -- the edges of a search are those of its graph, each of which has its marks
-  pub edges_inside : IsSearch a rows graph sources edges → AreEdges graph edges
+-- an accepting closed walk of usable edges, which lead to its beginning from a source
+pub record IsReachedCycle (search : Search) (cycle : List ℕ) : Type 0 where
+  pub accepting : IsAcceptingCycle search cycle
+  pub reached : Reaches search (beginning search cycle)
+
+module _ (search : Search) where
+  abbrev a : Description
+  a = search.automaton.now
+
+  abbrev rows : List (List ℕ)
+  rows = search.marks.now
+
+  abbrev graph : Shape
+  graph = search.graph.now
+
+  abbrev sources : List ℕ
+  sources = search.sources.now
+
+  abbrev edges : List ℕ
+  edges = search.edges.now
+
+  -- the edges of a search are those of its graph, each with its marks
+  pub edges_inside : IsSearch search → AreEdges graph edges
   edges_inside sought =
       subst (λ (count : ℕ). All (λ number. number < count) edges) (sym (counted a sought.names sources graph sought.numbered)) sought.usable.below
 
-  pub marks_counted : IsSearch a rows graph sources edges → length rows ≡ length graph.edges
+  pub marks_counted : IsSearch search → length rows ≡ length graph.edges
   marks_counted sought =
       ap (λ (list : List (List ℕ)). length list) sought.marks_are ∙ length-map (edges_of a) marks_of ∙ sym (counted a sought.names sources graph sought.numbered)
 
   -- the cycle of an accepting lasso is one
-  cycle_of : IsSearch a rows graph sources edges → (stem cycle : List ℕ) → IsAcceptingLasso a stem cycle → CycleOf (seen rows graph) sources edges a.acceptance cycle
+  cycle_of : IsSearch search → (stem cycle : List ℕ) → IsAcceptingLasso a stem cycle → CycleOf search cycle
   cycle_of sought stem cycle lasso =
       let names : List ℕ = sought.names in
       let begin = start_source a sought.automaton sought.plain names sources graph sought.numbered lasso.lasso.start lasso.lasso.begins in
@@ -143,21 +158,21 @@ module _ {a : Description} {rows : List (List ℕ)} {graph : Shape} {sources edg
       record {
         loop_state = there.to;
         come = (stem, record { source = begin.source; begins = begin.has; leads = there.leads });
-        leads = subst (λ state. IsEdgeWalk (seen rows graph) (listed edges) there.to cycle state) same around.leads;
+        leads = subst (λ state. IsEdgeWalk (graph_of search) (usable_of search) there.to cycle state) same around.leads;
         longer = lasso.lasso.longer;
         accepted = ap (λ (list : List (List ℕ)). accepts list a.acceptance) (same_marks a graph rows sought.marks_are cycle) ∙ lasso.accepted;
       }
 
-  -- where no closed walk accepts, no lasso does
-  pub no_lasso : IsSearch a rows graph sources edges → (HasAccepting (seen rows graph) (listed edges) a.acceptance → ⊥)
+  -- if no closed walk accepts, no lasso does
+  pub no_lasso : IsSearch search → (HasAccepting (graph_of search) (usable_of search) a.acceptance → ⊥)
       → (stem cycle : List ℕ) → IsAcceptingLasso a stem cycle → ⊥
   no_lasso sought none stem cycle lasso =
       let found = cycle_of sought stem cycle lasso in
       none (cycle, record { closed = record { loop_state = found.loop_state; leads = found.leads; longer = found.longer }; accepted = found.accepted })
 
-  -- nor does one where none does that a source reaches
-  pub no_lasso_reached : IsSearch a rows graph sources edges → (states : List Bool) → AreReached rows graph sources edges states
-      → (HasAccepting (seen rows graph) (listed (kept states graph edges)) a.acceptance → ⊥)
+  -- nor does one if no closed walk accepts that a source reaches
+  pub no_lasso_reached : IsSearch search → (states : List Bool) → AreReached search states
+      → (HasAccepting (graph_of search) (listed (kept states search)) a.acceptance → ⊥)
       → (stem cycle : List ℕ) → IsAcceptingLasso a stem cycle → ⊥
   no_lasso_reached sought states reached none stem cycle lasso =
       let found = cycle_of sought stem cycle lasso in
@@ -175,16 +190,16 @@ module _ {a : Description} {rows : List (List ℕ)} {graph : Shape} {sources edg
       )
 
   -- the first edge of a closed walk is one of the graph
-  pub first_inside : IsSearch a rows graph sources edges → (cycle : List ℕ) → IsAccepting (seen rows graph) (listed edges) a.acceptance cycle → get_or cycle 0 0 < length graph.edges
+  pub first_inside : IsSearch search → (cycle : List ℕ) → IsAcceptingCycle search cycle → get_or cycle 0 0 < length graph.edges
   first_inside sought cycle accepting =
       let closed = accepting.closed in
       All-contains (λ number. number < length graph.edges) edges (get_or cycle 0 0) (edges_inside sought)
       (listed_has edges (get_or cycle 0 0)
-      (on_edges (seen rows graph) (listed edges) closed.loop_state cycle closed.loop_state closed.leads (get_or cycle 0 0) (Contains-get_or cycle 0 0 closed.longer)))
+      (on_edges (graph_of search) (usable_of search) closed.loop_state cycle closed.loop_state closed.leads (get_or cycle 0 0) (Contains-get_or cycle 0 0 closed.longer)))
 
-  -- a closed walk that leaves states that are reached is one to which a walk comes
-  pub cycle_reached : (states : List Bool) → AreReached rows graph sources edges states → (cycle : List ℕ)
-      → IsAccepting (seen rows graph) (listed (kept states graph edges)) a.acceptance cycle → IsReachedCycle a rows graph sources edges cycle
+  -- a closed walk that leaves reached states is reached
+  pub cycle_reached : (states : List Bool) → AreReached search states → (cycle : List ℕ)
+      → IsAccepting (graph_of search) (listed (kept states search)) a.acceptance cycle → IsReachedCycle search cycle
   cycle_reached states reached cycle accepting =
       let closed = accepting.closed in
       let first : Contains cycle (get_or cycle 0 0) = Contains-get_or cycle 0 0 closed.longer in
@@ -192,29 +207,29 @@ module _ {a : Description} {rows : List (List ℕ)} {graph : Shape} {sources edg
         accepting = record {
           closed = record {
             loop_state = closed.loop_state;
-            leads = walk_in (seen rows graph) (listed (kept states graph edges)) (listed edges) closed.loop_state cycle closed.loop_state
-                (λ number has. listed_from edges number (kept_on rows graph edges states cycle closed number has).0) closed.leads;
+            leads = walk_in (graph_of search) (listed (kept states search)) (usable_of search) closed.loop_state cycle closed.loop_state
+                (λ number has. listed_from edges number (kept_on search states cycle closed number has).0) closed.leads;
             longer = closed.longer;
           };
           accepted = accepting.accepted;
         };
-        reached = (reached (ends_at graph (get_or cycle 0 0)).from).0 (kept_on rows graph edges states cycle closed (get_or cycle 0 0) first).1;
+        reached = (reached (beginning search cycle)).0 (kept_on search states cycle closed (get_or cycle 0 0) first).1;
       }
 
-  -- a closed walk that accepts and a walk to it are an accepting lasso
-  pub is_lasso : IsSearch a rows graph sources edges → (stem cycle : List ℕ) → IsAccepting (seen rows graph) (listed edges) a.acceptance cycle
-      → IsWalkFrom (seen rows graph) (listed edges) sources stem (ends_at graph (get_or cycle 0 0)).from → IsAcceptingLasso a stem cycle
+  -- an accepting closed walk and a walk to it are an accepting lasso
+  pub is_lasso : IsSearch search → (stem cycle : List ℕ) → IsAcceptingCycle search cycle
+      → IsWalkFrom (graph_of search) (usable_of search) sources stem (beginning search cycle) → IsAcceptingLasso a stem cycle
   is_lasso sought stem cycle accepting way =
       let names : List ℕ = sought.names in
       let loop_state : ℕ = accepting.closed.loop_state in
-      let enters : (ends_at graph (get_or cycle 0 0)).from ≡ loop_state = first_leaves (seen rows graph) (listed edges) cycle accepting.closed in
+      let enters : beginning search cycle ≡ loop_state = first_leaves (graph_of search) (usable_of search) cycle accepting.closed in
       record {
         lasso = record {
           start = name_in names way.source;
           loop_state = name_in names loop_state;
           begins = source_starts a sought.automaton sought.plain names sources graph sought.numbered way.source way.begins;
           stem_leads = leads_from a sought.automaton sought.plain names sources graph sought.numbered edges sought.usable (row_at rows) way.source stem loop_state
-              (subst (λ state. IsEdgeWalk (seen rows graph) (listed edges) way.source stem state) enters way.leads);
+              (subst (λ state. IsEdgeWalk (graph_of search) (usable_of search) way.source stem state) enters way.leads);
           cycle_leads = leads_from a sought.automaton sought.plain names sources graph sought.numbered edges sought.usable (row_at rows) loop_state cycle loop_state accepting.closed.leads;
           longer = accepting.closed.longer;
         };

@@ -1,4 +1,4 @@
--- States numbered as they are met: each keeps its number.
+-- States numbered as they are first met: each keeps its number.
 use Rattle.std.proofs.Common.{◌≡◌, ℕ, ◌+◌, ◌<◌, ◌≤◌, Bool, true, false, cond, inl, inr, List, [], ◌∷◌, ◌++◌, length, get_or, map, take, All, refl, sym, ap, subst, ◌∙◌, arith, append_assoc, eq-eqb, length-append, nat_eq}
 use Rattle.std.specs.List.{IsDistinct, list_any}
 use Rattle.std.proofs.lemmas.Bool.{cases_order, false≢true}
@@ -25,7 +25,7 @@ grows_on m n first second third one two = record {
 pub grows_within : (m n : ℕ) (first second : List ℕ) → m ≤ n → Grows m first second → Grows n first second
 grows_within m n first second less grows = record { more = grows.more; is = grows.is; few = let f = grows.few in omega arith }
 
--- a key put in is the last one, or stands there
+-- a key that is inserted is the last one, or was there already
 pub grows_insert : (eq : ℕ → ℕ → Bool) (keys : List ℕ) (key : ℕ) (after : List ℕ) → after ≡ insert_key eq keys key → Grows 1 keys after
 grows_insert eq keys key after is = subst (Grows 1 keys) (sym is) (cases (list_any (eq key) keys))
   where
@@ -33,19 +33,19 @@ grows_insert eq keys key after is = subst (Grows 1 keys) (sym is) (cases (list_a
     cases true = grows_within 0 1 keys keys (omega arith) (grows_not keys)
     cases false = record { more = key ∷ []; is = refl; few = omega arith }
 
--- there are no fewer, and so many more at most
+-- there are no fewer names, and at most `count` more
 pub length_grows : (n : ℕ) (before after : List ℕ) → Grows n before after → length before ≤ length after
 length_grows n before after grows = omega (arith, ap length grows.is, length-append before grows.more)
 
 pub length_grown : (n : ℕ) (before after : List ℕ) → Grows n before after → length after ≤ length before + n
 length_grown n before after grows = let f = grows.few in omega (arith, ap length grows.is, length-append before grows.more)
 
--- a number stands for the same state
+-- a number keeps its name
 pub name_kept : (n : ℕ) (before after : List ℕ) (number : ℕ) → Grows n before after → number < length before → name_in after number ≡ name_in before number
 name_kept n before after number grows below =
     ap (λ names. name_in names number) grows.is ∙ get_or_append_left before grows.more 0 number below
 
--- so do some
+-- so do the numbers of a list
 pub names_kept : (n : ℕ) (before after : List ℕ) (numbers : List ℕ) → Grows n before after → All (λ number. number < length before) numbers
     → map (name_in after) numbers ≡ map (name_in before) numbers
 names_kept n before after [] grows all = refl

@@ -106,7 +106,7 @@ module _ (a : Description) (automaton : IsAutomaton a) (plain : has_universal_br
         leads = (listed_from numbers number step.has, same, rest.leads);
       }
 
-  -- a state that is reached, and a walk on, reach more
+  -- a walk from a reached state reaches more
   reached_on : (from number : ℕ) → IsReachedAlong traced (listed numbers) sources from → listed numbers number ≡ true → (ends_at graph number).from ≡ from
       → IsReachedAlong traced (listed numbers) sources (ends_at graph number).to
   reached_on from number reached is leaves = (
@@ -118,7 +118,7 @@ module _ (a : Description) (automaton : IsAutomaton a) (plain : has_universal_br
     },
   )
 
-  -- a walk from a state that is reached is one in the edges that leave such states
+  -- a walk from a reached state stays in the edges that leave such states
   pub walk_reached : (states : List Bool)
       → ((state : ℕ) → IsReachedAlong traced (listed numbers) sources state → get_or states state false ≡ true)
       → (from : ℕ) (walk : List ℕ) (to : ℕ) → IsReachedAlong traced (listed numbers) sources from → IsEdgeWalk traced (listed numbers) from walk to

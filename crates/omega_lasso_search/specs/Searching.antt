@@ -1,4 +1,4 @@
--- Which refusal of the search for a lasso applies: the least by number of 41 and 42, or want of memory.
+-- Which refusal of the search for a lasso applies: `UniversalBranch` before `TooManyPropositions`, or `Memory`.
 use Rattle.std.specs.Prelude.{◌≡◌, true, false}
 use Rattle.omega_text.specs.Cases.{never, or_memory, or_task}
 use Rattle.omega_text.specs.declared.refusal.Refusal.{Refusal}
@@ -8,11 +8,11 @@ use Rattle.omega_automaton.specs.Automaton.{Description}
 use Rattle.omega_automaton.specs.Branching.{has_universal_branching}
 use Rattle.omega_runs.specs.Judging.{HasWideLabel}
 
--- 41 does not apply: each start and each edge lists one state
+-- `UniversalBranch` does not apply: each start and each edge lists one state
 abbrev pub IsSearchable : Description → Type 0
 IsSearchable a = has_universal_branching a ≡ false
 
--- 41 or 42: it applies, and no fault of a lesser number does; 42 only where a label mentions too many propositions
+-- the fault applies, and none with a lesser number does; `TooManyPropositions` only if a label is wide
 abbrev pub IsSearchFault : Description → TaskFault → Type 0
 IsSearchFault a NotParity = ⊥
 IsSearchFault a UniversalBranch = has_universal_branching a ≡ true
@@ -24,6 +24,6 @@ IsSearchFault a UnknownNode = ⊥
 IsSearchFault a TooLarge = ⊥
 IsSearchFault a (NotDeterministic state) = ⊥
 
--- the refusal of the search
+-- the refusals of the search
 abbrev pub IsSearchRefusal : Description → Refusal → Type 0
 IsSearchRefusal a = or_task (IsSearchFault a) (or_memory never)

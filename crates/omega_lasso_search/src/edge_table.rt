@@ -9,16 +9,16 @@ use omega_components::Edge;
 use omega_text::Numbers;
 use std::alloc::Global;
 
-/// The edges of an automaton, by number.
+/// The ends and the marks of an automaton's edges, by number.
 #[derive(Drop)]
 pub(crate) struct EdgeTable {
-    /// The state that an edge leaves, and the first that it lists.
+    /// For each edge, the state that it leaves and the first of its targets.
     pub(crate) ends: Vec<Edge>,
-    /// The marks of the state that it leaves, and its own.
+    /// For each edge, the marks of the state that it leaves and its own.
     pub(crate) marks: Vec<Numbers>,
 }
 
-/// The table of an automaton. 60 alone.
+/// Returns the table of the edges of `automaton`.
 pub(crate) fn edge_table(alloc: Global, automaton: &Automaton) -> Result<EdgeTable, Refusal>
     ensures ends { IfOk result (λ table. table.ends.items ≡ map ends_of (edges_of automaton.now)) }
     ensures marks { IfOk result (λ table. table.marks.items ≡ map marks_of (edges_of automaton.now)) }
@@ -35,7 +35,7 @@ pub(crate) fn edge_table(alloc: Global, automaton: &Automaton) -> Result<EdgeTab
     Ok(EdgeTable { ends, marks })
 }
 
-/// Puts last the ends of a state's edges. 60 alone.
+/// Appends the ends of the edges of `state`.
 fn add_ends(ends: &mut Vec<Edge>, state: &State) -> Result<(), Refusal>
     requires { All (λ edge. 0 < length edge.targets) state.now.edges }
     ensures ends { OnOk result (ends.new.items ≡ ends.old.items ++ map ends_of (edges_from state.now)) }
@@ -51,7 +51,7 @@ fn add_ends(ends: &mut Vec<Edge>, state: &State) -> Result<(), Refusal>
     Ok(())
 }
 
-/// Puts last the marks of a state's edges. 60 alone.
+/// Appends the marks of the edges of `state`.
 fn add_marks(alloc: Global, marks: &mut Vec<Numbers>, state: &State) -> Result<(), Refusal>
     ensures marks { OnOk result (marks.new.items ≡ marks.old.items ++ map marks_of (edges_from state.now)) }
     ensures memory { IsOkUnless result Refusal.Memory }
@@ -64,7 +64,7 @@ fn add_marks(alloc: Global, marks: &mut Vec<Numbers>, state: &State) -> Result<(
     Ok(())
 }
 
-/// Some numbers, and others after them. 60 alone.
+/// Returns `first` followed by `second`.
 fn joined(alloc: Global, first: &[u32], second: &[u32]) -> Result<Numbers, Refusal>
     ensures list { IfOk result (λ list. list ≡ first.now ++ second.now) }
     ensures memory { IsOkUnless result Refusal.Memory }

@@ -1,14 +1,11 @@
-//! An accepting lasso of any acceptance formula, found by a search of the automaton itself.
-ghost use Rattle.std.specs.Prelude.{◌≡◌, false, IfErr, IfNone, IfOk, IfSome, IsOkUnless, OnOk, filter, length, slice_index, slice_index_or};
-ghost use Rattle.omega_acc.specs.formula.Shape.{acc_tree_of_shape};
+//! An accepting lasso for any acceptance formula, found by a search of the automaton itself.
+ghost use Rattle.std.specs.Prelude.{◌≡◌, false, IfErr, IfNone, IfOk, IfSome, IsOkUnless, OnOk, length};
+ghost use Rattle.omega_formula.specs.Shape.{acc_tree_of_shape};
 ghost use Rattle.omega_automaton.specs.Branching.{has_universal_branching};
-ghost use Rattle.omega_components.specs.Graph.{AreEdges, ends_at, listed, marked};
-ghost use Rattle.omega_components.specs.Reaching.{IsReachedAlong};
-ghost use Rattle.omega_walk_laws.specs.Walks.{IsAccepting};
-ghost use Rattle.omega_accepting_walk.specs.Rows.{row_at};
+ghost use Rattle.omega_components.specs.Graph.{AreEdges};
 ghost use Rattle.omega_runs.specs.Verdict.{IsVerdict};
 ghost use Rattle.omega_lasso_search.specs.Searching.{IsSearchRefusal, IsSearchable};
-ghost use Rattle.omega_lasso_search.specs.private.Searched.{AreUsableEdges, IsSearch};
+ghost use Rattle.omega_lasso_search.specs.private.Searched.{AreUsableEdges, IsAcceptingCycle, IsSearch, Reaches, beginning, edges_leaving};
 
 use crate::edge_table::edge_table;
 use crate::numbering::number_states;
@@ -22,11 +19,14 @@ use omega_runs::Verdict;
 use omega_text::TaskFault;
 use std::alloc::Global;
 
-/// Whether an automaton is empty, or an accepting lasso, whatever its acceptance formula and its name. Refused are, the
-/// first by number: 41 (a start or an edge lists several states), 42 (a label mentions over `MOST_MENTIONED`
-/// propositions, and `is_satisfiable` gave it up), or 60. The cost is that of `is_satisfiable` for each label, and of
-/// `accepting_walk` in the usable edges, and in those that a start reaches where no start leads to the closed walk that
-/// was found.
+/// Returns an accepting lasso of `automaton`, or `Empty` if no lasso accepts, whatever its acceptance formula and name.
+///
+/// Fails with [TaskFault::UniversalBranch] if a start or an edge lists several states. Otherwise fails with
+/// [TaskFault::TooManyPropositions] if a label mentions over `MOST_MENTIONED` propositions and `is_satisfiable` gives
+/// it up.
+///
+/// Takes the time of `is_satisfiable` for each label, and of `accepting_walk` on the usable edges. If no start leads to
+/// the closed walk that is found, takes the time of `accepting_walk` on the reachable usable edges too.
 pub fn lasso(alloc: Global, automaton: &Automaton) -> Result<Verdict, Refusal>
     ensures verdict { IfOk result (IsVerdict automaton.now) }
     ensures given { OnOk result (IsSearchable automaton.now) }
@@ -40,7 +40,7 @@ pub fn lasso(alloc: Global, automaton: &Automaton) -> Result<Verdict, Refusal>
     Ok(verdict)
 }
 
-/// The verdict of an automaton whose usable edges are told. 60 alone.
+/// Returns the verdict on `automaton`, given its usable `edges`.
 fn searched(alloc: Global, automaton: &Automaton, edges: &[u32]) -> Result<Verdict, Refusal>
     requires plain { has_universal_branching automaton.now ≡ false }
     requires usable { AreUsableEdges automaton.now edges.now }
@@ -63,10 +63,10 @@ fn searched(alloc: Global, automaton: &Automaton, edges: &[u32]) -> Result<Verdi
     Ok(verdict)
 }
 
-/// The verdict of a search. A closed walk is sought among all its edges, and where no source leads to the one that is
-/// found, among those that a source reaches. 60 alone.
+/// Returns the verdict of a search. Looks for a closed walk among all its edges. If no source leads to the one that is
+/// found, looks again among the edges that a source reaches.
 fn found_in(alloc: Global, search: &Search<'_>) -> Result<Verdict, Refusal>
-    requires { IsSearch search.now.automaton.now search.now.marks.now search.now.graph.now search.now.sources.now search.now.edges.now }
+    requires { IsSearch search.now }
     ensures verdict { IfOk result (IsVerdict search.now.automaton.now) }
     ensures memory { IsOkUnless result Refusal.Memory }
 {
@@ -81,13 +81,13 @@ fn found_in(alloc: Global, search: &Search<'_>) -> Result<Verdict, Refusal>
     }
 }
 
-/// The verdict of a search: the closed walks are sought among its edges that a source reaches. 60 alone.
+/// Returns the verdict of a search, looking for a closed walk among its edges that a source reaches.
 fn found_among_reached(
     alloc: Global,
     search: &Search<'_>,
     formula: &AccShape,
 ) -> Result<Verdict, Refusal>
-    requires ready { IsSearch search.now.automaton.now search.now.marks.now search.now.graph.now search.now.sources.now search.now.edges.now }
+    requires ready { IsSearch search.now }
     requires formula { acc_tree_of_shape formula.now ≡ search.now.automaton.now.acceptance }
     ensures verdict { IfOk result (IsVerdict search.now.automaton.now) }
     ensures memory { IsOkUnless result Refusal.Memory }
@@ -109,12 +109,13 @@ fn found_among_reached(
     }
 }
 
-/// The lasso of a closed walk that accepts, with a shortest stem to it, none where no source leads to it. 60 alone.
+/// Returns the lasso of `cycle` with a shortest stem to its first edge, by breadth-first search. Returns none if no
+/// source leads there.
 fn with_stem(alloc: Global, search: &Search<'_>, cycle: &[u32]) -> Result<Option<Verdict>, Refusal>
-    requires ready { IsSearch search.now.automaton.now search.now.marks.now search.now.graph.now search.now.sources.now search.now.edges.now }
-    requires cycle { IsAccepting (marked search.now.graph.now (row_at search.now.marks.now)) (listed search.now.edges.now) search.now.automaton.now.acceptance cycle.now }
+    requires ready { IsSearch search.now }
+    requires cycle { IsAcceptingCycle search.now cycle.now }
     ensures verdict { IfOk result (λ found. IfSome found (IsVerdict search.now.automaton.now)) }
-    ensures none { IfOk result (λ found. IfNone found (¬ IsReachedAlong (marked search.now.graph.now (row_at search.now.marks.now)) (listed search.now.edges.now) search.now.sources.now (ends_at search.now.graph.now (slice_index cycle.now 0)).from)) }
+    ensures none { IfOk result (λ found. IfNone found (¬ Reaches search.now (beginning search.now cycle.now))) }
     ensures memory { IsOkUnless result Refusal.Memory }
 {
     let target = search.graph.from(cycle[0]);
@@ -127,7 +128,7 @@ fn with_stem(alloc: Global, search: &Search<'_>, cycle: &[u32]) -> Result<Option
     }
 }
 
-/// Those of some edges that leave a state with a flag. 60 alone.
+/// Returns those of `numbers` whose edges leave a state with a flag in `states`.
 fn leaving(
     alloc: Global,
     graph: &Graph,
@@ -136,7 +137,7 @@ fn leaving(
 ) -> Result<Vec<u32>, Refusal>
     requires edges { AreEdges graph.now numbers.now }
     requires states { length states.now ≡ graph.now.states }
-    ensures left { IfOk result (λ edges. edges.items ≡ filter (λ number. slice_index_or states.now (ends_at graph.now number).from false) numbers.now) }
+    ensures left { IfOk result (λ edges. edges.items ≡ edges_leaving states.now graph.now numbers.now) }
     ensures memory { IsOkUnless result Refusal.Memory }
 {
     let mut edges = Vec::with_capacity(alloc, numbers.len())?;

@@ -1,6 +1,6 @@
 //! Emptiness of automata of any acceptance: an accepting lasso, found by a search of the automaton itself.
 //!
-//! Numbers of refusals are those of `Refusal`; docs/formats.md says when each comes.
+//! docs/formats.md says when each refusal comes.
 #![tactic(auto)]
 
 mod edge_table;

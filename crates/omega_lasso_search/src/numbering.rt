@@ -1,10 +1,10 @@
-//! The graph of an automaton, whose states keep their numbers where these are not far apart, and else are numbered as
-//! they are first met.
-ghost use Rattle.std.specs.Prelude.{◌≡◌, ◌+◌, ◌*◌, ◌<◌, ◌≤◌, List, ℕ, length, map, nat_eq, All, IfOk, IsOkUnless, OnOk};
+//! The graph of an automaton. Its states keep their numbers if these are dense, and are else numbered in the order in
+//! which they are first met.
+ghost use Rattle.std.specs.Prelude.{◌≡◌, ◌+◌, ◌*◌, ◌<◌, ◌≤◌, length, map, nat_eq, All, IfOk, IsOkUnless, OnOk};
 ghost use Rattle.std.specs.List.{IsDistinct};
 ghost use Rattle.omega_automaton.specs.Automaton.{edges_of};
 ghost use Rattle.omega_components.specs.Graph.{IsInside};
-ghost use Rattle.omega_lasso_search.specs.private.Numbering.{AreNamed, AreNumbered, Grows, IsNamed, ends_in, ends_of, first_of, name_in};
+ghost use Rattle.omega_lasso_search.specs.private.Numbering.{Grows, IsNamed, Represents, RepresentsAutomaton, ends_in, ends_of, first_of, name_in};
 
 use indexmap::IndexSet;
 use omega_automaton::{Automaton, Refusal};
@@ -12,21 +12,21 @@ use omega_components::{Edge, Graph};
 use omega_text::Numbers;
 use std::alloc::Global;
 
-/// A graph, and the numbers of the starts.
+/// The graph of an automaton, and its starts by their numbers there.
 #[derive(Drop)]
 pub(crate) struct Numbered {
     pub(crate) graph: Graph,
     pub(crate) sources: Vec<u32>,
 }
 
-/// The graph of an automaton whose edges have these ends. 60 alone.
+/// Returns the graph of `automaton`, whose edges have these `ends`.
 pub(crate) fn number_states(
     alloc: Global,
     automaton: &Automaton,
     ends: &[Edge],
 ) -> Result<Numbered, Refusal>
     requires { ends.now ≡ map ends_of (edges_of automaton.now) }
-    ensures numbered { IfOk result (λ numbered. (names : List ℕ) × AreNumbered automaton.now names numbered.sources.items numbered.graph) }
+    ensures numbered { IfOk result (RepresentsAutomaton automaton.now) }
     ensures memory { IsOkUnless result Refusal.Memory }
 {
     automaton.keeps_limits();
@@ -40,7 +40,7 @@ pub(crate) fn number_states(
     Ok(numbered)
 }
 
-/// One more than the greatest number of the first states of lists.
+/// Returns one more than the greatest first state in `starts`, or 0 if there are none.
 fn start_bound(starts: &[Numbers]) -> usize
     requires { All (λ start. 0 < length start) starts.now }
     ensures { All (λ start. first_of start < result) starts.now }
@@ -52,7 +52,7 @@ fn start_bound(starts: &[Numbers]) -> usize
     bound
 }
 
-/// One more than the greatest number of a state at which an edge ends, or what it is at least.
+/// Returns one more than the greatest state in `ends`, but at least `least`.
 fn end_bound(ends: &[Edge], least: usize) -> usize
     ensures least { least ≤ result }
     ensures ends { All (IsInside result) ends.now }
@@ -64,7 +64,8 @@ fn end_bound(ends: &[Edge], least: usize) -> usize
     bound
 }
 
-/// The graph whose edges have these ends, all below a bound, and whose sources are the first states of lists. 60 alone.
+/// Returns the graph with these `ends`, whose states are below `bound`, and with the first states of `starts` as
+/// sources.
 fn keep_numbers(
     alloc: Global,
     starts: &[Numbers],
@@ -74,7 +75,7 @@ fn keep_numbers(
     requires starts { All (λ start. 0 < length start) starts.now }
     requires first { All (λ start. first_of start < bound) starts.now }
     requires ends { All (IsInside bound) ends.now }
-    ensures numbered { IfOk result (λ numbered. (names : List ℕ) × AreNamed starts.now ends.now names numbered.sources.items numbered.graph) }
+    ensures numbered { IfOk result (Represents starts.now ends.now) }
     ensures memory { IsOkUnless result Refusal.Memory }
 {
     let sources = first_states(alloc, starts)?;
@@ -82,7 +83,7 @@ fn keep_numbers(
     Ok(Numbered { graph, sources })
 }
 
-/// The first states of lists. 60 alone.
+/// Returns the first state of each list in `starts`.
 fn first_states(alloc: Global, starts: &[Numbers]) -> Result<Vec<u32>, Refusal>
     requires { All (λ start. 0 < length start) starts.now }
     ensures states { IfOk result (λ states. states.items ≡ map first_of starts.now) }
@@ -95,7 +96,7 @@ fn first_states(alloc: Global, starts: &[Numbers]) -> Result<Vec<u32>, Refusal>
     Ok(states)
 }
 
-/// The graph with so many states whose edges are these. 60 alone.
+/// Returns the graph with this number of `states` and these `ends`.
 fn graph_on(alloc: Global, ends: &[Edge], states: u32) -> Result<Graph, Refusal>
     requires { All (IsInside states) ends.now }
     ensures states { IfOk result (λ graph. graph.states ≡ states) }
@@ -109,10 +110,10 @@ fn graph_on(alloc: Global, ends: &[Edge], states: u32) -> Result<Graph, Refusal>
     Ok(graph)
 }
 
-/// The graph whose edges have these ends, numbered as they are first met. 60 alone.
+/// Returns the graph with these `ends`, whose states are numbered as they are first met, the starts before the others.
 fn number_anew(alloc: Global, starts: &[Numbers], ends: &[Edge]) -> Result<Numbered, Refusal>
     requires { All (λ start. 0 < length start) starts.now }
-    ensures numbered { IfOk result (λ numbered. (names : List ℕ) × AreNamed starts.now ends.now names numbered.sources.items numbered.graph) }
+    ensures numbered { IfOk result (Represents starts.now ends.now) }
     ensures memory { IsOkUnless result Refusal.Memory }
 {
     let mut met = IndexSet::new(alloc);
@@ -121,7 +122,7 @@ fn number_anew(alloc: Global, starts: &[Numbers], ends: &[Edge]) -> Result<Numbe
     Ok(Numbered { graph, sources })
 }
 
-/// The numbers of the first states of lists. 60 alone.
+/// Gives the first state of each list in `starts` a number, and returns these numbers.
 fn sources(alloc: Global, starts: &[Numbers], met: &mut IndexSet<u32>) -> Result<Vec<u32>, Refusal>
     requires starts { All (λ start. 0 < length start) starts.now }
     requires distinct { IsDistinct nat_eq met.old.keys }
@@ -139,7 +140,8 @@ fn sources(alloc: Global, starts: &[Numbers], met: &mut IndexSet<u32>) -> Result
     Ok(sources)
 }
 
-/// The graph whose edges have these ends, where so many states were met at most. 60 alone.
+/// Returns the graph with these `ends`, after numbering their states. At most `before` states are numbered yet. Fails
+/// with [Refusal::Memory] also if there may be too many states for a `u32`.
 fn graph_of(
     alloc: Global,
     ends: &[Edge],
@@ -168,7 +170,7 @@ fn graph_of(
     Ok(graph)
 }
 
-/// The number of a state: that which it has, or the next. 60 alone.
+/// Returns the number of `state`: that which it has, or else the next one.
 fn number(met: &mut IndexSet<u32>, state: u32) -> Result<u32, Refusal>
     ensures distinct { OnOk result (IsDistinct nat_eq met.new.keys) }
     ensures grows { OnOk result (Grows 1 met.old.keys met.new.keys) }

@@ -2,14 +2,14 @@ use omega_automaton::Automaton;
 use omega_components::Graph;
 use omega_text::Numbers;
 
-/// What is searched: the usable edges of an automaton, in a graph that has all its edges in their order.
+/// A search for an accepting lasso: the usable edges of an automaton, in a graph of all its edges in their order.
 #[derive(Clone, Copy)]
 pub(crate) struct Search<'a> {
     pub(crate) automaton: &'a Automaton,
     /// The marks of each edge.
     pub(crate) marks: &'a [Numbers],
     pub(crate) graph: &'a Graph,
-    /// The states of the graph that stand for the starts.
+    /// The starts, by their numbers in the graph.
     pub(crate) sources: &'a [u32],
     /// The numbers of the usable edges.
     pub(crate) edges: &'a [u32],

@@ -1,4 +1,4 @@
-//! A lasso whose stem is no longer than its cycle asks for.
+//! A lasso with its stem shortened by the edges that it shares with the end of the cycle.
 ghost use Rattle.std.specs.Prelude.{◌≡◌, ◌-◌, ◌≤◌, ℕ, IfOk, IsOkUnless, drop, length};
 ghost use Rattle.omega_automaton.specs.Automaton.{Description};
 ghost use Rattle.omega_runs.specs.Lasso.{IsAcceptingLasso};
@@ -8,8 +8,8 @@ use omega_automaton::{Refusal, Seq};
 use omega_runs::Verdict;
 use std::alloc::Global;
 
-/// The lasso that enters its cycle where the stem first comes to it: the last edges that stem and cycle share are taken
-/// out of the stem, and the cycle begins with them. 60 alone. Linear.
+/// Returns the lasso that enters its cycle as early as its stem comes to it: the longest common suffix of `stem` and
+/// `cycle` is taken out of the stem, and the cycle begins with it. Linear.
 pub(crate) fn turned(alloc: Global, stem: &[u32], cycle: &[u32]) -> Result<Verdict, Refusal>
     ensures verdict { (a : Description) → IsAcceptingLasso a stem.now cycle.now → IfOk result (IsVerdict a) }
     ensures memory { IsOkUnless result Refusal.Memory }
@@ -25,7 +25,7 @@ pub(crate) fn turned(alloc: Global, stem: &[u32], cycle: &[u32]) -> Result<Verdi
     })
 }
 
-/// With how many same numbers two lists end.
+/// Returns the length of the longest common suffix of `stem` and `cycle`.
 fn shared_end(stem: &[u32], cycle: &[u32]) -> usize
     ensures stem { result ≤ length stem.now }
     ensures cycle { result ≤ length cycle.now }

@@ -30,7 +30,7 @@ number_or_other Semicolon = inr (λ e. cc)
 number_or_other Comma = inr (λ e. cc)
 number_or_other Name = inr (λ e. cc)
 
--- where a game text begins no token
+-- a place where a game text begins no token
 lex_onward : (source : List ℕ) (from place : ℕ) → HasPgFaultFrom source from (Lex place) → Onward source from
 lex_onward source from place faults =
     let text = front_word (drop place source) in
@@ -48,7 +48,7 @@ lex_onward source from place faults =
     (two_ways (pointwise eqb text (codes "cycle"))))
     (two_ways (pointwise eqb text (codes "stem")))
 
--- where it has a fault
+-- a place where it has a fault
 fault_onward : (source : List ℕ) (from : ℕ) (fault : TextFault) → HasPgFaultFrom source from fault → Onward source from
 fault_onward source from (Lex at) faults = lex_onward source from at faults
 fault_onward source from (NumberFault at) faults = inr (inr (NumberFault at, same_faults source from (NumberFault at) (λ place e. cc) faults))

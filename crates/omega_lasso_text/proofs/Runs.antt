@@ -9,7 +9,7 @@ use Rattle.omega_lasso_text.specs.declared.stage.Stage.{Stage}
 use Rattle.omega_lasso_text.specs.declared.stage.Stage.TheVariants.{Cycle, Start, Stem}
 use Rattle.omega_lasso_text.specs.private.Reading.{IsEnded, LassoState, initial, kept, run, step}
 
--- a run over two lists is a run over the one and then over the other
+-- a run over two joined lists is a run over the first and then over the second
 run-append : (state : LassoState) (xs ys : List LassoSymbol) → run state (xs ++ ys) ≡ option_and_then (λ next. run next ys) (run state xs)
 run-append state [] ys = refl
 run-append state (x ∷ xs) ys =
@@ -47,13 +47,13 @@ run_around before around (n ∷ more) = run_around before (around ++ n ∷ []) m
 pub run_text : (symbols : List LassoSymbol) (lasso : LassoText) → SpellsLasso symbols lasso → run initial symbols ≡ Some (kept Cycle lasso.stem lasso.cycle)
 run_text symbols lasso spells = ap (run initial) spells.spelled ∙ run_before [] lasso.stem (cycle ∷ map number lasso.cycle) ∙ run_around lasso.stem [] lasso.cycle
 
--- what symbols led to a stage with these numbers
+-- the symbols that led to a stage with these numbers
 abbrev IsReached : List LassoSymbol → Stage → List ℕ → List ℕ → Type 0
 IsReached front Start before around = (front ≡ []) × (before ≡ []) × (around ≡ [])
 IsReached front Stem before around = (front ≡ stem ∷ map number before) × (around ≡ [])
 IsReached front Cycle before around = front ≡ lasso_symbols before around
 
--- so many symbols with one number more
+-- these symbols, and one number more
 numbers_push : (numbers : List ℕ) (n : ℕ) → map number numbers ++ number n ∷ [] ≡ map number (numbers ++ n ∷ [])
 numbers_push numbers n = sym (map-append number numbers (n ∷ []))
 

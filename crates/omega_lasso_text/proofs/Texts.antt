@@ -12,18 +12,16 @@ use Rattle.omega_lasso_text.specs.Laws.{LassoRefusalsAreOne, LassoTextsAreReadOr
 use Rattle.omega_lasso_text.specs.Refusing.{IsLassoRefusal, IsReadLassoRefusal}
 use Rattle.omega_lasso_text.specs.Text.{IsLassoText}
 use Rattle.omega_lasso_text.specs.declared.lasso.LassoText.{LassoText}
-use Rattle.omega_lasso_text.specs.declared.reader.Reader.{Reader}
 use Rattle.omega_lasso_text.specs.private.Reader.{HasBecome}
 use Rattle.omega_lasso_text.specs.private.Reading.{LassoState}
 use Rattle.omega_lasso_text.proofs.Deciding.{decided, lasso_same, symbols_of, text_state, texts_one}
-use Rattle.omega_lasso_text.proofs.Steps.{state_of}
 
 -- what a new reader became is what the text says
-pub lasso_read : (source : List ℕ) (start reader : Reader) (lasso : LassoText) → lasso.stem ≡ reader.stem.items → lasso.cycle ≡ reader.cycle.items
+pub lasso_read : (source : List ℕ) (start reader : LassoState) (lasso : LassoText) → lasso.stem ≡ reader.before → lasso.cycle ≡ reader.around
     → IsReadText lasso_format (λ lexemes. HasBecome start lexemes reader) (TokensComplete lasso_syntax) source → IsLassoText source lasso
 lasso_read source start reader lasso before around read =
     let raw = read.complete.0 in
-    let state = text_state (symbols_of read.lexemes) (state_of reader) raw read.all_taken read.complete.1 in
+    let state = text_state (symbols_of read.lexemes) reader raw read.all_taken read.complete.1 in
     let same : raw ≡ lasso = lasso_same raw lasso
     (sym (before ∙ ap (λ (s : LassoState). s.before) state)) (sym (around ∙ ap (λ (s : LassoState). s.around) state)) in
     record {

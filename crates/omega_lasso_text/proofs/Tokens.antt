@@ -47,7 +47,7 @@ spelled_word Number text is = absurd is
 spelled_word Stem text is = (refl, is)
 spelled_word Cycle text is = (refl, is)
 
--- where a word stands at the front, it is the longest form
+-- a word at the front is the longest form
 front_longest : (kind : LassoKind) (bytes : List ℕ) → IsWordOf kind (front_word bytes) → IsLongest bytes (prefix_len is_word_byte bytes)
 front_longest kind bytes word =
     let count = prefix_len is_word_byte bytes in
@@ -79,7 +79,7 @@ word_follows source from place lexeme gap token =
 abbrev pub as_number : Lexeme PgKind → Lexeme LassoKind
 as_number lexeme = record { kind = Number; text = lexeme.text; value = lexeme.value; span = lexeme.span }
 
--- it follows where it did
+-- it follows at the place at which the number does
 pub number_follows : (source : List ℕ) (from : ℕ) (lexeme : Lexeme PgKind) → PgFollows source from lexeme → lexeme.kind ≡ PgNumber → Follows source from (as_number lexeme)
 number_follows source from lexeme follows is = record {
   gap = follows.gap;
@@ -167,7 +167,7 @@ wrong_other bytes no_stem no_cycle wrong =
       no_cycle = λ is. no_cycle (sym same ∙ is);
     }
 
--- where a game text begins no token, a lasso text has one of the two words
+-- if a game text begins no token, a lasso text has one of the two words
 pub lex_follows : (source : List ℕ) (from place : ℕ) (lexeme : Lexeme LassoKind) → HasPgFaultFrom source from (Lex place) → IsWordToken source place lexeme
     → Follows source from lexeme
 lex_follows source from place lexeme faults token = word_follows source from place lexeme (subst (IsGap source from) (sym faults.fault_there.0) faults.gap) token

@@ -21,7 +21,7 @@ use Rattle.omega_lasso_text.specs.Tokens.{Spells}
 use Rattle.omega_lasso_text.specs.declared.kind.LassoKind.{LassoKind}
 use Rattle.omega_lasso_text.specs.declared.kind.LassoKind.TheVariants.{Cycle, Number, Stem}
 
--- where a token begins the text is black
+-- the text is black at a token's beginning
 pub token_black : (source : List ℕ) (from : ℕ) (lexeme : Lexeme LassoKind) → Follows source from lexeme → IsBlack source lexeme.span.start
 token_black source from lexeme follows =
     let bytes = drop lexeme.span.start source in
@@ -120,7 +120,7 @@ token_no_fault bytes place lexeme (NumberFault at) begins fault =
 token_no_fault bytes place lexeme (Syntax at) begins fault = fault
 token_no_fault bytes place lexeme TooLong begins fault = fault
 
--- where a fault is, the text is black
+-- the text is black at a fault
 fault_black : (source : List ℕ) (from : ℕ) (fault : TextFault) (faults : HasFaultFrom source from fault) → IsBlack source faults.place
 fault_black source from fault faults = record { inside = faults.more; black = faults.black }
 

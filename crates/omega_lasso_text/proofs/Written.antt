@@ -25,7 +25,7 @@ use Rattle.omega_lasso_text.specs.declared.kind.LassoKind.TheVariants.{Cycle, Nu
 use Rattle.omega_lasso_text.proofs.Deciding.{symbols_of}
 use Rattle.omega_lasso_text.proofs.Tokens.{begins_at}
 
--- where white space and then the longest form stand, which spells a token
+-- white space, and then the longest form, which spells a token
 module _ (source gap text rest : List ℕ) (from : ℕ) (kind : LassoKind) (value : ℕ) (is : drop from source ≡ gap ++ (text ++ rest)) (inside : from ≤ length source) where
   -- how long the parts are
   sizes : length source ≡ from + length gap + length text + length rest
@@ -33,7 +33,7 @@ module _ (source gap text rest : List ℕ) (from : ℕ) (kind : LassoKind) (valu
       let all = ap length is in
       omega (arith, length-drop from source, length-append gap (text ++ rest), length-append text rest)
 
-  -- what stands after the white space
+  -- what comes after the white space
   after_gap : drop (from + length gap) source ≡ text ++ rest
   after_gap = sym (drop-drop (length gap) from source) ∙ ap (drop (length gap)) is ∙ drop_at gap (text ++ rest) (length gap) refl
 
@@ -71,7 +71,7 @@ record IsCutFrom (source : List ℕ) (from : ℕ) (symbols : List LassoSymbol) :
   pub spelled : symbols_of lexemes ≡ symbols
   pub gap : IsGap source end (length source)
 
--- wherever these bytes end a text, they are cut so
+-- at the end of every text these bytes are cut so
 abbrev IsWritten : List ℕ → List LassoSymbol → Type 0
 IsWritten text symbols = (source : List ℕ) (from : ℕ) → from ≤ length source → drop from source ≡ text → IsCutFrom source from symbols
 

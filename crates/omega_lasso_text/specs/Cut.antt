@@ -13,7 +13,7 @@ pub record BeginsWith (bytes : List ℕ) (lexeme : Lexeme LassoKind) : Type 0 wh
   pub text : lexeme.text ≡ take (lexeme.span.end - lexeme.span.start) bytes
   pub spells : Spells lexeme.kind lexeme.value lexeme.text
 
--- from a place on, a gap follows and then this token
+-- from the place `from` on, a gap follows and then this token
 pub record Follows (source : List ℕ) (from : ℕ) (lexeme : Lexeme LassoKind) : Type 0 where
   pub gap : IsGap source from lexeme.span.start
   pub token : BeginsWith (drop lexeme.span.start source) lexeme

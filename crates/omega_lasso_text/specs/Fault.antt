@@ -1,4 +1,4 @@
--- Where a lasso text can't be cut.
+-- Faults at which a lasso text can't be cut into tokens.
 use Rattle.std.specs.Prelude.{◌≡◌, ◌≢◌, ℕ, ◌<◌, false, ◌⊎◌, List, length, take, drop, slice_index, codes}
 use Rattle.omega_text.specs.Bytes.{is_white}
 use Rattle.omega_text.specs.Forms.{IsDigits}
@@ -8,7 +8,7 @@ use Rattle.omega_text.specs.pg.Cut.{IsGap}
 use Rattle.omega_text.specs.pg.Fault.{BeginsNoForm, BeginsWrongDigits}
 use Rattle.omega_text.specs.pg.Forms.{IsLongest}
 
--- the longest form that the bytes begin with is not digits, and neither of the two words
+-- the longest form at the front of the bytes is not digits, and neither of the two words
 pub record BeginsOther (bytes : List ℕ) : Type 0 where
   pub count : ℕ
   pub longest : IsLongest bytes count
@@ -16,14 +16,14 @@ pub record BeginsOther (bytes : List ℕ) : Type 0 where
   pub no_stem : take count bytes ≢ codes "stem"
   pub no_cycle : take count bytes ≢ codes "cycle"
 
--- the fault of bytes that begin no token, where they stand at this place
+-- the fault of bytes that begin no token, at this place
 abbrev pub IsFaultOf : List ℕ → ℕ → TextFault → Type 0
 IsFaultOf bytes place (Lex at) = (at ≡ place) × (BeginsNoForm bytes ⊎ BeginsOther bytes)
 IsFaultOf bytes place (Number at) = (at ≡ place) × BeginsWrongDigits bytes
 IsFaultOf bytes place (Syntax at) = ⊥
 IsFaultOf bytes place TooLong = ⊥
 
--- from a place on, a gap follows and then bytes that are not white and begin no token
+-- from the place `from` on, a gap follows and then bytes that are not white and begin no token
 pub record HasFaultFrom (source : List ℕ) (from : ℕ) (fault : TextFault) : Type 0 where
   pub place : ℕ
   pub gap : IsGap source from place

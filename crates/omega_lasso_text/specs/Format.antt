@@ -8,4 +8,8 @@ use Rattle.omega_lasso_text.specs.declared.kind.LassoKind.{LassoKind}
 
 -- tokens, white space to the end, and faults
 abbrev pub lasso_format : TextFormat LassoKind
-lasso_format = record { follows = Follows; ends = λ source from. IsGap source from (length source); faults = HasFaultFrom }
+lasso_format = record {
+  follows = Follows;
+  ends = λ source from. IsGap source from (length source);
+  faults = HasFaultFrom;
+}

@@ -1,4 +1,4 @@
--- What holds of the texts of lassos, whatever reads or writes them.
+-- Laws of the texts of lassos, whatever reads or writes them.
 use Rattle.std.specs.Prelude.{◌≡◌, ℕ, ◌<◌, ◌≤◌, ◌⊎◌, All, List, length}
 use Rattle.omega_text.specs.Limits.{most_number, most_text}
 use Rattle.omega_text.specs.declared.refusal.Refusal.{Refusal}
@@ -9,22 +9,25 @@ use Rattle.omega_lasso_text.specs.declared.lasso.LassoText.{LassoText}
 
 -- a text says at most one lasso
 abbrev pub LassosOfTextsAreOne : Type 0
-LassosOfTextsAreOne = (source : List ℕ) (one other : LassoText) → IsLassoText source one → IsLassoText source other → one ≡ other
+LassosOfTextsAreOne = (source : List ℕ) (one other : LassoText)
+    → IsLassoText source one → IsLassoText source other → one ≡ other
 
 -- a text has at most one refusal as a text of a lasso
 abbrev pub LassoRefusalsAreOne : Type 0
-LassoRefusalsAreOne = (source : List ℕ) (one other : Refusal) → IsLassoRefusal source one → IsLassoRefusal source other → one ≡ other
+LassoRefusalsAreOne = (source : List ℕ) (one other : Refusal)
+    → IsLassoRefusal source one → IsLassoRefusal source other → one ≡ other
 
 -- a text that says a lasso has no refusal
 abbrev pub LassosAreNotRefused : Type 0
-LassosAreNotRefused = (source : List ℕ) (lasso : LassoText) (refusal : Refusal) → IsLassoText source lasso → IsLassoRefusal source refusal → ⊥
+LassosAreNotRefused = (source : List ℕ) (lasso : LassoText) (refusal : Refusal)
+    → IsLassoText source lasso → IsLassoRefusal source refusal → ⊥
 
 -- a text says a lasso or has a refusal
 abbrev pub LassoTextsAreReadOrRefused : Type 0
 LassoTextsAreReadOrRefused = (source : List ℕ)
     → ((lasso : LassoText) × IsLassoText source lasso) ⊎ ((refusal : Refusal) × IsLassoRefusal source refusal)
 
--- the written form of a lasso, within the limits of texts and of numbers, says that lasso
+-- the written form of a lasso says that lasso if it keeps the limits of texts and of numbers
 abbrev pub WrittenLassosAreRead : Type 0
 WrittenLassosAreRead = (lasso : LassoText) → 0 < length lasso.cycle
     → All (λ number. number ≤ most_number) lasso.stem → All (λ number. number ≤ most_number) lasso.cycle

@@ -1,4 +1,4 @@
--- Which refusal a lasso text meets: 4, then 1 or 2 at the least place, then 3.
+-- Which refusal a lasso text meets: `TooLong`, then `Lex` or `Number` at the least place, then `Syntax`.
 use Rattle.std.specs.Prelude.{ℕ, List}
 use Rattle.omega_text.specs.Cases.{never, or_memory, or_text}
 use Rattle.omega_text.specs.declared.refusal.Refusal.{Refusal}
@@ -9,6 +9,6 @@ use Rattle.omega_lasso_text.specs.Grammar.{lasso_syntax}
 abbrev pub IsLassoRefusal : List ℕ → Refusal → Type 0
 IsLassoRefusal source = or_text (IsTextFault lasso_syntax source) never
 
--- what a call that reads may answer in place of a lasso: memory, or the refusal of the text
+-- the refusals of a call that reads: that of the text, or `Memory`
 abbrev pub IsReadLassoRefusal : List ℕ → Refusal → Type 0
 IsReadLassoRefusal source = or_memory (IsLassoRefusal source)

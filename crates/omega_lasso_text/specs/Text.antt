@@ -5,7 +5,7 @@ use Rattle.omega_text.specs.Syntax.{IsTextOf}
 use Rattle.omega_lasso_text.specs.Grammar.{lasso_syntax}
 use Rattle.omega_lasso_text.specs.declared.lasso.LassoText.{LassoText}
 
--- the text says the lasso
+-- the text is within the limit and says the lasso
 pub record IsLassoText (source : List ℕ) (lasso : LassoText) : Type 0 where
   pub short : length source ≤ most_text
   pub writes : IsTextOf lasso_syntax source lasso

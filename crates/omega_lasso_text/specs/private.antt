@@ -1,4 +1,4 @@
--- What only private contracts cite.
+-- Definitions that only private contracts cite.
 pub mod Reader
 pub mod Reading
 pub mod Words

@@ -1,4 +1,4 @@
-/// What a token of a lasso text is.
+/// The kind of a token of a lasso text.
 #[derive(Clone, Copy, Debug, PartialEq, Eq)]
 pub enum LassoKind {
     /// A number, from 0 to `MOST_NUMBER` of `omega_text`.

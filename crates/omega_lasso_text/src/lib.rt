@@ -1,6 +1,6 @@
 //! Texts of lassos, as numbers of edges: read and written exactly.
 //!
-//! Numbers of refusals are those of `Refusal`; docs/formats.md says when each comes.
+//! docs/formats.md says when each refusal comes.
 #![tactic(auto)]
 
 mod format;

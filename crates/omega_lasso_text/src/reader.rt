@@ -1,12 +1,13 @@
-ghost use Rattle.std.specs.Prelude.{◌≡◌, ◌<◌, ◌↔◌, IfOk, IsOkUnless, IsTrue, length};
+ghost use Rattle.std.specs.Prelude.{◌≡◌, ◌↔◌, IfOk, IsOkUnless, IsTrue};
 
 use crate::kind::LassoKind;
 use crate::lasso::LassoText;
 use crate::stage::Stage;
 use omega_text::{Refusal, Seq, Token, TokenReader};
 use std::alloc::Global;
+use std::marker::Model;
 
-/// What was read so far of a text of a lasso.
+/// A reader of lasso texts: what it has read so far.
 #[derive(Drop)]
 pub(crate) struct Reader {
     pub(crate) stage: Stage,
@@ -14,15 +15,20 @@ pub(crate) struct Reader {
     pub(crate) cycle: Vec<u32>,
 }
 
-impl Reader {
-    ghost use Rattle.std.specs.Prelude.{[], ◌∷◌, ◌++◌, IfOk};
-    ghost use Rattle.omega_lasso_text.specs.declared.stage.Stage.TheVariants.{Start};
-    ghost use Rattle.omega_lasso_text.specs.private.Reading.{Goes, cycle_at, number_at, stem_at, kept};
+impl Model for Reader {
+    ghost use Rattle.omega_lasso_text.specs.private.Reading.{LassoState, kept};
 
+    ghost Value = { LassoState };
+
+    ghost view = { λ reader. kept reader.stage reader.stem.items reader.cycle.items };
+}
+
+impl Reader {
+    ghost use Rattle.omega_lasso_text.specs.private.Reading.{Goes, cycle_at, initial, number_at, stem_at};
+
+    /// Returns a reader that has read nothing.
     pub(crate) fn new(alloc: Global) -> Self
-        ensures stage { result.stage ≡ Start }
-        ensures stem { result.stem.items ≡ [] }
-        ensures cycle { result.cycle.items ≡ [] }
+        ensures { result ≡ initial }
     {
         Reader {
             stage: Stage::Start,
@@ -31,10 +37,10 @@ impl Reader {
         }
     }
 
-    /// The lasso that was read.
+    /// Returns the lasso that was read.
     pub(crate) fn into_lasso(self) -> LassoText
-        ensures stem { result.stem ≡ self.stem.items }
-        ensures cycle { result.cycle ≡ self.cycle.items }
+        ensures stem { result.stem ≡ self.before }
+        ensures cycle { result.cycle ≡ self.around }
     {
         LassoText {
             stem: Seq::from_vec(self.stem),
@@ -42,10 +48,9 @@ impl Reader {
         }
     }
 
-    /// Takes a number, unless no word came before.
+    /// Takes `number` if a word came before. Returns whether it was taken.
     fn take_number(&mut self, number: u32) -> Result<bool, Refusal>
-        ensures goes { IfOk result (λ taken. Goes taken (number_at self.old.stage number (kept self.old.stage self.old.stem.items self.old.cycle.items))
-            (kept self.new.stage self.new.stem.items self.new.cycle.items)) }
+        ensures goes { IfOk result (λ taken. Goes taken (number_at self.old.stage number self.old) self.new) }
         ensures memory { IsOkUnless result Refusal.Memory }
     {
         match self.stage {
@@ -61,10 +66,9 @@ impl Reader {
         }
     }
 
-    /// Takes the word `stem`, unless a word came before.
+    /// Takes the word `stem` if it is the first. Returns whether it was taken.
     fn take_stem(&mut self) -> bool
-        ensures { Goes result (stem_at self.old.stage (kept self.old.stage self.old.stem.items self.old.cycle.items))
-            (kept self.new.stage self.new.stem.items self.new.cycle.items) }
+        ensures { Goes result (stem_at self.old.stage self.old) self.new }
     {
         match self.stage {
             Stage::Start => {
@@ -75,10 +79,9 @@ impl Reader {
         }
     }
 
-    /// Takes the word `cycle`, unless it stands at another place than after the stem.
+    /// Takes the word `cycle` if the word before is `stem`. Returns whether it was taken.
     fn take_cycle(&mut self) -> bool
-        ensures { Goes result (cycle_at self.old.stage (kept self.old.stage self.old.stem.items self.old.cycle.items))
-            (kept self.new.stage self.new.stem.items self.new.cycle.items) }
+        ensures { Goes result (cycle_at self.old.stage self.old) self.new }
     {
         match self.stage {
             Stage::Stem => {
@@ -94,7 +97,7 @@ impl TokenReader<LassoKind> for Reader {
     ghost use Rattle.omega_lasso_text.specs.Symbols.{lasso_symbol_of};
     ghost use Rattle.omega_lasso_text.specs.Grammar.{lasso_syntax};
     ghost use Rattle.omega_lasso_text.specs.private.Reader.{HasBecome};
-    ghost use Rattle.omega_lasso_text.specs.private.Reading.{Goes, IsEnded, kept, step};
+    ghost use Rattle.omega_lasso_text.specs.private.Reading.{Goes, IsEnded, step};
     ghost use Rattle.omega_text.specs.Lexeme.{lexeme_of};
     ghost use Rattle.omega_text.specs.Syntax.{TokensBegin, TokensComplete};
 
@@ -105,8 +108,8 @@ impl TokenReader<LassoKind> for Reader {
     ghost completes = { TokensComplete lasso_syntax };
 
     fn take(&mut self, token: &Token<'_, LassoKind>) -> Result<bool, Refusal>
-        ensures goes { IfOk result (λ taken. Goes taken (step (kept self.old.stage self.old.stem.items self.old.cycle.items) (lasso_symbol_of (lexeme_of token.now)))
-            (kept self.new.stage self.new.stem.items self.new.cycle.items)) }
+        ensures goes { IfOk result (λ taken.
+            Goes taken (step self.old (lasso_symbol_of (lexeme_of token.now))) self.new) }
         ensures memory { IsOkUnless result Refusal.Memory }
     {
         match token.kind {
@@ -117,7 +120,7 @@ impl TokenReader<LassoKind> for Reader {
     }
 
     fn is_complete(&self) -> bool
-        ensures { IsTrue result ↔ IsEnded (kept self.now.stage self.now.stem.items self.now.cycle.items) }
+        ensures { IsTrue result ↔ IsEnded self.now }
     {
         matches!(self.stage, Stage::Cycle) && !self.cycle.is_empty()
     }

@@ -1,7 +1,7 @@
-/// Where a lasso text stands between two tokens: which word was read last.
+/// The stage of a lasso text between two tokens: the word that was read last.
 #[derive(Clone, Copy, Debug, PartialEq, Eq)]
 pub(crate) enum Stage {
-    /// None.
+    /// No word yet.
     Start,
     /// `stem`.
     Stem,

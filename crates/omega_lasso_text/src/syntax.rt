@@ -1,7 +1,7 @@
 use crate::kind::LassoKind;
 use omega_text::{TextSyntax, TokenKind};
 
-/// The syntax of lasso texts, of which laws are stated.
+/// The syntax of lasso texts, for the laws of syntaxes.
 pub(crate) struct LassoSyntax;
 
 impl TextSyntax for LassoSyntax {

@@ -11,11 +11,12 @@ ghost use Rattle.omega_lasso_text.specs.private.Words.{IsOtherWord, IsWordOf, Is
 use crate::kind::LassoKind;
 use omega_text::{PgKind, Span, TextFault, Token, next_pg_token};
 
-/// The next token of a lasso text from a place on, or none where only white space is left.
+/// Returns the next token of a lasso text from the place `at` on, or none if only white space is left.
 ///
-/// White space and numbers are those of game texts, and words that no game text has are looked at again. A fault is 1
-/// or 2, at the least place from there. No memory is taken, and no byte after the token is looked at, but for the one
-/// after a number or a word.
+/// White space and numbers are read as in game texts. A word that no game text has is read again. No memory is taken,
+/// and no byte after the token is looked at, except the one after a number or a word.
+///
+/// Fails with [TextFault::Lex] or [TextFault::Number], at the least place from there.
 pub(crate) fn next_lasso_token(
     source: &[u8],
     at: usize,
@@ -49,7 +50,7 @@ pub(crate) fn next_lasso_token(
     }
 }
 
-/// The token of the word that stands at a place, if it is one.
+/// Returns the token of the word at `place`, if it is one. Otherwise fails with [TextFault::Lex].
 fn word_token(source: &[u8], place: usize) -> Result<Token<'_, LassoKind>, TextFault>
     requires { place ≤ length source.now }
     ensures token { IfOk result (λ token. IsWordToken source.now place (lexeme_of token)) }
@@ -72,7 +73,7 @@ fn word_token(source: &[u8], place: usize) -> Result<Token<'_, LassoKind>, TextF
     }
 }
 
-/// The kind of a word that is a token.
+/// Returns the kind of `word`, if it is a token.
 fn kind_of(word: &[u8]) -> Option<LassoKind>
     ensures word { IfSome result (λ kind. IsWordOf kind word.now) }
     ensures no_stem { IfNone result (word.now ≢ codes "stem") }
@@ -87,13 +88,14 @@ fn kind_of(word: &[u8]) -> Option<LassoKind>
     }
 }
 
-/// How many bytes at the front may go on in a word.
+/// Returns the number of bytes at the front that may be in a word.
 fn word_count(bytes: &[u8]) -> usize
     ensures { result ≡ prefix_len is_word_byte bytes.now }
 {
     bytes.iter().take_while(|byte| is_word_byte(**byte)).count()
 }
 
+/// Whether `byte` may be in a word.
 fn is_word_byte(byte: u8) -> bool
     ensures { result ≡ is_word_byte byte }
 {

@@ -4,7 +4,7 @@ ghost use Rattle.omega_lasso_text.specs.Written.{lasso_text, numbers_text};
 use omega_text::{Refusal, write_number};
 use std::alloc::Global;
 
-/// The text of a lasso: the lines of its stem and of its cycle, by the numbers of their edges. 60 alone.
+/// Returns the text of a lasso: the lines of its `stem` and of its `cycle`, by the numbers of their edges.
 ///
 /// If it has at most `MOST_TEXT` bytes and no number is above `MOST_NUMBER`, it is read back to the same lasso, by
 /// `laws::written_lassos_are_read`.
@@ -21,7 +21,7 @@ pub fn write_lasso(alloc: Global, stem: &[u32], cycle: &[u32]) -> Result<Vec<u8>
     Ok(out)
 }
 
-/// Appends numbers, a space before each.
+/// Appends `numbers`, a space before each.
 fn append_numbers(numbers: &[u32], out: &mut Vec<u8>) -> Result<(), Refusal>
     ensures text { OnOk result (out.new.items ≡ out.old.items ++ numbers_text numbers.now) }
     ensures memory { IsOkUnless result Refusal.Memory }

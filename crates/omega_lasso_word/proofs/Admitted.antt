@@ -1,6 +1,6 @@
 -- A run along a lasso, whose edges are those of the stem and then those of the cycle for ever.
 use Rattle.std.proofs.Common.{◌≡◌, ℕ, zero, suc, Bool, List, [], ◌∷◌, map, true, refl, sym, subst, add-one}
-use Rattle.omega_acc.specs.formula.Acceptance.{accepts}
+use Rattle.omega_formula.specs.Acceptance.{accepts}
 use Rattle.omega_automaton.specs.Automaton.{Description}
 use Rattle.omega_runs.specs.Lasso.{IsStart, IsStep, Leads, marks_at}
 use Rattle.omega_runs.specs.Runs.{Satisfies}

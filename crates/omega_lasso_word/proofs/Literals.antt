@@ -4,7 +4,7 @@ use Rattle.std.specs.Prelude.{codes}
 use Rattle.std.proofs.lemmas.List.{length-take, take_more}
 use Rattle.omega_lasso_word.specs.Letters.{literal_text, literals_after}
 
--- the literals of names and of one more
+-- the literals of the names, and one more
 literals_more : (index p : ℕ) (names : List (List ℕ)) (name : List ℕ)
     → literals_after index p (names ++ name ∷ []) ≡ literals_after index p names ++ (codes " & " ++ literal_text index (p + length names) name)
 literals_more index p [] name =

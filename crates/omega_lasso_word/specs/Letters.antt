@@ -1,20 +1,20 @@
 -- Letters of words as text: what a label demands of the propositions, by their names, as Spot writes formulas.
 use Rattle.std.specs.Prelude.{ℕ, ◌+◌, Bool, if◌then◌else◌, nat_lt, List, [], ◌∷◌, ◌++◌, get_or, Option, None, Some, codes}
-use Rattle.omega_acc.specs.label.Label.{LabelTree, conjunction, constant, disjunction, negation, proposition}
+use Rattle.omega_label.specs.Label.{LabelTree, conjunction, constant, disjunction, negation, proposition}
 use Rattle.omega_automaton.specs.Automaton.{BodyEdge, Description, edge_at}
 use Rattle.omega_runs.specs.Lasso.{label_of}
 use Rattle.omega_runs.specs.Words.{has_bit, index_in}
 use Rattle.omega_edge_labels.specs.Names.{is_identifier}
 
--- a name, in quotes where it is no identifier
+-- a name, in quotes if it is no identifier
 abbrev pub name_text : List ℕ → List ℕ
 name_text name = if is_identifier name then name else codes "\"" ++ (name ++ codes "\"")
 
--- a text, in parentheses where it needs them
+-- a text, in parentheses if it needs them
 abbrev pub enclosed : Bool → List ℕ → List ℕ
 enclosed needed text = if needed then codes "(" ++ (text ++ codes ")") else text
 
--- a label by the names of the propositions; what stands below `&` has tightness 1, and what stands below `!` 2
+-- a label with the names of its propositions; `tightness` is 1 below `&`, 2 below `!`, and else 0
 abbrev pub label_words : ℕ → List (List ℕ) → LabelTree → List ℕ
 label_words tightness names (constant value) = if value then codes "1" else codes "0"
 label_words tightness names (proposition number) = name_text (get_or names number [])
@@ -24,30 +24,30 @@ label_words tightness names (conjunction left right) =
 label_words tightness names (disjunction left right) =
     enclosed (nat_lt 0 tightness) (label_words 0 names left ++ (codes " | " ++ label_words 0 names right))
 
--- a proposition that holds in the valuation of an index, or its negation
+-- the proposition `p` with this name, or its negation if it does not hold in the valuation of the index
 abbrev pub literal_text : ℕ → ℕ → List ℕ → List ℕ
 literal_text index p name = if has_bit index p then name_text name else codes "!" ++ name_text name
 
--- those of the propositions from one on, each after `&`
+-- the literals of the propositions from `p` on, each after `&`
 abbrev pub literals_after : ℕ → ℕ → List (List ℕ) → List ℕ
 literals_after index p [] = []
 literals_after index p (name ∷ names) = (codes " & " ++ literal_text index p name) ++ literals_after index (p + 1) names
 
--- the valuation of an index; `1` where there are no propositions
+-- the valuation of an index; `1` if there are no propositions
 abbrev pub valuation_text : ℕ → List (List ℕ) → List ℕ
 valuation_text index [] = codes "1"
 valuation_text index (name ∷ names) = literal_text index 0 name ++ literals_after index 1 names
 
--- the letter of an edge with this label, or with none and so by its index within its state
+-- the letter of an edge: its label, or without one the valuation of its index within its state
 abbrev pub text_of_letter : List (List ℕ) → ℕ → Option LabelTree → List ℕ
 text_of_letter names index None = valuation_text index names
 text_of_letter names index (Some label) = label_words 0 names label
 
--- the letter of the edge of a number that is this one; nothing where there is none
+-- the letter of this edge with its number; nothing without an edge
 abbrev pub letter_at : Description → ℕ → Option BodyEdge → List ℕ
 letter_at a number None = []
 letter_at a number (Some edge) = text_of_letter a.propositions (index_in a.defined number) (label_of edge)
 
--- the letter of the edge of a number
+-- the letter of the edge with this number
 abbrev pub letter_text : Description → ℕ → List ℕ
 letter_text a number = letter_at a number (edge_at a number)

@@ -8,10 +8,14 @@ use Rattle.omega_lasso_word.specs.Letters.{letter_text}
 abbrev pub stem_text : Description → List ℕ → List ℕ
 stem_text a numbers = flat_map (λ number. letter_text a number ++ codes "; ") numbers
 
+-- the letters of the others of a cycle, `;` before each
+abbrev pub others_text : Description → List ℕ → List ℕ
+others_text a others = flat_map (λ number. codes "; " ++ letter_text a number) others
+
 -- the letters of a cycle, `;` between each two
 abbrev pub cycle_text : Description → List ℕ → List ℕ
 cycle_text a [] = []
-cycle_text a (first ∷ others) = letter_text a first ++ flat_map (λ number. codes "; " ++ letter_text a number) others
+cycle_text a (first ∷ others) = letter_text a first ++ others_text a others
 
 -- the word of a lasso
 abbrev pub word_text : Description → List ℕ → List ℕ → List ℕ

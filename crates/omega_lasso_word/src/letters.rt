@@ -1,15 +1,15 @@
 //! Letters: what edges demand of the propositions.
 
 ghost use Rattle.std.specs.Prelude.{◌≡◌, ◌++◌, [], get_or, IsOkUnless, OnOk};
+ghost use Rattle.omega_label.specs.Shape.{label_tree_of_shape};
 ghost use Rattle.omega_lasso_word.specs.Letters.{label_words, literal_text, name_text, valuation_text};
-ghost use Rattle.omega_acc.specs.label.Shape.{label_tree_of_shape};
 
 use crate::names::write_name;
-use omega_acc::{Label, LabelShape};
 use omega_edge_labels::has_bit;
+use omega_label::{Label, LabelShape};
 use omega_text::{ByteString, Refusal};
 
-/// Appends a label by the names of the propositions.
+/// Appends `label` with the `names` of its propositions.
 pub(crate) fn write_label(
     names: &[ByteString],
     label: &Label,
@@ -22,14 +22,15 @@ pub(crate) fn write_label(
     write_words(0, names, &shape, out)
 }
 
-/// Appends a label that stands below an operator of this tightness: 0 none or `|`, 1 `&`, 2 `!`.
+/// Appends a label below an operator of this `tightness`: 0 for none or `|`, 1 for `&`, 2 for `!`.
 fn write_words(
     tightness: u32,
     names: &[ByteString],
     shape: &LabelShape,
     out: &mut Vec<u8>,
 ) -> Result<(), Refusal>
-    ensures text { OnOk result (out.new.items ≡ out.old.items ++ label_words tightness names.now (label_tree_of_shape shape.now)) }
+    ensures text { OnOk result
+        (out.new.items ≡ out.old.items ++ label_words tightness names.now (label_tree_of_shape shape.now)) }
     ensures memory { IsOkUnless result Refusal.Memory }
 {
     match shape {
@@ -69,7 +70,8 @@ fn write_words(
     }
 }
 
-/// Appends the name of a proposition by its number; empty quotes where there is none, as in no automaton.
+/// Appends the name of the proposition `number`, or empty quotes if there is no such proposition, which no automaton
+/// allows.
 fn write_proposition(names: &[ByteString], number: usize, out: &mut Vec<u8>) -> Result<(), Refusal>
     ensures text { OnOk result (out.new.items ≡ out.old.items ++ name_text (get_or names.now number [])) }
     ensures memory { IsOkUnless result Refusal.Memory }
@@ -80,7 +82,7 @@ fn write_proposition(names: &[ByteString], number: usize, out: &mut Vec<u8>) -> 
     }
 }
 
-/// Appends the valuation of an index.
+/// Appends the valuation of `index`: each proposition, or its negation.
 pub(crate) fn write_valuation(
     names: &[ByteString],
     index: usize,
@@ -101,7 +103,7 @@ pub(crate) fn write_valuation(
     Ok(())
 }
 
-/// Appends a proposition that holds in the valuation of an index, or its negation.
+/// Appends the proposition `p`, called `name`, or its negation if it does not hold in the valuation of `index`.
 fn write_literal(index: usize, p: usize, name: &[u8], out: &mut Vec<u8>) -> Result<(), Refusal>
     ensures text { OnOk result (out.new.items ≡ out.old.items ++ literal_text index p name.now) }
     ensures memory { IsOkUnless result Refusal.Memory }

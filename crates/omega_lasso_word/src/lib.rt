@@ -1,6 +1,6 @@
 //! The word of a lasso: what each of its edges demands of the propositions, by their names.
 //!
-//! Numbers of refusals are those of `Refusal`; docs/formats.md says when each comes.
+//! docs/formats.md says when each refusal comes.
 #![tactic(auto)]
 
 pub mod laws;

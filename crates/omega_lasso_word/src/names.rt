@@ -6,7 +6,7 @@ ghost use Rattle.omega_lasso_word.specs.Letters.{name_text};
 use omega_edge_labels::is_identifier;
 use omega_text::Refusal;
 
-/// Appends a name, in quotes where it is no identifier.
+/// Appends `name`, in quotes if it is no identifier.
 pub(crate) fn write_name(name: &[u8], out: &mut Vec<u8>) -> Result<(), Refusal>
     ensures text { OnOk result (out.new.items ≡ out.old.items ++ name_text name.now) }
     ensures memory { IsOkUnless result Refusal.Memory }

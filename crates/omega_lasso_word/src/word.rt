@@ -1,9 +1,8 @@
-ghost use Rattle.std.specs.Prelude.{◌≡◌, ◌++◌, ◌<◌, codes, length, IfOk, IsOkUnless, OnOk};
-ghost use Rattle.std.specs.List.{flat_map};
+ghost use Rattle.std.specs.Prelude.{◌≡◌, ◌++◌, IfOk, IsOkUnless, OnOk};
 ghost use Rattle.omega_runs.specs.Lasso.{label_of};
 ghost use Rattle.omega_runs.specs.Places.{ArePlaces};
 ghost use Rattle.omega_lasso_word.specs.Letters.{letter_text, text_of_letter};
-ghost use Rattle.omega_lasso_word.specs.WordText.{cycle_text, stem_text, word_text};
+ghost use Rattle.omega_lasso_word.specs.WordText.{cycle_text, others_text, stem_text, word_text};
 
 use crate::letters::{write_label, write_valuation};
 use omega_automaton::{Automaton, EdgeRef, State};
@@ -11,13 +10,14 @@ use omega_runs::{EdgePlace, edge_of, edge_places};
 use omega_text::{ByteString, Refusal};
 use std::alloc::Global;
 
-/// The word of a lasso, whose stem and cycle are the numbers of edges: the letters of the stem, a semicolon after
-/// each, and those of the cycle in `cycle{..}`, as Spot writes words.
+/// Returns the word of a lasso, given by the numbers of the edges of its `stem` and `cycle`. As Spot writes words, it
+/// has the letters of the stem, a semicolon after each, and those of the cycle in `cycle{..}`.
 ///
-/// A letter is what the label of its edge demands, by the names of the propositions: a name stands in quotes where it
-/// is no identifier, and `1` where anything goes. An edge without a label has the valuation of its index. Each word
-/// that the letters admit is accepted, by `laws::admitted_words_are_accepted`. 60 alone. Takes time by the edges of the
-/// automaton, the lasso and the labels along it.
+/// A letter is what the label of its edge demands, by the names of the propositions, or `1` if anything goes. A name is
+/// in quotes if it is no identifier. An edge without a label has the valuation of its index. Each word that the letters
+/// admit is accepted, by `laws::admitted_words_are_accepted`.
+///
+/// Linear in the states and edges of the automaton, the lasso and the labels along it.
 pub fn word_of(
     alloc: Global,
     automaton: &Automaton,
@@ -36,7 +36,7 @@ pub fn word_of(
     Ok(out)
 }
 
-/// Appends the letters of a stem.
+/// Appends the letters of `stem`, a semicolon after each.
 fn write_stem(
     automaton: &Automaton,
     places: &[EdgePlace],
@@ -54,7 +54,7 @@ fn write_stem(
     Ok(())
 }
 
-/// Appends the letters of a cycle.
+/// Appends the letters of `cycle`, a semicolon between each two.
 fn write_cycle(
     automaton: &Automaton,
     places: &[EdgePlace],
@@ -72,7 +72,7 @@ fn write_cycle(
     Ok(())
 }
 
-/// Appends letters, a semicolon before each.
+/// Appends the letters of `others`, a semicolon before each.
 fn write_others(
     automaton: &Automaton,
     places: &[EdgePlace],
@@ -80,7 +80,7 @@ fn write_others(
     out: &mut Vec<u8>,
 ) -> Result<(), Refusal>
     requires { ArePlaces automaton.now places.now }
-    ensures text { OnOk result (out.new.items ≡ out.old.items ++ flat_map (λ number. codes "; " ++ letter_text automaton.now number) others.now) }
+    ensures text { OnOk result (out.new.items ≡ out.old.items ++ others_text automaton.now others.now) }
     ensures memory { IsOkUnless result Refusal.Memory }
 {
     for number in others {
@@ -90,7 +90,7 @@ fn write_others(
     Ok(())
 }
 
-/// Appends the letter of the edge of a number.
+/// Appends the letter of the edge with this `number`.
 fn write_letter(
     automaton: &Automaton,
     places: &[EdgePlace],
@@ -116,7 +116,7 @@ fn write_letter(
     }
 }
 
-/// Appends the letter of an edge of a state by its index.
+/// Appends the letter of `edge`, which is at this `index` among the edges of `state`.
 fn write_letter_of(
     names: &[ByteString],
     state: &State,
@@ -124,7 +124,9 @@ fn write_letter_of(
     index: usize,
     out: &mut Vec<u8>,
 ) -> Result<(), Refusal>
-    ensures text { OnOk result (out.new.items ≡ out.old.items ++ text_of_letter names.now index (label_of (record { source = state.now; edge = edge.now }))) }
+    ensures text { OnOk result
+        (out.new.items ≡ out.old.items
+        ++ text_of_letter names.now index (label_of (record { source = state.now; edge = edge.now }))) }
     ensures memory { IsOkUnless result Refusal.Memory }
 {
     match (&state.label, edge.label()) {

@@ -6,11 +6,11 @@ use Rattle.std.proofs.lemmas.Cmp.{nat_list_cmp_total}
 use Rattle.std.proofs.lemmas.Bool.{cases_eq, cases_lt}
 use Rattle.std.proofs.lemmas.List.{length-map, get_or_past, get_or_default}
 use Rattle.std.proofs.lemmas.Option.{slice_get_within, get_or_from_slice_get, slice_get-get_or}
-use Rattle.omega_game.specs.declared.player.Player.{Player}
-use Rattle.omega_game.specs.declared.player.Player.TheVariants.{Zero, One}
-use Rattle.omega_game.specs.Game.{Node, IsGame, HasEdge, owner_at, priority_at, priorities, successors_at}
-use Rattle.omega_game.specs.Winning.{Chooses, IsStrategy, IsWalk, IsClosedWalk, Leaves, Wins, end_of, greatest_on}
-use Rattle.omega_game.specs.Player.{loses}
+use Rattle.omega_parity_game.specs.declared.player.Player.{Player}
+use Rattle.omega_parity_game.specs.declared.player.Player.TheVariants.{Zero, One}
+use Rattle.omega_parity_game.specs.Game.{Node, IsGame, HasEdge, owner_at, priority_at, priorities, successors_at}
+use Rattle.omega_parity_game.specs.Winning.{Chooses, IsStrategy, IsWalk, IsClosedWalk, Leaves, Wins, end_of, greatest_on}
+use Rattle.omega_parity_game.specs.Player.{loses}
 use Rattle.omega_lift_laws.specs.Measure.{Measure, IsAtMost, compare, compare_from, entries_from}
 use Rattle.omega_lift_laws.specs.Allowance.{IsAllowanceOf, IsLiftValue, measure_at, suffices}
 use Rattle.omega_lift_laws.specs.Least.{least_sufficient}
@@ -33,11 +33,11 @@ pub cases_top : (x : Measure) → (x ≡ None) ⊎ IsSome x
 cases_top None = inl refl
 cases_top (Some xs) = inr refl
 
--- what stands at a place is a member
+-- what is at a place is a member
 pub contains_at : (us : List ℕ) (k u : ℕ) → slice_get us k ≡ Some u → Contains us u
 contains_at us k u e = (k, slice_get_within us k u e, get_or_from_slice_get us k u u e)
 
--- and a member stands at a place
+-- and a member is at a place
 pub at_contained : (us : List ℕ) (u : ℕ) (c : Contains us u) → slice_get us c.0 ≡ Some u
 at_contained us u c = slice_get-get_or us c.0 u c.1 ∙ ap Some c.2
 
@@ -70,7 +70,7 @@ choices_strategy nodes player table choices h = record {
             let same : chosen.0 ≡ w = let e = sym chosen.1 ∙ c in cc in
             subst (HasEdge nodes v) same (contains_at (successors_at nodes v) chosen.2.index chosen.0 chosen.2.listed)
 
--- a measure below top that suffices is above where the priority loses
+-- a measure below top that suffices is above if the priority loses
 pub above_from_suffices :
     (player : Player) (bearing : List ℕ) (p : ℕ) (x y : Measure)
     → IsTrue (suffices player bearing p x y) → IsSome x → IsTrue (loses player p) → compare_from player bearing p x y ≡ Greater
@@ -170,7 +170,7 @@ opponent_lift_value nodes player table v game h lt n = go (successors_at nodes v
             (allowance_towards_is nodes player table v w h) in
             subst (λ z. IsAtMost z (f best)) (sym same) (subst (λ z. compare (f z) (f best) ≢ Greater) at_w (r.1.greatest c.0 c.1))
 
--- where no lift is due, the measure of a won place suffices towards each place that the choices leave possible
+-- if no lift is due, the measure of a won place suffices towards each place that the choices leave possible
 pub won_suffices :
     (nodes : List Node) (player : Player) (table : List Measure) (choices : List (Option ℕ)) (v w : ℕ)
     → IsGame nodes → IsTable player (priorities nodes) table → IsStable nodes player table → AreChoices nodes player table choices

@@ -16,13 +16,13 @@ pub passing_places : (t : ℕ → Bool) (xs : List ℕ) → count_by t xs ≡ pa
 passing_places t [] = refl
 passing_places t (x ∷ xs) = sum_by-cons (λ x. counted_once (t x)) x xs ∙ ap (λ n. counted_once (t x) + n) (passing_places t xs)
 
--- what passes only where another does counts no more
+-- what passes only if another does counts no more
 once_or_none : (b c : Bool) → (b ≡ true → c ≡ true) → counted_once b ≤ counted_once c
 once_or_none true true f = omega arith
 once_or_none true false f = absurd (let e : false ≡ true = f refl in cc)
 once_or_none false c f = omega arith
 
--- where each place that passes the one test passes the other, at most as many do
+-- if each place that passes the one test passes the other, at most as many do
 pub passing_at_most : (n : ℕ) (s t : ℕ → Bool) → ((k : ℕ) → k < n → s k ≡ true → t k ≡ true) → passing n s ≤ passing n t
 passing_at_most zero s t f = omega arith
 passing_at_most (suc n) s t f =
@@ -30,7 +30,7 @@ passing_at_most (suc n) s t f =
     let rest = passing_at_most n (λ k. s (suc k)) (λ k. t (suc k)) (λ k lt. f (suc k) (omega arith)) in
     omega (arith, first, rest)
 
--- and fewer where some place fails the one and passes the other
+-- and fewer if some place fails the one and passes the other
 pub passing_below :
     (n : ℕ) (s t : ℕ → Bool) → ((k : ℕ) → k < n → s k ≡ true → t k ≡ true)
     → (v : ℕ) → v < n → s v ≡ false → t v ≡ true → passing n s < passing n t

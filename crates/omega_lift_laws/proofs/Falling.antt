@@ -4,9 +4,9 @@ use Rattle.std.specs.Cmp.Lexicographic.{slice_cmp}
 use Rattle.std.specs.Ordering.{nat_cmp, ordering_then}
 use Rattle.std.proofs.lemmas.Bool.{cases_lt, cases_eq, cond-true, le-leb, lt-leb, lt-ltb, eq-eqb}
 use Rattle.std.proofs.lemmas.List.Sums.{sum_by-cons, get_or-le-sum_by}
-use Rattle.omega_game.specs.declared.player.Player.{Player}
-use Rattle.omega_game.specs.Bound.{occurrences, below_falling, priorities_in_use, greatest, losing_priorities}
-use Rattle.omega_game.specs.Player.{loses}
+use Rattle.omega_parity_game.specs.declared.player.Player.{Player}
+use Rattle.omega_parity_game.specs.Bound.{occurrences, below_falling, priorities_in_use, greatest, losing_priorities}
+use Rattle.omega_parity_game.specs.Player.{loses}
 use Rattle.omega_lift_laws.proofs.Counting.{counted_once}
 use Rattle.omega_lift_laws.proofs.Order.{HeadsCompare, cases_heads, less_or_greater, cmp_greater}
 
@@ -85,7 +85,7 @@ at_most_greatest a [] k lt = absurd (omega arith)
 at_most_greatest a (x ∷ xs) zero lt = let rest = at_most_fold (max a x) xs in omega arith
 at_most_greatest a (x ∷ xs) (suc k) lt = at_most_greatest (max a x) xs k (omega arith)
 
--- and a losing priority that stands at some place is one of them
+-- and a losing priority that some place has is one of them
 pub among_losing :
     (player : Player) (bearing : List ℕ) (v : ℕ) → v < length bearing → IsTrue (loses player (get_or bearing v 0))
     → IsAmong (get_or bearing v 0) (losing_priorities player bearing)
@@ -136,7 +136,7 @@ front_cmp-none p f g q qs lt h =
     ap (λ k. slice_cmp nat_cmp (take k (f q ∷ map f qs)) (take k (g q ∷ map g qs)))
     (none_from p (suc q) (q ∷ qs) (omega arith) (omega arith, below_more q (suc q) qs (omega arith) h.0))
 
--- where each value of g is at most that of f, the values of f are not less
+-- if each value of g is at most that of f, the values of f are not less
 pub not_below_front :
     (p : ℕ) (f g : ℕ → ℕ) (qs : List ℕ) → IsFalling qs → ((q : ℕ) → p ≤ q → g q ≤ f q) → front_cmp p f g qs ≢ Less
 not_below_front p f g [] h le = λ e. absurd (cc)
@@ -157,7 +157,7 @@ not_below_front p f g (q ∷ qs) h le = go (cases_lt q p) (not_below_front p f g
         at e (inr (inl i)) = rest (sym i.0 ∙ e)
         at e (inr (inr i)) = less_or_greater _ e i.0
 
--- and greater where moreover g is less than f at p itself
+-- and greater if moreover g is less than f at p itself
 pub above_front :
     (p : ℕ) (f g : ℕ → ℕ) (qs : List ℕ) → IsFalling qs → ((q : ℕ) → p ≤ q → g q ≤ f q) → g p < f p → IsAmong p qs → front_cmp p f g qs ≡ Greater
 above_front p f g [] h le strict a = absurd a

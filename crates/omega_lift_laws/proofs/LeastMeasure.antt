@@ -6,9 +6,9 @@ use Rattle.std.specs.Ordering.{nat_cmp}
 use Rattle.std.proofs.lemmas.Cmp.{nat_list_cmp_total}
 use Rattle.std.proofs.lemmas.Bool.Decides.{nat_tests}
 use Rattle.std.proofs.lemmas.List.Sums.{sum_by-le-sum_by}
-use Rattle.omega_game.specs.declared.player.Player.{Player}
-use Rattle.omega_game.specs.Bound.{losing_priorities}
-use Rattle.omega_game.specs.Player.{loses}
+use Rattle.omega_parity_game.specs.declared.player.Player.{Player}
+use Rattle.omega_parity_game.specs.Bound.{losing_priorities}
+use Rattle.omega_parity_game.specs.Player.{loses}
 use Rattle.omega_lift_laws.specs.Measure.{Measure, IsMeasure, IsAbove, IsAtMost, compare, compare_from, entries_from}
 use Rattle.omega_lift_laws.specs.Allowance.{IsAllowance, suffices}
 use Rattle.omega_lift_laws.specs.Least.{limits_of, cleared_after, raised, least_sufficient}
@@ -34,17 +34,17 @@ pub at_most_from :
     → compare_from player priorities p x y ≢ Greater
 at_most_from player priorities p x y h above = h (greater_front_of (entries_from player priorities p) x y above)
 
--- whether an answer of the order is enough: above where the priority loses, else not below
+-- whether an answer of the order is enough: above if the priority loses, else not below
 abbrev pub enough : Bool → Ordering → Bool
 enough b o = if b then is_gt o else not (is_lt o)
 
--- an answer that is enough is Greater where the priority loses
+-- an answer that is enough is Greater if the priority loses
 pub greater_enough : (o : Ordering) → IsTrue (enough true o) → o ≡ Greater
 greater_enough Less e = absurd (cc)
 greater_enough Equal e = absurd (cc)
 greater_enough Greater e = refl
 
--- and not Less where it doesn't
+-- and not Less if it doesn't
 pub not_less_enough : (o : Ordering) → IsTrue (enough false o) → o ≢ Less
 not_less_enough o h l = let m = ap (λ r. not (is_lt r)) l in cc
 
@@ -209,7 +209,7 @@ allowance_is_strict player priorities p (Some ys) (Some zs) (Some xs) (Some ws) 
     o : Ordering
     o = slice_cmp nat_cmp (take kept ws) (take kept zs)
 
-    -- it can't be at most the lesser: neither where the priority loses nor where it doesn't
+    -- it can't be at most the lesser: neither if the priority loses nor if it doesn't
     refuted : (b : Bool) → loses player p ≡ b → compare (Some ws) (Some xs) ≢ Greater → ⊥
     refuted true c f =
         let sufficient : IsTrue (suffices player priorities p (Some zs) (Some ys)) =

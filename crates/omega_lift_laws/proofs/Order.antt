@@ -134,7 +134,7 @@ cmp_greater x y h = grind (arith, nat_tests)
 pub cmp_same : (x y : ℕ) → x ≡ y → nat_cmp x y ≡ Equal
 cmp_same x y h = grind (arith, nat_tests)
 
--- how lists with the heads x and y compare, where r is how their tails do
+-- how lists with the heads x and y compare, if r is how their tails do
 abbrev pub HeadsCompare : ℕ → ℕ → Ordering → Type 0
 HeadsCompare x y r =
     ((ordering_then (nat_cmp x y) r ≡ Less) × (x < y))

@@ -4,9 +4,9 @@ use Rattle.std.proofs.lemmas.Bool.{cases_eq, cases_lt, leb-true, le-leb}
 use Rattle.std.proofs.lemmas.Bool.Decides.{Decides-and, Decides-or, Decides-eqb, Decides-by_or}
 use Rattle.std.proofs.lemmas.List.{get_or_past}
 use Rattle.std.proofs.lemmas.List.Elements.{Decides-contains}
-use Rattle.omega_game.specs.declared.player.Player.{Player}
-use Rattle.omega_game.specs.Game.{Node, IsGame, HasEdge, no_node, priority_at, successors_at}
-use Rattle.omega_game.specs.Winning.{Chooses, IsStrategy, IsWalk, Leaves, end_of, greatest_on}
+use Rattle.omega_parity_game.specs.declared.player.Player.{Player}
+use Rattle.omega_parity_game.specs.Game.{Node, IsGame, HasEdge, no_node, priority_at, successors_at}
+use Rattle.omega_parity_game.specs.Winning.{Chooses, IsStrategy, IsWalk, Leaves, end_of, greatest_on}
 
 -- steps lead from a to b by way of places below k alone
 abbrev pub Joined : (ℕ → ℕ → Type 0) → ℕ → ℕ → ℕ → Type 0
@@ -57,7 +57,7 @@ joined_by S (suc k) m a b lt h j =
     go (inr n) (inr x) (inl y) f g i = inr (x.0, i n x.1 y)
     go (inr n) (inr x) (inr y) f g i = inr (x.0, y.1)
 
--- what holds of steps, and of two where it holds of each, holds of all that is joined
+-- what holds of steps, and of two if it holds of each, holds of all that is joined
 pub joined_by_induction :
     (S P : ℕ → ℕ → Type 0) → ((a b : ℕ) → S a b → P a b) → ((a m b : ℕ) → P a m → P m b → P a b)
     → (k a b : ℕ) → Joined S k a b → P a b

@@ -1,11 +1,11 @@
--- Where no lift is due, a place below top is in the player's region.
+-- If no lift is due, a place below top is in the player's region.
 use Rattle.std.proofs.Common.{◌≡◌, ◌≢◌, ℕ, zero, suc, ◌<◌, ◌≤◌, IsSome, is_some, Option, None, Some, List, [], ◌∷◌, length, get_or, slice_get, ◌⊎◌, inl, inr, refl, sym, ap, ◌∙◌, subst, arith}
 use Rattle.std.proofs.lemmas.Option.{get_or_from_slice_get, slice_get-get_or, slice_get_within}
 use Rattle.std.proofs.lemmas.Bool.{cases_lt}
 use Rattle.std.proofs.lemmas.List.{length-map}
-use Rattle.omega_game.specs.declared.player.Player.{Player}
-use Rattle.omega_game.specs.Game.{Node, IsGame, owner_at, priority_at, priorities, successors_at}
-use Rattle.omega_game.specs.Winning.{Chooses}
+use Rattle.omega_parity_game.specs.declared.player.Player.{Player}
+use Rattle.omega_parity_game.specs.Game.{Node, IsGame, owner_at, priority_at, priorities, successors_at}
+use Rattle.omega_parity_game.specs.Winning.{Chooses}
 use Rattle.omega_lift_laws.specs.Measure.{Measure, IsAbove, IsAtMost}
 use Rattle.omega_lift_laws.specs.Allowance.{IsAllowanceOf, measure_at}
 use Rattle.omega_lift_laws.specs.Run.{IsTable}
@@ -126,7 +126,7 @@ choices_of nodes player table game h = (
         let c = (at v).1.chosen lt own s in
         (c.0, slice_get-values f (length nodes) v lt ∙ ap Some c.1, c.2)
 
--- where no lift is due, a place below top is in the player's region
+-- if no lift is due, a place below top is in the player's region
 pub won_in_region : WonPlacesAreInRegions
 won_in_region nodes player table v game h stable s =
     let choices = choices_of nodes player table game h in

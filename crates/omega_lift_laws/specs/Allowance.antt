@@ -1,9 +1,9 @@
 -- Allowances, the Prog(ρ, v, w) of Jurdziński (2000), and lift values.
 use Rattle.std.specs.Prelude.{◌≡◌, ◌≢◌, ℕ, Bool, true, false, not, IsTrue, Some, None, List, slice_index_or, if◌then◌else◌}
 use Rattle.std.specs.Ordering.{is_gt, is_lt}
-use Rattle.omega_game.specs.declared.player.Player.{Player}
-use Rattle.omega_game.specs.Game.{Node, HasEdge, owner_at, priorities, priority_at}
-use Rattle.omega_game.specs.Player.{loses}
+use Rattle.omega_parity_game.specs.declared.player.Player.{Player}
+use Rattle.omega_parity_game.specs.Game.{Node, HasEdge, owner_at, priorities, priority_at}
+use Rattle.omega_parity_game.specs.Player.{loses}
 use Rattle.omega_lift_laws.specs.Measure.{Measure, IsMeasure, IsAtMost, compare_from}
 
 -- x suffices at priority p towards y: it is at least y on the entries for priorities at least p, and above y there if p

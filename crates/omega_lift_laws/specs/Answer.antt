@@ -1,8 +1,8 @@
 -- The answer that a table gives: the places won, and the choices there.
 use Rattle.std.specs.Prelude.{◌≡◌, ◌≢◌, ℕ, ◌<◌, Bool, is_some, IsSome, Option, Some, None, List, length, map, slice_get}
-use Rattle.omega_game.specs.declared.player.Player.{Player}
-use Rattle.omega_game.specs.Game.{Node, owner_at, successors_at}
-use Rattle.omega_game.specs.Winning.{Chooses}
+use Rattle.omega_parity_game.specs.declared.player.Player.{Player}
+use Rattle.omega_parity_game.specs.Game.{Node, owner_at, successors_at}
+use Rattle.omega_parity_game.specs.Winning.{Chooses}
 use Rattle.omega_lift_laws.specs.Measure.{Measure, IsAbove, IsAtMost}
 use Rattle.omega_lift_laws.specs.Allowance.{IsAllowanceOf, measure_at}
 

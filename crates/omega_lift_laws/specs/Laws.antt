@@ -2,10 +2,10 @@
 use Rattle.std.specs.Prelude.{◌≡◌, ◌≢◌, ◌==◌, ℕ, ◌<◌, ◌≤◌, ◌⊎◌, IsTrue, IsSome, Option, List, count_by, length}
 use Rattle.std.specs.declared.cmp.Ordering.TheVariants.{Greater, Less}
 use Rattle.std.specs.Cmp.{IsTotalOrder}
-use Rattle.omega_game.specs.declared.player.Player.{Player}
-use Rattle.omega_game.specs.Bound.{bound_of, product_of}
-use Rattle.omega_game.specs.Game.{Node, IsGame, priorities}
-use Rattle.omega_game.specs.Winning.{IsStrategy, Wins, InRegion}
+use Rattle.omega_parity_game.specs.declared.player.Player.{Player}
+use Rattle.omega_parity_game.specs.Bound.{bound_of, product_of}
+use Rattle.omega_parity_game.specs.Game.{Node, IsGame, priorities}
+use Rattle.omega_parity_game.specs.Winning.{IsStrategy, Wins, InRegion}
 use Rattle.omega_lift_laws.specs.Measure.{Measure, IsMeasure, IsAbove, IsAtMost, compare, compare_from, rank}
 use Rattle.omega_lift_laws.specs.Allowance.{IsAllowance, measure_at, suffices}
 use Rattle.omega_lift_laws.specs.Least.{least_sufficient}

@@ -1,9 +1,9 @@
 -- The allowance towards a measure, by its entries.
 use Rattle.std.specs.Prelude.{ℕ, zero, suc, ◌-◌, ◌++◌, Option, Some, None, List, [], ◌∷◌, length, map, take, replicate, nat_lt, if◌then◌else◌}
 use Rattle.std.specs.Option.{option_map_or}
-use Rattle.omega_game.specs.declared.player.Player.{Player}
-use Rattle.omega_game.specs.Bound.{occurrences, losing_priorities}
-use Rattle.omega_game.specs.Player.{loses}
+use Rattle.omega_parity_game.specs.declared.player.Player.{Player}
+use Rattle.omega_parity_game.specs.Bound.{occurrences, losing_priorities}
+use Rattle.omega_parity_game.specs.Player.{loses}
 use Rattle.omega_lift_laws.specs.Measure.{Measure, entries_from}
 
 -- the greatest entries of a measure below top: the number of nodes of each losing priority, the greatest priority first

@@ -1,7 +1,7 @@
 -- Tables of measures, and runs of lifts in them.
 use Rattle.std.specs.Prelude.{◌≡◌, ℕ, ◌<◌, List, [], ◌∷◌, length, replicate, slice_set}
-use Rattle.omega_game.specs.declared.player.Player.{Player}
-use Rattle.omega_game.specs.Game.{Node}
+use Rattle.omega_parity_game.specs.declared.player.Player.{Player}
+use Rattle.omega_parity_game.specs.Game.{Node}
 use Rattle.omega_lift_laws.specs.Measure.{Measure, IsMeasure, IsAbove, zero_measure}
 use Rattle.omega_lift_laws.specs.Allowance.{IsLiftValue, measure_at}
 

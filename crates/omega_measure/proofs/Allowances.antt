@@ -4,8 +4,8 @@ use Rattle.std.specs.Prelude.{◌↔◌, is_none, not, slice_index}
 use Rattle.std.specs.Ordering.{is_gt, is_lt}
 use Rattle.std.specs.declared.cmp.Ordering.TheVariants.{Less, Equal, Greater}
 use Rattle.std.proofs.lemmas.Bool.{false≢true, not-false, cases_Bool}
-use Rattle.omega_game.specs.declared.player.Player.{Player}
-use Rattle.omega_game.specs.Player.{loses}
+use Rattle.omega_parity_game.specs.declared.player.Player.{Player}
+use Rattle.omega_parity_game.specs.Player.{loses}
 use Rattle.omega_lift_laws.specs.Allowance.{IsAllowance, measure_at, suffices}
 use Rattle.omega_lift_laws.specs.Laws.{AllowancesAreLeastSufficient, AllowancesExceed}
 use Rattle.omega_lift_laws.specs.Least.{least_sufficient, limits_of}
@@ -33,7 +33,7 @@ is_short-suffices player priorities p None (Some ys) = refl
 is_short-suffices player priorities p (Some xs) None = refl
 is_short-suffices player priorities p (Some xs) (Some ys) = short_by (compare_from player priorities p (Some xs) (Some ys)) (loses player p)
 
--- the allowance exceeds a measure exactly where it does not suffice
+-- the allowance exceeds a measure exactly if it does not suffice
 pub Exceeds-iff :
     (least : AllowancesAreLeastSufficient) (exceed : AllowancesExceed) (content : Content) (v w : ℕ) (short : Bool)
     → IsMeasure content.player content.priorities (measure_at content.measures v) → IsMeasure content.player content.priorities (measure_at content.measures w)
@@ -75,7 +75,7 @@ none_is true (Some xs) h = let e = h.0 refl in cc
 none_is false None h = h.1 refl
 none_is false (Some xs) h = refl
 
--- a lift is due exactly where the order, the flag for top and the strictness say so
+-- a lift is due exactly if the order, the flag for top and the strictness say so
 pub due_from :
     (least : AllowancesAreLeastSufficient) (exceed : AllowancesExceed) (content : Content) (v w : ℕ) (order : Ordering) (top strict short : Bool)
     → IsMeasure content.player content.priorities (measure_at content.measures v) → IsMeasure content.player content.priorities (measure_at content.measures w)

@@ -3,8 +3,8 @@ use Rattle.std.proofs.Common.{◌≡◌, ℕ, ◌-◌, ◌*◌, ◌<◌, Bool, t
 use Rattle.std.specs.Prelude.{slice_index}
 use Rattle.std.proofs.lemmas.Bool.{cases_eq}
 use Rattle.std.proofs.lemmas.List.{length-map, length-replicate, get_or-replicate, take-replicate, drop-replicate}
-use Rattle.omega_game.specs.Bound.{occurrences, losing_priorities}
-use Rattle.omega_game.specs.Player.{loses}
+use Rattle.omega_parity_game.specs.Bound.{occurrences, losing_priorities}
+use Rattle.omega_parity_game.specs.Player.{loses}
 use Rattle.omega_lift_laws.specs.Allowance.{measure_at}
 use Rattle.omega_lift_laws.specs.Laws.{AllowancesAreLeastSufficient}
 use Rattle.omega_lift_laws.specs.Least.{limits_of}

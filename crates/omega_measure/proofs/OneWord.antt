@@ -1,7 +1,7 @@
 -- Rows of one word.
 use Rattle.std.proofs.Common.{◌≡◌, ℕ, suc, ◌-◌, ◌<◌, List, [], ◌∷◌, ◌++◌, length, take, replicate, sym, ap, ◌∙◌, arith}
 
--- what is made of a row at the word of a field, where there is one word
+-- what is made of a row at the word of a field, if there is one word
 pub new_word : (row : List ℕ) (word x : ℕ) → length row ≡ 1 → word < length row → x ∷ [] ≡ take word row ++ x ∷ replicate (length row - suc word) 0
 new_word row word x one l =
     let first : word ≡ 0 = omega arith in

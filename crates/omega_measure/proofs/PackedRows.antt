@@ -94,7 +94,7 @@ last_of-start : (limits : List ℕ) (fields : List Field) → ArePacked limits f
 last_of-start limits [] packed = absurd packed
 last_of-start limits (field ∷ fields) packed = refl
 
--- a number in the places of the words and in those of the fields, where one digit and one word are replaced
+-- a number in the places of the words and in those of the fields, if one digit and one word are replaced
 same_value :
     (v tw t s hw w d x by a b : ℕ) → t ≡ tw + s → s ≤ 64 → v / 2 ^ tw ≡ hw * 2 ^ 64 + w → x ≡ (w / 2 ^ s + by) * 2 ^ s
     → a + w * 2 ^ tw ≡ (v / 2 ^ tw + x) * 2 ^ tw → b + d * 2 ^ t ≡ (v / 2 ^ t + (d + by)) * 2 ^ t → a ≡ b
@@ -152,7 +152,7 @@ module _ (n : ℕ) (fields : List Field) (are : AreFields n fields) where
       let front = front_ends (64 * n) (word_places n) row j 64 (words_in row size small) (omega (arith, length-word_places n)) (word_gap row size j 64 l (omega arith)) in
       (front.0, ap (λ m. value (word_places n) row / 2 ^ m) (sym (word_places-at n j l)) ∙ front.1)
 
-  -- what stands in the fields of a row that is the number of these digits
+  -- what the fields of a row hold that is the number of these digits
   pub read_at :
       (row ds : List ℕ) → length row ≡ n → ((j : ℕ) → j < n → get_or row j 0 < 2 ^ 64) → AreAtMost (limits_in fields) ds → value (word_places n) row ≡ value (field_places n fields) ds
       → (k : ℕ) → k < length fields → digit_in row (get_or fields k top_field) ≡ get_or ds k 0

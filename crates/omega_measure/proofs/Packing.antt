@@ -161,7 +161,7 @@ words_within (w ∷ ws) small =
 
 -- ---- a digit and its word
 
--- a number's last places do not see what stands in front
+-- a number's last places do not depend on what is in front
 mod_front : (a b x : ℕ) → (a * 2 ^ b + x) % 2 ^ b ≡ x % 2 ^ b
 mod_front a b x =
     let whole : a * 2 ^ b + x ≡ (a + x / 2 ^ b) * 2 ^ b + x % 2 ^ b = omega (arith, shr_split x b) in

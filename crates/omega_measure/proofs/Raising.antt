@@ -10,7 +10,7 @@ use borrow.Rule.Slice.PartMut.{put_mid}
 AreAtLimits-tail : (x l : ℕ) (xs ls : List ℕ) (low high : ℕ) → AreAtLimits (x ∷ xs) (l ∷ ls) (low + 1) (suc high) → AreAtLimits xs ls low high
 AreAtLimits-tail x l xs ls low high full k p q = full (suc k) (omega arith) (omega arith)
 
--- where no entry can grow, none is raised
+-- if no entry can grow, none is raised
 pub raised_none : (kept : ℕ) (limits entries : List ℕ) → AreAtLimits entries limits 0 kept → raised kept limits entries ≡ None
 raised_none zero limits entries full = refl
 raised_none (suc kept) [] entries full = refl

@@ -1,9 +1,9 @@
 ghost use Rattle.std.specs.Prelude.{◌≡◌, ◌≤◌, length, map, IfOk, IsOkUnless};
 ghost use Rattle.omega_measure.specs.Limits.{most_cells};
-ghost use Rattle.omega_game.specs.private.priorities.Tally.{IsStrictlyFalling};
+ghost use Rattle.omega_parity_game.specs.Bound.{IsStrictlyFalling};
 ghost use Rattle.omega_measure.specs.private.layout.Falling.{count_from};
 
-use omega_game::Refusal;
+use omega_parity_game::Refusal;
 use std::alloc::Global;
 
 /// Counts the falling `numbers` that are at least `p`.

@@ -1,10 +1,10 @@
 ghost use Rattle.std.specs.Prelude.{◌≡◌, IfOk, IsOkUnless};
-ghost use Rattle.omega_game.specs.Bound.{losing_priorities};
-ghost use Rattle.omega_game.specs.Game.{priorities};
+ghost use Rattle.omega_parity_game.specs.Bound.{losing_priorities};
+ghost use Rattle.omega_parity_game.specs.Game.{priorities};
 ghost use Rattle.omega_lift_laws.specs.Least.{limits_of};
-ghost use Rattle.omega_game.specs.private.priorities.Tally.{IsStrictlyFalling};
+ghost use Rattle.omega_parity_game.specs.Bound.{IsStrictlyFalling};
 
-use omega_game::{Game, Player, Refusal};
+use omega_parity_game::{Game, Player, Refusal};
 use std::alloc::Global;
 
 /// Returns the losing priorities in use, the greatest first, and the number of nodes with each.

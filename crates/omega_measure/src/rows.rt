@@ -28,7 +28,9 @@ pub(crate) fn compare_at(
     requires cells { length entries.now ≡ length tops.now * width }
     requires narrow { length tops.now * width ≤ most_cells }
     requires within { kept ≤ width }
-    ensures { result ≡ compare_kept kept (measure_in width tops.now entries.now a) (measure_in width tops.now entries.now b) }
+    ensures { result ≡ compare_kept kept
+        (measure_in width tops.now entries.now a)
+        (measure_in width tops.now entries.now b) }
 {
     match (tops[a], tops[b]) {
         (true, true) => Ordering::Equal,
@@ -94,8 +96,10 @@ fn allow_at(entries: &mut [u32], limits: &[u32], kept: usize, strict: bool, plac
     requires row { place * length limits.now + length limits.now ≤ length entries.old }
     requires within { kept ≤ length limits.now }
     ensures below { let width = length limits.now in
-        IsTrue result → allowed strict kept limits.now (row_of width entries.old place) ≡ Some (row_of width entries.new place) }
-    ensures top { result ≡ false → allowed strict kept limits.now (row_of (length limits.now) entries.old place) ≡ None }
+        IsTrue result
+        → allowed strict kept limits.now (row_of width entries.old place) ≡ Some (row_of width entries.new place) }
+    ensures top { result ≡ false
+        → allowed strict kept limits.now (row_of (length limits.now) entries.old place) ≡ None }
     ensures others { let width = length limits.now in
         WritesRow width entries.old entries.new place (row_of width entries.new place) }
 {

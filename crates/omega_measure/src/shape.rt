@@ -1,7 +1,7 @@
 ghost use Rattle.std.specs.Prelude.{◌≡◌, ℕ, ◌*◌, ◌<◌, ◌≤◌, false, length, slice_index, IsOk, IfOk, IfErr, IsOkUnless};
-ghost use Rattle.omega_game.specs.Game.{priorities};
-ghost use Rattle.omega_game.specs.Limits.{most_nodes};
-ghost use Rattle.omega_game.specs.Player.{loses};
+ghost use Rattle.omega_parity_game.specs.Game.{priorities};
+ghost use Rattle.omega_parity_game.specs.Limits.{most_nodes};
+ghost use Rattle.omega_parity_game.specs.Player.{loses};
 ghost use Rattle.omega_lift_laws.specs.Least.{limits_of};
 ghost use Rattle.omega_lift_laws.specs.Measure.{entries_from};
 ghost use Rattle.omega_measure.specs.Limits.{most_cells};
@@ -11,7 +11,7 @@ ghost use Rattle.omega_measure.specs.private.layout.Shape.{width_of};
 use crate::cells::is_too_wide;
 use crate::kept::{count_from, kept_of};
 use crate::losing::losing_of;
-use omega_game::{Game, Player, Refusal, TaskFault};
+use omega_parity_game::{Game, Player, Refusal, TaskFault};
 use std::alloc::Global;
 use std::marker::Model;
 

@@ -1,10 +1,10 @@
 ghost use Rattle.std.specs.Prelude.{◌≡◌, ◌↔◌, ◌<◌, false, length, slice_index, IsTrue, IsOk, IfOk, IfErr, None};
-ghost use Rattle.omega_game.specs.Game.{priorities};
+ghost use Rattle.omega_parity_game.specs.Game.{priorities};
 ghost use Rattle.omega_lift_laws.specs.Allowance.{measure_at};
 ghost use Rattle.omega_lift_laws.specs.Measure.{compare_from};
 ghost use Rattle.omega_measure.specs.Table.{Content, Exceeds, IsPrepareRefusal, Raises, is_too_wide, zero_content};
 
-use omega_game::{Game, Player, Refusal};
+use omega_parity_game::{Game, Player, Refusal};
 use std::alloc::Global;
 use std::cmp::Ordering;
 
@@ -34,7 +34,8 @@ pub trait MeasureTable: Drop {
         requires first { a < length (content self.now).measures }
         requires second { b < length (content self.now).measures }
         ensures { let table = content self.now in
-            result ≡ compare_from table.player table.priorities p (measure_at table.measures a) (measure_at table.measures b) };
+            result ≡ compare_from table.player table.priorities p
+            (measure_at table.measures a) (measure_at table.measures b) };
 
     /// Compares the measures at `a` and `b` on the entries for priorities at least that of `place`. The number of these
     /// entries was found when the table was made.
@@ -43,7 +44,8 @@ pub trait MeasureTable: Drop {
         requires first { a < length (content self.now).measures }
         requires second { b < length (content self.now).measures }
         ensures { let table = content self.now in
-            result ≡ compare_from table.player table.priorities (slice_index table.priorities place) (measure_at table.measures a) (measure_at table.measures b) };
+            result ≡ compare_from table.player table.priorities (slice_index table.priorities place)
+            (measure_at table.measures a) (measure_at table.measures b) };
 
     /// Whether the allowance of `v` towards `w` exceeds the measure of `v`.
     fn due(&self, v: u32, w: u32) -> bool

@@ -146,7 +146,8 @@ fn allow_at(
     requires packed { IsPackedRow fields.now (row_of size words.old place) }
     requires below { flag_in fields.now (row_of size words.old place) ≡ 0 }
     ensures others { WritesRow size words.old words.new place (row_of size words.new place) }
-    ensures allowance { HoldsAllowance fields.now kept strict (row_of size words.old place) (row_of size words.new place) }
+    ensures allowance { HoldsAllowance fields.now kept strict
+        (row_of size words.old place) (row_of size words.new place) }
 {
     let start = place * size;
     allow_words(&mut words[start..start + size], fields, kept, strict);

@@ -11,7 +11,7 @@ pub bit_written : (words : List ℕ) (position word bit : ℕ) → position / 64
 bit_written words position word bit lt e =
     ap (λ (w : ℕ). bit_at w (position % 64) == 1) (get_or-set_same words (position / 64) word 0 lt) ∙ ap (λ (b : ℕ). b == 1) e
 
--- the bit of another position, where its word was written and where not
+-- the bit of another position, if its word was written and if not
 pub bit_kept : (words : List ℕ) (position word other : ℕ) → position / 64 < length words → other ≢ position
     → ((i : ℕ) → i < 64 → i ≢ position % 64 → bit_at word i ≡ bit_at (get_or words (position / 64) 0) i)
     → is_set (set words (position / 64) word) other ≡ is_set words other

@@ -15,6 +15,6 @@ pub mod position_set;
 
 pub use filled_words::{FilledWords, least_from};
 pub use numbers::numbers_below;
-pub use omega_game::ForwardGame;
+pub use omega_parity_game::ForwardGame;
 pub use pace::Pace;
 pub use permutation::Permutation;

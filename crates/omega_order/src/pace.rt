@@ -9,9 +9,9 @@
 /// disturbed. Only safety is proved: numbers that would wrap stay as they are.
 #[derive(Drop)]
 pub struct Pace {
-    /// Where to look for the next position.
+    /// The place at which to look for the next position.
     pub cursor: usize,
-    /// Where the next sweep begins: the least position that this sweep left to it.
+    /// The place at which the next sweep begins: the least position that this sweep left to it.
     pub low: usize,
     /// The number of takes left to focus; zero in a sweep.
     fuel: u64,

@@ -1,4 +1,4 @@
--- The texts of games: what is a text, of which game, why not, the canonical form, and what holds of all.
+-- The texts of games: their grammar, the game of a text or its refusal, the canonical text, and laws of all texts.
 pub mod Canonical
 pub mod Grammar
 pub mod Laws

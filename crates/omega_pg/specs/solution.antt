@@ -1,4 +1,4 @@
--- The texts of solutions: what is a text, of which solution, why not, the written form, and what holds of all.
+-- The texts of solutions: their grammar, the solution of a text or its refusal, the written form, and laws of all.
 pub mod BadSolution
 pub mod Canonical
 pub mod Grammar

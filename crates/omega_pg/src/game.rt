@@ -1,4 +1,4 @@
-//! The text of a game: read, written, and what holds of every one.
+//! Texts of games: how they are read and written, and laws of all.
 
 pub(crate) mod laws;
 mod pieces;

@@ -1,4 +1,4 @@
-//! What holds of every text, for callers' proofs: each call does nothing and states one law.
+//! Laws of all texts, for the proofs of callers: each function does nothing and states one law.
 
 pub use crate::game::laws::{
     canonical_texts_are_read, games_are_not_refused, games_of_texts_are_one, refusals_are_one,

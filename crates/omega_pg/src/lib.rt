@@ -1,6 +1,6 @@
 //! Texts of parity games and of their solutions, read and written exactly.
 //!
-//! Numbers of refusals are those of `Refusal`; docs/formats.md says when each comes.
+//! docs/formats.md says when each `Refusal` comes.
 #![tactic(auto)]
 
 mod game;
@@ -9,7 +9,7 @@ mod solution;
 
 pub use game::reading::{read_forward_game, read_game};
 pub use game::writing::write_game;
-pub use omega_game::{
+pub use omega_parity_game::{
     ForwardGame, Game, GameFault, Player, Refusal, Seq, Solution, Strategy, TaskFault,
 };
 pub use solution::reading::read_solution;

@@ -1,4 +1,4 @@
-//! The texts of solutions: read, written, and what holds of every one.
+//! Texts of solutions: how they are read and written, and laws of all.
 
 pub(crate) mod laws;
 mod lines;

@@ -1,21 +1,20 @@
 -- The acceptance of a product as it is written.
 use Rattle.std.proofs.Common.{◌≡◌, ◌+◌, inl, inr, ℕ, Some, None, refl}
 use Rattle.std.specs.Prelude.{Result, Ok, Err, IfOk}
-use Rattle.omega_acc.specs.WritingLaws.{acc_written}
-use Rattle.omega_acc.specs.formula.Acceptance.{conjunction}
-use Rattle.omega_acc.specs.formula.Kind.{buchi_formula}
+use Rattle.omega_formula.specs.Writing.{acc_written}
+use Rattle.omega_formula.specs.Kind.{buchi_formula}
 use Rattle.omega_automaton.specs.Automaton.{Description}
 use Rattle.omega_text.specs.declared.refusal.Refusal.{Refusal}
-use Rattle.omega_product.specs.Acceptance.{IsBuchi, buchi_name, moved_after}
+use Rattle.omega_product.specs.Acceptance.{IsBuchi, buchi_name, conjoined_acceptance}
 use Rattle.omega_product.specs.Written.{IsAcceptanceWritten}
 use Rattle.omega_product.specs.declared.acceptance.WrittenAcceptance.{WrittenAcceptance}
 
 pub conjoined_written : (one other : Description) (result : Result WrittenAcceptance Refusal)
     → ((first second : ℕ) → IsBuchi one first → IsBuchi other second → ⊥) → IfOk result (λ written. written.name ≡ None)
-    → IfOk result (λ written. written.formula ≡ acc_written (conjunction one.acceptance (moved_after one.sets other.acceptance)))
+    → IfOk result (λ written. written.formula ≡ acc_written (conjoined_acceptance one other))
     → IfOk result (λ written. IsAcceptanceWritten one other written.name written.formula)
 conjoined_written one other (Ok written) others name formula = record {
-  tree = conjunction one.acceptance (moved_after one.sets other.acceptance);
+  tree = conjoined_acceptance one other;
   joint = inr (record { others = others; name_is = name; formula_is = refl });
   written = formula;
 }

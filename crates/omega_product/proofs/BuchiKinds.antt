@@ -1,22 +1,22 @@
 -- Kinds of acceptance are one, and the Büchi formulas are not deep.
 use Rattle.std.proofs.Common.{◌≡◌, ◌==◌, ℕ, zero, suc, ◌≤◌, Bool, true, false, if◌then◌else◌, List, [], ◌∷◌, Option, Some, None, sym, ap, subst, ◌∙◌, arith}
 use Rattle.std.specs.Prelude.{MatchOption, IfSome}
-use Rattle.omega_acc.specs.Limits.{most_buchi_sets}
-use Rattle.omega_acc.specs.WritingLaws.{acc_written}
-use Rattle.omega_acc.specs.formula.Acceptance.{AccTree}
-use Rattle.omega_acc.specs.formula.Kind.{buchi_formula}
-use Rattle.omega_acc.specs.formula.Names.{IsAcceptanceRow, buchi_named, parity_named}
-use Rattle.omega_acc.specs.formula.Raw.{raw_acc_depth}
-use Rattle.omega_acc.specs.declared.formula.kind.AccKind.{AccKind}
-use Rattle.omega_acc.specs.declared.formula.kind.AccKind.TheVariants as kind
-use Rattle.omega_acc.specs.declared.formula.kind.Order.{Order}
-use Rattle.omega_acc.specs.declared.formula.kind.Order.TheVariants.{Max, Min}
-use Rattle.omega_acc.specs.declared.formula.kind.Parity.{Parity}
-use Rattle.omega_acc.specs.declared.formula.kind.Parity.TheVariants.{Even, Odd}
-use Rattle.omega_acc.specs.declared.formula.kind.ParityKind.{ParityKind}
-use Rattle.omega_acc.specs.declared.formula.name.AccName.{AccName}
-use Rattle.omega_acc.specs.declared.formula.name.Parameter.{Parameter}
-use Rattle.omega_acc.specs.declared.formula.name.Parameter.TheVariants.{Boolean, Number, Word}
+use Rattle.omega_expression.specs.Limits.{most_buchi_sets}
+use Rattle.omega_formula.specs.Writing.{acc_written}
+use Rattle.omega_formula.specs.Acceptance.{AccTree}
+use Rattle.omega_formula.specs.Kind.{buchi_formula}
+use Rattle.omega_formula.specs.Names.{IsAcceptanceRow, buchi_named, parity_named}
+use Rattle.omega_formula.specs.Raw.{raw_acc_depth}
+use Rattle.omega_formula.specs.declared.kind.AccKind.{AccKind}
+use Rattle.omega_formula.specs.declared.kind.AccKind.TheVariants as kind
+use Rattle.omega_formula.specs.declared.kind.Order.{Order}
+use Rattle.omega_formula.specs.declared.kind.Order.TheVariants.{Max, Min}
+use Rattle.omega_formula.specs.declared.kind.Parity.{Parity}
+use Rattle.omega_formula.specs.declared.kind.Parity.TheVariants.{Even, Odd}
+use Rattle.omega_formula.specs.declared.kind.ParityKind.{ParityKind}
+use Rattle.omega_formula.specs.declared.name.AccName.{AccName}
+use Rattle.omega_formula.specs.declared.name.Parameter.{Parameter}
+use Rattle.omega_formula.specs.declared.name.Parameter.TheVariants.{Boolean, Number, Word}
 use Rattle.omega_automaton.specs.AcceptanceKind.{HasKind}
 use Rattle.omega_automaton.specs.Automaton.{Description}
 use Rattle.omega_product.specs.Acceptance.{IsBuchi, buchi_sets, parity_buchi_sets}

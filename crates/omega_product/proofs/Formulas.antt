@@ -3,16 +3,16 @@ use Rattle.std.proofs.Common.{◌≡◌, ℕ, zero, suc, ◌+◌, ◌<◌, ◌�
 use Rattle.std.specs.List.{flat_map, position_or_len}
 use Rattle.std.proofs.lemmas.Bool.{cases_lt, lt-ltb}
 use Rattle.std.proofs.lemmas.List.{map-append}
-use Rattle.omega_acc.specs.formula.Acceptance.{AccTree, conjunction, constant, disjunction, fin, inf}
+use Rattle.omega_formula.specs.Acceptance.{AccTree, conjunction, constant, disjunction, fin, inf}
 use Rattle.omega_automaton.specs.Automaton.{Description}
 use Rattle.omega_product.specs.Acceptance.{moved_after}
 use Rattle.omega_product.specs.Joining.{joined_names, places_among}
-use Rattle.omega_acc.specs.declared.formula.name.AccName.{AccName}
-use Rattle.omega_acc.specs.formula.Raw.{RawAccTree}
-use Rattle.omega_product.specs.Pairs.{Pair, first_standing, second_standing, start_pairs, start_state}
+use Rattle.omega_formula.specs.declared.name.AccName.{AccName}
+use Rattle.omega_formula.specs.Raw.{RawAccTree}
+use Rattle.omega_product.specs.Pairs.{Pair, first_view, second_view, start_pairs, starts_between}
 use Rattle.omega_product.specs.Written.{raw_items}
-use Rattle.omega_product.specs.Transitions.{Standing}
-use Rattle.omega_product.specs.private.Tables.{standing_at}
+use Rattle.omega_product.specs.Transitions.{View}
+use Rattle.omega_product.specs.private.Tables.{view_at}
 use Rattle.omega_product.proofs.Steps.{flat_one}
 
 -- after no set a formula is itself
@@ -46,35 +46,35 @@ none_is_len p xs none = go (cases_lt (position_or_len p xs) (length xs))
     go (inl below) = absurd (never (nat_lt (position_or_len p xs) (length xs)) (lt-ltb (position_or_len p xs) (length xs) below) none)
     go (inr past) = omega (arith, past, place_within p xs)
 
--- an element does not depend on what stands for none
+-- an element does not depend on the default
 pub same_default : {X : Type 0} (xs : List X) (i : ℕ) (d e : X) → i < length xs → get_or xs i d ≡ get_or xs i e
 same_default [] i d e below = absurd (omega arith)
 same_default (x ∷ xs) zero d e below = refl
 same_default (x ∷ xs) (suc i) d e below = same_default xs i d e (omega arith)
 
--- how both stand within the product
+-- how the product sees both automata
 at_places : (names joined : List (List ℕ)) (places : List ℕ) (before : ℕ) → places ≡ places_among joined names
-    → standing_at places before ≡ record { count = length names; places = places_among joined names; before = before }
+    → view_at places before ≡ record { count = length names; places = places_among joined names; before = before }
 at_places names joined places before e =
-    ap (λ (p : List ℕ). standing_at p before) e
-    ∙ standing_count (places_among joined names) before (length names) (places_long names)
+    ap (λ (p : List ℕ). view_at p before) e
+    ∙ view_count (places_among joined names) before (length names) (places_long names)
   where
-    standing_count : (p : List ℕ) (before n : ℕ) → length p ≡ n → standing_at p before ≡ record { count = n; places = p; before = before }
-    standing_count p before n e = ap {B = Standing} (λ (m : ℕ). record { count = m; places = p; before = before }) e
+    view_count : (p : List ℕ) (before n : ℕ) → length p ≡ n → view_at p before ≡ record { count = n; places = p; before = before }
+    view_count p before n e = ap {B = View} (λ (m : ℕ). record { count = m; places = p; before = before }) e
 
     places_long : (ns : List (List ℕ)) → length (places_among joined ns) ≡ length ns
     places_long [] = refl
     places_long (n ∷ ns) = ap suc (places_long ns)
 
-pub standing_first : (one other : Description) (places : List ℕ) → places ≡ places_among (joined_names one.propositions other.propositions) one.propositions
-    → standing_at places 0 ≡ first_standing one other
-standing_first one other places e = at_places one.propositions (joined_names one.propositions other.propositions) places 0 e
+pub view_first : (one other : Description) (places : List ℕ) → places ≡ places_among (joined_names one.propositions other.propositions) one.propositions
+    → view_at places 0 ≡ first_view one other
+view_first one other places e = at_places one.propositions (joined_names one.propositions other.propositions) places 0 e
 
-pub standing_second : (one other : Description) (places : List ℕ) (before : ℕ) → places ≡ places_among (joined_names one.propositions other.propositions) other.propositions
-    → before ≡ one.sets → standing_at places before ≡ second_standing one other
-standing_second one other places before e same =
+pub view_second : (one other : Description) (places : List ℕ) (before : ℕ) → places ≡ places_among (joined_names one.propositions other.propositions) other.propositions
+    → before ≡ one.sets → view_at places before ≡ second_view one other
+view_second one other places before e same =
     at_places other.propositions (joined_names one.propositions other.propositions) places before e
-    ∙ ap {B = Standing} (λ (b : ℕ). record { count = length other.propositions; places = places_among (joined_names one.propositions other.propositions) other.propositions; before = b }) same
+    ∙ ap {B = View} (λ (b : ℕ). record { count = length other.propositions; places = places_among (joined_names one.propositions other.propositions) other.propositions; before = b }) same
 
 -- one more of what is joined is put last
 pub pushed_flat : {X Y Z : Type 0} (xs : List X) (i : ℕ) (x : X) → i < length xs → x ≡ get_or xs i x → (f : X → List Y) (g : Y → Z) (front items : List Z)
@@ -92,11 +92,11 @@ pushed_flat {Z = Z} xs i x below here f g front items so_far =
 -- the header by its parts
 pub items_are : (one other : Description) (pairs : List Pair) (name : Option AccName) (formula : RawAccTree) (names : List (List ℕ)) (sets : ℕ) (starts others : List (List ℕ))
     → names ≡ joined_names one.propositions other.propositions → sets ≡ one.sets + other.sets → starts ≡ one.starts → others ≡ other.starts
-    → raw_items names sets name formula (flat_map {A = Pair} (λ (start : List ℕ). map (λ (other' : List ℕ). (start_state start, start_state other')) others) starts) pairs
+    → raw_items names sets name formula (starts_between starts others) pairs
     ≡ raw_items (joined_names one.propositions other.propositions) (one.sets + other.sets) name formula (start_pairs one other) pairs
 items_are one other pairs name formula names sets starts others names_are sets_are starts_are others_are =
-    ap₂ (λ (ns : List (List ℕ)) (n : ℕ). raw_items ns n name formula (flat_map {A = Pair} (λ (start : List ℕ). map (λ (other' : List ℕ). (start_state start, start_state other')) others) starts) pairs)
+    ap₂ (λ (ns : List (List ℕ)) (n : ℕ). raw_items ns n name formula (starts_between starts others) pairs)
     names_are sets_are
     ∙ ap₂ (λ (ss os : List (List ℕ)).
     raw_items (joined_names one.propositions other.propositions) (one.sets + other.sets) name formula
-    (flat_map {A = Pair} (λ (start : List ℕ). map (λ (other' : List ℕ). (start_state start, start_state other')) os) ss) pairs) starts_are others_are
+    (starts_between ss os) pairs) starts_are others_are

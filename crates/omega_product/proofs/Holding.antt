@@ -1,8 +1,8 @@
 -- The values of a label's propositions decide whether it can be true.
 use Rattle.std.proofs.Common.{◌≡◌, ◌==◌, ◌↔◌, ℕ, ◌⊎◌, inl, inr, Bool, true, false, not, ◌&&◌, ◌||◌, if◌then◌else◌, IsTrue, List, [], ◌∷◌, Contains, refl, sym, ap, ap₂, ◌∙◌, eqb-true, eq-eqb, true≢false}
 use Rattle.std.proofs.lemmas.List.Elements.{Contains-append_left, Contains-append_right}
-use Rattle.omega_acc.specs.label.Label.{LabelTree, conjunction, constant, disjunction, negation, proposition, propositions, truth}
-use Rattle.omega_acc.specs.label.Satisfiable.{IsSatisfiable}
+use Rattle.omega_label.specs.Label.{LabelTree, conjunction, constant, disjunction, negation, proposition, propositions, truth}
+use Rattle.omega_satisfying.specs.Satisfiable.{IsSatisfiable}
 use Rattle.omega_product.specs.Pairs.{can_meet}
 use Rattle.omega_product.specs.declared.transition.Transition.{Transition}
 use Rattle.omega_product.proofs.Membership.{Contains-cases, Contains-here, Contains-nothing}

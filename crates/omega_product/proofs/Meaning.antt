@@ -4,11 +4,13 @@ use Rattle.std.specs.Prelude.{option_map, slice_get, sum_by}
 use Rattle.std.proofs.lemmas.List.{length-append, length-map}
 use Rattle.std.proofs.lemmas.List.Sums.{sum_by-cons}
 use Rattle.std.specs.List.{AllZip, filter_map, flat_map}
-use Rattle.omega_acc.specs.formula.Acceptance.{AccTree}
-use Rattle.omega_acc.specs.label.Expanding.{Defined, IsExpansion, Meaning}
-use Rattle.omega_acc.specs.WritingLaws.{WrittenFormulasMean, WrittenLabelsMean, acc_written, label_written}
-use Rattle.omega_acc.specs.declared.formula.name.AccName.{AccName}
-use Rattle.omega_acc.specs.label.Label.{LabelTree}
+use Rattle.omega_formula.specs.Acceptance.{AccTree}
+use Rattle.omega_label.specs.Expanding.{Defined, IsExpansion, Meaning}
+use Rattle.omega_label.specs.Writing.{label_written}
+use Rattle.omega_formula.specs.Writing.{acc_written}
+use Rattle.omega_acc.specs.WritingLaws.{WrittenFormulasMean, WrittenLabelsMean}
+use Rattle.omega_formula.specs.declared.name.AccName.{AccName}
+use Rattle.omega_label.specs.Label.{LabelTree}
 use Rattle.omega_automaton.specs.Automaton.{Description, edges_from}
 use Rattle.omega_automaton.specs.Faults.{definitions_of, set_count, state_count}
 use Rattle.omega_automaton.specs.Items.{acc_name_in, alias_in, first_said, name_in, properties_in, start_in, tool_in, unknown_in}

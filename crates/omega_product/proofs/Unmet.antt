@@ -4,10 +4,10 @@ use Rattle.omega_text.specs.Cases.{never, or_memory, or_task}
 use Rattle.omega_text.specs.declared.refusal.Refusal.{Refusal}
 use Rattle.omega_text.specs.declared.refusal.task.TaskFault.{TaskFault}
 use Rattle.omega_text.specs.declared.refusal.task.TaskFault.TheVariants.{BadSolution, Budget, NotDeterministic, NotParity, TooLarge, TooManyPropositions, TooWide, UniversalBranch, UnknownNode}
-use Rattle.omega_acc.specs.Limits.{most_mentioned}
-use Rattle.omega_acc.specs.label.Label.{LabelTree, conjunction}
-use Rattle.omega_acc.specs.label.Satisfiable.{mentioned}
-use Rattle.omega_acc.specs.label.Shape.{FitsALabel}
+use Rattle.omega_expression.specs.Limits.{most_mentioned}
+use Rattle.omega_label.specs.Label.{LabelTree, conjunction}
+use Rattle.omega_satisfying.specs.Satisfiable.{mentioned}
+use Rattle.omega_label.specs.Shape.{FitsALabel}
 use Rattle.omega_satisfying.specs.Undecided.{IsUndecidedLabel}
 use Rattle.omega_automaton.specs.Automaton.{Description}
 use Rattle.omega_edge_labels.specs.Fitting.{FitsAText, IsUnfit}

@@ -1,17 +1,17 @@
 -- The acceptance of a product: that of both, with the sets of the second numbered after those of the first (HOA v1,
 -- acceptance names).
-use Rattle.std.specs.Prelude.{◌≡◌, ◌⊎◌, ◌==◌, ℕ, ◌+◌, if◌then◌else◌, [], ◌∷◌, Option, Some, None, codes}
-use Rattle.omega_acc.specs.formula.Acceptance.{AccTree}
-use Rattle.omega_acc.specs.formula.Acceptance as acc
-use Rattle.omega_acc.specs.formula.Kind.{buchi_formula}
-use Rattle.omega_acc.specs.declared.formula.kind.AccKind.{AccKind}
-use Rattle.omega_acc.specs.declared.formula.kind.AccKind.TheVariants as kind
-use Rattle.omega_acc.specs.declared.formula.kind.Order.{Order}
-use Rattle.omega_acc.specs.declared.formula.kind.Order.TheVariants.{Max, Min}
-use Rattle.omega_acc.specs.declared.formula.kind.Parity.{Parity}
-use Rattle.omega_acc.specs.declared.formula.kind.Parity.TheVariants.{Even, Odd}
-use Rattle.omega_acc.specs.declared.formula.name.AccName.{AccName}
-use Rattle.omega_acc.specs.declared.formula.name.Parameter.TheVariants.{Number}
+use Rattle.std.specs.Prelude.{◌≡◌, ◌⊎◌, ◌==◌, ℕ, ◌+◌, if◌then◌else◌, [], ◌∷◌, Option, Some, None, MatchOption, codes}
+use Rattle.omega_formula.specs.Acceptance.{AccTree}
+use Rattle.omega_formula.specs.Acceptance as acc
+use Rattle.omega_formula.specs.Kind.{buchi_formula}
+use Rattle.omega_formula.specs.declared.kind.AccKind.{AccKind}
+use Rattle.omega_formula.specs.declared.kind.AccKind.TheVariants as kind
+use Rattle.omega_formula.specs.declared.kind.Order.{Order}
+use Rattle.omega_formula.specs.declared.kind.Order.TheVariants.{Max, Min}
+use Rattle.omega_formula.specs.declared.kind.Parity.{Parity}
+use Rattle.omega_formula.specs.declared.kind.Parity.TheVariants.{Even, Odd}
+use Rattle.omega_formula.specs.declared.name.AccName.{AccName}
+use Rattle.omega_formula.specs.declared.name.Parameter.TheVariants.{Number}
 use Rattle.omega_automaton.specs.Automaton.{Description}
 use Rattle.omega_automaton.specs.AcceptanceKind.{HasKind}
 
@@ -34,11 +34,19 @@ abbrev pub buchi_sets : AccKind → Option ℕ
 buchi_sets (kind.Parity parity) = parity_buchi_sets parity.order parity.parity parity.count
 buchi_sets (kind.GenBuchi sets) = Some sets
 
+-- the conjunction of the formulas of both automata, with the sets of the second numbered after those of the first
+abbrev pub conjoined_acceptance : Description → Description → AccTree
+conjoined_acceptance one other = acc.conjunction one.acceptance (moved_after one.sets other.acceptance)
+
 -- an automaton is Büchi or generalized Büchi, with `sets` sets
 pub record IsBuchi (a : Description) (sets : ℕ) : Type 0 where
   pub kind : AccKind
   pub kind_is : HasKind a kind
   pub sets_are : buchi_sets kind ≡ Some sets
+
+-- an answer is the number of sets if an automaton is Büchi or generalized Büchi, and none if it is neither
+abbrev pub IsBuchiCount : Description → Option ℕ → Type 0
+IsBuchiCount a answer = MatchOption answer ((sets : ℕ) → IsBuchi a sets → ⊥) (IsBuchi a)
 
 -- the name of a generalized Büchi acceptance
 abbrev pub buchi_name : ℕ → AccName
@@ -57,7 +65,7 @@ pub record IsBuchiOfBoth (one other : Description) (name : Option AccName) (form
 pub record IsConjoined (one other : Description) (name : Option AccName) (formula : AccTree) : Type 0 where
   pub others : (first second : ℕ) → IsBuchi one first → IsBuchi other second → ⊥
   pub name_is : name ≡ None
-  pub formula_is : formula ≡ acc.conjunction one.acceptance (moved_after one.sets other.acceptance)
+  pub formula_is : formula ≡ conjoined_acceptance one other
 
 -- the acceptance of a product by its name and its formula
 abbrev pub IsJointAcceptance : Description → Description → Option AccName → AccTree → Type 0

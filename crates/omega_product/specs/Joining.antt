@@ -2,7 +2,7 @@
 use Rattle.std.specs.Prelude.{ℕ, Bool, not, List, ◌++◌, map, filter, slice_index_or}
 use Rattle.std.specs.List.{list_any, position_or_len}
 use Rattle.std.specs.Str.{bytes_eq}
-use Rattle.omega_acc.specs.label.Label.{LabelTree, conjunction, constant, disjunction, negation, proposition}
+use Rattle.omega_label.specs.Label.{LabelTree, conjunction, constant, disjunction, negation, proposition}
 
 -- the names of the first automaton, and then those of the second that are not among them
 abbrev pub joined_names : List (List ℕ) → List (List ℕ) → List (List ℕ)

@@ -2,10 +2,10 @@
 use Rattle.std.specs.Prelude.{◌≡◌, ℕ, ◌<◌, Bool, ◌&&◌, ◌==◌, List, [], ◌++◌, length, map, take, filter, slice_index_or, codes, decimal}
 use Rattle.std.specs.List.{flat_map, position_or_len}
 use Rattle.indexmap.specs.IndexSet.{insert_all}
-use Rattle.omega_acc.specs.label.Label.{conjunction}
+use Rattle.omega_label.specs.Label.{conjunction}
 use Rattle.omega_automaton.specs.Automaton.{Description}
 use Rattle.omega_product.specs.Joining.{joined_names, places_among}
-use Rattle.omega_product.specs.Transitions.{Standing, can_hold, transitions_at}
+use Rattle.omega_product.specs.Transitions.{View, can_hold, transitions_at}
 use Rattle.omega_product.specs.declared.transition.Transition.{Transition}
 
 -- a state of the first automaton and one of the second
@@ -17,16 +17,16 @@ abbrev pub same_pair : Pair → Pair → Bool
 same_pair a b = (a.0 == b.0) && (a.1 == b.1)
 
 -- how the product sees the first automaton
-abbrev pub first_standing : Description → Description → Standing
-first_standing one other = record {
+abbrev pub first_view : Description → Description → View
+first_view one other = record {
   count = length one.propositions;
   places = places_among (joined_names one.propositions other.propositions) one.propositions;
   before = 0;
 }
 
 -- how the product sees the second automaton: its sets are numbered after those of the first
-abbrev pub second_standing : Description → Description → Standing
-second_standing one other = record {
+abbrev pub second_view : Description → Description → View
+second_view one other = record {
   count = length other.propositions;
   places = places_among (joined_names one.propositions other.propositions) other.propositions;
   before = one.sets;
@@ -40,18 +40,21 @@ can_meet transition other = can_hold (conjunction transition.label other.label)
 abbrev pub partners : Transition → List Transition → List Transition
 partners transition others = filter (can_meet transition) others
 
+-- the pairs that an edge of the first leads to with an edge of a list
+abbrev pub targets_with : Transition → List Transition → List Pair
+targets_with transition others = map (λ other. (transition.target, other.target)) (partners transition others)
+
 -- the pairs that two edges lead to, one of each list
 abbrev pub targets_between : List Transition → List Transition → List Pair
-targets_between transitions others =
-    flat_map (λ transition. map (λ other. (transition.target, other.target)) (partners transition others)) transitions
+targets_between transitions others = flat_map (λ transition. targets_with transition others) transitions
 
 -- the edges of the first that leave the first state of a pair
 abbrev pub first_leaving : Description → Description → Pair → List Transition
-first_leaving one other pair = transitions_at (first_standing one other) one.defined pair.0
+first_leaving one other pair = transitions_at (first_view one other) one.defined pair.0
 
 -- the edges of the second that leave the second state of a pair
 abbrev pub second_leaving : Description → Description → Pair → List Transition
-second_leaving one other pair = transitions_at (second_standing one other) other.defined pair.1
+second_leaving one other pair = transitions_at (second_view one other) other.defined pair.1
 
 -- the pairs that a pair leads to in one step
 abbrev pub targets_of : Description → Description → Pair → List Pair
@@ -61,14 +64,25 @@ targets_of one other pair = targets_between (first_leaving one other pair) (seco
 abbrev pub start_state : List ℕ → ℕ
 start_state start = slice_index_or start 0 0
 
+-- the pairs of a state and a start of a list
+abbrev pub starts_with : ℕ → List (List ℕ) → List Pair
+starts_with first others = map (λ start. (first, start_state start)) others
+
+-- the pairs of two starts, one of each list
+abbrev pub starts_between : List (List ℕ) → List (List ℕ) → List Pair
+starts_between starts others = flat_map (λ start. starts_with (start_state start) others) starts
+
 -- the pairs of starts, in the order of those of the first, and for each in the order of those of the second
 abbrev pub start_pairs : Description → Description → List Pair
-start_pairs one other =
-    flat_map (λ start. map (λ start'. (start_state start, start_state start')) other.starts) one.starts
+start_pairs one other = starts_between one.starts other.starts
+
+-- the pairs `found`, and after them those others that are not among them, each once
+abbrev pub with_pairs : List Pair → List Pair → List Pair
+with_pairs found others = insert_all same_pair found others
 
 -- the pairs found after the pairs `done` were expanded: the starts and the targets of `done`, each once
 abbrev pub found_after : Description → Description → List Pair → List Pair
-found_after one other done = insert_all same_pair [] (start_pairs one other ++ flat_map (targets_of one other) done)
+found_after one other done = with_pairs [] (start_pairs one other ++ flat_map (targets_of one other) done)
 
 -- the state of the breadth-first search after `done` pairs were expanded: each of these was found by expanding those
 -- before it

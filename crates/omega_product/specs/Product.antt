@@ -1,7 +1,7 @@
 -- The product of two automata, which accepts the words that both accept.
 use Rattle.std.specs.Prelude.{◌≡◌, ◌+◌, List, [], ◌∷◌, ◌++◌, length, map, Some, None}
 use Rattle.std.specs.List.{AllZip, flat_map}
-use Rattle.omega_acc.specs.label.Label.{conjunction}
+use Rattle.omega_label.specs.Label.{conjunction}
 use Rattle.omega_automaton.specs.Automaton.{Description}
 use Rattle.omega_automaton.specs.Meaning.{AreMarksOf}
 use Rattle.omega_automaton.specs.declared.edge.Edge.{Edge}
@@ -19,10 +19,18 @@ taken_together pairs transition other = record {
   marks = transition.marks ++ other.marks;
 }
 
+-- the joint edges of an edge of the first with those of a list
+abbrev pub joint_with : List Pair → Transition → List Transition → List Transition
+joint_with pairs transition others = map (taken_together pairs transition) (partners transition others)
+
 -- the joint edges of two states, in the order of those of the first, and for each in the order of those of the second
 abbrev pub joint_transitions : List Pair → List Transition → List Transition → List Transition
-joint_transitions pairs transitions others =
-    flat_map (λ transition. map (taken_together pairs transition) (partners transition others)) transitions
+joint_transitions pairs transitions others = flat_map (λ transition. joint_with pairs transition others) transitions
+
+-- the joint edges of the two states of a pair
+abbrev pub joint_edges_of : Description → Description → List Pair → Pair → List Transition
+joint_edges_of one other pairs pair =
+    joint_transitions pairs (first_leaving one other pair) (second_leaving one other pair)
 
 -- an edge of the product
 pub record IsJointEdge (transition : Transition) (edge : Edge) : Type 0 where
@@ -36,7 +44,7 @@ pub record IsPairState (one other : Description) (pairs : List Pair) (pair : Pai
   pub number : state.number ≡ pair_number pairs pair
   pub name : state.name ≡ Some (pair_name pair)
   pub marks : state.marks ≡ []
-  pub edges : AllZip IsJointEdge (joint_transitions pairs (first_leaving one other pair) (second_leaving one other pair)) state.edges
+  pub edges : AllZip IsJointEdge (joint_edges_of one other pairs pair) state.edges
 
 -- an automaton is the product of two
 pub record IsProduct (one other a : Description) : Type 0 where

@@ -1,5 +1,5 @@
--- Which refusal a product meets: 41, or 42 if it is undecided whether two labels can hold together, or 55 if it would
--- be too large, or 60 for memory.
+-- The refusal of a product: `UniversalBranch`, or `TooManyPropositions` if it is undecided whether two labels can hold
+-- together, or `TooLarge` if it would pass a limit, or want of memory.
 use Rattle.std.specs.Prelude.{◌≡◌, ◌<◌, ℕ, ◌+◌, ◌||◌, true, false, List, length, Contains, Some, sum_by}
 use Rattle.omega_text.specs.Cases.{never, or_memory, or_task}
 use Rattle.omega_text.specs.Limits.{most_number}
@@ -7,22 +7,22 @@ use Rattle.omega_text.specs.declared.refusal.Refusal.{Refusal}
 use Rattle.omega_text.specs.declared.refusal.automaton.AutomatonFault.{AutomatonFault}
 use Rattle.omega_text.specs.declared.refusal.task.TaskFault.{TaskFault}
 use Rattle.omega_text.specs.declared.refusal.task.TaskFault.TheVariants.{BadSolution, Budget, NotDeterministic, NotParity, TooLarge, TooManyPropositions, TooWide, UniversalBranch, UnknownNode}
-use Rattle.omega_acc.specs.Limits.{most_depth, most_mentioned}
-use Rattle.omega_acc.specs.WritingLaws.{acc_written}
-use Rattle.omega_acc.specs.formula.Raw.{raw_acc_depth}
-use Rattle.omega_acc.specs.formula.Acceptance as acc
-use Rattle.omega_acc.specs.label.Label.{conjunction}
-use Rattle.omega_acc.specs.label.Satisfiable.{mentioned}
-use Rattle.omega_acc.specs.label.Shape.{FitsALabel}
+use Rattle.omega_expression.specs.Limits.{most_depth, most_mentioned}
+use Rattle.omega_formula.specs.Writing.{acc_written}
+use Rattle.omega_formula.specs.Raw.{raw_acc_depth}
+use Rattle.omega_formula.specs.Acceptance as acc
+use Rattle.omega_label.specs.Label.{conjunction}
+use Rattle.omega_satisfying.specs.Satisfiable.{mentioned}
+use Rattle.omega_label.specs.Shape.{FitsALabel}
 use Rattle.omega_automaton.specs.Automaton.{Description}
 use Rattle.omega_automaton.specs.Branching.{has_universal_branching}
 use Rattle.omega_automaton.specs.Faults.{automaton_fault_of}
 use Rattle.omega_automaton.specs.Limits.{most_propositions}
 use Rattle.omega_automaton.specs.declared.state.State.{State}
-use Rattle.omega_product.specs.Acceptance.{moved_after}
+use Rattle.omega_product.specs.Acceptance.{conjoined_acceptance}
 use Rattle.omega_product.specs.Joining.{joined_names}
-use Rattle.omega_product.specs.Pairs.{AreFound, AreReached, Pair, first_leaving, first_standing, second_leaving, second_standing, targets_of}
-use Rattle.omega_product.specs.Transitions.{Standing, transitions_from}
+use Rattle.omega_product.specs.Pairs.{AreFound, AreReached, Pair, first_leaving, first_view, second_leaving, second_view, targets_of}
+use Rattle.omega_product.specs.Transitions.{View, transitions_from}
 use Rattle.omega_product.specs.Written.{IsWrittenProduct}
 use Rattle.omega_product.specs.declared.transition.Transition.{Transition}
 use Rattle.omega_raw.specs.declared.raw_automaton.RawAutomaton.{RawAutomaton}
@@ -43,7 +43,7 @@ pub record AreMet (one other : Description) (transition partner : Transition) : 
   pub first : Contains (first_leaving one other pair) transition
   pub second : Contains (second_leaving one other pair) partner
 
--- two such edges mention so many propositions that it may be undecided whether their labels can hold together
+-- two such edges mention more propositions together than are judged without a search
 pub record HasWideMeeting (one other : Description) : Type 0 where
   pub transition : Transition
   pub partner : Transition
@@ -64,10 +64,22 @@ pub record HasUnfitEdge (transitions : List Transition) : Type 0 where
   pub unfit : FitsALabel transition.label → ⊥
 
 -- an edge of some state has such a label
-pub record HasUnfitLabel (standing : Standing) (states : List State) : Type 0 where
+pub record HasUnfitLabel (view : View) (states : List State) : Type 0 where
   pub state : State
   pub listed : Contains states state
-  pub edge : HasUnfitEdge (transitions_from standing state 0 state.edges)
+  pub edge : HasUnfitEdge (transitions_from view state 0 state.edges)
+
+-- an edge of the first automaton has such a label
+abbrev pub HasUnfitFirst : Description → Description → Type 0
+HasUnfitFirst one other = HasUnfitLabel (first_view one other) one.defined
+
+-- an edge of the second automaton has such a label
+abbrev pub HasUnfitSecond : Description → Description → Type 0
+HasUnfitSecond one other = HasUnfitLabel (second_view one other) other.defined
+
+-- the conjunction of both acceptances, as it is written, is too deep
+abbrev pub HasDeepAcceptance : Description → Description → Type 0
+HasDeepAcceptance one other = most_depth < raw_acc_depth (acc_written (conjoined_acceptance one other))
 
 -- more pairs are reachable than a product may have states
 pub record HasManyPairs (one other : Description) : Type 0 where
@@ -92,16 +104,17 @@ pub record BreaksLimit (one other : Description) : Type 0 where
 -- why a product would be too large
 pub data IsProductTooLarge (one other : Description) : Type 0 where
   many_sets : most_number < one.sets + other.sets → IsProductTooLarge one other
-  many_names : most_propositions < length (joined_names one.propositions other.propositions) → IsProductTooLarge one other
-  deep_acceptance : most_depth < raw_acc_depth (acc_written (acc.conjunction one.acceptance (moved_after one.sets other.acceptance))) → IsProductTooLarge one other
-  unfit_first : HasUnfitLabel (first_standing one other) one.defined → IsProductTooLarge one other
-  unfit_second : HasUnfitLabel (second_standing one other) other.defined → IsProductTooLarge one other
+  many_names :
+      most_propositions < length (joined_names one.propositions other.propositions) → IsProductTooLarge one other
+  deep_acceptance : HasDeepAcceptance one other → IsProductTooLarge one other
+  unfit_first : HasUnfitFirst one other → IsProductTooLarge one other
+  unfit_second : HasUnfitSecond one other → IsProductTooLarge one other
   unfit_meeting : HasUnfitMeeting one other → IsProductTooLarge one other
   many_pairs : HasManyPairs one other → IsProductTooLarge one other
   many_edges : HasManyEdges one other → IsProductTooLarge one other
   broken_limit : BreaksLimit one other → IsProductTooLarge one other
 
--- 42 or 55, if there is no universal branching
+-- `TooManyPropositions` or `TooLarge`, if there is no universal branching
 abbrev pub IsJoinFault : Description → Description → TaskFault → Type 0
 IsJoinFault one other NotParity = ⊥
 IsJoinFault one other UniversalBranch = ⊥
@@ -113,7 +126,7 @@ IsJoinFault one other UnknownNode = ⊥
 IsJoinFault one other TooLarge = IsProductTooLarge one other
 IsJoinFault one other (NotDeterministic state) = ⊥
 
--- 41 if there is universal branching, otherwise 42 or 55
+-- `UniversalBranch` if there is universal branching, otherwise `TooManyPropositions` or `TooLarge`
 abbrev pub IsProductFault : Description → Description → TaskFault → Type 0
 IsProductFault one other NotParity = ⊥
 IsProductFault one other UniversalBranch = (has_universal_branching one || has_universal_branching other) ≡ true

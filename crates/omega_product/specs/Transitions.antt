@@ -2,7 +2,7 @@
 -- moved to edges, edges without a label get one, propositions are joined by name, and sets are numbered after those of
 -- the other.
 use Rattle.std.specs.Prelude.{ℕ, ◌+◌, ◌==◌, Bool, true, false, ◌||◌, if◌then◌else◌, List, [], ◌∷◌, ◌++◌, map, slice_index_or}
-use Rattle.omega_acc.specs.label.Label.{LabelTree, propositions, truth}
+use Rattle.omega_label.specs.Label.{LabelTree, propositions, truth}
 use Rattle.omega_automaton.specs.declared.edge.Edge.{Edge}
 use Rattle.omega_automaton.specs.declared.state.State.{State}
 use Rattle.omega_product.specs.Joining.{relabelled}
@@ -11,30 +11,31 @@ use Rattle.omega_edge_labels.specs.Labels.{label_at}
 
 -- how a product sees an automaton: its number of propositions, their places among the joined ones, and how many sets
 -- are numbered before its own
-pub record Standing : Type 0 where
+pub record View : Type 0 where
   pub count : ℕ
   pub places : List ℕ
   pub before : ℕ
 
 -- the edge of a state with an index
-abbrev pub transition_of : Standing → State → ℕ → Edge → Transition
-transition_of standing state index edge = record {
-  label = relabelled standing.places (label_at standing.count state index edge);
+abbrev pub transition_of : View → State → ℕ → Edge → Transition
+transition_of view state index edge = record {
+  label = relabelled view.places (label_at view.count state index edge);
   target = slice_index_or edge.targets 0 0;
-  marks = map (λ set. standing.before + set) (state.marks ++ edge.marks);
+  marks = map (λ set. view.before + set) (state.marks ++ edge.marks);
 }
 
 -- edges of a state, counted from an index
-abbrev pub transitions_from : Standing → State → ℕ → List Edge → List Transition
-transitions_from standing state index [] = []
-transitions_from standing state index (edge ∷ edges) =
-    transition_of standing state index edge ∷ transitions_from standing state (index + 1) edges
+abbrev pub transitions_from : View → State → ℕ → List Edge → List Transition
+transitions_from view state index [] = []
+transitions_from view state index (edge ∷ edges) =
+    transition_of view state index edge ∷ transitions_from view state (index + 1) edges
 
 -- the edges of the first state with a number, empty if there is no such state
-abbrev pub transitions_at : Standing → List State → ℕ → List Transition
-transitions_at standing [] number = []
-transitions_at standing (state ∷ states) number =
-    if state.number == number then transitions_from standing state 0 state.edges else transitions_at standing states number
+abbrev pub transitions_at : View → List State → ℕ → List Transition
+transitions_at view [] number = []
+transitions_at view (state ∷ states) number =
+    if state.number == number then transitions_from view state 0 state.edges
+    else transitions_at view states number
 
 -- the values `held`, but with `value` for the proposition `p`
 abbrev pub with_value : ℕ → Bool → (ℕ → Bool) → ℕ → Bool

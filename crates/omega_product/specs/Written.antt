@@ -1,10 +1,11 @@
 -- A product as a text writes it, before it is judged. Labels and the acceptance have parentheses only where they need
 -- them.
 use Rattle.std.specs.Prelude.{◌≡◌, ℕ, ◌+◌, List, [], ◌∷◌, ◌++◌, length, map, Option, Some, None, codes}
-use Rattle.omega_acc.specs.formula.Acceptance.{AccTree}
-use Rattle.omega_acc.specs.formula.Raw.{RawAccTree}
-use Rattle.omega_acc.specs.WritingLaws.{acc_written, label_written}
-use Rattle.omega_acc.specs.declared.formula.name.AccName.{AccName}
+use Rattle.omega_formula.specs.Acceptance.{AccTree}
+use Rattle.omega_formula.specs.Raw.{RawAccTree}
+use Rattle.omega_label.specs.Writing.{label_written}
+use Rattle.omega_formula.specs.Writing.{acc_written}
+use Rattle.omega_formula.specs.declared.name.AccName.{AccName}
 use Rattle.omega_automaton.specs.Automaton.{Description}
 use Rattle.omega_automaton.specs.Meaning.{Means}
 use Rattle.omega_raw.specs.declared.raw_automaton.RawAutomaton.{RawAutomaton}
@@ -13,9 +14,9 @@ use Rattle.omega_raw.specs.declared.raw_item.RawItem.{RawItem}
 use Rattle.omega_raw.specs.declared.raw_item.RawItem.TheVariants as item
 use Rattle.omega_raw.specs.declared.raw_state.RawState.{RawState}
 use Rattle.omega_product.specs.Joining.{joined_names}
-use Rattle.omega_product.specs.Pairs.{AreReached, Pair, first_leaving, pair_name, pair_number, second_leaving, start_pairs}
+use Rattle.omega_product.specs.Pairs.{AreReached, Pair, pair_name, pair_number, start_pairs}
 use Rattle.omega_product.specs.Acceptance.{IsJointAcceptance}
-use Rattle.omega_product.specs.Product.{joint_transitions}
+use Rattle.omega_product.specs.Product.{joint_edges_of}
 use Rattle.omega_product.specs.declared.transition.Transition.{Transition}
 
 -- an edge
@@ -38,8 +39,11 @@ raw_state pairs pair transitions = record {
 
 -- the state of a pair
 abbrev pub raw_state_of : Description → Description → List Pair → Pair → RawState
-raw_state_of one other pairs pair =
-    raw_state pairs pair (joint_transitions pairs (first_leaving one other pair) (second_leaving one other pair))
+raw_state_of one other pairs pair = raw_state pairs pair (joint_edges_of one other pairs pair)
+
+-- the states of all pairs
+abbrev pub raw_states : Description → Description → List Pair → List RawState
+raw_states one other pairs = map (raw_state_of one other pairs) pairs
 
 -- the start of a pair
 abbrev pub raw_start : List Pair → Pair → RawItem
@@ -50,12 +54,12 @@ abbrev pub name_items : Option AccName → List RawItem
 name_items None = []
 name_items (Some name) = item.AccName name ∷ []
 
--- the header, by the names of the propositions, the number of sets, the name and the formula of the acceptance, and the
--- pairs of starts
+-- the header, by the names of the propositions, the number of sets, the name and the formula of the acceptance, the
+-- pairs of starts, and all pairs
 abbrev pub raw_items : List (List ℕ) → ℕ → Option AccName → RawAccTree → List Pair → List Pair → List RawItem
 raw_items names sets name formula starts pairs =
-    (item.States (length pairs) ∷ item.Propositions (length names) names ∷ item.Acceptance sets formula ∷ []) ++ name_items name
-    ++ map (raw_start pairs) starts
+    (item.States (length pairs) ∷ item.Propositions (length names) names ∷ item.Acceptance sets formula ∷ [])
+    ++ name_items name ++ map (raw_start pairs) starts
 
 -- an automaton with a header and a body
 abbrev pub raw_of : List RawItem → List RawState → RawAutomaton
@@ -64,8 +68,9 @@ raw_of items states = record { version = codes "v1"; items = items; states = sta
 -- the product of two automata with these pairs and this acceptance
 abbrev pub raw_product : Description → Description → List Pair → Option AccName → RawAccTree → RawAutomaton
 raw_product one other pairs name formula =
-    raw_of (raw_items (joined_names one.propositions other.propositions) (one.sets + other.sets) name formula (start_pairs one other) pairs)
-    (map (raw_state_of one other pairs) pairs)
+    let names = joined_names one.propositions other.propositions in
+    let items = raw_items names (one.sets + other.sets) name formula (start_pairs one other) pairs in
+    raw_of items (raw_states one other pairs)
 
 -- this is the acceptance of a product, as a text writes it
 pub record IsAcceptanceWritten (one other : Description) (name : Option AccName) (formula : RawAccTree) : Type 0 where

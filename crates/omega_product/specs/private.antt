@@ -1,3 +1,5 @@
 -- What private contracts alone cite.
 pub mod Meeting
+pub mod Operands
+pub mod Starts
 pub mod Tables

@@ -1,22 +1,21 @@
 //! The acceptance of a product, as a text writes it.
 
-ghost use Rattle.std.specs.Prelude.{◌≡◌, ◌+◌, ◌<◌, ◌≤◌, IfErr, IfOk, Some};
-ghost use Rattle.omega_text.specs.Cases.{IsMemory};
-ghost use Rattle.omega_acc.specs.Limits.{most_depth};
-ghost use Rattle.omega_acc.specs.WritingLaws.{acc_written};
-ghost use Rattle.omega_acc.specs.formula.Acceptance.{conjunction, disjunction};
-ghost use Rattle.omega_acc.specs.formula.Kind.{buchi_formula};
-ghost use Rattle.omega_acc.specs.formula.Raw.{raw_acc_depth};
-ghost use Rattle.omega_acc.specs.formula.Shape.{acc_tree_of_shape};
-ghost use Rattle.omega_product.specs.Acceptance.{buchi_name as name_of_buchi, moved_after};
+ghost use Rattle.std.specs.Prelude.{◌≡◌, ◌+◌, ◌<◌, ◌≤◌, IfErr, IfOk, Some, IsOkUnless};
+ghost use Rattle.omega_expression.specs.Limits.{most_depth};
+ghost use Rattle.omega_formula.specs.Writing.{acc_written};
+ghost use Rattle.omega_formula.specs.Acceptance.{conjunction, disjunction};
+ghost use Rattle.omega_formula.specs.Kind.{buchi_formula};
+ghost use Rattle.omega_formula.specs.Shape.{acc_tree_of_shape};
+ghost use Rattle.omega_product.specs.Acceptance.{buchi_name as name_of_buchi, conjoined_acceptance, moved_after};
 ghost use Rattle.omega_edge_labels.specs.Fitting.{IsLarge};
+ghost use Rattle.omega_product.specs.Refusing.{HasDeepAcceptance};
 ghost use Rattle.omega_product.specs.Written.{IsAcceptanceWritten};
 
 use crate::buchi::buchi_sets;
 use crate::numbers::following;
-use omega_acc::{AccName, AccShape, Parameter, RawAcc};
 use omega_automaton::Automaton;
 use omega_edge_labels::written_formula;
+use omega_formula::{AccName, AccShape, Parameter, RawAcc};
 use omega_text::{ByteString, Refusal, Seq};
 use std::alloc::Global;
 
@@ -36,7 +35,7 @@ pub(crate) fn joint_acceptance(
     other: &Automaton,
 ) -> Result<WrittenAcceptance, Refusal>
     ensures ok { IfOk result (λ written. IsAcceptanceWritten one.now other.now written.name written.formula) }
-    ensures err { IfErr result (IsLarge (most_depth < raw_acc_depth (acc_written (conjunction one.now.acceptance (moved_after one.now.sets other.now.acceptance))))) }
+    ensures err { IfErr result (IsLarge (HasDeepAcceptance one.now other.now)) }
 {
     match buchi_sets(one) {
         None => conjoined(alloc, one, other),
@@ -53,7 +52,7 @@ fn buchi_of_both(alloc: Global, sets: u32) -> Result<WrittenAcceptance, Refusal>
     requires few { sets ≤ most_depth }
     ensures name { IfOk result (λ written. written.name ≡ Some (name_of_buchi sets)) }
     ensures formula { IfOk result (λ written. written.formula ≡ acc_written (buchi_formula sets)) }
-    ensures err { IfErr result IsMemory }
+    ensures memory { IsOkUnless result Refusal.Memory }
 {
     let name = buchi_name(alloc, sets)?;
     let formula = buchi_formula(alloc, sets)?;
@@ -66,7 +65,7 @@ fn buchi_of_both(alloc: Global, sets: u32) -> Result<WrittenAcceptance, Refusal>
 /// Returns the name of the generalized Büchi acceptance of `sets` sets.
 fn buchi_name(alloc: Global, sets: u32) -> Result<AccName, Refusal>
     ensures ok { IfOk result (λ name. name ≡ name_of_buchi sets) }
-    ensures err { IfErr result IsMemory }
+    ensures memory { IsOkUnless result Refusal.Memory }
 {
     let name = ByteString::from_slice(alloc, b"generalized-Buchi")?;
     let parameters = vec![in alloc; Parameter::Number(sets)]?;
@@ -81,7 +80,7 @@ fn buchi_formula(alloc: Global, sets: u32) -> Result<RawAcc, Refusal>
     requires some { 1 ≤ sets }
     requires few { sets ≤ most_depth }
     ensures ok { IfOk result (λ formula. formula ≡ acc_written (buchi_formula sets)) }
-    ensures err { IfErr result IsMemory }
+    ensures memory { IsOkUnless result Refusal.Memory }
 {
     let mut formula = RawAcc::atom(alloc, b"Inf", false, 0)?;
     for set in 1..sets {
@@ -98,8 +97,8 @@ fn conjoined(
     other: &Automaton,
 ) -> Result<WrittenAcceptance, Refusal>
     ensures name { IfOk result (λ written. written.name ≡ None) }
-    ensures formula { IfOk result (λ written. written.formula ≡ acc_written (conjunction one.now.acceptance (moved_after one.now.sets other.now.acceptance))) }
-    ensures err { IfErr result (IsLarge (most_depth < raw_acc_depth (acc_written (conjunction one.now.acceptance (moved_after one.now.sets other.now.acceptance))))) }
+    ensures formula { IfOk result (λ written. written.formula ≡ acc_written (conjoined_acceptance one.now other.now)) }
+    ensures err { IfErr result (IsLarge (HasDeepAcceptance one.now other.now)) }
 {
     let first = one.acceptance().shape(alloc)?;
     let second = moved_acceptance(alloc, other, one.set_count())?;
@@ -114,7 +113,7 @@ fn conjoined(
 /// Returns the formula of `automaton` with `before` added to the number of each set.
 fn moved_acceptance(alloc: Global, automaton: &Automaton, before: u32) -> Result<AccShape, Refusal>
     ensures ok { IfOk result (λ shape. acc_tree_of_shape shape ≡ moved_after before automaton.now.acceptance) }
-    ensures err { IfErr result IsMemory }
+    ensures memory { IsOkUnless result Refusal.Memory }
 {
     let shape = automaton.acceptance().shape(alloc)?;
     moved(alloc, &shape, before)
@@ -124,7 +123,7 @@ fn moved_acceptance(alloc: Global, automaton: &Automaton, before: u32) -> Result
 /// which can't happen for a product.
 fn moved(alloc: Global, shape: &AccShape, before: u32) -> Result<AccShape, Refusal>
     ensures ok { IfOk result (λ moved. acc_tree_of_shape moved ≡ moved_after before (acc_tree_of_shape shape.now)) }
-    ensures err { IfErr result IsMemory }
+    ensures memory { IsOkUnless result Refusal.Memory }
 {
     match shape {
         AccShape::Constant(value) => Ok(AccShape::Constant(*value)),
@@ -145,8 +144,9 @@ fn moved(alloc: Global, shape: &AccShape, before: u32) -> Result<AccShape, Refus
 
 /// Joins two formulas by `&`.
 fn both(alloc: Global, left: AccShape, right: AccShape) -> Result<AccShape, Refusal>
-    ensures ok { IfOk result (λ shape. acc_tree_of_shape shape ≡ conjunction (acc_tree_of_shape left) (acc_tree_of_shape right)) }
-    ensures err { IfErr result IsMemory }
+    ensures ok { IfOk result (λ shape.
+        acc_tree_of_shape shape ≡ conjunction (acc_tree_of_shape left) (acc_tree_of_shape right)) }
+    ensures memory { IsOkUnless result Refusal.Memory }
 {
     let left = Box::new(alloc, left)?;
     let right = Box::new(alloc, right)?;
@@ -155,8 +155,9 @@ fn both(alloc: Global, left: AccShape, right: AccShape) -> Result<AccShape, Refu
 
 /// Joins two formulas by `|`.
 fn either(alloc: Global, left: AccShape, right: AccShape) -> Result<AccShape, Refusal>
-    ensures ok { IfOk result (λ shape. acc_tree_of_shape shape ≡ disjunction (acc_tree_of_shape left) (acc_tree_of_shape right)) }
-    ensures err { IfErr result IsMemory }
+    ensures ok { IfOk result (λ shape.
+        acc_tree_of_shape shape ≡ disjunction (acc_tree_of_shape left) (acc_tree_of_shape right)) }
+    ensures memory { IsOkUnless result Refusal.Memory }
 {
     let left = Box::new(alloc, left)?;
     let right = Box::new(alloc, right)?;

@@ -1,17 +1,17 @@
 //! Automata that are Büchi or generalized Büchi.
 
-ghost use Rattle.std.specs.Prelude.{◌≡◌, ◌≤◌, ℕ, IfSome, MatchOption, Some};
-ghost use Rattle.omega_acc.specs.Limits.{most_buchi_sets};
-ghost use Rattle.omega_acc.specs.declared.formula.kind.AccKind.{AccKind};
+ghost use Rattle.std.specs.Prelude.{◌≡◌, ◌≤◌, IfSome, MatchOption, Some};
+ghost use Rattle.omega_expression.specs.Limits.{most_buchi_sets};
+ghost use Rattle.omega_formula.specs.declared.kind.AccKind.{AccKind};
 ghost use Rattle.omega_automaton.specs.AcceptanceKind.{HasKind};
-ghost use Rattle.omega_product.specs.Acceptance.{IsBuchi, buchi_sets as sets_of_kind};
+ghost use Rattle.omega_product.specs.Acceptance.{IsBuchiCount, buchi_sets as sets_of_kind};
 
-use omega_acc::{AccKind, Order, Parity, acceptance_kind};
 use omega_automaton::Automaton;
+use omega_formula::{AccKind, Order, Parity, acceptance_kind};
 
 /// Returns the number of sets of `automaton` if it is Büchi or generalized Büchi. Requests no memory.
 pub(crate) fn buchi_sets(automaton: &Automaton) -> Option<u32>
-    ensures sets { MatchOption result ((sets : ℕ) → IsBuchi automaton.now sets → ⊥) (IsBuchi automaton.now) }
+    ensures sets { IsBuchiCount automaton.now result }
     ensures some { IfSome result (λ sets. 1 ≤ sets) }
     ensures few { IfSome result (λ sets. sets ≤ most_buchi_sets) }
 {

@@ -1,11 +1,11 @@
 //! The edges of a product.
 
-ghost use Rattle.std.specs.Prelude.{◌≡◌, ◌<◌, ◌≤◌, ◌^◌, ◌++◌, length, map, IfErr, IfOk, OnOk};
-ghost use Rattle.omega_text.specs.Cases.{IsMemory, never, or_memory, or_task};
-ghost use Rattle.omega_acc.specs.label.Label.{conjunction};
-ghost use Rattle.omega_acc.specs.label.Shape.{label_tree_of_shape};
-ghost use Rattle.omega_product.specs.Pairs.{pair_number, partners};
-ghost use Rattle.omega_product.specs.Product.{joint_transitions, taken_together};
+ghost use Rattle.std.specs.Prelude.{◌≡◌, ◌<◌, ◌≤◌, ◌^◌, ◌++◌, length, map, IfErr, IfOk, OnOk, IsOkUnless};
+ghost use Rattle.omega_text.specs.Cases.{never, or_memory, or_task};
+ghost use Rattle.omega_label.specs.Label.{conjunction};
+ghost use Rattle.omega_label.specs.Shape.{label_tree_of_shape};
+ghost use Rattle.omega_product.specs.Pairs.{pair_number};
+ghost use Rattle.omega_product.specs.Product.{joint_transitions, joint_with, taken_together};
 ghost use Rattle.omega_edge_labels.specs.Limits.{most_states};
 ghost use Rattle.omega_product.specs.private.Meeting.{HasUnmet, HasUnmetPartner, IsUnmet};
 ghost use Rattle.omega_product.specs.Written.{raw_edge};
@@ -13,8 +13,8 @@ ghost use Rattle.omega_product.specs.Written.{raw_edge};
 use crate::meeting::meeting;
 use crate::transition::Transition;
 use indexmap::IndexSet;
-use omega_acc::LabelShape;
 use omega_edge_labels::written_label;
+use omega_label::LabelShape;
 use omega_raw::{RawEdge, RawEdges};
 use omega_text::{Marks, Numbers, Refusal};
 use std::alloc::Global;
@@ -48,7 +48,7 @@ fn push_joint(
     seconds: &[Transition],
 ) -> Result<(), Refusal>
     requires { length found.now.keys ≤ most_states }
-    ensures ok { OnOk result (edges.new ≡ edges.old ++ map raw_edge (map (taken_together found.now.keys first.now) (partners first.now seconds.now))) }
+    ensures ok { OnOk result (edges.new ≡ edges.old ++ map raw_edge (joint_with found.now.keys first.now seconds.now)) }
     ensures err { IfErr result (or_task (HasUnmetPartner first.now seconds.now) (or_memory never)) }
 {
     for second in seconds {
@@ -98,7 +98,7 @@ pub(crate) fn number_of(found: &IndexSet<(u32, u32)>, pair: (u32, u32)) -> u32
 /// Concatenates two lists of numbers.
 fn joined(alloc: Global, numbers: &[u32], others: &[u32]) -> Result<Numbers, Refusal>
     ensures ok { IfOk result (λ all. all ≡ numbers.now ++ others.now) }
-    ensures err { IfErr result IsMemory }
+    ensures memory { IsOkUnless result Refusal.Memory }
 {
     let mut all = Numbers::from_slice(alloc, numbers)?;
     for other in others {

@@ -1,20 +1,16 @@
 //! The reachable pairs of states, found by breadth-first search.
 
-ghost use Rattle.std.specs.Prelude.{◌≡◌, ◌<◌, ◌≤◌, get_or, length, map, IfErr, IfOk, OnOk};
-ghost use Rattle.omega_text.specs.Cases.{IsMemory, never, or_memory, or_task};
-ghost use Rattle.std.specs.List.{flat_map};
-ghost use Rattle.indexmap.specs.IndexSet.{insert_all};
+ghost use Rattle.std.specs.Prelude.{◌≡◌, ◌<◌, ◌≤◌, get_or, length, IfErr, IfOk, IsOkUnless, OnOk};
+ghost use Rattle.omega_text.specs.Cases.{never, or_memory, or_task};
 ghost use Rattle.omega_edge_labels.specs.Limits.{most_states};
-ghost use Rattle.omega_product.specs.Pairs.{AreReached, first_leaving, first_standing, partners, same_pair, second_leaving, second_standing, start_state as first_listed, targets_between, targets_of};
-ghost use Rattle.omega_product.specs.Refusing.{IsJoinFault};
+ghost use Rattle.omega_product.specs.Pairs.{start_state as first_listed, starts_between, starts_with, targets_between, targets_with, with_pairs};
 ghost use Rattle.omega_product.specs.private.Meeting.{HasUnmet, HasUnmetPartner};
-ghost use Rattle.omega_product.specs.private.Tables.{AreRows};
+ghost use Rattle.omega_product.specs.private.Operands.{AreReachedIn, AreTabled, HasUnmetAt, IsFaultIn, targets_in};
 
 use crate::meeting::can_meet;
-use crate::table::Table;
+use crate::operands::Operands;
 use crate::transition::Transition;
 use indexmap::IndexSet;
-use omega_automaton::Automaton;
 use omega_edge_labels::MOST_STATES;
 use omega_text::{Numbers, Refusal, TaskFault};
 use std::alloc::Global;
@@ -25,26 +21,22 @@ use std::alloc::Global;
 #[tactic(auto, using(crate::proofs::Reaching::begun, crate::proofs::Reaching::done_with))]
 pub(crate) fn explore(
     alloc: Global,
-    one: &Automaton,
-    other: &Automaton,
-    firsts: &Table,
-    seconds: &Table,
+    operands: &Operands<'_>,
 ) -> Result<IndexSet<(u32, u32)>, Refusal>
-    requires firsts { AreRows (first_standing one.now other.now) one.now.defined firsts.now.numbers.keys firsts.now.rows.items }
-    requires seconds { AreRows (second_standing one.now other.now) other.now.defined seconds.now.numbers.keys seconds.now.rows.items }
-    ensures reached { IfOk result (λ found. AreReached one.now other.now found.keys) }
+    requires { AreTabled operands.now }
+    ensures reached { IfOk result (λ found. AreReachedIn operands.now found.keys) }
     ensures few { IfOk result (λ found. length found.keys ≤ most_states) }
-    ensures err { IfErr result (or_task (IsJoinFault one.now other.now) (or_memory never)) }
+    ensures err { IfErr result (or_task (IsFaultIn operands.now) (or_memory never)) }
 {
     let mut found = IndexSet::new(alloc);
-    add_starts(&mut found, one.starts(), other.starts())?;
+    add_starts(&mut found, operands.one.starts(), operands.other.starts())?;
     let mut at = 0;
     while at < found.len() {
         if MOST_STATES < found.len() {
             return Err(Refusal::Task(TaskFault::TooLarge));
         }
         let pair = pair_at(&found, at);
-        visit(alloc, one, other, firsts, seconds, &mut found, pair)?;
+        visit(alloc, operands, &mut found, pair)?;
         at += 1;
     }
     Ok(found)
@@ -59,23 +51,19 @@ pub(crate) fn pair_at(found: &IndexSet<(u32, u32)>, number: usize) -> (u32, u32)
     found.as_slice()[number]
 }
 
-/// Expands `pair`: adds the pairs that it leads to. Only the contract reads the two automata.
+/// Expands `pair`: adds the pairs that it leads to.
 fn visit(
     alloc: Global,
-    _one: &Automaton,
-    _other: &Automaton,
-    firsts: &Table,
-    seconds: &Table,
+    operands: &Operands<'_>,
     found: &mut IndexSet<(u32, u32)>,
     pair: (u32, u32),
 ) -> Result<(), Refusal>
-    requires firsts { AreRows (first_standing _one.now _other.now) _one.now.defined firsts.now.numbers.keys firsts.now.rows.items }
-    requires seconds { AreRows (second_standing _one.now _other.now) _other.now.defined seconds.now.numbers.keys seconds.now.rows.items }
-    ensures ok { OnOk result (found.new.keys ≡ insert_all same_pair found.old.keys (targets_of _one.now _other.now pair)) }
-    ensures err { IfErr result (or_task (HasUnmet (first_leaving _one.now _other.now pair) (second_leaving _one.now _other.now pair)) (or_memory never)) }
+    requires { AreTabled operands.now }
+    ensures ok { OnOk result (found.new.keys ≡ with_pairs found.old.keys (targets_in operands.now pair)) }
+    ensures err { IfErr result (or_task (HasUnmetAt operands.now pair) (or_memory never)) }
 {
-    let starting = firsts.transitions(pair.0);
-    let others = seconds.transitions(pair.1);
+    let starting = operands.firsts.transitions(pair.0);
+    let others = operands.seconds.transitions(pair.1);
     add_targets(alloc, found, starting, others)
 }
 
@@ -85,8 +73,8 @@ fn add_starts(
     starts: &[Numbers],
     others: &[Numbers],
 ) -> Result<(), Refusal>
-    ensures ok { OnOk result (found.new.keys ≡ insert_all same_pair found.old.keys (flat_map (λ start. map (λ other. (first_listed start, first_listed other)) others.now) starts.now)) }
-    ensures err { IfErr result IsMemory }
+    ensures ok { OnOk result (found.new.keys ≡ with_pairs found.old.keys (starts_between starts.now others.now)) }
+    ensures memory { IsOkUnless result Refusal.Memory }
 {
     for start in starts {
         add_starts_with(found, start_state(start), others)?;
@@ -100,8 +88,8 @@ fn add_starts_with(
     first: u32,
     others: &[Numbers],
 ) -> Result<(), Refusal>
-    ensures ok { OnOk result (found.new.keys ≡ insert_all same_pair found.old.keys (map (λ other. (first, first_listed other)) others.now)) }
-    ensures err { IfErr result IsMemory }
+    ensures ok { OnOk result (found.new.keys ≡ with_pairs found.old.keys (starts_with first others.now)) }
+    ensures memory { IsOkUnless result Refusal.Memory }
 {
     for other in others {
         found.insert((first, start_state(other)))?;
@@ -123,7 +111,7 @@ fn add_targets(
     firsts: &[Transition],
     seconds: &[Transition],
 ) -> Result<(), Refusal>
-    ensures ok { OnOk result (found.new.keys ≡ insert_all same_pair found.old.keys (targets_between firsts.now seconds.now)) }
+    ensures ok { OnOk result (found.new.keys ≡ with_pairs found.old.keys (targets_between firsts.now seconds.now)) }
     ensures err { IfErr result (or_task (HasUnmet firsts.now seconds.now) (or_memory never)) }
 {
     for first in firsts {
@@ -139,7 +127,7 @@ fn add_targets_with(
     first: &Transition,
     seconds: &[Transition],
 ) -> Result<(), Refusal>
-    ensures ok { OnOk result (found.new.keys ≡ insert_all same_pair found.old.keys (map (λ second. (first.now.target, second.target)) (partners first.now seconds.now))) }
+    ensures ok { OnOk result (found.new.keys ≡ with_pairs found.old.keys (targets_with first.now seconds.now)) }
     ensures err { IfErr result (or_task (HasUnmetPartner first.now seconds.now) (or_memory never)) }
 {
     for second in seconds {

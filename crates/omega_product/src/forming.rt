@@ -1,14 +1,13 @@
-ghost use Rattle.std.specs.Prelude.{◌≡◌, ◌||◌, ◌+◌, ◌<◌, ◌≤◌, ◌^◌, List, length, IfErr, IfOk, OnOk, sum_by};
-ghost use Rattle.omega_text.specs.Cases.{IsMemory, never, or_memory, or_task};
+ghost use Rattle.std.specs.Prelude.{◌≡◌, ◌||◌, ◌+◌, ◌<◌, ◌≤◌, ◌^◌, length, IfErr, IfOk, IsOkUnless, OnOk, sum_by};
+ghost use Rattle.omega_text.specs.Cases.{never, or_memory, or_task};
 ghost use Rattle.omega_text.specs.Limits.{most_number};
 ghost use Rattle.omega_automaton.specs.Branching.{has_universal_branching};
 ghost use Rattle.omega_product.specs.Joining.{joined_names as names_of_both};
 ghost use Rattle.omega_product.specs.Limits.{IsWithin};
 ghost use Rattle.omega_edge_labels.specs.Limits.{most_edges, most_states};
-ghost use Rattle.omega_product.specs.Pairs.{first_standing, second_standing};
 ghost use Rattle.omega_product.specs.Product.{IsProduct};
-ghost use Rattle.omega_product.specs.Refusing.{HasUnfitLabel, HaveNoBranch, IsJoinFault, IsProductRefusal};
-ghost use Rattle.omega_product.specs.private.Tables.{AreRows};
+ghost use Rattle.omega_product.specs.Refusing.{HaveNoBranch, IsJoinFault, IsProductRefusal};
+ghost use Rattle.omega_product.specs.private.Operands.{AreJoined, IsFirstTable, IsSecondTable, IsUnfitFirst, IsUnfitSecond};
 ghost use Rattle.omega_edge_labels.specs.Fitting.{IsLarge};
 ghost use Rattle.omega_product.specs.Written.{IsWritten, IsWrittenProduct, raw_of};
 
@@ -16,6 +15,9 @@ use crate::acceptance::joint_acceptance;
 use crate::exploring::explore;
 use crate::header::items_of;
 use crate::names::{joined_names, places_among};
+use crate::operands::{Joining, Operands};
+use crate::renumbering::Renumbering;
+use crate::starts::Starts;
 use crate::states::states_of;
 use crate::table::Table;
 use omega_acc::{written_formulas_mean, written_labels_mean};
@@ -64,8 +66,8 @@ fn branches(first: &Automaton, second: &Automaton) -> bool
     in_first || in_second
 }
 
-/// Returns the product of two automata without universal branching. Fails with [TaskFault::TooManyPropositions],
-/// [TaskFault::TooLarge] or [Refusal::Memory].
+/// Returns the product of two automata without universal branching. Fails with [TaskFault::TooManyPropositions] or
+/// [TaskFault::TooLarge].
 fn joined(alloc: Global, one: &Automaton, other: &Automaton) -> Result<Automaton, Refusal>
     ensures product { IfOk result (IsProduct one.now other.now) }
     ensures written { IfOk result (IsWritten one.now other.now) }
@@ -82,8 +84,8 @@ fn joined(alloc: Global, one: &Automaton, other: &Automaton) -> Result<Automaton
     }
 }
 
-/// Returns the product as a text writes it, before it is judged. Fails with [TaskFault::TooManyPropositions],
-/// [TaskFault::TooLarge] or [Refusal::Memory].
+/// Returns the product as a text writes it, before it is judged. Fails with [TaskFault::TooManyPropositions] or
+/// [TaskFault::TooLarge].
 fn written_product(
     alloc: Global,
     one: &Automaton,
@@ -97,20 +99,28 @@ fn written_product(
 {
     let sets = sets_of_both(one, other)?;
     let names = names_of(alloc, one, other)?;
-    let firsts = first_table(alloc, one, other, names.as_slice())?;
-    let seconds = second_table(alloc, one, other, names.as_slice())?;
-    let found = explore(alloc, one, other, &firsts, &seconds)?;
-    let states = states_of(alloc, one, other, &firsts, &seconds, &found)?;
+    let joining = Joining {
+        one,
+        other,
+        names: names.as_slice(),
+    };
+    let firsts = first_table(alloc, &joining)?;
+    let seconds = second_table(alloc, &joining)?;
+    let operands = Operands {
+        one,
+        other,
+        firsts: &firsts,
+        seconds: &seconds,
+    };
+    let found = explore(alloc, &operands)?;
+    let states = states_of(alloc, &operands, &found)?;
     let acceptance = joint_acceptance(alloc, one, other)?;
-    let items = items_of(
-        alloc,
-        names,
-        sets,
-        acceptance,
-        one.starts(),
-        other.starts(),
-        &found,
-    )?;
+    let starts = Starts {
+        firsts: one.starts(),
+        seconds: other.starts(),
+        found: &found,
+    };
+    let items = items_of(alloc, names, sets, acceptance, &starts)?;
     let raw = assembled(alloc, items, states)?;
     Ok(raw)
 }
@@ -149,7 +159,7 @@ fn assembled(
     states: Vec<RawState>,
 ) -> Result<RawAutomaton, Refusal>
     ensures ok { IfOk result (λ raw. raw ≡ raw_of items.items states.items) }
-    ensures err { IfErr result IsMemory }
+    ensures memory { IsOkUnless result Refusal.Memory }
 {
     let version = ByteString::from_slice(alloc, b"v1")?;
     Ok(RawAutomaton {
@@ -159,36 +169,34 @@ fn assembled(
     })
 }
 
-/// Returns the edges of `one` within the product, by the joined `names`. Fails with [TaskFault::TooLarge] if a label is
-/// too deep or too large. Only the contract reads the other automaton.
-fn first_table(
-    alloc: Global,
-    one: &Automaton,
-    _other: &Automaton,
-    names: &[ByteString],
-) -> Result<Table, Refusal>
-    requires named { names.now ≡ names_of_both one.now.propositions _other.now.propositions }
-    requires few { length names.now < 2 ^ 32 }
-    ensures ok { IfOk result (λ table. AreRows (first_standing one.now _other.now) one.now.defined table.numbers.keys table.rows.items) }
-    ensures err { IfErr result (IsLarge (HasUnfitLabel (first_standing one.now _other.now) one.now.defined)) }
+/// Returns the edges of `joining.one` within the product. Fails with [TaskFault::TooLarge] if a label is too deep or
+/// too large.
+fn first_table(alloc: Global, joining: &Joining<'_>) -> Result<Table, Refusal>
+    requires named { AreJoined joining.now }
+    requires few { length joining.now.names.now < 2 ^ 32 }
+    ensures ok { IfOk result (IsFirstTable joining.now) }
+    ensures err { IfErr result (IsUnfitFirst joining.now) }
 {
-    let places = places_among(alloc, names, one.propositions())?;
-    Table::of(alloc, one, places.as_slice(), 0)
+    let places = places_among(alloc, joining.names, joining.one.propositions())?;
+    let renumbering = Renumbering {
+        places: places.as_slice(),
+        before: 0,
+    };
+    Table::of(alloc, joining.one, &renumbering)
 }
 
-/// Returns the edges of `other` within the product, with its sets numbered after those of `one`. Fails with
-/// [TaskFault::TooLarge] if a label is too deep or too large.
-fn second_table(
-    alloc: Global,
-    one: &Automaton,
-    other: &Automaton,
-    names: &[ByteString],
-) -> Result<Table, Refusal>
-    requires named { names.now ≡ names_of_both one.now.propositions other.now.propositions }
-    requires few { length names.now < 2 ^ 32 }
-    ensures ok { IfOk result (λ table. AreRows (second_standing one.now other.now) other.now.defined table.numbers.keys table.rows.items) }
-    ensures err { IfErr result (IsLarge (HasUnfitLabel (second_standing one.now other.now) other.now.defined)) }
+/// Returns the edges of `joining.other` within the product, with its sets numbered after those of `joining.one`. Fails
+/// with [TaskFault::TooLarge] if a label is too deep or too large.
+fn second_table(alloc: Global, joining: &Joining<'_>) -> Result<Table, Refusal>
+    requires named { AreJoined joining.now }
+    requires few { length joining.now.names.now < 2 ^ 32 }
+    ensures ok { IfOk result (IsSecondTable joining.now) }
+    ensures err { IfErr result (IsUnfitSecond joining.now) }
 {
-    let places = places_among(alloc, names, other.propositions())?;
-    Table::of(alloc, other, places.as_slice(), one.set_count())
+    let places = places_among(alloc, joining.names, joining.other.propositions())?;
+    let renumbering = Renumbering {
+        places: places.as_slice(),
+        before: joining.one.set_count(),
+    };
+    Table::of(alloc, joining.other, &renumbering)
 }

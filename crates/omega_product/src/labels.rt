@@ -1,12 +1,11 @@
 //! Labels over the joined propositions, as trees.
 
-ghost use Rattle.std.specs.Prelude.{◌≡◌, IfErr, IfOk};
-ghost use Rattle.omega_text.specs.Cases.{IsMemory};
-ghost use Rattle.omega_acc.specs.label.Label.{conjunction, disjunction, negation};
-ghost use Rattle.omega_acc.specs.label.Shape.{label_tree_of_shape};
+ghost use Rattle.std.specs.Prelude.{◌≡◌, IfOk, IsOkUnless};
+ghost use Rattle.omega_label.specs.Label.{conjunction, disjunction, negation};
+ghost use Rattle.omega_label.specs.Shape.{label_tree_of_shape};
 ghost use Rattle.omega_product.specs.Joining.{number_among as number_of_joined, relabelled};
 
-use omega_acc::LabelShape;
+use omega_label::LabelShape;
 use omega_text::Refusal;
 use std::alloc::Global;
 
@@ -16,8 +15,9 @@ pub(crate) fn renumbered(
     shape: &LabelShape,
     places: &[u32],
 ) -> Result<LabelShape, Refusal>
-    ensures ok { IfOk result (λ moved. label_tree_of_shape moved ≡ relabelled places.now (label_tree_of_shape shape.now)) }
-    ensures err { IfErr result IsMemory }
+    ensures ok { IfOk result (λ moved.
+        label_tree_of_shape moved ≡ relabelled places.now (label_tree_of_shape shape.now)) }
+    ensures memory { IsOkUnless result Refusal.Memory }
 {
     match shape {
         LabelShape::Constant(value) => Ok(LabelShape::Constant(*value)),
@@ -49,7 +49,7 @@ fn number_among(places: &[u32], number: usize) -> u32
 /// Negates a label.
 fn negated(alloc: Global, part: LabelShape) -> Result<LabelShape, Refusal>
     ensures ok { IfOk result (λ shape. label_tree_of_shape shape ≡ negation (label_tree_of_shape part)) }
-    ensures err { IfErr result IsMemory }
+    ensures memory { IsOkUnless result Refusal.Memory }
 {
     Ok(LabelShape::Not(Box::new(alloc, part)?))
 }
@@ -60,8 +60,9 @@ pub(crate) fn both(
     left: LabelShape,
     right: LabelShape,
 ) -> Result<LabelShape, Refusal>
-    ensures ok { IfOk result (λ shape. label_tree_of_shape shape ≡ conjunction (label_tree_of_shape left) (label_tree_of_shape right)) }
-    ensures err { IfErr result IsMemory }
+    ensures ok { IfOk result (λ shape.
+        label_tree_of_shape shape ≡ conjunction (label_tree_of_shape left) (label_tree_of_shape right)) }
+    ensures memory { IsOkUnless result Refusal.Memory }
 {
     let left = Box::new(alloc, left)?;
     let right = Box::new(alloc, right)?;
@@ -70,8 +71,9 @@ pub(crate) fn both(
 
 /// Joins two labels by `|`.
 fn either(alloc: Global, left: LabelShape, right: LabelShape) -> Result<LabelShape, Refusal>
-    ensures ok { IfOk result (λ shape. label_tree_of_shape shape ≡ disjunction (label_tree_of_shape left) (label_tree_of_shape right)) }
-    ensures err { IfErr result IsMemory }
+    ensures ok { IfOk result (λ shape.
+        label_tree_of_shape shape ≡ disjunction (label_tree_of_shape left) (label_tree_of_shape right)) }
+    ensures memory { IsOkUnless result Refusal.Memory }
 {
     let left = Box::new(alloc, left)?;
     let right = Box::new(alloc, right)?;

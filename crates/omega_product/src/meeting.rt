@@ -1,16 +1,16 @@
 //! Edges of two automata that can be taken together.
 
-ghost use Rattle.std.specs.Prelude.{◌≡◌, IfErr, IfOk};
-ghost use Rattle.omega_text.specs.Cases.{IsMemory, never, or_memory, or_task};
-ghost use Rattle.omega_acc.specs.label.Label.{conjunction};
-ghost use Rattle.omega_acc.specs.label.Shape.{label_tree_of_shape};
+ghost use Rattle.std.specs.Prelude.{◌≡◌, IfErr, IfOk, IsOkUnless};
+ghost use Rattle.omega_text.specs.Cases.{never, or_memory, or_task};
+ghost use Rattle.omega_label.specs.Label.{conjunction};
+ghost use Rattle.omega_label.specs.Shape.{label_tree_of_shape};
 ghost use Rattle.omega_product.specs.Pairs.{can_meet};
 ghost use Rattle.omega_product.specs.private.Meeting.{IsMeeting, IsUnmet};
 
 use crate::labels::both;
 use crate::transition::Transition;
-use omega_acc::LabelShape;
 use omega_edge_labels::fitting_label;
+use omega_label::LabelShape;
 use omega_satisfying::is_satisfiable;
 use omega_text::Refusal;
 use std::alloc::Global;
@@ -55,7 +55,7 @@ fn joint_shape(
     second: &Transition,
 ) -> Result<LabelShape, Refusal>
     ensures ok { IfOk result (λ shape. label_tree_of_shape shape ≡ conjunction first.now.label second.now.label) }
-    ensures err { IfErr result IsMemory }
+    ensures memory { IsOkUnless result Refusal.Memory }
 {
     let left = first.label.shape(alloc)?;
     let right = second.label.shape(alloc)?;

@@ -1,7 +1,6 @@
 //! The propositions of two automata, joined by their names.
 
-ghost use Rattle.std.specs.Prelude.{◌≡◌, ◌<◌, ◌^◌, ◌++◌, length, filter, not, take, IfErr, IfOk, OnOk};
-ghost use Rattle.omega_text.specs.Cases.{IsMemory};
+ghost use Rattle.std.specs.Prelude.{◌≡◌, ◌<◌, ◌^◌, length, IfOk, IsOkUnless};
 ghost use Rattle.std.specs.List.{list_any, position_or_len};
 ghost use Rattle.std.specs.Str.{bytes_eq};
 ghost use Rattle.omega_product.specs.Joining.{joined_names as names_of_both, places_among as places_of};
@@ -16,7 +15,7 @@ pub(crate) fn joined_names(
     others: &[ByteString],
 ) -> Result<Vec<ByteString>, Refusal>
     ensures ok { IfOk result (λ joined. joined.items ≡ names_of_both names.now others.now) }
-    ensures err { IfErr result IsMemory }
+    ensures memory { IsOkUnless result Refusal.Memory }
 {
     let mut joined = copied(alloc, names)?;
     for name in others {
@@ -30,7 +29,7 @@ pub(crate) fn joined_names(
 /// Copies `names`.
 pub(crate) fn copied(alloc: Global, names: &[ByteString]) -> Result<Vec<ByteString>, Refusal>
     ensures ok { IfOk result (λ same. same.items ≡ names.now) }
-    ensures err { IfErr result IsMemory }
+    ensures memory { IsOkUnless result Refusal.Memory }
 {
     let mut same = Vec::with_capacity(alloc, names.len())?;
     for name in names {
@@ -59,7 +58,7 @@ pub(crate) fn places_among(
 ) -> Result<Vec<u32>, Refusal>
     requires { length joined.now < 2 ^ 32 }
     ensures ok { IfOk result (λ places. places.items ≡ places_of joined.now names.now) }
-    ensures err { IfErr result IsMemory }
+    ensures memory { IsOkUnless result Refusal.Memory }
 {
     let mut places = Vec::with_capacity(alloc, names.len())?;
     for name in names {

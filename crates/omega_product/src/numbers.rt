@@ -1,7 +1,6 @@
 //! Numbers of sets that come after others.
 
-ghost use Rattle.std.specs.Prelude.{◌≡◌, ◌+◌, IfErr, IfOk};
-ghost use Rattle.omega_text.specs.Cases.{IsMemory};
+ghost use Rattle.std.specs.Prelude.{◌≡◌, ◌+◌, IfOk, IsOkUnless};
 
 use omega_text::Refusal;
 
@@ -9,7 +8,7 @@ use omega_text::Refusal;
 /// which can't happen for a product.
 pub(crate) fn following(before: u32, set: u32) -> Result<u32, Refusal>
     ensures ok { IfOk result (λ number. number ≡ before + set) }
-    ensures err { IfErr result IsMemory }
+    ensures memory { IsOkUnless result Refusal.Memory }
 {
     match before.checked_add(set) {
         Some(number) => Ok(number),

@@ -1,20 +1,16 @@
 //! The states of a product.
 
-ghost use Rattle.std.specs.Prelude.{◌≡◌, ◌+◌, ◌<◌, ◌≤◌, ◌∷◌, ◌++◌, [], Some, length, map, sum_by, IfErr, IfOk, OnOk};
-ghost use Rattle.omega_text.specs.Cases.{IsMemory, never, or_memory, or_task};
+ghost use Rattle.std.specs.Prelude.{◌≡◌, ◌+◌, ◌<◌, ◌≤◌, ◌∷◌, ◌++◌, [], Some, length, sum_by, IfErr, IfOk, IsOkUnless, OnOk};
+ghost use Rattle.omega_text.specs.Cases.{never, or_memory, or_task};
 ghost use Rattle.omega_edge_labels.specs.Limits.{most_edges, most_states};
-ghost use Rattle.omega_product.specs.Pairs.{AreReached, first_leaving, first_standing, pair_name, second_leaving, second_standing};
-ghost use Rattle.omega_product.specs.Refusing.{IsJoinFault};
-ghost use Rattle.omega_product.specs.private.Meeting.{HasUnmet};
-ghost use Rattle.omega_product.specs.private.Tables.{AreRows};
+ghost use Rattle.omega_product.specs.Pairs.{pair_name};
+ghost use Rattle.omega_product.specs.private.Operands.{AreReachedIn, AreTabled, HasUnmetAt, IsFaultIn, state_in, states_in};
 ghost use Rattle.omega_edge_labels.specs.Fitting.{IsLarge};
-ghost use Rattle.omega_product.specs.Written.{raw_state_of};
 
 use crate::edges::{joint_edges, number_of};
 use crate::exploring::pair_at;
-use crate::table::Table;
+use crate::operands::Operands;
 use indexmap::IndexSet;
-use omega_automaton::Automaton;
 use omega_edge_labels::MOST_EDGES;
 use omega_raw::{RawState, StateName};
 use omega_text::{ByteString, Marks, Refusal, TaskFault, write_number};
@@ -25,25 +21,21 @@ use std::alloc::Global;
 /// or too large.
 pub(crate) fn states_of(
     alloc: Global,
-    one: &Automaton,
-    other: &Automaton,
-    firsts: &Table,
-    seconds: &Table,
+    operands: &Operands<'_>,
     found: &IndexSet<(u32, u32)>,
 ) -> Result<Vec<RawState>, Refusal>
-    requires firsts { AreRows (first_standing one.now other.now) one.now.defined firsts.now.numbers.keys firsts.now.rows.items }
-    requires seconds { AreRows (second_standing one.now other.now) other.now.defined seconds.now.numbers.keys seconds.now.rows.items }
-    requires reached { AreReached one.now other.now found.now.keys }
+    requires tabled { AreTabled operands.now }
+    requires reached { AreReachedIn operands.now found.now.keys }
     requires few { length found.now.keys ≤ most_states }
-    ensures states { IfOk result (λ states. states.items ≡ map (raw_state_of one.now other.now found.now.keys) found.now.keys) }
+    ensures states { IfOk result (λ states. states.items ≡ states_in operands.now found.now.keys) }
     ensures edges { IfOk result (λ states. sum_by (λ state. length state.edges) states.items ≤ most_edges) }
-    ensures err { IfErr result (or_task (IsJoinFault one.now other.now) (or_memory never)) }
+    ensures err { IfErr result (or_task (IsFaultIn operands.now) (or_memory never)) }
 {
     let mut states = Vec::with_capacity(alloc, found.len())?;
     let mut edges: usize = 0;
     for at in 0..found.len() {
         let pair = pair_at(found, at);
-        let state = state_of(alloc, one, other, firsts, seconds, found, pair)?;
+        let state = state_of(alloc, operands, found, pair)?;
         edges = push_state(&mut states, state, edges)?;
     }
     Ok(states)
@@ -66,27 +58,23 @@ fn push_state(states: &mut Vec<RawState>, state: RawState, edges: usize) -> Resu
     Ok(edges + count)
 }
 
-/// Returns the state of `pair`. Only the contract reads the two automata.
+/// Returns the state of `pair`.
 fn state_of(
     alloc: Global,
-    _one: &Automaton,
-    _other: &Automaton,
-    firsts: &Table,
-    seconds: &Table,
+    operands: &Operands<'_>,
     found: &IndexSet<(u32, u32)>,
     pair: (u32, u32),
 ) -> Result<RawState, Refusal>
-    requires firsts { AreRows (first_standing _one.now _other.now) _one.now.defined firsts.now.numbers.keys firsts.now.rows.items }
-    requires seconds { AreRows (second_standing _one.now _other.now) _other.now.defined seconds.now.numbers.keys seconds.now.rows.items }
+    requires tabled { AreTabled operands.now }
     requires few { length found.now.keys ≤ most_states }
-    ensures ok { IfOk result (λ state. state ≡ raw_state_of _one.now _other.now found.now.keys pair) }
-    ensures err { IfErr result (or_task (HasUnmet (first_leaving _one.now _other.now pair) (second_leaving _one.now _other.now pair)) (or_memory never)) }
+    ensures ok { IfOk result (λ state. state ≡ state_in operands.now found.now.keys pair) }
+    ensures err { IfErr result (or_task (HasUnmetAt operands.now pair) (or_memory never)) }
 {
     let edges = joint_edges(
         alloc,
         found,
-        firsts.transitions(pair.0),
-        seconds.transitions(pair.1),
+        operands.firsts.transitions(pair.0),
+        operands.seconds.transitions(pair.1),
     )?;
     let name = name_of(alloc, pair)?;
     Ok(RawState {
@@ -101,7 +89,7 @@ fn state_of(
 /// Returns the name of `pair`: its two numbers with a comma between them.
 fn name_of(alloc: Global, pair: (u32, u32)) -> Result<StateName, Refusal>
     ensures ok { IfOk result (λ name. name ≡ Some (pair_name pair)) }
-    ensures err { IfErr result IsMemory }
+    ensures memory { IsOkUnless result Refusal.Memory }
 {
     let mut text = Vec::new(alloc);
     write_number(u128::from(pair.0), &mut text)?;

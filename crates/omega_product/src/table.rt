@@ -1,11 +1,9 @@
-ghost use Rattle.std.specs.Prelude.{◌≡◌, ◌∷◌, [], ◌++◌, List, get_or, IfErr, IfOk, OnOk};
-ghost use Rattle.omega_text.specs.Cases.{IsMemory};
-ghost use Rattle.omega_automaton.specs.declared.state.State.{State};
-ghost use Rattle.omega_product.specs.Transitions.{Standing, transitions_at};
+ghost use Rattle.std.specs.Prelude.{◌≡◌, ◌∷◌, [], ◌++◌, get_or, IfErr, IfOk, IsOkUnless, OnOk};
 ghost use Rattle.omega_product.specs.Refusing.{HasUnfitLabel};
-ghost use Rattle.omega_product.specs.private.Tables.{AreRows, standing_at};
+ghost use Rattle.omega_product.specs.private.Tables.{AreEdgesIn, IsTableOf, view_of};
 ghost use Rattle.omega_edge_labels.specs.Fitting.{IsLarge};
 
+use crate::renumbering::Renumbering;
 use crate::transition::Transition;
 use crate::transitions::transitions_of;
 use indexmap::IndexSet;
@@ -21,24 +19,23 @@ pub(crate) struct Table {
 }
 
 impl Table {
-    /// Makes the table of `automaton`. `places` gives the joined number of each of its propositions, and `before` sets
-    /// are numbered before its own. Fails with [TaskFault::TooLarge] if a label is too deep or too large.
+    /// Makes the table of `automaton` within the product. Fails with [TaskFault::TooLarge] if a label is too deep or
+    /// too large.
     #[tactic(auto, using(crate::proofs::Rows::rows_more))]
     pub(crate) fn of(
         alloc: Global,
         automaton: &Automaton,
-        places: &[u32],
-        before: u32,
+        renumbering: &Renumbering<'_>,
     ) -> Result<Table, Refusal>
-        ensures ok { IfOk result (λ table. AreRows (standing_at places.now before) automaton.now.defined table.numbers.keys table.rows.items) }
-        ensures err { IfErr result (IsLarge (HasUnfitLabel (standing_at places.now before) automaton.now.defined)) }
+        ensures ok { IfOk result (IsTableOf (view_of renumbering.now) automaton.now.defined) }
+        ensures err { IfErr result (IsLarge (HasUnfitLabel (view_of renumbering.now) automaton.now.defined)) }
     {
         let mut table = Table {
             numbers: IndexSet::new(alloc),
             rows: Vec::new(alloc),
         };
         for state in automaton.defined() {
-            let row = transitions_of(alloc, state, places, before)?;
+            let row = transitions_of(alloc, state, renumbering)?;
             table.add(state.number, row)?;
         }
         Ok(table)
@@ -49,7 +46,7 @@ impl Table {
     fn add(&mut self, number: u32, row: Seq<Transition>) -> Result<(), Refusal>
         ensures numbers { OnOk result (self.new.numbers.keys ≡ self.old.numbers.keys ++ number ∷ []) }
         ensures rows { OnOk result (self.new.rows.items ≡ self.old.rows.items ++ row ∷ []) }
-        ensures err { IfErr result IsMemory }
+        ensures memory { IsOkUnless result Refusal.Memory }
     {
         if !self.numbers.insert(number)? {
             return Err(Refusal::Memory);
@@ -60,7 +57,7 @@ impl Table {
 
     /// Returns the edges of the state with the number `number`, empty if there is no such state.
     pub(crate) fn transitions(&self, number: u32) -> &[Transition]
-        ensures { (standing : Standing) (states : List State) → AreRows standing states self.now.numbers.keys self.now.rows.items → result.now ≡ transitions_at standing states number }
+        ensures { AreEdgesIn self.now number result.now }
     {
         match self.numbers.get_index_of(&number) {
             Some(place) => self.row(place),

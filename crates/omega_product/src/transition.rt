@@ -1,4 +1,4 @@
-use omega_acc::Label;
+use omega_label::Label;
 use omega_text::Numbers;
 
 /// An edge of an automaton as its product with another sees it. It has one label over the joined propositions, one

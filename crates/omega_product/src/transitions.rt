@@ -1,39 +1,36 @@
 //! The edges of a state as a product sees them.
 
-ghost use Rattle.std.specs.Prelude.{◌≡◌, ◌+◌, ◌++◌, IfErr, IfOk, OnOk, length, map};
-ghost use Rattle.omega_text.specs.Cases.{IsMemory};
-ghost use Rattle.omega_acc.specs.label.Shape.{label_tree_of_shape};
-ghost use Rattle.omega_product.specs.Joining.{relabelled};
+ghost use Rattle.std.specs.Prelude.{◌≡◌, ◌+◌, ◌++◌, IfErr, IfOk, IsOkUnless, OnOk, map};
+ghost use Rattle.omega_label.specs.Shape.{label_tree_of_shape};
 ghost use Rattle.omega_product.specs.Refusing.{HasUnfitEdge};
 ghost use Rattle.omega_product.specs.Transitions.{transition_of as transition_of_edge};
-ghost use Rattle.omega_product.specs.private.Tables.{row_of, standing_at};
+ghost use Rattle.omega_product.specs.private.Tables.{label_in_product, row_of, view_of};
 ghost use Rattle.omega_edge_labels.specs.Fitting.{IsLarge, IsUnfit};
-ghost use Rattle.omega_edge_labels.specs.Labels.{label_at as label_of_edge};
 
 use crate::labels::renumbered;
 use crate::numbers::following;
+use crate::renumbering::Renumbering;
 use crate::transition::Transition;
-use omega_acc::LabelShape;
 use omega_automaton::{EdgeRef, State};
 use omega_edge_labels::{fitting_label, label_at};
+use omega_label::LabelShape;
 use omega_text::{Numbers, Refusal, Seq};
 use std::alloc::Global;
 
-/// Returns the edges of `state` as the product sees them. `places` gives the joined number of each proposition, and
-/// `before` sets are numbered before its own. Fails with [TaskFault::TooLarge] if a label is too deep or too large.
+/// Returns the edges of `state` as the product sees them. Fails with [TaskFault::TooLarge] if a label is too deep or
+/// too large.
 pub(crate) fn transitions_of(
     alloc: Global,
     state: &State,
-    places: &[u32],
-    before: u32,
+    renumbering: &Renumbering<'_>,
 ) -> Result<Seq<Transition>, Refusal>
-    ensures ok { IfOk result (λ row. row ≡ row_of (standing_at places.now before) state.now) }
-    ensures err { IfErr result (IsLarge (HasUnfitEdge (row_of (standing_at places.now before) state.now))) }
+    ensures ok { IfOk result (λ row. row ≡ row_of (view_of renumbering.now) state.now) }
+    ensures err { IfErr result (IsLarge (HasUnfitEdge (row_of (view_of renumbering.now) state.now))) }
 {
     let mut row = Vec::with_capacity(alloc, state.edges.len())?;
     for at in 0..state.edges.len() {
         let edge = state.edges.edge(at);
-        let transition = transition_of(alloc, state, &edge, at, places, before)?;
+        let transition = transition_of(alloc, state, &edge, at, renumbering)?;
         row.push(transition)?;
     }
     Ok(Seq::from_vec(row))
@@ -46,16 +43,21 @@ fn transition_of(
     state: &State,
     edge: &EdgeRef<'_>,
     at: usize,
-    places: &[u32],
-    before: u32,
+    renumbering: &Renumbering<'_>,
 ) -> Result<Transition, Refusal>
-    ensures ok { IfOk result (λ transition. transition ≡ transition_of_edge (standing_at places.now before) state.now at edge.now) }
-    ensures err { IfErr result (IsUnfit (relabelled places.now (label_of_edge (length places.now) state.now at edge.now))) }
+    ensures ok { IfOk result (λ transition.
+        transition ≡ transition_of_edge (view_of renumbering.now) state.now at edge.now) }
+    ensures err { IfErr result (IsUnfit (label_in_product renumbering.now.places.now state.now at edge.now)) }
 {
-    let shape = shape_of(alloc, state, edge, at, places)?;
+    let shape = shape_of(alloc, state, edge, at, renumbering.places)?;
     let label = fitting_label(alloc, &shape)?;
     let target = edge.targets().first().copied().unwrap_or(0);
-    let marks = marks_after(alloc, state.marks.as_slice(), edge.marks(), before)?;
+    let marks = marks_after(
+        alloc,
+        state.marks.as_slice(),
+        edge.marks(),
+        renumbering.before,
+    )?;
     Ok(Transition {
         label,
         target,
@@ -71,8 +73,9 @@ fn shape_of(
     at: usize,
     places: &[u32],
 ) -> Result<LabelShape, Refusal>
-    ensures ok { IfOk result (λ shape. label_tree_of_shape shape ≡ relabelled places.now (label_of_edge (length places.now) state.now at edge.now)) }
-    ensures err { IfErr result IsMemory }
+    ensures ok { IfOk result (λ shape.
+        label_tree_of_shape shape ≡ label_in_product places.now state.now at edge.now) }
+    ensures memory { IsOkUnless result Refusal.Memory }
 {
     let label = label_at(alloc, places.len(), state, edge, at)?;
     renumbered(alloc, &label, places)
@@ -87,7 +90,7 @@ fn marks_after(
     before: u32,
 ) -> Result<Numbers, Refusal>
     ensures ok { IfOk result (λ marks. marks ≡ map (λ set. before + set) (of_state.now ++ of_edge.now)) }
-    ensures err { IfErr result IsMemory }
+    ensures memory { IsOkUnless result Refusal.Memory }
 {
     let mut marks = Numbers::new();
     append_moved(alloc, &mut marks, of_state, before)?;
@@ -103,7 +106,7 @@ fn append_moved(
     before: u32,
 ) -> Result<(), Refusal>
     ensures ok { OnOk result (marks.new ≡ marks.old ++ map (λ set. before + set) sets.now) }
-    ensures err { IfErr result IsMemory }
+    ensures memory { IsOkUnless result Refusal.Memory }
 {
     for set in sets {
         let following = following(before, *set)?;

@@ -2,17 +2,17 @@
 use Rattle.std.proofs.Common.{◌≡◌, ℕ, Bool, true, false, List, Option, refl, sym, ap, ◌∙◌, subst, codes, if◌then◌else◌, Result, Ok, Err}
 use Rattle.std.proofs.lemmas.Slice.Eq.{bytes_eq-Decides}
 use Rattle.std.specs.Str.{bytes_eq}
-use Rattle.omega_acc.specs.formula.Raw.{RawAccTree}
-use Rattle.omega_acc.specs.label.Raw.{RawLabelTree}
-use Rattle.omega_acc.specs.declared.formula.name.AccName.{AccName}
-use Rattle.omega_acc.specs.declared.formula.name.Parameter.{Parameter}
+use Rattle.omega_formula.specs.Raw.{RawAccTree}
+use Rattle.omega_label.specs.Raw.{RawLabelTree}
+use Rattle.omega_formula.specs.declared.name.AccName.{AccName}
+use Rattle.omega_formula.specs.declared.name.Parameter.{Parameter}
 use Rattle.omega_raw.specs.private.steps.Contents.{FindsContent, FindsNamed, FindsUnknown, GivesContent, GivesNamed, GivesUnknown}
 use Rattle.omega_raw.specs.Grammar.{IsRawItem, content_row, header_named, item_name}
 use Rattle.omega_raw.specs.private.steps.Rows.{item_header}
 use Rattle.omega_raw.specs.private.steps.Parts.{EndsItem}
 use Rattle.omega_raw.specs.private.steps.Reading.{Found}
 use Rattle.omega_raw.specs.Symbols.{ReadsSymbols, AutomatonSymbol, Tokens}
-use Rattle.omega_raw.specs.private.steps.First.{FirstIs}
+use Rattle.omega_raw.specs.First.{FirstIs}
 use Rattle.omega_raw.specs.declared.header.name.HeaderKind.{HeaderKind}
 use Rattle.omega_raw.specs.declared.header.name.HeaderKind.TheVariants as named
 use Rattle.omega_raw.specs.declared.header_value.HeaderValue.{HeaderValue}
@@ -75,7 +75,7 @@ pub header_named-item_name : (it : RawItem) → IsRawItem it → header_named (i
 header_named-item_name (item.Unknown name values) is = is
 header_named-item_name other is = refl
 
--- the bytes are the name of the header, where it has one
+-- the bytes are the name of the header, if it has one
 abbrev pub IsName : HeaderKind → List ℕ → Type 0
 IsName named.States bytes = bytes ≡ codes "States"
 IsName named.Start bytes = bytes ≡ codes "Start"
@@ -117,7 +117,7 @@ item_named : (it : RawItem) (bytes : List ℕ) → IsKnown (item_header it) → 
 item_named (item.Unknown name values) bytes known is = absurd known
 item_named other bytes known is = sym is
 
--- an item of the header that a name stands for has that name
+-- an item of the header with a name has that name
 pub content_given : (header : HeaderKind) (name : List ℕ) (old new : Tokens) (result : Result RawItem Refusal) → header_named name ≡ header → IsKnown header
     → GivesContent header old new result → GivesNamed name old new result
 content_given header name old new (Ok it) is known given = record {
@@ -126,7 +126,7 @@ content_given header name old new (Ok it) is known given = record {
 }
 content_given header name old new (Err refusal) is known given = tt
 
--- an item of a name has the header that it stands for
+-- an item of a name has the header with that name
 pub content_found : (header : HeaderKind) (name : List ℕ) (old new : Tokens) (result : Result RawItem Refusal) → header_named name ≡ header
     → FindsContent header old new result → FindsNamed name old new result
 content_found header name old new result is finds it others rest called valid follow spells =
@@ -141,7 +141,7 @@ pub unknown_found : (name : List ℕ) (old new : Tokens) (result : Result RawIte
 unknown_found name old new result is finds it others rest called valid follow spells =
     finds it others rest (record { unknown = sym (header_named-item_name it valid) ∙ (ap header_named called ∙ is); called = called }) valid follow spells
 
--- no item has a name that stands for none
+-- no item has a name that is that of no header
 pub none_found : (header : HeaderKind) (name : List ℕ) (old new : Tokens) (result : Result RawItem Refusal) → header_named name ≡ header
     → ((it : RawItem) → item_header it ≡ header → ⊥) → FindsNamed name old new result
 none_found header name old new result is none it others rest called valid follow spells =

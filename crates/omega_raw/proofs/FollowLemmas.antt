@@ -8,17 +8,17 @@ use Rattle.omega_raw.specs.Grammar.{IsConj, IsRawEdge, conj_row, each, edge_row,
 use Rattle.omega_raw.specs.private.steps.Parts.{EndsConj, EndsEdge, EndsItem, EndsState, is_and, is_brace, is_bracket, is_edge, is_identifier, is_parameter, is_string, is_value}
 use Rattle.omega_raw.specs.private.steps.Reading.{EndsList, IsAny, IsKind}
 use Rattle.omega_raw.specs.Symbols.{AutomatonSymbol}
-use Rattle.omega_raw.specs.private.steps.First.{FirstIs}
+use Rattle.omega_raw.specs.First.{FirstIs}
 use Rattle.omega_raw.specs.declared.raw_edge.RawEdge.{RawEdge}
 use Rattle.omega_text.specs.declared.hoa.kind.HoaKind.{HoaKind}
 use Rattle.omega_text.specs.declared.hoa.kind.HoaKind.TheVariants as kind
 
--- nothing is asked of the values of a list
+-- the values of a list may be any
 pub all_any : {X : Type 0} (values : List X) → AllByRecursion IsAny values
 all_any [] = tt
 all_any (first ∷ more) = (tt, all_any more)
 
--- nothing is asked of a value that is there or not
+-- a value that is there or not may be any
 pub some_any : {X : Type 0} (it : Option X) → IfSome it IsAny
 some_any None = tt
 some_any (Some value) = tt
@@ -119,7 +119,7 @@ sig_ends others ends = first_then EndsEdge (EndsList is_brace IsKind) others edg
 pub edges_end : (others : List AutomatonSymbol) → FirstIs EndsState others → FirstIs (EndsList is_edge EndsEdge) others
 edges_end others ends = first_then EndsState (EndsList is_edge EndsEdge) others state_edge ends
 
--- an edge or what follows a state follows what stands before the edges
+-- an edge or what follows a state follows what is before the edges
 pub edges_begin : (edges : List RawEdge) (others : List AutomatonSymbol) → AllByRecursion IsRawEdge edges → FirstIs EndsState others → FirstIs EndsEdge (each edge_row edges others)
 edges_begin [] others are ends = first_then (EndsList is_edge EndsEdge) EndsEdge others (λ kind holds. holds.1) (edges_end others ends)
 edges_begin (edge ∷ more) others are ends =

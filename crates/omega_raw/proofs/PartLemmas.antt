@@ -1,4 +1,4 @@
--- Reading parts as long as they stand there.
+-- Reading parts as long as they follow.
 use Rattle.std.proofs.Common.{◌≡◌, Bool, true, false, List, [], ◌∷◌, ◌++◌, append_assoc, append-nil, refl, sym, ap, ◌∙◌, subst, Option, Some, None, Result, Ok, Err}
 use Rattle.std.specs.Prelude.{IfOk, IfSome}
 use Rattle.std.specs.List.{AllByRecursion}
@@ -6,7 +6,7 @@ use Rattle.omega_raw.proofs.SpellingLemmas.{first_then, next_clash, next_is, nex
 use Rattle.omega_raw.specs.Grammar.{each, optional_row}
 use Rattle.omega_raw.specs.private.steps.Reading.{EndsList, Given, NextIs, NextMayBe}
 use Rattle.omega_raw.specs.Symbols.{ReadsSymbols, AutomatonSymbol, Tokens}
-use Rattle.omega_raw.specs.private.steps.First.{FirstIs}
+use Rattle.omega_raw.specs.First.{FirstIs}
 use Rattle.omega_text.specs.declared.hoa.kind.HoaKind.{HoaKind}
 use Rattle.omega_text.specs.declared.refusal.Refusal.{Refusal}
 
@@ -81,7 +81,7 @@ read_more {X} Is row begins May part old now new all it read next given finds =
           through values remains.more others rest last remains.joined remains.are remains.spells;
     }
 
--- no part stands there any more
+-- no part follows any more
 pub read_all : {X : Type 0} (Is : X → Type 0) (row : X → List AutomatonSymbol → List AutomatonSymbol) (begins : HoaKind → Bool) (May : HoaKind → Type 0) → IsPart Is row begins May
     → (old now : Tokens) (all : List X) → IsReadTo Is row (EndsList begins May) old all now → NextMayBe (λ kind. begins kind ≡ false) now
     → (values : List X) (others : List AutomatonSymbol) (rest : Tokens) → AllByRecursion Is values → FirstIs (EndsList begins May) others → ReadsSymbols old (each row values others) rest
@@ -96,7 +96,7 @@ read_all {X} Is row begins May part old now all read may values others rest are 
     ])
     in through remains.more remains.joined remains.are remains.spells
 
--- a part that stands there is what remains, and so what is known of all such parts is known
+-- a part that follows is what remains, and so what is known of all such parts is known
 pub read_failed : {X : Type 0} (Is : X → Type 0) (row : X → List AutomatonSymbol → List AutomatonSymbol) (begins : HoaKind → Bool) (May : HoaKind → Type 0) → IsPart Is row begins May
     → (old now : Tokens) (all : List X) → IsReadTo Is row (EndsList begins May) old all now → NextIs (λ kind. begins kind ≡ true) now → (Wanted : Type 0)
     → ((wanted : X) (others : List AutomatonSymbol) (rest : Tokens) → Is wanted → FirstIs May others → ReadsSymbols now (row wanted others) rest → Wanted)
@@ -112,7 +112,7 @@ read_failed {X} Is row begins May part old now all read next Wanted finds values
     ])
     in through remains.more remains.are remains.spells
 
--- no part stands there
+-- no part follows
 pub part_absent : {X : Type 0} (Is : X → Type 0) (row : X → List AutomatonSymbol → List AutomatonSymbol) (begins : HoaKind → Bool) (May : HoaKind → Type 0) → IsPart Is row begins May
     → (now : Tokens) → NextMayBe (λ kind. begins kind ≡ false) now
     → (it : Option X) (others : List AutomatonSymbol) (rest : Tokens) → IfSome it Is → ReadsSymbols now (optional_row row it others) rest → (None ≡ it) × ReadsSymbols now others rest
@@ -120,7 +120,7 @@ part_absent Is row begins May part now may None others rest is spells = (refl, s
 part_absent Is row begins May part now may (Some it) others rest is spells =
     absurd (next_clash begins now (next_is (λ kind. begins kind ≡ true) (row it others) now rest (part.begun it others is) spells) may)
 
--- a part stands there, and so what is known of it is known
+-- a part follows, and so what is known of it is known
 pub part_there : {X : Type 0} (Is : X → Type 0) (row : X → List AutomatonSymbol → List AutomatonSymbol) (begins : HoaKind → Bool) (May : HoaKind → Type 0)
     → (now : Tokens) → NextIs (λ kind. begins kind ≡ true) now → (Wanted : Option X → Type 0) (others : List AutomatonSymbol) (rest : Tokens) → FirstIs (EndsList begins May) others
     → ((it : X) → Is it → FirstIs May others → ReadsSymbols now (row it others) rest → Wanted (Some it))

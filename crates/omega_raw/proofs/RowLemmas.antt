@@ -1,14 +1,14 @@
 -- Rows of several parts.
 use Rattle.std.proofs.Common.{◌≡◌, ℕ, List, [], ◌∷◌, Option, sym, ap, ◌∙◌, subst, arith, Result, Ok, Err}
-use Rattle.omega_acc.specs.label.Raw.{RawLabelTree}
+use Rattle.omega_label.specs.Raw.{RawLabelTree}
 use Rattle.std.specs.Prelude.{IfErr, IsErrAnd}
 use Rattle.omega_text.specs.Cases.{IsMemory}
-use Rattle.omega_acc.specs.Symbols.{IsUnread}
+use Rattle.omega_expression.specs.Symbols.{IsUnread}
 use Rattle.omega_raw.specs.Grammar.{IsConj, ReadsAutomaton, ReadsNoAutomaton, conj_row}
 use Rattle.omega_raw.specs.private.steps.Parts.{EndsConj}
 use Rattle.omega_raw.specs.private.steps.Reading.{Finds, Found, Given, IsSyntaxOrMemory}
 use Rattle.omega_raw.specs.Symbols.{ReadsSymbols, AutomatonSymbol, Tokens}
-use Rattle.omega_raw.specs.private.steps.First.{FirstIs}
+use Rattle.omega_raw.specs.First.{FirstIs}
 use Rattle.omega_raw.specs.declared.raw_automaton.RawAutomaton.{RawAutomaton}
 use Rattle.omega_raw.specs.declared.raw_edge.RawEdge.{RawEdge}
 use Rattle.omega_raw.specs.declared.raw_item.RawItem.{RawItem}

@@ -2,15 +2,15 @@
 use Rattle.std.proofs.Common.{◌≡◌, ◌<◌, ◌≤◌, Bool, true, false, List, [], ◌∷◌, length, length-append, sym, ◌∙◌, subst, arith, Result, Ok, Err}
 use Rattle.std.specs.Prelude.{IfErr, IfOk, IsErrAnd}
 use Rattle.omega_text.specs.Cases.{IsMemory}
-use Rattle.omega_acc.specs.Symbols.{IsUnread}
-use Rattle.omega_acc.specs.formula.Reading.{ReadsAcc}
-use Rattle.omega_acc.specs.formula.Raw.{RawAccTree}
-use Rattle.omega_acc.specs.label.Reading.{Reads}
-use Rattle.omega_acc.specs.label.Raw.{RawLabelTree}
-use Rattle.omega_acc.specs.private.layout.Passing.{NextIsNot}
+use Rattle.omega_expression.specs.Symbols.{IsUnread}
+use Rattle.omega_formula.specs.Reading.{ReadsAcc}
+use Rattle.omega_formula.specs.Raw.{RawAccTree}
+use Rattle.omega_label.specs.Reading.{Reads}
+use Rattle.omega_label.specs.Raw.{RawLabelTree}
+use Rattle.omega_expression.specs.Passing.{NextIsNot}
 use Rattle.omega_raw.specs.private.steps.Reading.{Found, NextIs, NextMayBe}
 use Rattle.omega_raw.specs.Symbols.{IsNext, Shows, ReadsSymbols, Splits, AutomatonSymbol, Tokens, alias, formula, header, label, number, sign, text, word}
-use Rattle.omega_raw.specs.private.steps.First.{FirstIs}
+use Rattle.omega_raw.specs.First.{FirstIs}
 use Rattle.omega_text.specs.Lexeme.{Lexeme}
 use Rattle.omega_text.specs.declared.hoa.kind.HoaKind.{HoaKind}
 use Rattle.omega_text.specs.declared.hoa.kind.HoaKind.TheVariants as kind
@@ -97,7 +97,7 @@ no_longer (sign kind ∷ others) tokens rest spells = let a = shorter_next _ tok
 no_longer (label tree ∷ others) tokens rest spells = let a = shorter_label tree tokens spells.middle spells.front in let b = no_longer others spells.middle rest spells.back in omega (arith, a, b)
 no_longer (formula tree ∷ others) tokens rest spells = let a = shorter_formula tree tokens spells.middle spells.front in let b = no_longer others spells.middle rest spells.back in omega (arith, a, b)
 
--- where the first symbol is a token, fewer are left
+-- if the first symbol is a token, fewer are left
 pub shorter : (Holds : HoaKind → Type 0) (symbols : List AutomatonSymbol) (tokens rest : Tokens) → FirstIs Holds symbols → ReadsSymbols tokens symbols rest → length rest < length tokens
 shorter Holds [] tokens rest first spells = absurd first
 shorter Holds (number n ∷ others) tokens rest first spells = let a = shorter_next _ tokens spells.middle spells.front in let b = no_longer others spells.middle rest spells.back in omega (arith, a, b)
@@ -115,14 +115,14 @@ pub error_found : {X : Type 0} (result : Result X Refusal) (said : Refusal → T
 error_found (Ok value) said it left is follows = absurd is
 error_found (Err refusal) said it left is follows = follows refusal is
 
--- a refusal where nothing was missing is want of memory
+-- a refusal with nothing missing is want of memory
 pub unread_memory : (None : Type 0) → (None → ⊥) → (refusal : Refusal) → IsUnread None refusal → IsMemory refusal
 unread_memory None never_none (Text (Syntax at)) is = never_none is
 unread_memory None never_none (Text fault) is = absurd is
 unread_memory None never_none Memory is = tt
 unread_memory None never_none refusal is = absurd is
 
--- where a token of a kind is refused and a symbol of that kind was written, memory is wanting
+-- if a token of a kind is refused and a symbol of that kind was written, memory is wanting
 pub missing_memory : (symbol : AutomatonSymbol) (kind : HoaKind) (old : Tokens) (Back : Tokens → Type 0) → ((lexeme : Lexeme HoaKind) → Shows symbol lexeme → lexeme.kind ≡ kind)
     → (refusal : Refusal) → IsUnread (NextIsNot kind old) refusal → Splits (λ middle. IsNext symbol old middle) Back → IsMemory refusal
 missing_memory symbol kind old Back shown refusal unread splits =

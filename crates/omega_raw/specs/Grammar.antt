@@ -3,9 +3,9 @@
 use Rattle.std.specs.Prelude.{◌≡◌, ℕ, ◌<◌, Bool, true, false, Option, Some, None, List, [], ◌∷◌, codes, if◌then◌else◌, length}
 use Rattle.std.specs.List.{AllByRecursion}
 use Rattle.std.specs.Str.{bytes_eq}
-use Rattle.omega_acc.specs.label.Raw.{RawLabelTree}
-use Rattle.omega_acc.specs.declared.formula.name.Parameter.{Parameter}
-use Rattle.omega_acc.specs.declared.formula.name.Parameter.TheVariants as parameter
+use Rattle.omega_label.specs.Raw.{RawLabelTree}
+use Rattle.omega_formula.specs.declared.name.Parameter.{Parameter}
+use Rattle.omega_formula.specs.declared.name.Parameter.TheVariants as parameter
 use Rattle.omega_text.specs.declared.hoa.kind.HoaKind.TheVariants as kind
 use Rattle.omega_raw.specs.Symbols.{ReadsSymbols, AutomatonSymbol, Tokens, alias, formula, header, label, number, sign, text, word}
 use Rattle.omega_raw.specs.declared.header.name.HeaderKind.{HeaderKind}

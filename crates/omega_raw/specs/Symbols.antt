@@ -1,13 +1,13 @@
 -- What the grammar of automata is written in: tokens with what they say,
 -- and the expressions of labels and of acceptance.
 use Rattle.std.specs.Prelude.{◌≡◌, ℕ, ◌-◌, List, [], ◌∷◌, length, take}
-use Rattle.omega_acc.specs.formula.Raw.{RawAccTree}
-use Rattle.omega_acc.specs.label.Raw.{RawLabelTree}
+use Rattle.omega_formula.specs.Raw.{RawAccTree}
+use Rattle.omega_label.specs.Raw.{RawLabelTree}
 use Rattle.omega_text.specs.Lexeme.{Lexeme}
 use Rattle.omega_text.specs.declared.hoa.kind.HoaKind.{HoaKind}
 use Rattle.omega_text.specs.declared.hoa.kind.HoaKind.TheVariants as kind
-use Rattle.omega_acc.specs.formula.Reading.{ReadsAcc}
-use Rattle.omega_acc.specs.label.Reading.{Reads}
+use Rattle.omega_formula.specs.Reading.{ReadsAcc}
+use Rattle.omega_label.specs.Reading.{Reads}
 use Rattle.omega_text.specs.Forms.{between_quotes}
 
 -- the tokens of a text

@@ -2,7 +2,7 @@ ghost use Rattle.std.specs.Prelude.{◌≡◌, ◌∷◌, IfErr, IfOk, refl};
 ghost use Rattle.omega_text.specs.Cases.{IsMemory};
 ghost use Rattle.omega_raw.specs.Grammar.{IsConj, conj_row, joined_row};
 ghost use Rattle.omega_raw.specs.private.steps.Parts.{EndsConj, is_and};
-ghost use Rattle.omega_raw.specs.private.steps.First.{FirstIs};
+ghost use Rattle.omega_raw.specs.First.{FirstIs};
 ghost use Rattle.omega_raw.specs.private.steps.Reading.{Finds, GivesRow, IsAny, IsKind, IsSyntaxOrMemory};
 
 use crate::part::{Part, read_numbers};

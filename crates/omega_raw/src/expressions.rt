@@ -4,7 +4,8 @@ ghost use Rattle.std.specs.Prelude.{◌≡◌, IfErr};
 ghost use Rattle.omega_raw.specs.private.steps.Rows.{formula_row, expression_row};
 ghost use Rattle.omega_raw.specs.private.steps.Reading.{Anything, Finds, GivesRow, IsAny, IsSyntaxOrMemory};
 
-use omega_acc::{RawAcc, RawLabel, formulas_are_one, labels_are_one, read_raw_acc, read_raw_label};
+use omega_formula::{RawAcc, formulas_are_one, read_raw_acc};
+use omega_label::{RawLabel, labels_are_one, read_raw_label};
 use omega_text::{HoaKind, Refusal, TokenSource};
 use std::alloc::Global;
 

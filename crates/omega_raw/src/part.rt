@@ -1,7 +1,7 @@
 ghost use Rattle.std.specs.Prelude.{◌≡◌, All, IfErr, IfSome, MatchBool, true, false};
 ghost use Rattle.std.specs.List.{AllByRecursion};
 ghost use Rattle.omega_raw.specs.Grammar.{each, optional_row};
-ghost use Rattle.omega_raw.specs.private.steps.First.{FirstIs};
+ghost use Rattle.omega_raw.specs.First.{FirstIs};
 ghost use Rattle.omega_raw.specs.private.steps.Reading.{EndsList, Finds, GivesRow, IsSyntaxOrMemory, NextIs, NextMayBe};
 
 use crate::raw_edge::RawEdge;
@@ -15,19 +15,19 @@ pub(crate) trait Part<'a, S: TokenSource<'a, HoaKind>> {
     ghost use Rattle.omega_raw.specs.Symbols.{AutomatonSymbol};
     ghost use Rattle.omega_text.specs.declared.hoa.kind.HoaKind.{HoaKind as Kind};
 
-    /// What is read.
+    /// The value that is read.
     type Value: Drop;
 
-    /// It can be written.
+    /// Which values can be written.
     ghost valid: { Self.Value → Type 0 };
 
-    /// How it is written, and then others.
+    /// The symbols of a value, followed by others.
     ghost written: { Self.Value → List AutomatonSymbol → List AutomatonSymbol };
 
-    /// The kinds by which it begins.
+    /// The kinds of the first token of a part.
     ghost first: { Kind → Bool };
 
-    /// The kinds that may follow it.
+    /// The kinds of a token that may follow a part.
     ghost next: { Kind → Type 0 };
 
     /// Whether a part begins with `kind`.
@@ -41,17 +41,20 @@ pub(crate) trait Part<'a, S: TokenSource<'a, HoaKind>> {
         ensures err { IfErr result IsSyntaxOrMemory }
         ensures length { S.length source.new ≡ S.length source.old };
 
-    /// It begins so.
-    ghost begun: { (it : Self.Value) (others : List AutomatonSymbol) → valid it → FirstIs (λ kind. first kind ≡ true) (written it others) };
+    /// The symbols of a value begin with a first kind.
+    ghost begun: { (it : Self.Value) (others : List AutomatonSymbol)
+        → valid it → FirstIs (λ kind. first kind ≡ true) (written it others) };
 
-    /// One may follow another.
+    /// A part may follow another.
     ghost follows: { (kind : Kind) → first kind ≡ true → next kind };
 }
 
 /// Whether the next token begins a part.
 #[inline(always)]
 fn is_next<'a, P: Part<'a, S>, S: TokenSource<'a, HoaKind>>(source: &S) -> bool
-    ensures { MatchBool result (NextIs (λ kind. P.first kind ≡ true) (S.left source.now)) (NextMayBe (λ kind. P.first kind ≡ false) (S.left source.now)) }
+    ensures { MatchBool result
+        (NextIs (λ kind. P.first kind ≡ true) (S.left source.now))
+        (NextMayBe (λ kind. P.first kind ≡ false) (S.left source.now)) }
 {
     match source.look() {
         Some(token) => P::begins(token.kind),
@@ -65,8 +68,10 @@ pub(crate) fn read_if<'a, P: Part<'a, S>, S: TokenSource<'a, HoaKind>>(
     alloc: Global,
     source: &mut S,
 ) -> Result<Option<P::Value>, Refusal>
-    ensures gives { GivesRow (λ it. IfSome it P.valid) (optional_row P.written) (S.left source.old) (S.left source.new) result }
-    ensures finds { Finds (λ it. IfSome it P.valid) (optional_row P.written) (FirstIs (EndsList P.first P.next)) (S.left source.old) (S.left source.new) result }
+    ensures gives { GivesRow (λ it. IfSome it P.valid) (optional_row P.written)
+        (S.left source.old) (S.left source.new) result }
+    ensures finds { Finds (λ it. IfSome it P.valid) (optional_row P.written) (FirstIs (EndsList P.first P.next))
+        (S.left source.old) (S.left source.new) result }
     ensures err { IfErr result IsSyntaxOrMemory }
     ensures length { S.length source.new ≡ S.length source.old }
 {
@@ -83,7 +88,8 @@ pub(crate) fn read_each<'a, P: Part<'a, S>, S: TokenSource<'a, HoaKind>>(
     source: &mut S,
 ) -> Result<Seq<P::Value>, Refusal>
     ensures gives { GivesRow (AllByRecursion P.valid) (each P.written) (S.left source.old) (S.left source.new) result }
-    ensures finds { Finds (AllByRecursion P.valid) (each P.written) (FirstIs (EndsList P.first P.next)) (S.left source.old) (S.left source.new) result }
+    ensures finds { Finds (AllByRecursion P.valid) (each P.written) (FirstIs (EndsList P.first P.next))
+        (S.left source.old) (S.left source.new) result }
     ensures err { IfErr result IsSyntaxOrMemory }
     ensures length { S.length source.new ≡ S.length source.old }
 {
@@ -97,7 +103,8 @@ pub(crate) fn read_growing<'a, P: Part<'a, S>, S: TokenSource<'a, HoaKind>>(
     source: &mut S,
 ) -> Result<Seq<P::Value>, Refusal>
     ensures gives { GivesRow (AllByRecursion P.valid) (each P.written) (S.left source.old) (S.left source.new) result }
-    ensures finds { Finds (AllByRecursion P.valid) (each P.written) (FirstIs (EndsList P.first P.next)) (S.left source.old) (S.left source.new) result }
+    ensures finds { Finds (AllByRecursion P.valid) (each P.written) (FirstIs (EndsList P.first P.next))
+        (S.left source.old) (S.left source.new) result }
     ensures err { IfErr result IsSyntaxOrMemory }
     ensures length { S.length source.new ≡ S.length source.old }
 {
@@ -125,7 +132,8 @@ pub(crate) fn read_numbers<'a, P: Part<'a, S, Value = u32>, S: TokenSource<'a, H
     source: &mut S,
 ) -> Result<Numbers, Refusal>
     ensures gives { GivesRow (AllByRecursion P.valid) (each P.written) (S.left source.old) (S.left source.new) result }
-    ensures finds { Finds (AllByRecursion P.valid) (each P.written) (FirstIs (EndsList P.first P.next)) (S.left source.old) (S.left source.new) result }
+    ensures finds { Finds (AllByRecursion P.valid) (each P.written) (FirstIs (EndsList P.first P.next))
+        (S.left source.old) (S.left source.new) result }
     ensures err { IfErr result IsSyntaxOrMemory }
     ensures length { S.length source.new ≡ S.length source.old }
 {
@@ -144,7 +152,8 @@ pub(crate) fn read_raw_edges<'a, P: Part<'a, S, Value = RawEdge>, S: TokenSource
     source: &mut S,
 ) -> Result<RawEdges, Refusal>
     ensures gives { GivesRow (AllByRecursion P.valid) (each P.written) (S.left source.old) (S.left source.new) result }
-    ensures finds { Finds (AllByRecursion P.valid) (each P.written) (FirstIs (EndsList P.first P.next)) (S.left source.old) (S.left source.new) result }
+    ensures finds { Finds (AllByRecursion P.valid) (each P.written) (FirstIs (EndsList P.first P.next))
+        (S.left source.old) (S.left source.new) result }
     ensures err { IfErr result IsSyntaxOrMemory }
     ensures length { S.length source.new ≡ S.length source.old }
 {

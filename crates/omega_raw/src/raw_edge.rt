@@ -1,4 +1,4 @@
-use omega_acc::RawLabel;
+use omega_label::RawLabel;
 use omega_text::{Marks, Numbers};
 
 /// An edge as it is written (HOA v1, *Body*).

@@ -1,7 +1,7 @@
 ghost use Rattle.std.specs.Prelude.{◌≡◌, option_map};
 ghost use Rattle.std.specs.Option.{option_copied};
 
-use omega_acc::RawLabel;
+use omega_label::RawLabel;
 use std::marker::Model;
 
 /// An edge among the edges of a state, wherever its parts are kept. Contracts see the edge.
@@ -14,7 +14,7 @@ pub struct RawEdgeRef<'a> {
 
 impl<'a> Model for RawEdgeRef<'a> {
     ghost use Rattle.std.specs.Coded.{codes};
-    ghost use Rattle.omega_acc.specs.contracts.label.raw.RawLabel as raw_label;
+    ghost use Rattle.omega_label.specs.contracts.raw.RawLabel as raw_label;
     ghost use Rattle.omega_raw.specs.declared.raw_edge.RawEdge.{RawEdge};
 
     ghost Value = { RawEdge };

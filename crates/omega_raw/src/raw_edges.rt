@@ -1,5 +1,5 @@
 ghost use Rattle.std.specs.Prelude.{◌≡◌, ◌<◌, [], ◌∷◌, ◌++◌, IfOk, IfSome, OnErr, OnOk, length, map, slice_index_or};
-ghost use Rattle.omega_raw.specs.private.layout.Edges.{edges_in, lengthened};
+ghost use Rattle.omega_raw.specs.Edges.{edges_in, lengthened};
 
 use crate::raw_edge::RawEdge;
 use crate::raw_edge_ref::RawEdgeRef;
@@ -40,7 +40,7 @@ pub enum HeldEdges {
 impl Model for RawEdges {
     ghost use Rattle.std.specs.Prelude.{List};
     ghost use Rattle.std.specs.Coded.{codes};
-    ghost use Rattle.omega_acc.specs.contracts.label.raw.RawLabel as raw_label;
+    ghost use Rattle.omega_label.specs.contracts.raw.RawLabel as raw_label;
     ghost use Rattle.omega_raw.specs.declared.raw_edge.RawEdge.{RawEdge};
 
     ghost Value = { List RawEdge };

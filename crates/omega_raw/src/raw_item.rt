@@ -1,5 +1,6 @@
 use crate::header_value::HeaderValue;
-use omega_acc::{AccName, RawAcc, RawLabel};
+use omega_formula::{AccName, RawAcc};
+use omega_label::RawLabel;
 use omega_text::{ByteString, Numbers, Seq};
 
 /// An item of a header as it is written (HOA v1, *Header*). Numbers are at most 2,147,483,647; strings are the bytes

@@ -1,6 +1,6 @@
 use crate::raw_edges::RawEdges;
 use crate::state_name::StateName;
-use omega_acc::RawLabel;
+use omega_label::RawLabel;
 use omega_text::Marks;
 
 /// A state of a body as it is written, with its edges (HOA v1, *Body*).

@@ -2,7 +2,7 @@
 
 ghost use Rattle.std.specs.Prelude.{◌≡◌, IfErr, IfOk};
 ghost use Rattle.omega_raw.specs.Grammar.{ReadsAutomaton, ReadsNoOther, ReadsNoAutomaton};
-ghost use Rattle.omega_acc.specs.Symbols.{IsUnread};
+ghost use Rattle.omega_expression.specs.Symbols.{IsUnread};
 
 use crate::body::State;
 use crate::header::Item;
@@ -15,8 +15,9 @@ use std::alloc::Global;
 /// Reads the automaton that the tokens begin with, from `HOA:` to `--END--`, as it is written (HOA v1). Tokens after it
 /// are left.
 ///
-/// Refused with [TextFault::Syntax] if there is none, at the first token with which no automaton goes on, else at the
-/// length of the text. Tests show this place; no clause states it. One pass, linear time, without recursion.
+/// Refused with [TextFault::Syntax] if the tokens begin with no automaton, at the first token with which no automaton
+/// goes on, else at the length of the text. Tests show this place; no clause states it. One pass, linear time, without
+/// recursion.
 pub fn read_raw<'a, S: TokenSource<'a, HoaKind>>(
     alloc: Global,
     source: &mut S,

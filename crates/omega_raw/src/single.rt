@@ -9,7 +9,7 @@ ghost use Rattle.std.specs.Prelude.{refl};
 use crate::header_value::HeaderValue;
 use crate::part::Part;
 use crate::taking::{copied, string_of, take_int, take_string, take_word};
-use omega_acc::Parameter;
+use omega_formula::Parameter;
 use omega_text::{ByteString, HoaKind, Refusal, TextFault, TokenSource};
 use std::alloc::Global;
 

@@ -2,9 +2,9 @@
 
 ghost use Rattle.std.specs.Prelude.{◌≡◌, ◌∷◌, List, IfErr, IfNone, IfOk, IfSome, OnOk};
 ghost use Rattle.omega_text.specs.Cases.{IsMemory};
-ghost use Rattle.omega_acc.specs.Symbols.{IsUnread};
+ghost use Rattle.omega_expression.specs.Symbols.{IsUnread};
 ghost use Rattle.omega_raw.specs.Grammar.{int_row, string_row, word_row};
-ghost use Rattle.omega_acc.specs.private.layout.Passing.{NextIsNot};
+ghost use Rattle.omega_expression.specs.Passing.{NextIsNot};
 ghost use Rattle.omega_raw.specs.private.steps.Reading.{Anything, Finds, FoundThere, GivesRow, IsAny, IsSyntaxOrMemory};
 ghost use Rattle.omega_raw.specs.Symbols.{ReadsSymbols, AutomatonSymbol, Tokens, header, sign, without_last};
 ghost use Rattle.omega_text.specs.Forms.{between_quotes};
@@ -19,7 +19,8 @@ pub(crate) fn take_if<'a, S: TokenSource<'a, HoaKind>>(
     source: &mut S,
     kind: HoaKind,
 ) -> Option<Token<'a, HoaKind>>
-    ensures some { IfSome result (λ token. (S.left source.old ≡ lexeme_of token ∷ S.left source.new) × (token.kind ≡ kind)) }
+    ensures some { IfSome result (λ token.
+        (S.left source.old ≡ lexeme_of token ∷ S.left source.new) × (token.kind ≡ kind)) }
     ensures none { IfNone result ((S.left source.new ≡ S.left source.old) × NextIsNot kind (S.left source.old)) }
     ensures length { S.length source.new ≡ S.length source.old }
 {
@@ -35,7 +36,8 @@ pub(crate) fn take_kind<'a, S: TokenSource<'a, HoaKind>>(
     source: &mut S,
     kind: HoaKind,
 ) -> Result<Token<'a, HoaKind>, Refusal>
-    ensures ok { IfOk result (λ token. (S.left source.old ≡ lexeme_of token ∷ S.left source.new) × (token.kind ≡ kind)) }
+    ensures ok { IfOk result (λ token.
+        (S.left source.old ≡ lexeme_of token ∷ S.left source.new) × (token.kind ≡ kind)) }
     ensures err { IfErr result (IsUnread (NextIsNot kind (S.left source.old))) }
     ensures length { S.length source.new ≡ S.length source.old }
 {
@@ -77,8 +79,12 @@ pub(crate) fn take_sign<'a, S: TokenSource<'a, HoaKind>>(
     source: &mut S,
     kind: HoaKind,
 ) -> Result<(), Refusal>
-    ensures gives { OnOk result ((others : List AutomatonSymbol) (rest : Tokens) → ReadsSymbols (S.left source.new) others rest → ReadsSymbols (S.left source.old) (sign kind ∷ others) rest) }
-    ensures finds { (others : List AutomatonSymbol) (rest : Tokens) → ReadsSymbols (S.left source.old) (sign kind ∷ others) rest → FoundThere result (ReadsSymbols (S.left source.new) others rest) }
+    ensures gives { OnOk result ((others : List AutomatonSymbol) (rest : Tokens)
+        → ReadsSymbols (S.left source.new) others rest
+        → ReadsSymbols (S.left source.old) (sign kind ∷ others) rest) }
+    ensures finds { (others : List AutomatonSymbol) (rest : Tokens)
+        → ReadsSymbols (S.left source.old) (sign kind ∷ others) rest
+        → FoundThere result (ReadsSymbols (S.left source.new) others rest) }
     ensures err { IfErr result IsSyntaxOrMemory }
     ensures length { S.length source.new ≡ S.length source.old }
 {
@@ -92,8 +98,12 @@ pub(crate) fn take_header<'a, S: TokenSource<'a, HoaKind>>(
     source: &mut S,
     name: &[u8],
 ) -> Result<(), Refusal>
-    ensures gives { OnOk result ((others : List AutomatonSymbol) (rest : Tokens) → ReadsSymbols (S.left source.new) others rest → ReadsSymbols (S.left source.old) (header name.now ∷ others) rest) }
-    ensures finds { (others : List AutomatonSymbol) (rest : Tokens) → ReadsSymbols (S.left source.old) (header name.now ∷ others) rest → FoundThere result (ReadsSymbols (S.left source.new) others rest) }
+    ensures gives { OnOk result ((others : List AutomatonSymbol) (rest : Tokens)
+        → ReadsSymbols (S.left source.new) others rest
+        → ReadsSymbols (S.left source.old) (header name.now ∷ others) rest) }
+    ensures finds { (others : List AutomatonSymbol) (rest : Tokens)
+        → ReadsSymbols (S.left source.old) (header name.now ∷ others) rest
+        → FoundThere result (ReadsSymbols (S.left source.new) others rest) }
     ensures err { IfErr result IsSyntaxOrMemory }
     ensures length { S.length source.new ≡ S.length source.old }
 {

@@ -1,10 +1,10 @@
 -- No node is in both regions: following both strategies at once closes a walk that loses for one of the players.
 use Rattle.std.proofs.Common.{◌≡◌, ℕ, ◌+◌, ◌-◌, ◌<◌, List, length, Option, IsTrue, refl, sym, ◌∙◌, arith, ⊎_elim}
-use Rattle.omega_game.specs.declared.player.Player.{Player}
-use Rattle.omega_game.specs.declared.player.Player.TheVariants.{Zero, One}
-use Rattle.omega_game.specs.Game.{Node, IsGame, HasEdge, owner_at}
-use Rattle.omega_game.specs.Winning.{IsStrategy, Leaves, Wins, InRegion, end_of, greatest_on}
-use Rattle.omega_game.specs.Player.{loses}
+use Rattle.omega_parity_game.specs.declared.player.Player.{Player}
+use Rattle.omega_parity_game.specs.declared.player.Player.TheVariants.{Zero, One}
+use Rattle.omega_parity_game.specs.Game.{Node, IsGame, HasEdge, owner_at}
+use Rattle.omega_parity_game.specs.Winning.{IsStrategy, Leaves, Wins, InRegion, end_of, greatest_on}
+use Rattle.omega_parity_game.specs.Player.{loses}
 use Rattle.omega_region_laws.proofs.Following.{reached, trail, end-trail, longer_trail, reached-add, reached_below, walk_of_trail, choice_at, some_left}
 use Rattle.omega_region_laws.proofs.Pigeonhole.{Repeats, repeats}
 use Rattle.omega_region_laws.proofs.Players.{loses_for_one}

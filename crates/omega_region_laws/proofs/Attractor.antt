@@ -1,10 +1,10 @@
 -- The attractor of a player for a target inside a set of places, built one place at a time with ranks and choices.
 use Rattle.std.proofs.Common.{◌≡◌, ◌≢◌, ℕ, zero, suc, ◌<◌, ◌≤◌, ◌⊎◌, inl, inr, Bool, true, false, List, length, refl, sym, ◌∙◌, subst, arith}
 use Rattle.std.proofs.lemmas.Bool.{cases_Bool, cases_eq, false≢true, false_from_ne_true, true_from_ne_false}
-use Rattle.omega_game.specs.declared.player.Player.{Player}
-use Rattle.omega_game.specs.Game.{Node, HasEdge, owner_at, successors_at}
+use Rattle.omega_parity_game.specs.declared.player.Player.{Player}
+use Rattle.omega_parity_game.specs.Game.{Node, HasEdge, owner_at, successors_at}
 use Rattle.omega_region_laws.proofs.Places.{minus, minus_parts, minus_from, minus_out, size, size_lt, changed, changed_at, changed_off}
-use Rattle.omega_game.specs.Player.{opponent_of}
+use Rattle.omega_parity_game.specs.Player.{opponent_of}
 use Rattle.omega_region_laws.proofs.Players.{cases_player, not_both}
 use Rattle.omega_region_laws.proofs.Search.{sought_below, sought_in}
 
@@ -193,7 +193,7 @@ module _ (nodes : List Node) (S T : ℕ → Bool) (player : Player) (within : (v
     stuck = λ v here. done v (within v here) here;
   }
 
-  -- where no place is left, none can be added
+  -- if no place is left, none can be added
   none_left : (A : ℕ → Bool) (rank pick : ℕ → ℕ) (bound : ℕ) → IsDrawn nodes S T player A rank pick bound
       → size (minus S A) (length nodes) ≤ 0
       → ((v : ℕ) × (v < length nodes) × IsNext A v) ⊎ ((v : ℕ) → v < length nodes → IsDone A v) → Attractor nodes S T player

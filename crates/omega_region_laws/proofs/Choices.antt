@@ -5,7 +5,7 @@ use Rattle.std.proofs.lemmas.List.{get_or_past}
 use Rattle.std.proofs.lemmas.List.FromFn.{length-map-range_with_len, get_or-map-range_with_len}
 use Rattle.std.proofs.lemmas.Option.{get_or_from_slice_get, slice_get-get_or}
 use Rattle.std.specs.List.{range_with_len}
-use Rattle.omega_game.specs.Winning.{Chooses, choice_at}
+use Rattle.omega_parity_game.specs.Winning.{Chooses, choice_at}
 
 -- the entries of a function of the node
 abbrev pub entries_of : (ℕ → Option ℕ) → ℕ → List (Option ℕ)

@@ -3,16 +3,16 @@
 use Rattle.std.proofs.Common.{◌≡◌, ℕ, ◌<◌, ◌⊎◌, inl, inr, Bool, true, cond, ◌&&◌, List, [], ◌∷◌, length, Option, Some, None, IsTrue, nat_lt, slice_index, sym, ◌∙◌, subst, le_refl, lt-ltb, ltb-true}
 use Rattle.std.proofs.lemmas.Bool.{and_from, and_parts, cond-true}
 use Rattle.std.proofs.lemmas.Option.{cond_some}
-use Rattle.omega_game.specs.declared.player.Player.{Player}
-use Rattle.omega_game.specs.declared.player.Player.TheVariants.{Zero, One}
-use Rattle.omega_game.specs.Game.{Node, IsGame, HasEdge, owner_at, successors_at}
-use Rattle.omega_game.specs.Winning.{IsStrategy, Leaves, IsWalk, Wins, InRegion, end_of, greatest_on}
-use Rattle.omega_game.specs.Player.{loses}
+use Rattle.omega_parity_game.specs.declared.player.Player.{Player}
+use Rattle.omega_parity_game.specs.declared.player.Player.TheVariants.{Zero, One}
+use Rattle.omega_parity_game.specs.Game.{Node, IsGame, HasEdge, owner_at, successors_at}
+use Rattle.omega_parity_game.specs.Winning.{IsStrategy, Leaves, IsWalk, Wins, InRegion, end_of, greatest_on}
+use Rattle.omega_parity_game.specs.Player.{loses}
 use Rattle.omega_region_laws.proofs.Apart.{apart}
 use Rattle.omega_region_laws.proofs.Choices.{entries_of, length_entries, picked, picks}
 use Rattle.omega_region_laws.proofs.Following.{first_listed}
 use Rattle.omega_region_laws.proofs.Places.{size}
-use Rattle.omega_game.specs.Player.{opponent_of}
+use Rattle.omega_parity_game.specs.Player.{opponent_of}
 use Rattle.omega_region_laws.proofs.Players.{cases_player, is_player, is_player-true, is_player-same}
 use Rattle.omega_region_laws.proofs.Split.{IsSubgame, Split, Goes}
 use Rattle.omega_region_laws.proofs.Tours.{IsTour}

@@ -1,9 +1,9 @@
 -- Following a function of the next node: what it leaves possible is a walk.
 use Rattle.std.proofs.Common.{◌≡◌, ℕ, zero, suc, ◌+◌, ◌<◌, List, [], ◌∷◌, length, Option, Some, None, slice_get, slice_index, refl, arith}
 use Rattle.std.proofs.lemmas.List.Elements.{Contains-get_or}
-use Rattle.omega_game.specs.declared.player.Player.{Player}
-use Rattle.omega_game.specs.Game.{Node, IsGame, HasEdge, successors_at}
-use Rattle.omega_game.specs.Winning.{IsStrategy, Leaves, IsWalk, end_of}
+use Rattle.omega_parity_game.specs.declared.player.Player.{Player}
+use Rattle.omega_parity_game.specs.Game.{Node, IsGame, HasEdge, successors_at}
+use Rattle.omega_parity_game.specs.Winning.{IsStrategy, Leaves, IsWalk, end_of}
 
 -- the node k steps on from v
 abbrev pub reached : (ℕ → ℕ) → ℕ → ℕ → ℕ

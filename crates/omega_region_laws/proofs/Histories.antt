@@ -2,11 +2,11 @@
 -- the limit of the play that follows both loses for neither.
 use Rattle.std.proofs.Common.{◌≡◌, ℕ, zero, suc, ◌<◌, ◌⊎◌, inl, inr, Bool, true, false, cond, List, [], ◌∷◌, ◌++◌, length, Option, Some, None, IsTrue, slice_index, refl, sym, ap, ◌∙◌, subst, add-one}
 use Rattle.std.proofs.lemmas.Bool.{false≢true}
-use Rattle.omega_game.specs.declared.player.Player.{Player}
-use Rattle.omega_game.specs.declared.player.Player.TheVariants.{Zero, One}
-use Rattle.omega_game.specs.Game.{Node, IsGame, HasEdge, owner_at, successors_at}
-use Rattle.omega_game.specs.Player.{loses, opponent_of}
-use Rattle.omega_game.specs.Winning.{IsStrategy, Leaves, InRegion}
+use Rattle.omega_parity_game.specs.declared.player.Player.{Player}
+use Rattle.omega_parity_game.specs.declared.player.Player.TheVariants.{Zero, One}
+use Rattle.omega_parity_game.specs.Game.{Node, IsGame, HasEdge, owner_at, successors_at}
+use Rattle.omega_parity_game.specs.Player.{loses, opponent_of}
+use Rattle.omega_parity_game.specs.Winning.{IsStrategy, Leaves, InRegion}
 use Rattle.omega_region_laws.specs.Histories.{history, IsMemoryStrategy, IsMemoryPlay, MemoryWinsAllPlays}
 use Rattle.omega_region_laws.specs.Plays.{IsPlay, IsLimit, LimitedPrincipleOfOmniscience}
 use Rattle.omega_region_laws.proofs.Apart.{left_to_other}
@@ -22,7 +22,7 @@ answer None d = d
 answer (Some c) d = c
 
 module _ (nodes : List Node) (player : Player) (strategy : List ℕ → Option ℕ) (choices : List (Option ℕ)) (v : ℕ) where
-  -- the next place after a history and its last place: what the strategy with memory chooses where the player owns the
+  -- the next place after a history and its last place: what the strategy with memory chooses if the player owns the
   -- place, else what the choices do
   abbrev next : List ℕ → ℕ → ℕ
   next past u =

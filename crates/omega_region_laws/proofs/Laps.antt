@@ -1,9 +1,9 @@
 -- A walk and then a closed walk for ever is a play, and the greatest priority of the closed walk is its limit.
 use Rattle.std.proofs.Common.{◌≡◌, ℕ, zero, suc, ◌<◌, ◌≤◌, ◌⊎◌, inl, inr, List, [], ◌∷◌, length, Option, refl, arith, add-one}
 use Rattle.std.proofs.lemmas.Bool.{cases_lt}
-use Rattle.omega_game.specs.declared.player.Player.{Player}
-use Rattle.omega_game.specs.Game.{Node, priority_at}
-use Rattle.omega_game.specs.Winning.{Leaves, IsWalk, Wins, end_of, greatest_on}
+use Rattle.omega_parity_game.specs.declared.player.Player.{Player}
+use Rattle.omega_parity_game.specs.Game.{Node, priority_at}
+use Rattle.omega_parity_game.specs.Winning.{Leaves, IsWalk, Wins, end_of, greatest_on}
 use Rattle.omega_region_laws.specs.Plays.{IsPlay, IsLimit, WinsAllPlays}
 
 -- v and the places after it, then u and the places after it for ever
@@ -46,7 +46,7 @@ module _ (nodes : List Node) (u : ℕ) (us : List ℕ) where
   none_greater v [] (suc i) most = none_greater u us i (omega arith)
   none_greater v (w ∷ ws) (suc i) most = none_greater w ws i (omega arith)
 
-  -- nor after the way, if none stands at its end
+  -- nor after the way, if no such priority is at its end
   none_greater_after : (v : ℕ) (ws : List ℕ) (i : ℕ) → length ws ≤ i → priority_at nodes (end_of v ws) ≤ greatest_on nodes u us
       → priority_at nodes (laps u us v ws i) ≤ greatest_on nodes u us
   none_greater_after v [] i following most = none_greater v [] i most

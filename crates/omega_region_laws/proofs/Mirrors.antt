@@ -1,10 +1,10 @@
 -- A strategy wins if it can be followed in another game in which a strategy wins.
 use Rattle.std.proofs.Common.{◌≡◌, ℕ, ◌<◌, List, [], ◌∷◌, length, map, max, Option, IsTrue, refl, ap, ap₂, subst, ◌∙◌, arith}
 use Rattle.std.proofs.lemmas.List.{length-map}
-use Rattle.omega_game.specs.declared.player.Player.{Player}
-use Rattle.omega_game.specs.Game.{Node, priority_at}
-use Rattle.omega_game.specs.Winning.{Leaves, IsWalk, Wins, end_of, greatest_on}
-use Rattle.omega_game.specs.Player.{loses}
+use Rattle.omega_parity_game.specs.declared.player.Player.{Player}
+use Rattle.omega_parity_game.specs.Game.{Node, priority_at}
+use Rattle.omega_parity_game.specs.Winning.{Leaves, IsWalk, Wins, end_of, greatest_on}
+use Rattle.omega_parity_game.specs.Player.{loses}
 
 -- each edge that the first strategy leaves possible at a node of the set has an image that the second leaves possible
 pub record IsMirror (nodes : List Node) (player : Player) (choices : List (Option ℕ))
@@ -39,7 +39,7 @@ module _ (nodes : List Node) (player : Player) (choices : List (Option ℕ))
   greatest_image v (w ∷ ws) here walk =
       ap₂ max (mirror.priority v here) (greatest_image w ws (mirror.stays v w here walk.0) walk.1)
 
-  -- so the strategy wins where the other wins from the image
+  -- so the strategy wins wherever the other wins from the image
   pub wins_by_mirror : (v : ℕ) → In v → Wins others player replies (image v) → Wins nodes player choices v
   wins_by_mirror v here wins there around walk closed lost =
       let arrives : end_of (image v) (map image there) ≡ image (end_of v there) = end-map image v there in

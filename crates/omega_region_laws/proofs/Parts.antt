@@ -2,11 +2,11 @@
 use Rattle.std.proofs.Common.{◌≡◌, ◌↔◌, ◌==◌, ℕ, ◌<◌, List, length, Contains, slice_index, position, option_map, Option, Some, None, refl, sym, ap, ◌∙◌, subst, subst₂, eqb-true}
 use Rattle.std.proofs.lemmas.List.Elements.{Contains-get_or}
 use Rattle.std.proofs.lemmas.List.Quantifiers.{position-Some}
-use Rattle.omega_game.specs.declared.player.Player.{Player}
-use Rattle.omega_game.specs.Game.{Node, HasEdge, owner_at, priority_at}
-use Rattle.omega_game.specs.Laws.{ChoicesAreEntries}
-use Rattle.omega_game.specs.Part.{KeepsNodes, new_place}
-use Rattle.omega_game.specs.Winning.{IsStrategy, Chooses, Wins, InRegion, choice_at}
+use Rattle.omega_parity_game.specs.declared.player.Player.{Player}
+use Rattle.omega_parity_game.specs.Game.{Node, HasEdge, owner_at, priority_at}
+use Rattle.omega_parity_game.specs.Laws.{ChoicesAreEntries}
+use Rattle.omega_parity_game.specs.Part.{KeepsNodes, new_place}
+use Rattle.omega_parity_game.specs.Winning.{IsStrategy, Chooses, Wins, InRegion, choice_at}
 use Rattle.omega_region_laws.proofs.Choices.{entries_of, length_entries, mapped_choice, picked, picks}
 use Rattle.omega_region_laws.proofs.Mirrors.{IsMirror, wins_by_mirror}
 

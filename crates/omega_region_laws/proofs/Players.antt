@@ -1,9 +1,9 @@
 -- The two players: each is the other's other, and each priority favours one.
 use Rattle.std.proofs.Common.{◌≡◌, ℕ, ◌%◌, ◌⊎◌, inl, inr, Bool, true, false, IsTrue, refl, sym, ◌∙◌, arith, eqb-true, eq-eqb}
 use Rattle.std.proofs.lemmas.Bool.{cases_eq}
-use Rattle.omega_game.specs.declared.player.Player.{Player}
-use Rattle.omega_game.specs.declared.player.Player.TheVariants.{Zero, One}
-use Rattle.omega_game.specs.Player.{loses, opponent_of}
+use Rattle.omega_parity_game.specs.declared.player.Player.{Player}
+use Rattle.omega_parity_game.specs.declared.player.Player.TheVariants.{Zero, One}
+use Rattle.omega_parity_game.specs.Player.{loses, opponent_of}
 
 -- the other of the other
 pub opponent_twice : (i : Player) → opponent_of (opponent_of i) ≡ i
@@ -33,7 +33,7 @@ is_player Zero One = false
 is_player One Zero = false
 is_player One One = true
 
--- the test tells which
+-- the test says which
 pub is_player-true : (p i : Player) → is_player p i ≡ true → p ≡ i
 is_player-true Zero Zero e = refl
 is_player-true Zero One e = absurd (cc)

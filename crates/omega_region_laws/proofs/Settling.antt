@@ -1,8 +1,8 @@
 -- With the limited principle of omniscience each play has a limit.
 use Rattle.std.proofs.Common.{◌≡◌, ◌≢◌, ◌==◌, ℕ, zero, suc, ◌+◌, ◌-◌, ◌<◌, ◌≤◌, ◌⊎◌, inl, inr, Bool, true, false, List, length, max, Option, sym, ◌∙◌, arith, eq-eqb, eqb-true}
 use Rattle.std.proofs.lemmas.Bool.{cases_lt, false≢true}
-use Rattle.omega_game.specs.declared.player.Player.{Player}
-use Rattle.omega_game.specs.Game.{Node, priority_at}
+use Rattle.omega_parity_game.specs.declared.player.Player.{Player}
+use Rattle.omega_parity_game.specs.Game.{Node, priority_at}
 use Rattle.omega_region_laws.specs.Plays.{IsPlay, IsLimit, LimitedPrincipleOfOmniscience}
 use Rattle.omega_region_laws.proofs.Stretches.{inside}
 

@@ -2,13 +2,13 @@
 -- such that closed tours are won. Zielonka's induction.
 use Rattle.std.proofs.Common.{◌≡◌, ℕ, ◌<◌, ◌≤◌, ◌⊎◌, inl, inr, Bool, true, false, cond, ◌&&◌, List, length, IsTrue, refl, sym, ap, ◌∙◌, subst, arith}
 use Rattle.std.proofs.lemmas.Bool.{and_from, and_parts, cases_Bool, false≢true}
-use Rattle.omega_game.specs.declared.player.Player.{Player}
-use Rattle.omega_game.specs.Game.{Node, HasEdge, owner_at, priority_at, successors_at}
-use Rattle.omega_game.specs.Winning.{end_of, greatest_on}
-use Rattle.omega_game.specs.Player.{loses}
+use Rattle.omega_parity_game.specs.declared.player.Player.{Player}
+use Rattle.omega_parity_game.specs.Game.{Node, HasEdge, owner_at, priority_at, successors_at}
+use Rattle.omega_parity_game.specs.Winning.{end_of, greatest_on}
+use Rattle.omega_parity_game.specs.Player.{loses}
 use Rattle.omega_region_laws.proofs.Attractor.{Attractor}
 use Rattle.omega_region_laws.proofs.Places.{minus, minus_parts, minus_from, minus_out, size, size_lt}
-use Rattle.omega_game.specs.Player.{opponent_of}
+use Rattle.omega_parity_game.specs.Player.{opponent_of}
 use Rattle.omega_region_laws.proofs.Players.{opponent_twice, cases_player, is_player, is_player-true, is_player-same}
 use Rattle.omega_region_laws.proofs.Search.{sought_in}
 use Rattle.omega_region_laws.proofs.Tours.{IsTour, Meets, Along, greatest_le, le-greatest, tour_start, along_tour, kept_along, met_at_end, retour, met_or_outside}
@@ -18,7 +18,7 @@ pub record IsSubgame (nodes : List Node) (S : ℕ → Bool) : Type 0 where
   pub inside : (v : ℕ) → S v ≡ true → v < length nodes
   pub continued : (v : ℕ) → S v ≡ true → (w : ℕ) × HasEdge nodes v w × (S w ≡ true)
 
--- a listed edge, and the choice where the winner of the place owns it
+-- a listed edge, and the choice if the winner of the place owns it
 abbrev pub Goes : List Node → (ℕ → Player) → (ℕ → ℕ) → ℕ → ℕ → Type 0
 Goes nodes winner choice v w = HasEdge nodes v w × (owner_at nodes v ≡ winner v → w ≡ choice v)
 
@@ -79,11 +79,11 @@ abbrev found_or : (nodes : List Node) (S : ℕ → Bool) (v : ℕ)
 found_or nodes S v (inl found) = found.0
 found_or nodes S v (inr none) = v
 
--- a successor in the set, where there is one
+-- a successor in the set, if there is one
 successor_in : List Node → (ℕ → Bool) → ℕ → ℕ
 successor_in nodes S v = found_or nodes S v (sought_in (λ w. S w ≡ true) (λ w. S w ≡ false) (λ w. cases_Bool (S w)) (successors_at nodes v))
 
--- it is such a successor where one is given
+-- it is such a successor if one is given
 successor_in_is : (nodes : List Node) (S : ℕ → Bool) (v : ℕ) → (w : ℕ) × HasEdge nodes v w × (S w ≡ true)
     → HasEdge nodes v (successor_in nodes S v) × (S (successor_in nodes S v) ≡ true)
 unfolding successor_in
@@ -94,8 +94,7 @@ successor_in_is nodes S v given = go (sought_in (λ w. S w ≡ true) (λ w. S w 
     go (inl found) = (found.1, found.2)
     go (inr none) = absurd (false≢true (sym (none given.0 given.1) ∙ given.2))
 
--- the player whom the greatest priority favours wins everywhere,
--- where the other wins nothing of what the attractor leaves
+-- the player whom the greatest priority favours wins everywhere, if the other wins nothing of what the attractor leaves
 module _ (nodes : List Node) (S T : ℕ → Bool) (sub : IsSubgame nodes S) (player : Player) (q : ℕ)
     (aimed : (v : ℕ) → T v ≡ true → q ≤ priority_at nodes v) (top : (v : ℕ) → S v ≡ true → priority_at nodes v ≤ q)
     (favours : IsTrue (loses player q) → ⊥) (A : Attractor nodes S T player) (rest : Split nodes (minus S A.set))

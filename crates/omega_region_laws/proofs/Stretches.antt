@@ -1,12 +1,12 @@
--- Stretches of plays are walks: a limit that loses stands at one place at two indices,
--- and a losing closed walk lies between them.
+-- Stretches of plays are walks: a limit that loses is at one place at two indices, and a losing closed walk lies
+-- between them.
 use Rattle.std.proofs.Common.{◌≡◌, ℕ, zero, suc, ◌+◌, ◌-◌, ◌<◌, ◌≤◌, ◌⊎◌, inl, inr, List, [], ◌∷◌, length, Option, IsTrue, sym, ap, ◌∙◌, subst, arith, add-one}
 use Rattle.std.proofs.lemmas.Bool.{cases_lt}
 use Rattle.std.proofs.lemmas.List.{get_or_past}
-use Rattle.omega_game.specs.declared.player.Player.{Player}
-use Rattle.omega_game.specs.Game.{Node, HasEdge, node_at, no_node, successors_at, priority_at}
-use Rattle.omega_game.specs.Player.{loses}
-use Rattle.omega_game.specs.Winning.{Leaves, IsWalk, Wins, end_of, greatest_on}
+use Rattle.omega_parity_game.specs.declared.player.Player.{Player}
+use Rattle.omega_parity_game.specs.Game.{Node, HasEdge, node_at, no_node, successors_at, priority_at}
+use Rattle.omega_parity_game.specs.Player.{loses}
+use Rattle.omega_parity_game.specs.Winning.{Leaves, IsWalk, Wins, end_of, greatest_on}
 use Rattle.omega_region_laws.specs.Plays.{IsPlay, IsRecurring, IsLimit, WinsAllPlays}
 use Rattle.omega_region_laws.proofs.Pigeonhole.{Repeats, repeats}
 

@@ -2,10 +2,10 @@
 -- A closed tour meets the target of an attractor or stays outside it.
 use Rattle.std.proofs.Common.{◌≡◌, ℕ, ◌+◌, ◌<◌, ◌≤◌, ◌⊎◌, inl, inr, Bool, true, false, List, [], ◌∷◌, length, sym, ◌∙◌, subst, arith}
 use Rattle.std.proofs.lemmas.Bool.{cases_Bool, false≢true}
-use Rattle.omega_game.specs.Game.{Node, priority_at}
-use Rattle.omega_game.specs.Winning.{end_of, greatest_on}
+use Rattle.omega_parity_game.specs.Game.{Node, priority_at}
+use Rattle.omega_parity_game.specs.Winning.{end_of, greatest_on}
 
--- v and the places after it stand in S, neighbours joined by steps
+-- v and the places after it are in S, neighbours joined by steps
 abbrev pub IsTour : (ℕ → Bool) → (ℕ → ℕ → Type 0) → ℕ → List ℕ → Type 0
 IsTour S Step v [] = S v ≡ true
 IsTour S Step v (w ∷ ws) = (S v ≡ true) × Step v w × IsTour S Step w ws
@@ -20,7 +20,7 @@ abbrev pub Along : (ℕ → Type 0) → ℕ → List ℕ → Type 0
 Along P v [] = P v
 Along P v (w ∷ ws) = P v × Along P w ws
 
--- the greatest priority of a tour that meets T, where q is that of T's places and no other is above it
+-- the greatest priority of a tour that meets T, if q is that of T's places and no other is above it
 pub greatest_le : (nodes : List Node) (q v : ℕ) (ws : List ℕ) → Along (λ u. priority_at nodes u ≤ q) v ws → greatest_on nodes v ws ≤ q
 greatest_le nodes q v [] along = along
 greatest_le nodes q v (w ∷ ws) along = omega (arith, along.0, greatest_le nodes q w ws along.1)

@@ -1,13 +1,13 @@
 -- Each subgame has a split: Zielonka's induction (W. Zielonka 1998), on the number of places.
 use Rattle.std.proofs.Common.{◌≡◌, ◌==◌, ℕ, zero, suc, ◌<◌, ◌≤◌, ◌⊎◌, inl, inr, Bool, true, false, ◌&&◌, List, length, IsTrue, refl, sym, ◌∙◌, subst, arith, eqb-true, eq-eqb, le_refl}
 use Rattle.std.proofs.lemmas.Bool.{and_from, and_parts, cases_Bool, cases_lt, false≢true}
-use Rattle.omega_game.specs.declared.player.Player.{Player}
-use Rattle.omega_game.specs.declared.player.Player.TheVariants.{Zero}
-use Rattle.omega_game.specs.Game.{Node, priority_at}
-use Rattle.omega_game.specs.Player.{loses}
+use Rattle.omega_parity_game.specs.declared.player.Player.{Player}
+use Rattle.omega_parity_game.specs.declared.player.Player.TheVariants.{Zero}
+use Rattle.omega_parity_game.specs.Game.{Node, priority_at}
+use Rattle.omega_parity_game.specs.Player.{loses}
 use Rattle.omega_region_laws.proofs.Attractor.{Attractor, attractor}
 use Rattle.omega_region_laws.proofs.Places.{minus, size, size_lt}
-use Rattle.omega_game.specs.Player.{opponent_of}
+use Rattle.omega_parity_game.specs.Player.{opponent_of}
 use Rattle.omega_region_laws.proofs.Players.{opponent_twice, cases_player, is_player, is_player-same, favoured}
 use Rattle.omega_region_laws.proofs.Search.{sought_below}
 use Rattle.omega_region_laws.proofs.Split.{IsSubgame, Split, remaining, fewer, sole_split, won_by, joint_split}

@@ -1,9 +1,9 @@
 -- Strategies with memory, which choose by the history of a play, and win no more nodes than positional ones.
 use Rattle.std.specs.Prelude.{◌≡◌, ℕ, zero, suc, ◌+◌, ◌<◌, IsTrue, List, [], ◌∷◌, ◌++◌, Option, Some, length}
-use Rattle.omega_game.specs.declared.player.Player.{Player}
-use Rattle.omega_game.specs.Game.{Node, IsGame, HasEdge, owner_at}
-use Rattle.omega_game.specs.Player.{loses}
-use Rattle.omega_game.specs.Winning.{InRegion}
+use Rattle.omega_parity_game.specs.declared.player.Player.{Player}
+use Rattle.omega_parity_game.specs.Game.{Node, IsGame, HasEdge, owner_at}
+use Rattle.omega_parity_game.specs.Player.{loses}
+use Rattle.omega_parity_game.specs.Winning.{InRegion}
 use Rattle.omega_region_laws.specs.Plays.{IsLimit, LimitedPrincipleOfOmniscience}
 
 -- the places of a play from its first up to an index, in order

@@ -1,10 +1,10 @@
 -- Laws of winning and of regions in every parity game.
 use Rattle.std.specs.Prelude.{◌↔◌, ◌⊎◌, ℕ, ◌<◌, List, Option, length, slice_index}
-use Rattle.omega_game.specs.declared.player.Player.{Player}
-use Rattle.omega_game.specs.declared.player.Player.TheVariants.{Zero, One}
-use Rattle.omega_game.specs.Game.{Node, IsGame}
-use Rattle.omega_game.specs.Part.{IsPartAt}
-use Rattle.omega_game.specs.Winning.{Leaves, IsStrategy, Wins, InRegion}
+use Rattle.omega_parity_game.specs.declared.player.Player.{Player}
+use Rattle.omega_parity_game.specs.declared.player.Player.TheVariants.{Zero, One}
+use Rattle.omega_parity_game.specs.Game.{Node, IsGame}
+use Rattle.omega_parity_game.specs.Part.{IsPartAt}
+use Rattle.omega_parity_game.specs.Winning.{Leaves, IsStrategy, Wins, InRegion}
 
 -- a strategy that wins from a node wins from each node to which it leaves an edge possible
 abbrev pub WinningIsKept : Type 0

@@ -1,9 +1,9 @@
 -- Infinite plays: the priority that decides a play, and winning all plays, which is what winning means.
 use Rattle.std.specs.Prelude.{◌≡◌, ◌↔◌, ◌⊎◌, ℕ, ◌+◌, ◌<◌, ◌≤◌, Bool, true, false, IsTrue, List, Option, length}
-use Rattle.omega_game.specs.declared.player.Player.{Player}
-use Rattle.omega_game.specs.Game.{Node, priority_at}
-use Rattle.omega_game.specs.Player.{loses}
-use Rattle.omega_game.specs.Winning.{Leaves, IsStrategy, Wins, InRegion}
+use Rattle.omega_parity_game.specs.declared.player.Player.{Player}
+use Rattle.omega_parity_game.specs.Game.{Node, priority_at}
+use Rattle.omega_parity_game.specs.Player.{loses}
+use Rattle.omega_parity_game.specs.Winning.{Leaves, IsStrategy, Wins, InRegion}
 
 -- a play from v under the strategy: a place for each index, first v,
 -- and each step an edge that the strategy leaves possible

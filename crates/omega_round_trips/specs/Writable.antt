@@ -6,10 +6,11 @@ use Rattle.omega_text.specs.Forms.{IsWord}
 use Rattle.omega_text.specs.Limits.{most_number}
 use Rattle.omega_text.specs.declared.hoa.kind.HoaKind.TheVariants as kind
 use Rattle.omega_text.specs.hoa.Forms.{IsForm, IsQuotable}
-use Rattle.omega_acc.specs.WritingLaws.{NumbersFit, SetsFit}
-use Rattle.omega_acc.specs.declared.formula.name.AccName.{AccName}
-use Rattle.omega_acc.specs.declared.formula.name.Parameter.{Parameter}
-use Rattle.omega_acc.specs.declared.formula.name.Parameter.TheVariants as parameter
+use Rattle.omega_label.specs.Writing.{NumbersFit}
+use Rattle.omega_formula.specs.Writing.{SetsFit}
+use Rattle.omega_formula.specs.declared.name.AccName.{AccName}
+use Rattle.omega_formula.specs.declared.name.Parameter.{Parameter}
+use Rattle.omega_formula.specs.declared.name.Parameter.TheVariants as parameter
 use Rattle.omega_raw.specs.Grammar.{header_named}
 use Rattle.omega_raw.specs.declared.header.name.HeaderKind.TheVariants as named
 use Rattle.omega_raw.specs.declared.header_value.HeaderValue.{HeaderValue}

@@ -1,8 +1,9 @@
 -- The automaton as its canonical text writes it: no aliases, parentheses only if an operator needs them, marks only if
 -- there are some.
 use Rattle.std.specs.Prelude.{ℕ, Option, Some, None, List, [], ◌∷◌, ◌++◌, codes, length, map, option_map}
-use Rattle.omega_acc.specs.WritingLaws.{acc_written, label_written}
-use Rattle.omega_acc.specs.declared.formula.name.AccName.{AccName}
+use Rattle.omega_label.specs.Writing.{label_written}
+use Rattle.omega_formula.specs.Writing.{acc_written}
+use Rattle.omega_formula.specs.declared.name.AccName.{AccName}
 use Rattle.omega_raw.specs.declared.raw_automaton.RawAutomaton.{RawAutomaton}
 use Rattle.omega_raw.specs.declared.raw_edge.RawEdge.{RawEdge}
 use Rattle.omega_raw.specs.declared.raw_item.RawItem.{RawItem}

@@ -1,8 +1,8 @@
--- What was reported to an observer about runs in lines is a text of these, and tells of the lifts that the answer
+-- What was reported to an observer about runs in lines is a text of these, and reports the lifts that the answer
 -- counts.
 use Rattle.std.proofs.Common.{◌≡◌, ◌-◌, ◌^◌, ◌<◌, ℕ, List, [], ◌∷◌, Option, None, Some, Result, Ok, Err, IfOk, inr, subst, sym}
 use Rattle.omega_text.specs.declared.refusal.Refusal.{Refusal}
-use Rattle.omega_game.specs.declared.player.Player.{Player}
+use Rattle.omega_parity_game.specs.declared.player.Player.{Player}
 use Rattle.omega_game_answers.specs.Observing.{CountsReportedOfText}
 use Rattle.omega_game_answers.specs.declared.solve.asked.Asked.TheVariants as way
 use Rattle.omega_io.specs.declared.exit.Exit.{Exit}
@@ -44,7 +44,7 @@ module _ {L : Type 0} (tells : Progress → L → L → Type 0) (every budget : 
       → CountsReportedOfInput tells every command unread_before unread_after budget output before after
   text_counted one is counted = rw (sym same, is) counted
 
--- the lines of what was told, of which this holds, and by which the answer of a command counts its lifts
+-- the progress lines that were written and satisfy this, and by which the answer of a command counts its lifts
 abbrev pub CountedLines : Command → (every budget : ℕ) → (unread_before unread_after : Option (List ℕ)) → (output lines : List ℕ) → Type 0
 CountedLines command every budget unread_before unread_after output lines =
     AreProgressLines command None every budget unread_before unread_after lines
@@ -102,7 +102,7 @@ module _ {L : Type 0} (held : L → Option (List ℕ)) (failed : L → ℕ) (eve
   counted_lines (DrawPart from depth) observed counted = uncounted_lines (DrawPart from depth) (λ lines. tt) observed
   counted_lines DrawLasso observed counted = uncounted_lines DrawLasso (λ lines. tt) observed
 
--- what was told of a run of a command is a text of lines, whose lifts its answer counts
+-- what was reported of a run of a command is a text of lines, whose lifts its answer counts
 pub outcome_lines : {L : Type 0} (held : L → Option (List ℕ)) (failed : L → ℕ) (command : Command) (outcome : Result Exit Refusal) (every budget sound : ℕ)
     (unread_before unread_after held_before held_after : Option (List ℕ)) (before after : L) → failed before < 2 ^ 64 - 1 → sound ≡ failed before
     → IsObserved (LiftsInput command unread_before unread_after) (refusal_in outcome) (TellsLines held failed sound) every budget before after

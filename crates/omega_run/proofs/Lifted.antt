@@ -1,10 +1,10 @@
--- In which games a command lifts, where it goes on to be refused.
+-- In which games a command lifts, if it is refused later.
 use Rattle.std.proofs.Common.{◌≡◌, ◌≢◌, ℕ, List, [], Option, None, Some, inr, refl, sym}
 use Rattle.omega_text.specs.declared.refusal.Refusal.{Refusal}
 use Rattle.omega_text.specs.declared.refusal.Refusal.TheVariants.{Task}
 use Rattle.omega_text.specs.declared.refusal.task.TaskFault.TheVariants.{Budget}
-use Rattle.omega_game.specs.Game.{Node}
-use Rattle.omega_game.specs.declared.player.Player.{Player}
+use Rattle.omega_parity_game.specs.Game.{Node}
+use Rattle.omega_parity_game.specs.declared.player.Player.{Player}
 use Rattle.omega_command.specs.declared.command.Command.{Command}
 use Rattle.omega_command.specs.declared.command.Command.TheVariants.{Canon, CanonPart, Check, Complement, Draw, DrawLasso, DrawPart, Empty, EmptySearch, Game, Search, Show, Solve}
 use Rattle.omega_budget.specs.Observing.{IsObserved}
@@ -50,7 +50,7 @@ input_refused (Draw format) unread_before unread_after refusal other nodes playe
 input_refused (DrawPart from depth) unread_before unread_after refusal other nodes players lifted = lifted
 input_refused DrawLasso unread_before unread_after refusal other nodes players lifted = lifted
 
--- of runs for nobody nothing is told
+-- runs without an observer report nothing
 pub nothing_lifted : {L : Type 0} (Runs : Option Refusal → List Node → List Player → Type 0) (refusal : Option Refusal)
     (tells : Progress → L → L → Type 0) (every budget : ℕ) (before : L) → Runs refusal [] [] → IsObserved Runs refusal tells every budget before before
 nothing_lifted Runs refusal tells every budget before runs = record {
@@ -67,14 +67,14 @@ streams_lift_none stream.Show unread_before unread_after refusal = refl
 streams_lift_none stream.Check unread_before unread_after refusal = refl
 streams_lift_none stream.Canon unread_before unread_after refusal = refl
 
--- so nothing is told of them
+-- so they report nothing
 pub stream_observed : {L : Type 0} (one : OfStream) (sort : Kind) (command : Command) (unread_before unread_after : Option (List ℕ)) (refusal : Option Refusal)
     (tells : Progress → L → L → Type 0) (every budget : ℕ) (before : L) → of_kind sort ≡ command → sort ≡ kind.Stream one
     → IsObserved (LiftsInput command unread_before unread_after) refusal tells every budget before before
 stream_observed one sort command unread_before unread_after refusal tells every budget before same is =
     rw (sym same, is) (nothing_lifted _ _ _ _ _ _ (streams_lift_none one unread_before unread_after refusal))
 
--- what is told of a command of one text is told of the command
+-- what a command of one text reports is what the command reports
 pub text_observed : {L : Type 0} (one : OfText) (sort : Kind) (command : Command) (unread_before unread_after : Option (List ℕ)) (refusal : Option Refusal)
     (tells : Progress → L → L → Type 0) (every budget : ℕ) (before after : L) → of_kind sort ≡ command → sort ≡ kind.Text one
     → IsObserved (LiftsInput (of_text one) unread_before unread_after) refusal tells every budget before after

@@ -13,20 +13,20 @@ use Rattle.omega_run.specs.Respond.{IsRunRefusal}
 use Rattle.omega_run.specs.Run.{BreaksOff, Completes}
 use Rattle.omega_run.specs.World.{Streams}
 
--- what is told of an outcome may be said in other words
+-- what is written for an outcome may be stated in other words
 pub reports_as : (outcome : Result Exit Refusal) (status : ℕ) (Reported Others : List ℕ → Type 0) → ((text : List ℕ) → Reported text → Others text)
     → Reports outcome status Reported → Reports outcome status Others
 reports_as (Ok exit) status Reported Others wider (ends, reported) = (ends, wider [] reported)
 reports_as (Err refusal) status Reported Others wider (inl reported) = inl (reported.0, wider (line_of refusal) reported.1)
 reports_as (Err refusal) status Reported Others wider (inr reported) = inr (reported.0, wider (line_of Memory) reported.1)
 
--- where anything may be told, the status alone counts
+-- if anything may be written, the status alone counts
 pub reports_any : (outcome : Result Exit Refusal) (status : ℕ) (Reported : List ℕ → Type 0) → status ≡ status_of outcome
     → ((text : List ℕ) → Reported text) → Reports outcome status Reported
 reports_any (Ok exit) status Reported ends all = (ends, all [])
 reports_any (Err refusal) status Reported ends all = inl (ends, all (line_of refusal))
 
--- the lines that were made for a refusal are told, or that there was no memory for them
+-- the lines that were made for a refusal are written, or that there was no memory for them
 pub reports_lines : {V : Type 0} (bytes : V → List ℕ) (wanted : Refusal → List ℕ) (refusal : Refusal) (lines : Result V Refusal) (status : ℕ)
     (Reported : List ℕ → Type 0) → IfOk lines (λ made. bytes made ≡ wanted refusal)
     → IfOk lines (λ made. IsRefusalReported refusal (bytes made) status Reported) → IfErr lines (λ _. IsRefusalReported Memory (line_of Memory) status Reported)
@@ -34,7 +34,7 @@ pub reports_lines : {V : Type 0} (bytes : V → List ℕ) (wanted : Refusal → 
 reports_lines bytes wanted refusal (Ok made) status Reported same reported wanting = inl (reported.0, subst Reported same reported.1)
 reports_lines bytes wanted refusal (Err none) status Reported same reported wanting = inr wanting
 
--- a run ended so, of which all this is known
+-- a run ended so, and all this is known of it
 pub performs : (answers : List ℕ → Result (Exit × List ℕ) Refusal → Type 0) (outcome : Result Exit Refusal) (before after : Streams)
     → IfOk outcome (Completes answers before.unread after.unread before.held after.held)
     → IfErr outcome (IsRunRefusal answers before.unread after.unread)

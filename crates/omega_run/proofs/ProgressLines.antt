@@ -1,4 +1,4 @@
--- What standard error was told of runs is a text of lines of progress.
+-- What standard error took of runs is a text of progress lines.
 use Rattle.std.proofs.Common.{◌≡◌, ◌++◌, ◌+◌, ◌*◌, ◌-◌, ◌^◌, ◌<◌, ◌∙◌, ℕ, zero, suc, List, [], ◌∷◌, Option, Some, None, length, take, arith, inl, inr, refl, subst, sym}
 use Rattle.std.proofs.KnownBytes.{Appends-trans}
 use Rattle.std.proofs.lemmas.List.{append-nil, length-append, take-append-le}
@@ -6,8 +6,8 @@ use Rattle.std.proofs.Math.Nat.{eq-or-lt_of_le}
 use Rattle.std.proofs.Math.Seq.{take-append-add}
 use Rattle.std.specs.Io.KnownBytes.{Appends}
 use Rattle.omega_text.specs.declared.refusal.Refusal.{Refusal}
-use Rattle.omega_game.specs.declared.player.Player.{Player}
-use Rattle.omega_game.specs.Game.{Node}
+use Rattle.omega_parity_game.specs.declared.player.Player.{Player}
+use Rattle.omega_parity_game.specs.Game.{Node}
 use Rattle.omega_budget.specs.Observing.{IsObserved, ReportsEach, ReportsRun, ReportsRuns, most_of, progress}
 use Rattle.omega_budget.specs.declared.observing.Progress.{Progress}
 use Rattle.omega_io.specs.Writing.{Tells, WritesBeginning}
@@ -33,7 +33,7 @@ begins_before start before text more begun = record {
   taken = rw (take-append-le begun.count text more (omega (arith, begun.less))) begun.taken;
 }
 
--- where none failed before, the text goes on
+-- if none failed before, the text goes on
 tells_after : (start before after : Option (List ℕ)) (sound failed later : ℕ) (text more : List ℕ) → failed ≡ sound
     → Tells start before sound failed text → Tells before after failed later more → Tells start after sound later (text ++ more)
 tells_after start before after sound failed later text more none reported then = record {
@@ -42,7 +42,7 @@ tells_after start before after sound failed later text more none reported then =
   beginning = λ less. begins_after start before after text more (reported.whole none) (then.beginning (omega (arith, less, none)));
 }
 
--- where one failed before, nothing more is told
+-- if one failed before, nothing more is written
 tells_nothing : (start before after : Option (List ℕ)) (sound failed later : ℕ) (text more : List ℕ) → sound < failed
     → Tells start before sound failed text → after ≡ before → later ≡ failed → Tells start after sound later (text ++ more)
 tells_nothing start before after sound failed later text more some reported same counted = record {
@@ -50,7 +50,7 @@ tells_nothing start before after sound failed later text more some reported same
   beginning = λ less. rw same (begins_before start before text more (reported.beginning some));
 }
 
--- what is told on goes on with what was told
+-- a part that is written later follows what was written
 pub reported_on : (start before after : Option (List ℕ)) (sound failed later : ℕ) (text more : List ℕ) → sound < 2 ^ 64 - 1
     → HasReported start before sound failed text → TellsOn sound before after failed later more → HasReported start after sound later (text ++ more)
 reported_on start before after sound failed later text more fits reported on = record {
@@ -61,7 +61,7 @@ reported_on start before after sound failed later text more fits reported on = r
   ];
 }
 
--- and so does what is told at last
+-- and so does the last part
 pub reported_at_last : (start before after : Option (List ℕ)) (sound failed later : ℕ) (text more : List ℕ)
     → HasReported start before sound failed text → TellsLast sound before after failed later more → Tells start after sound later (text ++ more)
 reported_at_last start before after sound failed later text more reported last = elim (eq-or-lt_of_le reported.counted) [
@@ -69,7 +69,7 @@ reported_at_last start before after sound failed later text more reported last =
   | inr some ↦ tells_nothing start before after sound failed later text more some reported.reported (last.silent some).0 (last.silent some).1
 ]
 
--- two texts told on are one
+-- two parts written one after another are one text
 pub on_and_on : (before between after : Option (List ℕ)) (sound failed more later : ℕ) (text then : List ℕ)
     → TellsOn sound before between failed more text → TellsOn sound between after more later then
     → TellsOn sound before after failed later (text ++ then)
@@ -85,7 +85,7 @@ on_and_on before between after sound failed more later text then first second = 
       (is.0 ∙ was.0, is.1 ∙ was.1);
 }
 
--- nothing was told
+-- nothing was written
 nothing_appended : (held : Option (List ℕ)) → Appends held held []
 nothing_appended None = tt
 nothing_appended (Some bytes) = sym (append-nil bytes)
@@ -103,7 +103,7 @@ abbrev pub TellsLines : {L : Type 0} → (L → Option (List ℕ)) → (L → �
 TellsLines held failed sound = λ progress before after.
     TellsOn sound (held before) (held after) (failed before) (failed after) (progress_line progress)
 
--- a text that was reported to the observer, and of which this holds
+-- a text that was reported to the observer and satisfies this
 pub record HasLines (Holds : List ℕ → Type 0) (start now : Option (List ℕ)) (sound failed : ℕ) : Type 0 where
   pub text : List ℕ
   pub reported : HasReported start now sound failed text

@@ -1,4 +1,4 @@
--- What is told on standard error.
+-- What is written to standard error.
 use Rattle.std.proofs.Common.{◌≡◌, ◌++◌, [], ◌∷◌, codes, decimal, refl, ap, ◌∙◌, lit<, lit≤}
 use Rattle.std.proofs.lemmas.Fmt.{decimal_digit, decimal_step}
 use Rattle.omega_text.specs.declared.refusal.Refusal.TheVariants.{Memory}

@@ -82,7 +82,7 @@ read_about asked file before after input None refusal read (inr h) = inr (record
 read_about asked file before after input (Some File) refusal read h = record { text = input; read = read; holds = h }
 read_about asked file before after input (Some Input) refusal read h = record { text = input; read = read; holds = h }
 
--- where no two texts are refused together, one of them is
+-- if no two texts are refused together, one of them is
 alone : (asked : Beside) (file input : List ℕ) (which : Option Which) (refusal : Refusal)
     → IsAbout (λ refusal. refusal ≡ Memory) (RefusesFile asked file input) (RefusesInput asked file input) which refusal
     → IsRefusedBeside asked file input which refusal

@@ -46,46 +46,46 @@ RefusesInput (VerifyLasso explain) file input refusal = RefusesLasso file input 
 RefusesInput Meet file input refusal = IsTextRefused file input refusal
 RefusesInput (DrawSolution from depth legend) file input refusal = IsJudgedGameRefusal input from refusal
 
--- why both are refused together, each of which is good alone
+-- why the two texts are refused together, though each is good by itself
 abbrev pub RefusesBoth : Beside → (file input : List ℕ) → Refusal → Type 0
 RefusesBoth (Verify from explain) file input refusal = ⊥
 RefusesBoth (VerifyLasso explain) file input refusal = ⊥
 RefusesBoth Meet file input refusal = IsProductRefused file input refusal
 RefusesBoth (DrawSolution from depth legend) file input refusal = ⊥
 
--- the input was read and the refusal is one of the text that is named; where none is, it is one of both texts together,
--- or want of memory, or a read or a write failed
+-- the input was read and the refusal is one of the text that is named; if none is named, it is one of both texts
+-- together, or want of memory, or a read or a write failed
 abbrev pub IsRefusalAbout : Beside → (file : List ℕ) → (unread_before unread_after : Option (List ℕ)) → Option Which → Refusal → Type 0
 IsRefusalAbout asked file unread_before unread_after =
     IsAbout (λ refusal. IsTransferRefusal refusal ⊎ ReadsText unread_before unread_after (λ input. RefusesBoth asked file input refusal))
     (λ refusal. ReadsText unread_before unread_after (λ input. RefusesFile asked file input refusal))
     (λ refusal. ReadsText unread_before unread_after (λ input. RefusesInput asked file input refusal))
 
--- what is told of the refusal of a text that has this name: its line, and with `--verbose` a second one, which names
--- the text
+-- the lines for the refusal of a text that has this name: one line, and with `--verbose` a second one, which names the
+-- text
 abbrev pub text_lines : (verbose : Bool) → List ℕ → Refusal → List ℕ
 text_lines false name refusal = line_of refusal
 text_lines true name refusal = lines_in name refusal
 
--- what is told of a refusal that is about this text, or about none: of none its line alone
+-- the lines for a refusal that is about this text, or about none: a refusal about none has one line
 abbrev pub lines_about : (verbose : Bool) → Beside → Option Which → Refusal → List ℕ
 lines_about verbose asked None refusal = line_of refusal
 lines_about verbose asked (Some which) refusal = text_lines verbose (name_of asked which) refusal
 
--- what is told of the refusal of the file of this name: its line, and with `--verbose`, where it could not be read, a
+-- the lines for the refusal of the file of this name: one line, and with `--verbose`, if the file could not be read, a
 -- second one, which names it
 abbrev pub lines_of_file : (verbose : Bool) → List ℕ → Refusal → List ℕ
 lines_of_file false name refusal = line_of refusal
 lines_of_file true name refusal = file_lines name refusal
 
--- the texts were answered so, or refused so, and what is told of a refusal is of the text that it is about
+-- the texts were answered, or refused with lines that name the text that the refusal is about
 abbrev pub IsRunBeside : (verbose : Bool) → Beside → (file : List ℕ) → ℕ → World → Type 0
 IsRunBeside verbose asked file status world =
     (outcome : Result Exit Refusal) × (which : Option Which) × Performs (AnswersBeside asked file) outcome world.before world.after
     × IfErr outcome (IsRefusalAbout asked file world.before.unread world.after.unread which)
     × ReportsBy (lines_about verbose asked which) outcome status world.tells
 
--- the file of this name was refused so and that was told; nothing was read or written
+-- the file of this name was refused, and the lines for that were written; nothing else was read or written
 abbrev pub IsFileRefused : (verbose : Bool) → List ℕ → ℕ → World → Type 0
 IsFileRefused verbose name status world =
     (refusal : Refusal) × world.refuses name refusal × ReportsBy (lines_of_file verbose name) (Err refusal) status world.tells

@@ -1,4 +1,4 @@
--- What the program leaves when it obeys a command line: its status, and what it read, wrote and told.
+-- What the program leaves when it obeys a command line: its status, and what it read and wrote.
 use Rattle.std.specs.Prelude.{◌≡◌, ◌+◌, ◌⊎◌, ◌++◌, Bool, List, Option, Some, Result, Ok, Err, ℕ, string_bytes}
 use Rattle.std.specs.Io.KnownBytes.{Appends}
 use Rattle.omega_text.specs.declared.refusal.Refusal.{Refusal}
@@ -22,8 +22,8 @@ use Rattle.omega_run.specs.Report.{Reports}
 use Rattle.omega_run.specs.Respond.{Answers}
 use Rattle.omega_run.specs.World.{Streams, World}
 
--- the command was run and observed: the lines of its progress come before what is told of its outcome, and both are one
--- text; its answer counts the lifts that they tell of
+-- the command was run and observed: the lines of its progress come before those of its outcome, and both are one text;
+-- its answer counts the lifts of these lines
 abbrev pub IsObservedRun : Command → ℕ → ℕ → (List ℕ → Type 0) → Streams → Streams → Type 0
 IsObservedRun command budget status tells before after =
     (outcome : Result Exit Refusal) × (lines : List ℕ) × Performs (Answers command budget) outcome before after
@@ -31,14 +31,15 @@ IsObservedRun command budget status tells before after =
     × CountsLines command outcome lifts_between_reports budget before.unread after.unread before.held after.held lines
     × Reports outcome status (λ text. tells (lines ++ text))
 
--- the task was done with the text of the input; of a refusal one line is told, and with `--verbose` what it is about
+-- the task was done with the text of the input; a refusal has one line, and with `--verbose` another with what it is
+-- about
 abbrev pub IsPerformed : (verbose : Bool) → Task → ℕ → World → Type 0
 IsPerformed verbose (Run command budget) status world =
     (outcome : Result Exit Refusal) × Performs (Answers command budget) outcome world.before world.after × Reports outcome status world.tells
 IsPerformed verbose (Observed command budget) status world = IsObservedRun command budget status world.tells world.before world.after
 IsPerformed verbose (Beside file asked) status world = IsRunWithFile verbose asked (string_bytes file) status world
 
--- the streams with an input of which this is left, and none of whose reads failed
+-- the streams with an input that has this left and whose reads never failed
 abbrev pub over : Option (List ℕ) → Streams → Streams
 over unread streams = record streams { unread = unread; failed_reads = 0 }
 
@@ -60,14 +61,14 @@ abbrev pub IsDone : (verbose : Bool) → Task → Source → ℕ → World → T
 IsDone verbose task Input status world = IsPerformed verbose task status world
 IsDone verbose task (File name) status world = IsDoneWithFile verbose task (string_bytes name) status world
 
--- the text was written, or where one write failed, a beginning of it
+-- the text was written, or a beginning of it if one write failed
 abbrev pub Prints : List ℕ → Result Exit Refusal → (held_before held_after : Option (List ℕ)) → (failed_before failed_after : ℕ) → Type 0
 Prints text (Ok exit) held_before held_after failed_before failed_after =
     (exit ≡ Done) × (failed_after ≡ failed_before) × Appends held_before held_after text
 Prints text (Err refusal) held_before held_after failed_before failed_after =
     (refusal ≡ Io) × (failed_after ≡ failed_before + 1) × WritesBeginning held_before held_after text
 
--- the program obeyed the command line, or told why it asks for nothing that can be done
+-- the program obeyed the command line, or wrote why it requests nothing that can be done
 abbrev pub IsObeyed : Result Line Refusal → ℕ → World → Type 0
 IsObeyed (Ok (Do task source verbose)) status world = IsDone verbose task source status world
 IsObeyed (Ok (Help text)) status world =

@@ -12,8 +12,8 @@ use Rattle.omega_run.specs.World.{Streams}
 abbrev pub FailsNowhere : Streams → Streams → Type 0
 FailsNowhere before after = (after.failed_reads ≡ before.failed_reads) × (after.failed_writes ≡ before.failed_writes)
 
--- a run that answers so was refused: it wrote nothing, or where a write failed, a beginning of its answer; one read or
--- write failed where it is refused for that, and none else
+-- a run that answers by this relation was refused: it wrote nothing, or a beginning of its answer if a write failed;
+-- one read or write failed if it is refused for that, and else none
 pub record IsRefusedRun (answers : List ℕ → Result (Exit × List ℕ) Refusal → Type 0) (refusal : Refusal) (before after : Streams) : Type 0 where
   pub refused : IsRunRefusal answers before.unread after.unread refusal
   pub unwritten : after.failed_writes ≡ before.failed_writes → Keeps before.held after.held
@@ -22,7 +22,7 @@ pub record IsRefusedRun (answers : List ℕ → Result (Exit × List ℕ) Refusa
   pub reads_kept : before.failed_reads ≤ after.failed_reads
   pub writes_kept : before.failed_writes ≤ after.failed_writes
 
--- a run ended so, where texts are answered so
+-- a run that answers by this relation ended with this outcome
 abbrev pub Performs : (List ℕ → Result (Exit × List ℕ) Refusal → Type 0) → Result Exit Refusal → Streams → Streams → Type 0
 Performs answers (Ok exit) before after =
     Completes answers before.unread after.unread before.held after.held exit × FailsNowhere before after

@@ -1,9 +1,9 @@
--- What standard error is told of runs that lift, while they last, and that the answer counts the lifts it is told of.
+-- The progress lines on standard error while a command lifts, and that the answer counts the lifts that they report.
 use Rattle.std.specs.Prelude.{◌≡◌, ◌++◌, ◌≤◌, List, [], Option, Result, Ok, Err, ℕ, codes, decimal}
 use Rattle.std.specs.Io.KnownBytes.{Appends}
 use Rattle.omega_text.specs.declared.refusal.Refusal.{Refusal}
-use Rattle.omega_game.specs.declared.player.Player.{Player}
-use Rattle.omega_game.specs.Game.{Node}
+use Rattle.omega_parity_game.specs.declared.player.Player.{Player}
+use Rattle.omega_parity_game.specs.Game.{Node}
 use Rattle.omega_game_answers.specs.PlayerText.{player_text}
 use Rattle.omega_empty_answers.specs.Observing.{LiftsAutomatonText}
 use Rattle.omega_game_answers.specs.Observing.{CountsReportedOfText, LiftsText}
@@ -17,7 +17,7 @@ use Rattle.omega_io.specs.Reading.{ReadsText}
 use Rattle.omega_io.specs.Writing.{Tells}
 use Rattle.omega_run.specs.Respond.{asked_for}
 
--- the line that tells how far a run has come: the player, how many lifts were made, and how many there are at most
+-- the line that reports how far a run has come: the player, how many lifts were made, and how many there are at most
 abbrev pub progress_line : Progress → List ℕ
 progress_line progress =
     player_text progress.player ++ codes ": " ++ decimal progress.lifts ++ codes " lifts of at most " ++ decimal progress.most ++ codes "\n"
@@ -26,7 +26,7 @@ progress_line progress =
 abbrev pub GoesOnByLine : Progress → List ℕ → List ℕ → Type 0
 GoesOnByLine progress before after = after ≡ before ++ progress_line progress
 
--- the command lifts this game for these players, where its text was read from the input; most commands lift none
+-- the command lifts this game for these players, if its text was read from the input; most commands lift none
 abbrev pub LiftsInput : Command → (unread_before unread_after : Option (List ℕ)) → Option Refusal → List Node → List Player → Type 0
 LiftsInput (Solve player from) unread_before unread_after refusal nodes players =
     ReadsText unread_before unread_after (λ text. LiftsText text (asked_for player) from refusal nodes players)
@@ -36,7 +36,7 @@ LiftsInput (Empty word) unread_before unread_after refusal nodes players =
     ReadsText unread_before unread_after (λ text. LiftsAutomatonText text refusal nodes players)
 LiftsInput other unread_before unread_after refusal nodes players = players ≡ []
 
--- the lines that tell of the runs of the command, which was refused so or not at all, one after so many lifts more
+-- the progress lines of a command that ended with this refusal or none: a line for every `every` lifts
 abbrev pub AreProgressLines : Command → Option Refusal → (every budget : ℕ) → (unread_before unread_after : Option (List ℕ)) → List ℕ → Type 0
 AreProgressLines command refusal every budget unread_before unread_after lines =
     IsObserved (LiftsInput command unread_before unread_after) refusal GoesOnByLine every budget [] lines
@@ -55,13 +55,13 @@ abbrev pub CountsWritten : {L : Type 0} → (Progress → L → L → Type 0) �
 CountsWritten tells every command budget unread_before unread_after held_before held_after before after =
     (output : List ℕ) × Appends held_before held_after output × CountsReportedOfInput tells every command unread_before unread_after budget output before after
 
--- where the command is done, an answer was written that counts the lifts that the lines tell of
+-- if the command is done, an answer was written that counts the lifts that the lines report
 abbrev pub CountsLines : Command → Result Exit Refusal → (every budget : ℕ) → (unread_before unread_after held_before held_after : Option (List ℕ)) → List ℕ → Type 0
 CountsLines command (Ok exit) every budget unread_before unread_after held_before held_after lines =
     CountsWritten GoesOnByLine every command budget unread_before unread_after held_before held_after [] lines
 CountsLines command (Err refusal) every budget unread_before unread_after held_before held_after lines = Unit {0}
 
--- the output took the text, or where one of its writes failed, a beginning of it
+-- the output took the text, or a beginning of it if one of its writes failed
 pub record HasReported (before after : Option (List ℕ)) (failed_before failed_after : ℕ) (text : List ℕ) : Type 0 where
   pub counted : failed_before ≤ failed_after
   pub reported : Tells before after failed_before failed_after text

@@ -1,4 +1,4 @@
--- The status after an outcome, and what is told of it on standard error.
+-- The status after an outcome, and the lines for it on standard error.
 use Rattle.std.specs.Prelude.{◌≡◌, ◌⊎◌, [], List, Result, Ok, Err, ℕ}
 use Rattle.omega_text.specs.declared.refusal.Refusal.{Refusal}
 use Rattle.omega_text.specs.declared.refusal.Refusal.TheVariants.{Memory}
@@ -10,13 +10,13 @@ use Rattle.omega_io.specs.RefusalLine.{line_of}
 abbrev pub IsRefusalReported : Refusal → List ℕ → ℕ → (List ℕ → Type 0) → Type 0
 IsRefusalReported refusal lines status tells = (status ≡ status_of (Err refusal)) × tells lines
 
--- the status after this outcome, and what is told of it on standard error, where these are the lines of a refusal;
--- where there is no memory for them, that is told
+-- the status after this outcome, and the lines for a refusal on standard error; if there is no memory for them, the
+-- line of that refusal is written
 abbrev pub ReportsBy : (Refusal → List ℕ) → Result Exit Refusal → ℕ → (List ℕ → Type 0) → Type 0
 ReportsBy lines (Ok exit) status tells = (status ≡ status_of (Ok exit)) × tells []
 ReportsBy lines (Err refusal) status tells =
     IsRefusalReported refusal (lines refusal) status tells ⊎ IsRefusalReported Memory (line_of Memory) status tells
 
--- the same, where one line tells of a refusal
+-- the same, with one line for a refusal
 abbrev pub Reports : Result Exit Refusal → ℕ → (List ℕ → Type 0) → Type 0
 Reports = ReportsBy line_of

@@ -1,9 +1,9 @@
--- What is answered to one text, and to two, what is refused, and what was read where it is answered.
+-- The answers to one text and to two, the refusals, and what was read for an answer.
 use Rattle.std.specs.Prelude.{◌≡◌, List, Option, Some, None, Result, Ok, Err, ℕ}
 use Rattle.omega_text.specs.Cases.{or_io, or_memory}
 use Rattle.omega_text.specs.declared.refusal.Refusal.{Refusal}
 use Rattle.omega_pg.specs.game.Refusing.{IsRefusal}
-use Rattle.omega_game.specs.declared.player.Player.{Player}
+use Rattle.omega_parity_game.specs.declared.player.Player.{Player}
 use Rattle.omega_command.specs.declared.beside.Beside.{Beside}
 use Rattle.omega_command.specs.declared.beside.Beside.TheVariants.{DrawSolution, Meet, Verify, VerifyLasso}
 use Rattle.omega_command.specs.declared.command.Command.{Command}
@@ -34,17 +34,17 @@ use Rattle.omega_io.specs.Reading.{ReadsText, ReadsWhole}
 use Rattle.omega_language_answers.specs.Verify.{IsLassoAnswer, IsLassoAnswerRefusal}
 use Rattle.omega_language_answers.specs.Meet.{IsMeetAnswer, IsMeetRefusal}
 
--- what is asked of a game for one player, or for both where none is named
+-- for which players a game is solved: for one, or for both if none is named
 abbrev pub asked_for : Option Player → Asked
 asked_for None = way.Both
 asked_for (Some player) = way.Player player
 
--- the command is done with an output of which this holds, or refuses for a reason of which that holds
+-- the command is done with such an output, or refuses for such a reason
 abbrev pub Replies : (List ℕ → Type 0) → (Refusal → Type 0) → Result (Exit × List ℕ) Refusal → Type 0
 Replies IsAnswer IsReason (Ok reply) = (reply.0 ≡ Done) × IsAnswer reply.1
 Replies IsAnswer IsReason (Err refusal) = IsReason refusal
 
--- the same of a command that ends in more ways than one
+-- the same for a command that ends in more ways than one
 abbrev pub Concludes : (Exit → List ℕ → Type 0) → (Refusal → Type 0) → Result (Exit × List ℕ) Refusal → Type 0
 Concludes IsAnswer IsReason (Ok reply) = IsAnswer reply.0 reply.1
 Concludes IsAnswer IsReason (Err refusal) = IsReason refusal
@@ -78,7 +78,7 @@ AnswersBeside Meet file input = Replies (IsMeetAnswer file input) (IsMeetRefusal
 AnswersBeside (DrawSolution from depth legend) file input =
     Replies (IsSolutionDrawingAnswer input file from depth legend) (IsSolutionDrawingRefusal input from depth file)
 
--- the whole input was read, and this is the answer to it, where texts are answered so
+-- the whole input was read, and this is the answer to its text
 abbrev pub Responds : (List ℕ → Result (Exit × List ℕ) Refusal → Type 0) → (unread_before unread_after : Option (List ℕ)) → Exit → List ℕ → Type 0
 Responds answers unread_before unread_after exit output =
     ReadsWhole unread_before unread_after (λ text. answers text (Ok (exit, output)))

@@ -1,4 +1,4 @@
--- What a run leaves: its whole answer written, or where a write failed, a beginning of it.
+-- What a run leaves: its whole answer written, or a beginning of it if a write failed.
 use Rattle.std.specs.Prelude.{List, Option, Result, ℕ}
 use Rattle.std.specs.Io.KnownBytes.{Appends}
 use Rattle.omega_text.specs.declared.refusal.Refusal.{Refusal}

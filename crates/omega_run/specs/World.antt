@@ -1,4 +1,4 @@
--- What the program reads, writes and tells, as the ghost members of its files and streams say.
+-- What the program reads and writes, as the ghost members of its files and streams say.
 use Rattle.std.specs.Prelude.{List, Option, ℕ}
 use Rattle.omega_text.specs.declared.refusal.Refusal.{Refusal}
 use Rattle.omega_io.specs.declared.input_files.InputFiles as file
@@ -6,8 +6,8 @@ use Rattle.omega_io.specs.declared.input.Input as input
 use Rattle.omega_io.specs.declared.output.Output as output
 use Rattle.omega_io.specs.Writing.{Tells}
 
--- the input and the output at one time: what reads will give and what was written, where they are known,
--- and how many reads and writes failed
+-- the input and the output at one time: what reads will give and what was written, if they are known, and how many
+-- reads and writes failed
 pub record Streams : Type 0 where
   pub unread : Option (List ℕ)
   pub failed_reads : ℕ
@@ -26,11 +26,12 @@ streams unread failed_reads held failed_writes = record {
 abbrev pub streams_of : {R W : Type 0} → input.Ghosts R → output.Ghosts W → R → W → Streams
 streams_of reading writing from to = streams (reading.remaining from) (reading.failed from) (writing.contents to) (writing.failed to)
 
--- what standard error took of a text, or where one of its writes failed, a beginning of it
+-- standard error took a text, or a beginning of it if one of its writes failed
 abbrev pub tells_of : {E : Type 0} → output.Ghosts E → (before after : E) → List ℕ → Type 0
 tells_of telling before after = Tells (telling.contents before) (telling.contents after) (telling.failed before) (telling.failed after)
 
--- the files, how they are read and refused by their names; the streams before and after; and what was told in between
+-- how the files are read and refused by their names; the streams before and after; and what standard error took in
+-- between
 pub record World : Type 1 where
   pub reads : List ℕ → List ℕ → Type 0
   pub refuses : List ℕ → Refusal → Type 0

@@ -17,8 +17,8 @@ use omega_io::{Exit, Input, InputFiles, Output, Refused, read_all, write_text};
 use omega_language_answers::{meet_texts, verify_lasso};
 use std::alloc::Global;
 
-/// Reads the file of this name and then the input, writes the answer to both, tells of a refusal, and returns the
-/// status to end with.
+/// Reads the file of this name and then the input, writes the answer to both, or the lines of a refusal, and returns
+/// the status to end with.
 pub(crate) fn run_beside<F: InputFiles, R: Input, W: Output, E: Output>(
     alloc: Global,
     name: &str,

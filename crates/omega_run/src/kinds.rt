@@ -2,9 +2,9 @@ ghost use Rattle.std.specs.Prelude.{◌≡◌};
 ghost use Rattle.omega_run.specs.private.steps.Kinds.{of_kind};
 
 use omega_command::{Command, Format};
-use omega_game::Player;
+use omega_parity_game::Player;
 
-/// A command, told apart by what it reads.
+/// A command, by what it reads.
 #[derive(Drop)]
 pub(crate) enum Kind {
     /// Of a stream of automata, which is answered while it is read.
@@ -21,7 +21,7 @@ pub(crate) enum OfStream {
     Canon,
 }
 
-/// A command of one text, which is done with it where it answers.
+/// A command that reads one text. If it answers, the exit is `Done`.
 #[derive(Clone, Copy)]
 pub(crate) enum OfText {
     Show,
@@ -54,7 +54,7 @@ pub(crate) enum OfText {
     DrawLasso,
 }
 
-/// Returns of which kind a command is, and which of that kind.
+/// Returns the kind of a command, with its options.
 pub(crate) fn kind_of(command: Command) -> Kind
     ensures { of_kind result ≡ command }
 {

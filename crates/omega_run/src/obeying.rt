@@ -13,11 +13,12 @@ use std::alloc::Global;
 /// The status after a fault of the command line.
 const FAULT: u8 = 2;
 
-/// Does what a command line asks for, and returns the status to end with.
+/// Does what a command line requests, and returns the status to end with.
 ///
-/// A refusal, also one that came in place of the command line, is told by one line on standard error. If the command
+/// A refusal, also one that came in place of the command line, is written in one line on standard error. If the command
 /// line says `verbose`, a second line names the refused one of two texts, or the file that cannot be read. If there is
-/// no memory for the lines, 60 is told in their place. The file that the operand names is read before any other.
+/// no memory for the lines, that of [Refusal::Memory] is written in their place. The file that the operand names is
+/// read before any other.
 pub fn obey<F: InputFiles, R: Input, W: Output, E: Output>(
     alloc: Global,
     asked: Result<Line, Refusal>,
@@ -108,7 +109,7 @@ fn with_file<F: InputFiles, W: Output, E: Output>(
     }
 }
 
-/// Writes a text that was asked for.
+/// Writes a text of help or of the version.
 fn print<W: Output>(text: &[u8], output: &mut W) -> Result<Exit, Refusal>
     requires { W.failed output.old < 2 ^ 64 - 1 }
     ensures { Prints text.now result

@@ -1,4 +1,4 @@
-//! Commands that lift, told of on standard error while they run.
+//! Commands that lift, with their progress reported on standard error.
 ghost use Rattle.std.specs.Prelude.{◌≡◌, ◌-◌, ◌^◌, ◌<◌, ◌≤◌, List, ℕ, max};
 ghost use Rattle.omega_budget.specs.Observing.{refusal_in};
 ghost use Rattle.omega_run.specs.Perform.{Performs};
@@ -13,8 +13,8 @@ use omega_command::Command;
 use omega_io::{Exit, Input, Output, Refusal};
 use std::alloc::Global;
 
-/// Runs a command as `run_command` does, and tells in lines on standard error how far its runs have come, after so many
-/// lifts more each time. Where a line cannot be written, no more are.
+/// Runs a command as `run_command` does, and reports in lines on standard error how far its runs have come: a line for
+/// every `every` lifts. If a line cannot be written, no more are.
 pub fn run_observed<R: Input, W: Output, E: Output>(
     alloc: Global,
     command: Command,
@@ -35,7 +35,8 @@ pub fn run_observed<R: Input, W: Output, E: Output>(
         (R.remaining input.old) (R.remaining input.new) lines
         × CountsLines command result (max 1 every) budget
         (R.remaining input.old) (R.remaining input.new) (W.contents output.old) (W.contents output.new) lines
-        × HasReported (E.contents errors.old) (E.contents errors.new) (E.failed errors.old) (E.failed errors.new) lines }
+        × HasReported
+        (E.contents errors.old) (E.contents errors.new) (E.failed errors.old) (E.failed errors.new) lines }
 {
     let lines = ProgressLines {
         every,

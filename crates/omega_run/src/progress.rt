@@ -1,4 +1,4 @@
-//! How far runs have come, told in lines on standard error.
+//! Lines on standard error that report how far runs have come.
 ghost use Rattle.std.specs.Prelude.{◌≡◌, ◌++◌, ◌-◌, ◌^◌, ◌<◌, ◌≤◌, ℕ, max, codes, decimal};
 ghost use Rattle.omega_run.specs.Progress.{progress_line};
 ghost use Rattle.omega_run.specs.private.steps.Telling.{TellsOn};
@@ -11,7 +11,7 @@ use omega_io::{Output, write_text};
 /// once a write of it failed, no more of it is written.
 #[derive(Drop)]
 pub(crate) struct ProgressLines {
-    /// After how many lifts more there is a line, but never after none.
+    /// After how many more lifts there is a line, but never after none.
     pub(crate) every: u64,
     /// How many writes had failed before the first line.
     pub(crate) sound: u64,
@@ -38,7 +38,7 @@ impl<E: Output> Reporter<E> for ProgressLines {
     }
 }
 
-/// Tells a number in decimal after what was told, unless a write failed since so many had. It takes no memory.
+/// Writes a number in decimal after the text so far, unless more than `sound` writes have failed. It takes no memory.
 fn tell_number<E: Output>(errors: &mut E, sound: u64, number: u64)
     ensures { TellsOn sound
         (E.contents errors.old) (E.contents errors.new) (E.failed errors.old) (E.failed errors.new) (decimal number) }
@@ -47,7 +47,7 @@ fn tell_number<E: Output>(errors: &mut E, sound: u64, number: u64)
     tell_on(errors, sound, buffer.format(number).as_bytes());
 }
 
-/// Tells a text after what was told, unless a write failed since so many had.
+/// Writes a text after the text so far, unless more than `sound` writes have failed.
 fn tell_on<E: Output>(errors: &mut E, sound: u64, text: &[u8])
     ensures { TellsOn sound
         (E.contents errors.old) (E.contents errors.new) (E.failed errors.old) (E.failed errors.new) text.now }

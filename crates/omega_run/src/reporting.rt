@@ -1,4 +1,4 @@
-//! What is told on standard error of how a task ended, and with which status the program ends.
+//! The lines on standard error for the outcome of a task, and the status with which the program ends.
 ghost use Rattle.std.specs.Prelude.{◌≡◌, ◌-◌, ◌^◌, ◌<◌, ◌≤◌, Err, IfErr, IfOk, IsOkUnless};
 ghost use Rattle.omega_text.specs.declared.refusal.Refusal.TheVariants.{Memory};
 ghost use Rattle.omega_io.specs.Exit.{status_of};
@@ -15,7 +15,7 @@ use omega_io::{
 };
 use std::alloc::Global;
 
-/// Tells of a refusal by its line, and returns the status after the outcome.
+/// Writes the line of a refusal, and returns the status after the outcome.
 pub(crate) fn report<E: Output>(alloc: Global, outcome: Result<Exit, Refusal>, errors: &mut E) -> u8
     requires { E.failed errors.old < 2 ^ 64 - 1 }
     ensures { Reports outcome result (tells_of E.Output errors.old errors.new) }
@@ -36,8 +36,8 @@ pub(crate) fn report<E: Output>(alloc: Global, outcome: Result<Exit, Refusal>, e
     }
 }
 
-/// Tells of a refusal after lines of progress, unless a write of those failed, and returns the status after the
-/// outcome.
+/// Writes the line of a refusal after lines of progress, unless a write of those failed, and returns the status after
+/// the outcome.
 pub(crate) fn report_after<E: Output>(
     alloc: Global,
     outcome: Result<Exit, Refusal>,
@@ -56,8 +56,8 @@ pub(crate) fn report_after<E: Output>(
     }
 }
 
-/// Tells of a refusal where two texts are read, and returns the status after the outcome. Another line names the text
-/// that the refusal is about, if there is one and `verbose` asks for that.
+/// Writes the lines for a refusal of one of two texts, and returns the status after the outcome. A second line names
+/// the text that the refusal is about, if there is one and `verbose` is set.
 pub(crate) fn report_about<E: Output>(
     alloc: Global,
     outcome: Result<Exit, Refused>,
@@ -86,7 +86,7 @@ pub(crate) fn report_about<E: Output>(
     }
 }
 
-/// Tells of the refusal of a text that has this name, in another line if `verbose` asks for that, and returns the
+/// Writes the lines for the refusal of a text that has this name, the second only if `verbose` is set, and returns the
 /// status.
 fn report_text<E: Output>(
     alloc: Global,
@@ -105,8 +105,8 @@ fn report_text<E: Output>(
     }
 }
 
-/// Tells of the refusal of the file of this name, in another line if it could not be read and `verbose` asks for that,
-/// and returns the status.
+/// Writes the lines for the refusal of the file of this name, and returns the status. The second line is written only
+/// if the file could not be read and `verbose` is set.
 pub(crate) fn report_file<E: Output>(
     alloc: Global,
     name: &str,
@@ -148,7 +148,8 @@ fn name_of(asked: Beside, which: Which) -> &'static str
     }
 }
 
-/// Tells these lines of a refusal, and returns its status; or tells that there was no memory for them.
+/// Writes the lines of a refusal, and returns its status. If there was no memory for the lines, writes that of
+/// [Refusal::Memory].
 fn report_lines<E: Output>(refusal: Refusal, lines: Result<Vec<u8>, Refusal>, errors: &mut E) -> u8
     requires tells { E.failed errors.old < 2 ^ 64 - 1 }
     requires memory { IsOkUnless lines Memory }

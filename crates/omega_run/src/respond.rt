@@ -17,12 +17,12 @@ use omega_command::Command;
 use omega_empty_answers::{
     decide_emptiness, draw_automaton_text, draw_lasso_text, search_emptiness, write_emptiness_game,
 };
-use omega_game::Player;
 use omega_game_answers::{
     Asked, canon_game, canon_part, check_game, draw_game_text, show_game, solve_game,
 };
 use omega_io::{Exit, Input, Refusal, read_all};
 use omega_language_answers::complement_text;
+use omega_parity_game::Player;
 use omega_stream_answers::{canon_stream, check_stream, show_stream};
 use std::alloc::Global;
 
@@ -46,8 +46,8 @@ pub(crate) fn answer<R: Input, L, T: Reporter<L>>(
     ensures counted { R.failed input.new ≡ R.failed input.old + failures_of result }
     ensures printed { IfOk result (λ made. CountsReportedOfInput (T.tells reporter.now) (T.pace reporter.now) command
         (R.remaining input.old) (R.remaining input.new) budget made.1.items observer.old observer.new) }
-    ensures reported { IsObserved (LiftsInput command (R.remaining input.old) (R.remaining input.new)) (refusal_in result)
-        (T.tells reporter.now) (T.pace reporter.now) budget observer.old observer.new }
+    ensures reported { IsObserved (LiftsInput command (R.remaining input.old) (R.remaining input.new))
+        (refusal_in result) (T.tells reporter.now) (T.pace reporter.now) budget observer.old observer.new }
 {
     match kind_of(command) {
         Kind::Stream(OfStream::Show) => Ok((Exit::Done, show_stream(alloc, input)?)),
@@ -62,7 +62,7 @@ pub(crate) fn answer<R: Input, L, T: Reporter<L>>(
 }
 
 /// Returns the whole answer of a command to one text, or its refusal. Each run of a solver makes at most `budget`
-/// lifts, and it is reported to the observer, as of runs of the command wherever the text is what an input gave.
+/// lifts, and reports its progress to the observer.
 fn answer_text<L, T: Reporter<L>>(
     alloc: Global,
     command: OfText,
@@ -106,7 +106,7 @@ fn answer_text<L, T: Reporter<L>>(
     }
 }
 
-/// What is asked of a game for one player, or for both where none is named.
+/// Returns for which players a game is solved: for `player`, or for both if none is named.
 fn asked_for(player: Option<Player>) -> Asked
     ensures { result ≡ asked_for player }
 {

@@ -30,7 +30,7 @@ pub fn run_command<R: Input, W: Output, L, T: Reporter<L>>(
     requires reads { R.failed input.old < 2 ^ 64 - 1 }
     requires writes { W.failed output.old < 2 ^ 64 - 1 }
 
-    // What was read and written where the command is done, and why it is refused where it is not.
+    // What was read and written if the command is done, and why it is refused if it is not.
     ensures completed { IfOk result (Completes (Answers command budget)
         (R.remaining input.old) (R.remaining input.new) (W.contents output.old) (W.contents output.new)) }
     ensures refused { IfErr result
@@ -42,7 +42,7 @@ pub fn run_command<R: Input, W: Output, L, T: Reporter<L>>(
     ensures broken_off { OnErr result (W.failed output.old < W.failed output.new → BreaksOff (Answers command budget)
         (R.remaining input.old) (R.remaining input.new) (W.contents output.old) (W.contents output.new)) }
 
-    // One read or write failed where it is refused for that, and none else.
+    // One read or write failed if it is refused for that, and else none.
     ensures counted { R.failed input.new + W.failed output.new
         ≡ R.failed input.old + W.failed output.old + failures_of result }
     ensures reads_kept { R.failed input.old ≤ R.failed input.new }
@@ -52,8 +52,8 @@ pub fn run_command<R: Input, W: Output, L, T: Reporter<L>>(
     ensures printed { IfOk result (λ _. CountsWritten (T.tells reporter.now) (T.pace reporter.now) command budget
         (R.remaining input.old) (R.remaining input.new) (W.contents output.old) (W.contents output.new)
         observer.old observer.new) }
-    ensures reported { IsObserved (LiftsInput command (R.remaining input.old) (R.remaining input.new)) (refusal_in result)
-        (T.tells reporter.now) (T.pace reporter.now) budget observer.old observer.new }
+    ensures reported { IsObserved (LiftsInput command (R.remaining input.old) (R.remaining input.new))
+        (refusal_in result) (T.tells reporter.now) (T.pace reporter.now) budget observer.old observer.new }
 {
     let (exit, made) = answer(alloc, command, input, budget, reporter, observer)?;
     write_text(output, made.as_slice())?;

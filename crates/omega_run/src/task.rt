@@ -14,7 +14,7 @@ use omega_command::{Command, Task};
 use omega_io::{Input, InputFiles, Output};
 use std::alloc::Global;
 
-/// Does a task with the text of an input, tells of a refusal, and returns the status to end with.
+/// Does a task with the text of an input, writes the line of a refusal, and returns the status to end with.
 pub(crate) fn run<F: InputFiles, R: Input, W: Output, E: Output>(
     alloc: Global,
     task: Task,
@@ -51,8 +51,8 @@ pub(crate) fn run<F: InputFiles, R: Input, W: Output, E: Output>(
     }
 }
 
-/// Runs a command that is observed, tells of a refusal after the lines of its progress, and returns the status to end
-/// with.
+/// Runs a command that is observed, writes the line of a refusal after the lines of its progress, and returns the
+/// status to end with.
 fn observe<R: Input, W: Output, E: Output>(
     alloc: Global,
     command: Command,

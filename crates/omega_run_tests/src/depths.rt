@@ -9,7 +9,7 @@ fn assert_row(rt: &impl Abort, row: usize, holds: bool) {
     assert!(rt; holds, "row {row}");
 }
 
-// Puts a piece so many times at the end of a text.
+// Puts `piece` at the end of a text `count` times.
 fn put_many(text: &mut Vec<u8>, piece: &str, count: usize) -> Result<(), Refusal> {
     for _ in 0..count {
         text.extend_from_slice(piece.as_bytes())?;
@@ -17,7 +17,7 @@ fn put_many(text: &mut Vec<u8>, piece: &str, count: usize) -> Result<(), Refusal
     Ok(())
 }
 
-// Puts `A&(A&(..A&A..))` at the end of a text, with so many parentheses: its depth is twice their count and 2 more.
+// Puts `A&(A&(..A&A..))` at the end of a text, with `count` parentheses: its depth is twice their count and 2 more.
 fn put_nested(text: &mut Vec<u8>, atom: &str, sign: &str, count: usize) -> Result<(), Refusal> {
     for _ in 0..count {
         put_many(text, atom, 1)?;
@@ -30,7 +30,7 @@ fn put_nested(text: &mut Vec<u8>, atom: &str, sign: &str, count: usize) -> Resul
     put_many(text, ")", count)
 }
 
-// An automaton with one edge, of a label with so many parentheses.
+// An automaton with one edge, of a label with `count` parentheses.
 fn labelled(alloc: Global, count: usize) -> Result<Vec<u8>, Refusal> {
     let mut text = Vec::new(alloc);
     put_many(
@@ -58,7 +58,7 @@ fn unlabelled(alloc: Global, count: usize) -> Result<Vec<u8>, Refusal> {
     Ok(text)
 }
 
-// An automaton whose acceptance has so many parentheses.
+// An automaton whose acceptance has `count` parentheses.
 fn accepting(alloc: Global, count: usize) -> Result<Vec<u8>, Refusal> {
     let mut text = Vec::new(alloc);
     put_many(
@@ -98,7 +98,7 @@ fn is_read_back(
     }
 }
 
-// The number of the refusal of the complement of a text, 0 where it has one, and 60 where the text could not be made.
+// The number of the refusal of the complement of a text, or 0 if it has one, and 60 if the text could not be made.
 fn refusal_of(alloc: Global, text: Result<Vec<u8>, Refusal>) -> u32 {
     match text {
         Ok(text) => match complement_text(alloc, text.as_slice()) {

@@ -235,7 +235,7 @@ fn reads_the_file_before_the_input(rt: HostRuntime) -> Result<(), Fail> {
     Ok(())
 }
 
-/// What else a file may be is tried on the built program.
+/// Reads a file of the machine. Whatever else a file may be is tried on the built program.
 #[test]
 fn reads_a_file_of_the_machine(rt: HostRuntime) -> Result<(), Fail> {
     let bytes = HostFiles::new(&rt).read_file(rt.alloc(), "/dev/null")?;

@@ -6,7 +6,7 @@ use std::io;
 use std::rt::Files;
 use std::test::Fail;
 
-/// A machine on which `game` is an empty file, and no other name stands for a file.
+/// A machine on which `game` is an empty file, and no file has another name.
 #[derive(Drop)]
 struct OneName<R: Files> {
     rt: R,

@@ -1,6 +1,5 @@
 //! Tests of the public calls of `omega_run`, `omega_command_line` and `omega_language_answers`: what a run of the built
-//! program cannot show, and the worked examples. They stand in a crate of their own so that each library is proved
-//! once.
+//! program cannot show, and the worked examples. They are a crate of their own so that each library is proved once.
 #![tactic(auto)]
 
 #[cfg(test)]

@@ -3,7 +3,7 @@ use std::alloc::Global;
 use std::io;
 use std::io::{Read, Write};
 
-/// A reader that gives at most so many bytes at a time, and at last nothing, or an error.
+/// A reader that gives at most `most` bytes at a time, and at last nothing, or an error.
 #[derive(Drop)]
 pub(crate) struct Portions<'a> {
     rest: &'a [u8],
@@ -12,12 +12,12 @@ pub(crate) struct Portions<'a> {
 }
 
 impl<'a> Portions<'a> {
-    /// A reader that gives as many bytes as there is room for, and then nothing.
+    /// Returns a reader that gives as many bytes as there is room for, and then nothing.
     pub(crate) fn whole(text: &'a str) -> Portions<'a> {
         Portions::of(text, usize::MAX)
     }
 
-    /// A reader that gives at most so many bytes at a time, and then nothing.
+    /// Returns a reader that gives at most `most` bytes at a time, and then nothing.
     pub(crate) fn of(text: &'a str, most: usize) -> Portions<'a> {
         Portions {
             rest: text.as_bytes(),
@@ -26,7 +26,7 @@ impl<'a> Portions<'a> {
         }
     }
 
-    /// A reader that gives these bytes, one at a time, and then an error.
+    /// Returns a reader that gives these bytes, one at a time, and then an error.
     pub(crate) fn failing(front: &'a [u8]) -> Portions<'a> {
         Portions {
             rest: front,
@@ -48,7 +48,8 @@ impl Read for Portions<'_> {
     }
 }
 
-/// A writer that takes at most so many bytes at a time while it has room, and then gives an error, or takes nothing.
+/// A writer that takes a limited number of bytes at a time while it has room, and then gives an error, or takes
+/// nothing.
 #[derive(Drop)]
 pub(crate) struct Filling {
     pub(crate) taken: Vec<u8>,
@@ -58,7 +59,7 @@ pub(crate) struct Filling {
 }
 
 impl Filling {
-    /// A writer that takes all that it is given.
+    /// Returns a writer that takes all that it is given.
     pub(crate) fn without_end(alloc: Global) -> Filling {
         Filling {
             taken: Vec::new(alloc),
@@ -68,7 +69,7 @@ impl Filling {
         }
     }
 
-    /// A writer that takes so many bytes, one at a time.
+    /// Returns a writer that takes `room` bytes, one at a time.
     pub(crate) fn with_room(alloc: Global, room: usize, fails: bool) -> Filling {
         Filling {
             taken: Vec::new(alloc),

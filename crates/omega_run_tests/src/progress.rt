@@ -10,7 +10,7 @@ const RING: &str = "0 1 0 1; 1 1 0 2; 2 1 0 3; 3 3 0 0;";
 /// Its solution.
 const WON: &str = "paritysol 3;\n0 1;\n1 1;\n2 1;\n3 1;\n";
 
-/// What a run left: how it ended, what stands on standard output and standard error, and how many writes of the latter
+/// What a run left: how it ended, the texts of standard output and standard error, and how many writes of the latter
 /// failed.
 #[derive(Drop)]
 struct Reported {
@@ -20,7 +20,7 @@ struct Reported {
     failures: u64,
 }
 
-/// Runs a command over a text, told of after so many lifts more each time.
+/// Runs a command over a text, with a progress line for every `every` lifts.
 fn observed(
     alloc: Global,
     command: Command,

@@ -8,7 +8,7 @@ use omega_run::{FromRead, Input, InputFiles, Line, Output, Refusal, ToWrite, obe
 use std::alloc::{AllocError, Global};
 use std::test::Fail;
 
-/// What a run is asked: its command line, the text of the file `g`, and the text of its input.
+/// The inputs of a run: its command line, the text of the file `g`, and the text of its input.
 #[derive(Clone, Copy)]
 pub(crate) struct Asked<'a> {
     pub(crate) line: &'a str,
@@ -17,7 +17,7 @@ pub(crate) struct Asked<'a> {
 }
 
 impl<'a> Asked<'a> {
-    /// A command line that names no file.
+    /// Returns a command line that names no file.
     pub(crate) fn of(line: &'a str, text: &'a str) -> Asked<'a> {
         Asked {
             line,
@@ -27,7 +27,7 @@ impl<'a> Asked<'a> {
     }
 }
 
-/// What a run leaves: its status, what stands on standard output and on standard error, and how many reads of the input
+/// What a run leaves: its status, the texts of standard output and of standard error, and how many reads of the input
 /// and writes of the output failed.
 #[derive(Clone, Copy)]
 pub(crate) struct Left<'a> {
@@ -39,7 +39,7 @@ pub(crate) struct Left<'a> {
 }
 
 impl<'a> Left<'a> {
-    /// What a run leaves whose reads and writes do not fail.
+    /// Returns what a run leaves whose reads and writes do not fail.
     pub(crate) fn of(status: u8, output: &'a str, error: &'a str) -> Left<'a> {
         Left {
             status,
@@ -71,7 +71,7 @@ impl<'a> InputFiles for OneFile<'a> {
     }
 }
 
-/// The words of a command line, between which stands one blank.
+/// Returns the words of a command line, which are separated by one blank each.
 pub(crate) fn words_of(alloc: Global, line: &str) -> Result<Vec<String>, AllocError> {
     let mut words = Vec::new(alloc);
     for word in line.split(' ') {
@@ -81,7 +81,7 @@ pub(crate) fn words_of(alloc: Global, line: &str) -> Result<Vec<String>, AllocEr
 }
 
 /// Runs a command line as the program does, over an input that holds the whole text, and an output that takes all.
-/// Fails where it does not leave what is wanted.
+/// Fails if it does not leave what is wanted.
 pub(crate) fn expect(alloc: Global, asked: Asked<'_>, wanted: Left<'_>) -> Result<(), Fail> {
     let input = Portions::whole(asked.text);
     expect_over(alloc, asked, input, Filling::without_end(alloc), wanted)
@@ -115,14 +115,14 @@ pub(crate) fn expect_over(
     compare(asked, left, wanted)
 }
 
-/// What the words of a command line ask for.
+/// Returns the line that the words of a command line request.
 fn line_of(alloc: Global, line: &str) -> Result<Line, Refusal>
     ensures { IfOk result IsRunnable }
 {
     read_words(alloc, words_of(alloc, line)?.as_slice())
 }
 
-/// Fails where a run left something else than is wanted, and tells which run it was.
+/// Fails if a run left something else than is wanted, and says which run it was.
 fn compare(asked: Asked<'_>, left: Left<'_>, wanted: Left<'_>) -> Result<(), Fail> {
     if is_same(left, wanted) {
         return Ok(());

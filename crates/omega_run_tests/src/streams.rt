@@ -16,7 +16,7 @@ pub(crate) const ALIAS: &str =
 pub(crate) const CANONICAL: &str =
     "HOA: v1\nStates: 1\nStart: 0\nAP: 1 \"a\"\nacc-name: Buchi\nAcceptance: 1 Inf(0)\n--BODY--\nState: 0\n[!(0|t)&0] 0 {0}\n--END--\n";
 
-/// So many automata, one after the other, and this after them.
+/// Returns `MANY` automata, one after the other, and `end` after them.
 fn many(alloc: Global, end: &str) -> Result<String, AllocError> {
     let mut text = String::new(alloc);
     for _ in 0..MANY {
@@ -26,7 +26,7 @@ fn many(alloc: Global, end: &str) -> Result<String, AllocError> {
     Ok(text)
 }
 
-/// Fails where a run does not leave what it is to leave, whatever the portions in which it reads.
+/// Fails if a run does not leave what it is to leave, whatever the portions in which it reads.
 fn expect_in_portions(alloc: Global, asked: Asked<'_>, wanted: Left<'_>) -> Result<(), Fail> {
     for most in [1, 7, 4095, 4096, 4097, 1_000_000] {
         let input = Portions::of(asked.text, most);
@@ -35,7 +35,7 @@ fn expect_in_portions(alloc: Global, asked: Asked<'_>, wanted: Left<'_>) -> Resu
     Ok(())
 }
 
-/// So many automata, of 117 bytes each, that the input is read in several pieces of 4,096 bytes.
+/// A number of automata, of 117 bytes each, that makes the input come in several pieces of 4,096 bytes.
 const MANY: u32 = 50;
 
 #[test]
@@ -48,7 +48,7 @@ fn portions_make_no_difference(rt: HostRuntime) -> Result<(), Fail> {
 #[test]
 fn portions_make_no_difference_to_a_refusal(rt: HostRuntime) -> Result<(), Fail> {
     let text = many(rt.alloc(), "HOA: v1 )")?;
-    // What is no header could stand in a segment that is aborted later: the end of the text is at fault.
+    // What is no header may be in a segment that is aborted later: so the fault is at the end of the text.
     let error = "omega: 3 Syntax at 5859\n";
     let asked = Asked::of("omega show --format hoa", text.as_str());
     expect_in_portions(rt.alloc(), asked, Left::of(1, "", error))

@@ -20,7 +20,7 @@ static RUNS: [(&str, &str, &str); 3] = [
     ("omega canon --format hoa", ALIAS, CANONICAL),
 ];
 
-/// What a run is to leave that is refused for a read or a write that failed, and wrote this.
+/// Returns what a run is to leave that is refused for a read or a write that failed, and wrote this.
 fn broken_off(written: &[u8], failed_reads: u64, failed_writes: u64) -> Left<'_> {
     Left {
         status: 5,
@@ -31,14 +31,14 @@ fn broken_off(written: &[u8], failed_reads: u64, failed_writes: u64) -> Left<'_>
     }
 }
 
-/// An input that fails after so many bytes leaves nothing written.
+/// Expects that nothing is written if the input fails after `count` bytes.
 fn reads_no_further(alloc: Global, asked: Asked<'_>, count: usize) -> Result<(), Fail> {
     let input = Portions::failing(asked.text.as_bytes().get(..count).ok_or("past the end")?);
     let output = Filling::without_end(alloc);
     expect_over(alloc, asked, input, output, broken_off(b"", 1, 0))
 }
 
-/// An output that has room for so many bytes has a beginning of the answer.
+/// Expects a beginning of the answer in an output that has room for only these bytes.
 fn writes_no_further(
     alloc: Global,
     asked: Asked<'_>,
@@ -54,7 +54,7 @@ fn writes_no_further(
     Ok(())
 }
 
-/// A run reads and writes a byte at a time as it does in one.
+/// Expects that a run reads and writes a byte at a time as it does in one.
 fn goes_through(alloc: Global, asked: Asked<'_>, answer: &str) -> Result<(), Fail> {
     let input = Portions::of(asked.text, 1);
     let output = Filling::with_room(alloc, answer.len(), true);

@@ -8,7 +8,7 @@ use std::alloc::{AllocError, Global};
 const PLAIN: &str = r#"HOA: v1 States: 3 Start: 0 AP: 1 "a" Acceptance: 2 Inf(0)&Inf(!1)
 --BODY-- State: 0 [0] 1 [!0] 0 State: 1 [t] 1 {0} [0&!0] 0 [0] 0 {1} State: 2 [t] 2 --END--"#;
 
-// What `verify` answers to two texts, or none where memory is wanting.
+// The answer of `verify` to two texts, or `None` if memory is wanting.
 fn verdict(
     alloc: Global,
     automaton: &str,
@@ -33,7 +33,7 @@ fn accepts(alloc: Global, lasso: &str) -> bool {
     says(alloc, PLAIN, lasso, Exit::Done, "yes\n")
 }
 
-// Whether a lasso of `PLAIN` is none for this reason.
+// Whether a lasso of `PLAIN` is rejected for this reason.
 fn rejects(alloc: Global, lasso: &str, want: &str) -> bool {
     says(alloc, PLAIN, lasso, Exit::No, want)
 }
@@ -53,7 +53,7 @@ fn round_rejects(alloc: Global, automaton: &str, lasso: &str) -> bool {
     )
 }
 
-// Whether the two texts are refused so, and of which of them that is said.
+// Whether the two texts are refused so, and the refusal is about this one of them.
 fn refused(alloc: Global, automaton: &str, lasso: &str, refusal: Refusal, text: Which) -> bool {
     match verdict(alloc, automaton, lasso, false) {
         Ok(Err(found)) => found == Refused::of(text, refusal),

@@ -1,4 +1,4 @@
-//! What command lines ask for, and what is told of wrong ones.
+//! What command lines request, and what is written for wrong ones.
 use crate::running::words_of;
 use omega_command_line::read_words;
 use std::alloc::Global;
@@ -140,7 +140,7 @@ static HELP: [(&str, &str); 3] = [
     ("omega check -h", "see more with '--help'"),
 ];
 
-/// What a command line is read as.
+/// Returns what a command line is read as.
 fn read(alloc: Global, typed: &str) -> Result<String, Fail> {
     let words = words_of(alloc, typed)?;
     let line = read_words(alloc, words.as_slice())?;
@@ -152,7 +152,7 @@ fn shows(line: &str, begins: &str, says: &str) -> bool {
     line.starts_with(begins) && line.contains(says)
 }
 
-/// Fails where a command line is not read as one that shows itself with this begin.
+/// Fails unless a command line is read as one that shows itself with this beginning.
 fn expect_shown(
     alloc: Global,
     begins: &str,

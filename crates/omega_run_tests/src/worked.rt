@@ -127,7 +127,7 @@ static REFUSALS: [(&str, &str, u8, &str); 7] = [
     ),
 ];
 
-/// A fault of the command line that is found after `clap`, and what is told of it.
+/// A fault of the command line that is found after `clap`, and its text.
 const FAULT: (&str, &str) = (
     "omega canon --format hoa --from 4",
     "error: the argument '--from <ID>' can only be used with '--format pg'\n\nUsage: omega canon [OPTIONS] --format <FORMAT> [FILE]\n\nFor more information, try '--help'.\n",

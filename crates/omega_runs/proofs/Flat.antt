@@ -2,18 +2,17 @@
 use Rattle.std.proofs.Common.{◌≡◌, ℕ, zero, suc, ◌<◌, ◌≤◌, inl, inr, List, [], ◌∷◌, ◌++◌, length, map, get_or, Contains, Option, Some, sym, ap, subst, arith}
 use Rattle.std.specs.List.{flat_map}
 use Rattle.std.proofs.lemmas.List.Elements.{Contains-append_cases, Contains-append_left, Contains-append_right}
-use Rattle.omega_text.specs.Cases.{never, or_memory, or_task}
+use Rattle.omega_text.specs.Cases.{never, or_task}
 use Rattle.omega_text.specs.declared.refusal.Refusal.{Refusal}
 use Rattle.omega_text.specs.declared.refusal.Refusal.TheVariants.{Automaton, Game, Io, Memory, Task, Text}
 use Rattle.omega_text.specs.declared.refusal.task.TaskFault.TheVariants.{TooManyPropositions}
-use Rattle.omega_acc.specs.label.Label.{LabelTree}
-use Rattle.omega_acc.specs.Limits.{most_mentioned}
-use Rattle.omega_acc.specs.label.Satisfiable.{mentioned}
+use Rattle.omega_label.specs.Label.{LabelTree}
+use Rattle.omega_expression.specs.Limits.{most_mentioned}
+use Rattle.omega_satisfying.specs.Satisfiable.{mentioned}
 use Rattle.omega_automaton.specs.Automaton.{BodyEdge, Description, edges_from}
 use Rattle.omega_automaton.specs.declared.edge.Edge.{Edge}
 use Rattle.omega_automaton.specs.declared.state.State.{State}
-use Rattle.omega_runs.specs.Judging.{HasNarrowLabels, HasWideLabel, IsLabelIn}
-use Rattle.omega_runs.specs.Judging.{HasNarrow, HasWide, IsNarrow, IsWide}
+use Rattle.omega_runs.specs.Judging.{GivesUpOn, HasNarrow, HasNarrowLabels, HasWide, HasWideLabel, IsLabelIn, IsNarrow, IsWide}
 
 -- an edge that a state lists, as an edge of the body
 contains_from : (state : State) (edges : List Edge) (k : ℕ) (edge : Edge) → k < length edges → edge ≡ get_or edges k edge
@@ -66,8 +65,7 @@ wide_label a k state below here (inr (edge, contained, wide)) =
     (wide.0, inr (record { source = state; edge = edge }, contains_flat a.defined k state edge below here contained, wide.1), wide.2)
 
 -- a refusal for one is a refusal for the other
-pub wide_refused : (P Q : Type 0) → (P → Q) → (e : Refusal) → or_task (λ fault. (fault ≡ TooManyPropositions) × P) (or_memory never) e
-    → or_task (λ fault. (fault ≡ TooManyPropositions) × Q) (or_memory never) e
+pub wide_refused : (P Q : Type 0) → (P → Q) → (e : Refusal) → GivesUpOn P e → GivesUpOn Q e
 wide_refused P Q gives (Text fault) refused = refused
 wide_refused P Q gives (Game fault) refused = refused
 wide_refused P Q gives (Automaton fault) refused = refused
@@ -75,7 +73,7 @@ wide_refused P Q gives (Task fault) refused = (refused.0, gives refused.1)
 wide_refused P Q gives Memory refused = refused
 wide_refused P Q gives Io refused = refused
 
--- where the labels of each state and of its edges are narrow, all are
+-- if the labels of each state and of its edges are narrow, all are
 pub narrow_labels : (a : Description) → ((k : ℕ) → k < length a.defined → (d : State) → HasNarrow (get_or a.defined k d)) → HasNarrowLabels a
 narrow_labels a narrow label is_label = go is_label
   where
@@ -95,8 +93,7 @@ narrow_labels a narrow label is_label = go is_label
 
 -- a wide label of one of a state's edges is one of the state's
 pub wide_edge_refused : (state : State) (k : ℕ) (edge : Edge) → k < length state.edges → edge ≡ get_or state.edges k edge → (e : Refusal)
-    → or_task (λ fault. (fault ≡ TooManyPropositions) × IsWide edge.label) never e
-    → or_task (λ fault. (fault ≡ TooManyPropositions) × HasWide state) (or_memory never) e
+    → or_task (λ fault. (fault ≡ TooManyPropositions) × IsWide edge.label) never e → GivesUpOn (HasWide state) e
 wide_edge_refused state k edge below here (Text fault) refused = absurd refused
 wide_edge_refused state k edge below here (Game fault) refused = absurd refused
 wide_edge_refused state k edge below here (Automaton fault) refused = absurd refused

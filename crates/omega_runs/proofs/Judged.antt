@@ -6,7 +6,7 @@ use Rattle.omega_runs.specs.Judging.{AreUsable}
 use Rattle.omega_runs.specs.Lasso.{IsUsable}
 use Rattle.omega_runs.specs.Judging.{AreJudged}
 
--- some edges and then others
+-- two lists of judged edges, joined
 pub judged_on : (xs : List BodyEdge) (us : List Bool) (ys : List BodyEdge) (vs : List Bool) → AreJudged xs us → AreJudged ys vs → AreJudged (xs ++ ys) (us ++ vs)
 judged_on [] [] ys vs first second = second
 judged_on [] (u ∷ us) ys vs first second = absurd first
@@ -43,7 +43,7 @@ judged_at (x ∷ xs) (u ∷ us) judged zero edge here =
     some_bool u e = cc
 judged_at (x ∷ xs) (u ∷ us) judged (suc number) edge here = judged_at xs us judged.1 number edge here
 
--- edges that were judged are told by number
+-- judged edges, by number
 pub judged_usable : (a : Description) (usable : List Bool) → AreJudged (edges_of a) usable → AreUsable a usable
 judged_usable a usable judged = record {
   entries = length_judged (edges_of a) usable judged;

@@ -53,7 +53,7 @@ placed_in state count k place there =
 
 module _ (a : Description) (at : ℕ) (state : State) (places : List EdgePlace) (below : at < length a.defined) (here : state ≡ get_or a.defined at state)
     (before : ArePlacedTo a at places) where
-  -- where the edges from this state on stand
+  -- the places of the edges from this state on
   split : (k : ℕ) → StandsFrom a.defined (length places + k) (state ∷ drop (at + 1) a.defined) k
   split k = split_at a.defined at state (length places + k) k below here (before.stands k)
 

@@ -5,7 +5,7 @@ use Rattle.std.proofs.lemmas.Bool.{cases_eq, ne_eqb, or_cases}
 use Rattle.std.proofs.lemmas.Map.Steps.{length-le_from_distinct_below}
 
 module _ (f : ℕ → ℕ) where
-  -- so many values from an index on
+  -- `n` values from an index on
   abbrev values : ℕ → ℕ → List ℕ
   values i zero = []
   values i (suc n) = f i ∷ values (suc i) n

@@ -17,7 +17,7 @@ none_passes test [] i x none below here = absurd (omega arith)
 none_passes test (y ∷ ys) zero x none below here = ap test here ∙ (or_parts (test y) (list_any test ys) none).0
 none_passes test (y ∷ ys) (suc i) x none below here = none_passes test ys i x (or_parts (test y) (list_any test ys) none).1 (omega arith) here
 
--- where nothing branches, an edge that a state lists has one target at most
+-- if nothing branches, an edge that a state lists has one target at most
 pub single_target : (a : Description) → has_universal_branching a ≡ false → (index : ℕ) (state : State) (edge : Edge) → index < length a.defined → state ≡ get_or a.defined index state
     → Contains state.edges edge → length edge.targets ≤ 1
 single_target a plain index state edge below here has =

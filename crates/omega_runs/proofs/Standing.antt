@@ -8,7 +8,7 @@ use Rattle.omega_automaton.specs.declared.edge.Edge.{Edge}
 use Rattle.omega_automaton.specs.declared.state.State.{State}
 use Rattle.omega_runs.specs.Words.{index_in}
 
--- the edge of a number stands among states from one on, at a number there
+-- the edge with this number among `states` is that with the number `following` among `left`
 pub record StandsFrom (states : List State) (number : ℕ) (left : List State) (following : ℕ) : Type 0 where
   pub same : slice_get (flat_map edges_from states) number ≡ slice_get (flat_map edges_from left) following
   pub index : index_in states number ≡ index_in left following

@@ -1,7 +1,7 @@
 -- At which valuations an edge can be taken: those at which its label is true.
 use Rattle.std.proofs.Common.{◌≡◌, ◌↔◌, ℕ, Bool, true, Option, Some, None, sym, subst, ◌∙◌}
 use Rattle.std.specs.Option.{unwrap_or}
-use Rattle.omega_acc.specs.label.Label.{LabelTree, truth}
+use Rattle.omega_label.specs.Label.{LabelTree, truth}
 use Rattle.omega_automaton.specs.Automaton.{BodyEdge, Description}
 use Rattle.omega_runs.specs.Lasso.{label_of}
 use Rattle.omega_runs.specs.Laws.{EdgesAreTakenWhereTrue, IsIndexLabel}

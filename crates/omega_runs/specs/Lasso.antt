@@ -1,13 +1,12 @@
 -- Accepting lassos of automata: usable edges, their marks, and where they lead (HOA v1; docs/formats.md, automata).
 use Rattle.std.specs.Prelude.{◌≡◌, ℕ, ◌<◌, IsTrue, IfSome, List, [], ◌∷◌, ◌++◌, length, map, option_map, Option, Some, Contains}
 use Rattle.std.specs.Option.{option_or, unwrap_or}
-use Rattle.omega_acc.specs.formula.Acceptance.{accepts}
-use Rattle.omega_acc.specs.label.Label.{LabelTree}
-use Rattle.omega_acc.specs.label.Satisfiable.{IsSatisfiable}
+use Rattle.omega_formula.specs.Acceptance.{accepts}
+use Rattle.omega_label.specs.Label.{LabelTree}
+use Rattle.omega_satisfying.specs.Satisfiable.{IsSatisfiable}
 use Rattle.omega_automaton.specs.Automaton.{BodyEdge, Description, edge_at}
 
--- the label of an edge: that of the state that it leaves, which is the label of each of the state's edges,
--- or else its own
+-- the label of an edge: that of the state that it leaves, which labels each of the state's edges, or else its own
 abbrev pub label_of : BodyEdge → Option LabelTree
 label_of edge = option_or edge.source.label edge.edge.label
 
@@ -19,11 +18,11 @@ IsUsable edge = IfSome (label_of edge) IsSatisfiable
 abbrev pub marks_of : BodyEdge → List ℕ
 marks_of edge = edge.source.marks ++ edge.edge.marks
 
--- the marks of the edge of a number
+-- the marks of the edge with this number
 abbrev pub marks_at : Description → ℕ → List ℕ
 marks_at a number = unwrap_or (option_map marks_of (edge_at a number)) []
 
--- the edge of a number is usable and leads from a state to a state
+-- the edge with this number is usable and leads from `from` to `to` alone
 pub record IsStep (a : Description) (from number to : ℕ) : Type 0 where
   pub edge : BodyEdge
   pub numbered : edge_at a number ≡ Some edge
@@ -31,7 +30,7 @@ pub record IsStep (a : Description) (from number to : ℕ) : Type 0 where
   pub leaves : edge.source.number ≡ from
   pub enters : edge.edge.targets ≡ to ∷ []
 
--- usable edges, given by their numbers, lead from a state to a state: each leaves the state that the one before enters
+-- usable edges, given by number, lead from `from` to `to`: each leaves the state that the one before enters
 abbrev pub Leads : Description → ℕ → List ℕ → ℕ → Type 0
 Leads a from [] to = from ≡ to
 Leads a from (number ∷ numbers) to = (next : ℕ) × IsStep a from number next × Leads a next numbers to
@@ -54,6 +53,6 @@ pub record IsAcceptingLasso (a : Description) (stem cycle : List ℕ) : Type 0 w
   pub lasso : IsLasso a stem cycle
   pub accepted : IsTrue (accepts (map (marks_at a) cycle) a.acceptance)
 
--- an accepting lasso begins at a start: its stem leads from there
+-- a lasso accepts, and its stem leads from the state `start`
 abbrev pub AcceptsFrom : Description → ℕ → List ℕ → List ℕ → Type 0
 AcceptsFrom a start stem cycle = (accepting : IsAcceptingLasso a stem cycle) × (accepting.lasso.start ≡ start)

@@ -7,6 +7,7 @@ pub mod Runs
 pub mod Words
 pub mod Verdict
 pub mod Places
+pub mod Found
 pub mod Laws
 pub mod Parity
 pub mod private

@@ -1,11 +1,11 @@
 -- Parity formulas of infinitely many marks: the limit of their priorities decides.
 use Rattle.std.specs.Prelude.{◌≡◌, ◌↔◌, ℕ, ◌<◌, ◌≤◌, ◌%◌, All, List}
-use Rattle.omega_acc.specs.formula.Kind.{parity_formula, priority_of}
-use Rattle.omega_acc.specs.declared.formula.kind.ParityKind.{ParityKind}
+use Rattle.omega_formula.specs.Kind.{parity_formula, priority_of}
+use Rattle.omega_formula.specs.declared.kind.ParityKind.{ParityKind}
 use Rattle.omega_runs.specs.Runs.{Satisfies}
 
--- the limit of infinitely many numbers is the greatest that comes for ever: it comes at or after every index, and from
--- some index on none greater comes
+-- the limit of infinitely many numbers: the greatest that recurs for ever. It occurs at or after every index, and from
+-- some index on none is greater
 pub record IsLimit (numbers : ℕ → ℕ) (limit : ℕ) : Type 0 where
   pub recurring : (i : ℕ) → (j : ℕ) × (i ≤ j) × (numbers j ≡ limit)
   pub from : ℕ

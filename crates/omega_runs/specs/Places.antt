@@ -1,4 +1,4 @@
--- Where the edges of an automaton stand, by their numbers.
+-- The places of an automaton's edges, by number.
 use Rattle.std.specs.Prelude.{◌≡◌, ℕ, List, length, Some, slice_get}
 use Rattle.omega_automaton.specs.Automaton.{Description, edge_at, edge_count}
 use Rattle.omega_automaton.specs.declared.edge.Edge.{Edge}
@@ -6,7 +6,7 @@ use Rattle.omega_automaton.specs.declared.state.State.{State}
 use Rattle.omega_runs.specs.Words.{index_in}
 use Rattle.omega_runs.specs.declared.place.EdgePlace.{EdgePlace}
 
--- the edge of a number stands at a place: the state there has it at its index
+-- the edge with this number is at this place: the state there has it at the index
 pub record EdgeStandsAt (a : Description) (number : ℕ) (place : EdgePlace) : Type 0 where
   pub state : State
   pub edge : Edge
@@ -15,7 +15,7 @@ pub record EdgeStandsAt (a : Description) (number : ℕ) (place : EdgePlace) : T
   pub numbered : edge_at a number ≡ Some (record { source = state; edge = edge })
   pub index_is : place.index ≡ index_in a.defined number
 
--- the places of all edges, by their numbers
+-- the places of all edges, by number
 pub record ArePlaces (a : Description) (places : List EdgePlace) : Type 0 where
   pub all : length places ≡ edge_count a
   pub each : (number : ℕ) (place : EdgePlace) → slice_get places number ≡ Some place → EdgeStandsAt a number place

@@ -1,28 +1,28 @@
--- Infinite runs of automata without universal branching, and that accepting runs and accepting lassos are the same
--- question (HOA v1, acceptance).
+-- Infinite runs of automata without universal branching. There is an accepting run exactly if there is an accepting
+-- lasso (HOA v1, acceptance).
 use Rattle.std.specs.Prelude.{◌≡◌, ◌⊎◌, ℕ, ◌+◌, ◌≤◌, Bool, false, IsTrue, List}
-use Rattle.omega_acc.specs.formula.Acceptance.{AccTree, conjunction, constant, disjunction, fin, inf}
+use Rattle.omega_formula.specs.Acceptance.{AccTree, conjunction, constant, disjunction, fin, inf}
 use Rattle.omega_automaton.specs.Automaton.{Description}
 use Rattle.omega_automaton.specs.Branching.{has_universal_branching}
 use Rattle.omega_walk_laws.specs.Marks.{meets}
 use Rattle.omega_runs.specs.Lasso.{IsAcceptingLasso, IsStart, IsStep, marks_at}
 
--- a run: a start, and infinitely many usable edges by their numbers, each leaving the state that the one before enters
+-- a run: a start, and infinitely many usable edges, given by number, each leaving the state that the one before enters
 pub record IsRun (a : Description) (states edges : ℕ → ℕ) : Type 0 where
   pub begins : IsStart a (states 0)
   pub steps : (i : ℕ) → IsStep a (states i) (edges i) (states (i + 1))
 
--- at or after every index some marks hold the set, or with `!` lack it
+-- infinitely often, at or after every index, the marks contain `set`, or, if `negated`, lack it
 abbrev pub ForEver : (ℕ → List ℕ) → Bool → ℕ → Type 0
 ForEver marks negated set = (i : ℕ) → (j : ℕ) × (i ≤ j) × IsTrue (meets negated set (marks j))
 
--- from some index on no marks hold the set, or with `!` lack it
+-- from some index on, the marks never contain `set`, or, if `negated`, always do
 abbrev pub AtLastNever : (ℕ → List ℕ) → Bool → ℕ → Type 0
 AtLastNever marks negated set = (from : ℕ) × ((j : ℕ) → from ≤ j → meets negated set (marks j) ≡ false)
 
--- an acceptance formula holds of infinitely many marks: `Inf` where they come for ever, `Fin` where they at last come
--- never, a conjunction where both its parts do; a disjunction where one of them does and is named, which is more than
--- that not both fail, since there is no excluded middle here
+-- infinitely many marks satisfy an acceptance formula: an `Inf` if its set occurs infinitely often, a `Fin` if only
+-- finitely often, a conjunction if they satisfy both parts. For a disjunction a part that they satisfy has to be named,
+-- which is more than that not both fail, since there is no excluded middle here
 abbrev pub Satisfies : (ℕ → List ℕ) → AccTree → Type 0
 Satisfies marks (constant value) = IsTrue value
 Satisfies marks (inf negated set) = ForEver marks negated set
@@ -30,7 +30,7 @@ Satisfies marks (fin negated set) = AtLastNever marks negated set
 Satisfies marks (conjunction left right) = Satisfies marks left × Satisfies marks right
 Satisfies marks (disjunction left right) = Satisfies marks left ⊎ Satisfies marks right
 
--- an accepting run
+-- a run whose marks satisfy the acceptance formula
 pub record IsAcceptingRun (a : Description) (states edges : ℕ → ℕ) : Type 0 where
   pub run : IsRun a states edges
   pub accepted : Satisfies (λ i. marks_at a (edges i)) a.acceptance

@@ -1,2 +1,2 @@
--- What only private contracts cite.
+-- Definitions that only private contracts cite.
 pub mod Placing

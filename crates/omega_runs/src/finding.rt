@@ -1,22 +1,22 @@
-ghost use Rattle.std.specs.Prelude.{◌≡◌, ◌<◌, None, Some, length, IfNone, IfSome, slice_index_or};
+ghost use Rattle.std.specs.Prelude.{◌≡◌, ◌<◌, None, length, IfNone, IfSome, slice_index_or};
 ghost use Rattle.omega_automaton.specs.Automaton.{edge_at};
-ghost use Rattle.omega_automaton.specs.declared.edge.Edge.{Edge};
-ghost use Rattle.omega_runs.specs.Words.{index_in};
+ghost use Rattle.omega_runs.specs.Found.{IsFoundEdge};
 ghost use Rattle.omega_runs.specs.Places.{ArePlaces};
+ghost use Rattle.omega_runs.specs.Words.{index_in};
 
 use crate::place::EdgePlace;
 use omega_automaton::{Automaton, State};
 
-/// An edge by its state and its place there.
+/// An edge, by its state and its index there.
 #[derive(Clone, Copy)]
 pub struct FoundEdge<'a> {
-    /// The state that it leaves.
+    /// The state that the edge leaves.
     pub state: &'a State,
-    /// Its place among the edges of the state, from 0.
+    /// Its index among the edges of the state, from 0.
     pub index: usize,
 }
 
-/// The edge of a number, if there is one, by the places of all edges.
+/// Returns the edge with this `number`, found by the `places` of all edges; none if there is no such edge.
 pub fn edge_of<'a>(
     automaton: &'a Automaton,
     places: &[EdgePlace],
@@ -25,7 +25,7 @@ pub fn edge_of<'a>(
     requires { ArePlaces automaton.now places.now }
     ensures index { IfSome result (λ found. found.index ≡ index_in automaton.now.defined number) }
     ensures within { IfSome result (λ found. found.index < length found.state.now.edges) }
-    ensures edge { IfSome result (λ found. (d : Edge) → edge_at automaton.now number ≡ Some (record { source = found.state.now; edge = slice_index_or found.state.now.edges found.index d })) }
+    ensures edge { IfSome result (IsFoundEdge automaton.now number) }
     ensures none { IfNone result (edge_at automaton.now number ≡ None) }
 {
     let at = number as usize;
@@ -40,7 +40,7 @@ pub fn edge_of<'a>(
     })
 }
 
-/// The state at a place.
+/// Returns the state at index `at`.
 fn state_at(states: &[State], at: usize) -> &State
     requires { at < length states.now }
     ensures { result.now ≡ slice_index_or states.now at result.now }

@@ -1,6 +1,6 @@
-//! Laws of runs and words. Accepting lassos, which are finite, tell whether an automaton without universal branching
-//! has an accepting run, which is not, and whether it accepts a word. Verdicts never contradict. An edge can be taken
-//! where its label is true. Of a parity formula the limit of the priorities decides.
+//! Laws of runs and words. An automaton without universal branching has an accepting run, which is infinite, exactly if
+//! it has an accepting lasso, which is finite; and exactly then it accepts a word. Verdicts never contradict. An edge
+//! can be taken exactly if its label is true. The limit of the priorities decides a parity formula.
 
 ghost use Rattle.omega_runs.specs.Laws.{EdgesAreTakenWhereTrue, EmptyAcceptsNoWord, VerdictsAgree};
 ghost use Rattle.omega_runs.specs.Parity.{ParityIsLimit};
@@ -9,54 +9,54 @@ ghost use Rattle.omega_runs.specs.Words.{AcceptedWordsHaveLassos, AcceptingRunsH
 
 use omega_acc::parity_is_priority;
 
-/// An automaton without universal branching that has an accepting run, of any acceptance formula,
-/// has an accepting lasso.
+/// States that an automaton without universal branching that has an accepting run, of any acceptance formula, has an
+/// accepting lasso.
 pub fn accepting_runs_have_lassos()
     ensures { AcceptingRunsHaveLassos }
 {}
 
-/// An automaton without universal branching that has an accepting lasso has an accepting run: the stem, and then the
-/// cycle for ever.
+/// States that an automaton without universal branching that has an accepting lasso has an accepting run: the stem, and
+/// then the cycle for ever.
 pub fn lassos_are_accepting_runs()
     ensures { LassosAreAcceptingRuns }
 {}
 
-/// An automaton without universal branching that accepts a word has an accepting lasso. So one without an accepting
-/// lasso accepts no word.
+/// States that an automaton without universal branching that accepts a word has an accepting lasso. So one without an
+/// accepting lasso accepts no word.
 pub fn accepted_words_have_lassos()
     ensures { AcceptedWordsHaveLassos }
 {}
 
-/// Each accepting run of an automaton without universal branching is a run on a word that it accepts: each of its edges
-/// is usable, so that some propositions make its label true, or has no label,
-/// and is taken at the valuation of its index.
+/// States that each accepting run of an automaton without universal branching is a run on a word that it accepts. Each
+/// edge of the run is usable: some propositions make its label true, or it has no label and is taken at the valuation
+/// of its index.
 pub fn accepting_runs_have_words()
     ensures { AcceptingRunsHaveWords }
 {}
 
-/// An automaton without universal branching that has an accepting lasso accepts a word.
+/// States that an automaton without universal branching that has an accepting lasso accepts a word.
 pub fn lassos_have_accepted_words()
     ensures { LassosHaveAcceptedWords }
 {}
 
-/// Two verdicts on an automaton never contradict: one is `Empty` exactly if the other is.
+/// States that two verdicts on an automaton never contradict: one is `Empty` exactly if the other is.
 pub fn verdicts_agree()
     ensures { VerdictsAgree }
 {}
 
-/// An automaton without universal branching accepts no word if the verdict on it is `Empty`.
+/// States that an automaton without universal branching accepts no word if the verdict on it is `Empty`.
 pub fn empty_accepts_no_word()
     ensures { EmptyAcceptsNoWord }
 {}
 
-/// An edge can be taken exactly where its label is true: that of its state, or else its own, or else any label that is
-/// true at the valuation of the edge's index alone.
+/// States that an edge can be taken exactly if its label is true: that of its state, or else its own, or else any label
+/// that is true at the valuation of the edge's index alone.
 pub fn edges_are_taken_where_true()
     ensures { EdgesAreTakenWhereTrue }
 {}
 
-/// Infinitely many marks of a parity kind satisfy its formula exactly if the limit of their priorities is even: the
-/// greatest that comes again and again.
+/// States that infinitely many marks of a parity kind satisfy its formula exactly if the limit of their priorities is
+/// even. The limit is the greatest priority that recurs for ever.
 pub fn parity_is_limit()
     ensures { ParityIsLimit }
 {

@@ -1,7 +1,7 @@
 //! What the automata of the Hanoi format mean: infinite runs, words, accepting lassos and verdicts on emptiness; and
 //! their edges, found by number.
 //!
-//! Numbers of refusals are those of `Refusal`; docs/formats.md says when each comes.
+//! docs/formats.md says when each refusal comes.
 #![tactic(auto)]
 
 mod finding;

@@ -1,8 +1,8 @@
-/// Where an edge stands in an automaton.
+/// The place of an edge in an automaton.
 #[derive(Clone, Copy, Debug, PartialEq, Eq)]
 pub struct EdgePlace {
-    /// The place of its state among the defined ones, from 0.
+    /// The index of its state among the defined ones, from 0.
     pub state: usize,
-    /// Its place among the edges of the state, from 0.
+    /// Its index among the edges of the state, from 0.
     pub index: usize,
 }

@@ -6,7 +6,7 @@ use crate::place::EdgePlace;
 use omega_automaton::{Automaton, Refusal};
 use std::alloc::Global;
 
-/// Where the edges of an automaton stand, by their numbers. 60 alone. Linear in the states and the edges.
+/// Returns the places of the edges of `automaton`, by number. Linear in the states and the edges.
 pub fn edge_places(alloc: Global, automaton: &Automaton) -> Result<Vec<EdgePlace>, Refusal>
     ensures places { IfOk result (λ places. ArePlaces automaton.now places.items) }
     ensures memory { IsOkUnless result Refusal.Memory }
@@ -18,7 +18,7 @@ pub fn edge_places(alloc: Global, automaton: &Automaton) -> Result<Vec<EdgePlace
     Ok(places)
 }
 
-/// Puts last the places of so many edges of the state at a place. 60 alone.
+/// Appends the places of the first `count` edges of the state at index `state`.
 fn add_places(places: &mut Vec<EdgePlace>, state: usize, count: usize) -> Result<(), Refusal>
     ensures places { OnOk result (places.new.items ≡ places.old.items ++ places_in state count) }
     ensures memory { IsOkUnless result Refusal.Memory }

@@ -1,4 +1,4 @@
--- The open branches of a search: what is assumed, and the branches that wait.
+-- The open branches of a search: the assumptions, and the pending branches.
 use Rattle.std.proofs.Common.{◌≡◌, ℕ, Bool, true, false, not, ◌&&◌, ◌||◌, cond, nat_eq, List, [], ◌∷◌, ◌++◌, Option, Some, None, take, inl, inr, ap, refl, subst, sym, ◌∙◌, arith, eq-eqb, length-append}
 use Rattle.std.proofs.Math.Bool.{beq}
 use Rattle.std.proofs.lemmas.Bool.Decides.{eqb_tells}
@@ -8,7 +8,7 @@ use Rattle.std.specs.List.{AllByRecursion, IsDistinct}
 use Rattle.std.specs.Map.{keys_of, lookup}
 use Rattle.omega_satisfying.specs.declared.branches.Later.{Later}
 use Rattle.omega_satisfying.specs.private.Leading.{is_as}
-use Rattle.omega_satisfying.specs.private.Waiting.{IsFree, IsWaiting, fits, fits_one, waits_for}
+use Rattle.omega_satisfying.specs.private.Pending.{IsFree, IsPending, fits, fits_one, pending_lead}
 
 and-true : (holds : Bool) → (holds && true) ≡ holds
 and-true true = refl
@@ -26,52 +26,52 @@ fits-more held (one ∷ rest) proposition value =
     ap (λ others. is_as one.1 (held one.0) && others) (fits-more held rest proposition value)
     ∙ and-assoc (is_as one.1 (held one.0)) (fits held rest) (is_as value (held proposition))
 
--- the branches that wait do so under more assumptions too
-pub IsWaiting-more : (assumed more : List (ℕ × Bool)) (later : List Later) → IsWaiting assumed later → IsWaiting (assumed ++ more) later
-IsWaiting-more assumed more [] is = tt
-IsWaiting-more assumed more (next ∷ rest) is =
+-- branches stay pending under more assumptions
+pub IsPending-more : (assumed more : List (ℕ × Bool)) (later : List Later) → IsPending assumed later → IsPending (assumed ++ more) later
+IsPending-more assumed more [] is = tt
+IsPending-more assumed more (next ∷ rest) is =
     let same : take next.count (assumed ++ more) ≡ take next.count assumed = take-append-le next.count assumed more is.0 in (
       omega (arith, is.0, length-append assumed more),
-      subst (λ front. IsFree front next.against) (sym same) is.1,
-      subst (λ front. IsWaiting front rest) (sym same) is.2,
+      subst (λ front. IsFree front next.extra) (sym same) is.1,
+      subst (λ front. IsPending front rest) (sym same) is.2,
     )
 
-waits_for-more : (held onward : ℕ → Bool) (assumed more : List (ℕ × Bool)) (later : List Later) → IsWaiting assumed later
-    → waits_for held onward (assumed ++ more) later ≡ waits_for held onward assumed later
-waits_for-more held onward assumed more [] is = refl
-waits_for-more held onward assumed more (next ∷ rest) is =
-    ap (λ front. ((fits held front && fits_one held next.against) && onward next.place) || waits_for held onward front rest)
+pending_lead-more : (held onward : ℕ → Bool) (assumed more : List (ℕ × Bool)) (later : List Later) → IsPending assumed later
+    → pending_lead held onward (assumed ++ more) later ≡ pending_lead held onward assumed later
+pending_lead-more held onward assumed more [] is = refl
+pending_lead-more held onward assumed more (next ∷ rest) is =
+    ap (λ front. ((fits held front && fits_one held next.extra) && onward next.place) || pending_lead held onward front rest)
     (take-append-le next.count assumed more is.0)
 
 -- what all branches do once one more value is assumed
-pub assumed-more : (held onward : ℕ → Bool) (now : Bool) (assumed : List (ℕ × Bool)) (proposition : ℕ) (value : Bool) (later : List Later) → IsWaiting assumed later
-    → ((fits held (assumed ++ (proposition, value) ∷ []) && now) || waits_for held onward (assumed ++ (proposition, value) ∷ []) later)
-    ≡ ((fits held assumed && (is_as value (held proposition) && now)) || waits_for held onward assumed later)
+pub assumed-more : (held onward : ℕ → Bool) (now : Bool) (assumed : List (ℕ × Bool)) (proposition : ℕ) (value : Bool) (later : List Later) → IsPending assumed later
+    → ((fits held (assumed ++ (proposition, value) ∷ []) && now) || pending_lead held onward (assumed ++ (proposition, value) ∷ []) later)
+    ≡ ((fits held assumed && (is_as value (held proposition) && now)) || pending_lead held onward assumed later)
 assumed-more held onward now assumed proposition value later is =
-    (λ i. (fits-more held assumed proposition value i && now) || waits_for-more held onward assumed ((proposition, value) ∷ []) later is i)
-    ∙ ap (λ front. front || waits_for held onward assumed later) (sym (and-assoc (fits held assumed) (is_as value (held proposition)) now))
+    (λ i. (fits-more held assumed proposition value i && now) || pending_lead-more held onward assumed ((proposition, value) ∷ []) later is i)
+    ∙ ap (λ front. front || pending_lead held onward assumed later) (sym (and-assoc (fits held assumed) (is_as value (held proposition)) now))
 
-put-off : (fitting now more place others : Bool)
+deferred-once : (fitting now more place others : Bool)
     → ((fitting && now) || (((fitting && more) && place) || others)) ≡ ((fitting && (now || (more && place))) || others)
-put-off true true more place others = refl
-put-off true false more place others = refl
-put-off false now more place others = refl
+deferred-once true true more place others = refl
+deferred-once true false more place others = refl
+deferred-once false now more place others = refl
 
--- what all branches do once one is put off
-pub waiting-more : (held onward : ℕ → Bool) (now : Bool) (assumed front : List (ℕ × Bool)) (place : ℕ) (against : Option (ℕ × Bool)) (later : List Later) → front ≡ assumed
-    → ((fits held assumed && now) || (((fits held front && fits_one held against) && onward place) || waits_for held onward front later))
-    ≡ ((fits held assumed && (now || (fits_one held against && onward place))) || waits_for held onward assumed later)
-waiting-more held onward now assumed front place against later same =
-    ap (λ some. (fits held assumed && now) || (((fits held some && fits_one held against) && onward place) || waits_for held onward some later)) same
-    ∙ put-off (fits held assumed) now (fits_one held against) (onward place) (waits_for held onward assumed later)
+-- what all branches do once one is added
+pub pending-more : (held onward : ℕ → Bool) (now : Bool) (assumed front : List (ℕ × Bool)) (place : ℕ) (extra : Option (ℕ × Bool)) (later : List Later) → front ≡ assumed
+    → ((fits held assumed && now) || (((fits held front && fits_one held extra) && onward place) || pending_lead held onward front later))
+    ≡ ((fits held assumed && (now || (fits_one held extra && onward place))) || pending_lead held onward assumed later)
+pending-more held onward now assumed front place extra later same =
+    ap (λ some. (fits held assumed && now) || (((fits held some && fits_one held extra) && onward place) || pending_lead held onward some later)) same
+    ∙ deferred-once (fits held assumed) now (fits_one held extra) (onward place) (pending_lead held onward assumed later)
 
--- what all branches do once the search goes back
-pub back-again : (fitting front more place others : Bool)
+-- what all branches do once the search backtracks
+pub resumed : (fitting front more place others : Bool)
     → ((front && (more && place)) || others) ≡ ((fitting && false) || (((front && more) && place) || others))
-back-again true true more place others = refl
-back-again true false more place others = refl
-back-again false true more place others = refl
-back-again false false more place others = refl
+resumed true true more place others = refl
+resumed true false more place others = refl
+resumed false true more place others = refl
+resumed false false more place others = refl
 
 -- nothing is left where the last branch fails
 pub nothing-left : (fitting : Bool) → ((fitting && false) || false) ≡ false
@@ -122,10 +122,10 @@ as-same false false same = refl
 -- a literal that fails under what is assumed
 pub fails-now : (held onward : ℕ → Bool) (assumed : List (ℕ × Bool)) (later : List Later) (proposition : ℕ) (sign value : Bool) (next otherwise : ℕ)
     → lookup (nat_eq proposition) assumed ≡ Some value → is_as sign value ≡ false
-    → ((fits held assumed && onward otherwise) || waits_for held onward assumed later)
-    ≡ ((fits held assumed && ((is_as sign (held proposition) && onward next) || onward otherwise)) || waits_for held onward assumed later)
+    → ((fits held assumed && onward otherwise) || pending_lead held onward assumed later)
+    ≡ ((fits held assumed && ((is_as sign (held proposition) && onward next) || onward otherwise)) || pending_lead held onward assumed later)
 fails-now held onward assumed later proposition sign value next otherwise found not_so =
-    where-fitting (fits held assumed) (onward otherwise) ((is_as sign (held proposition) && onward next) || onward otherwise) (waits_for held onward assumed later)
+    where-fitting (fits held assumed) (onward otherwise) ((is_as sign (held proposition) && onward next) || onward otherwise) (pending_lead held onward assumed later)
     (λ fit.
     let no : is_as sign (held proposition) ≡ false =
     as-both sign value (held proposition) (fits-value held assumed proposition value found fit) ∙ not_so in
@@ -134,10 +134,10 @@ fails-now held onward assumed later proposition sign value next otherwise found 
 -- a literal that holds under what is assumed
 pub holds-now : (held onward : ℕ → Bool) (assumed : List (ℕ × Bool)) (later : List Later) (proposition : ℕ) (sign value : Bool) (next otherwise : ℕ)
     → lookup (nat_eq proposition) assumed ≡ Some value → is_as sign value ≡ true
-    → ((fits held assumed && (onward next || onward otherwise)) || waits_for held onward assumed later)
-    ≡ ((fits held assumed && ((is_as sign (held proposition) && onward next) || onward otherwise)) || waits_for held onward assumed later)
+    → ((fits held assumed && (onward next || onward otherwise)) || pending_lead held onward assumed later)
+    ≡ ((fits held assumed && ((is_as sign (held proposition) && onward next) || onward otherwise)) || pending_lead held onward assumed later)
 holds-now held onward assumed later proposition sign value next otherwise found so =
-    where-fitting (fits held assumed) (onward next || onward otherwise) ((is_as sign (held proposition) && onward next) || onward otherwise) (waits_for held onward assumed later)
+    where-fitting (fits held assumed) (onward next || onward otherwise) ((is_as sign (held proposition) && onward next) || onward otherwise) (pending_lead held onward assumed later)
     (λ fit.
     let yes : is_as sign (held proposition) ≡ true =
     as-both sign value (held proposition) (fits-value held assumed proposition value found fit) ∙ so in

@@ -1,4 +1,4 @@
--- Steps of a search: what one more of them changes, and what stands at a place.
+-- Steps of a search: what one more of them changes, and the step at a place.
 use Rattle.std.proofs.Common.{◌≡◌, ◌≢◌, ℕ, ◌<◌, ◌≤◌, Bool, false, ◌&&◌, ◌||◌, cond, List, [], ◌∷◌, ◌++◌, length, get_or, reverse, inl, inr, ap, refl, subst, sym, ◌∙◌, arith, eq-eqb, length-append}
 use Rattle.std.proofs.lemmas.Bool.{ne_eqb}
 use Rattle.std.proofs.lemmas.Bool.Decides.{eqb_tells}
@@ -17,7 +17,7 @@ leads_by-same (Either first second) count leading held one other is same = λ i.
 leads_by-same (Try literal) count leading held one other is same =
     λ i. (is_as literal.sign (held literal.proposition) && same literal.next is.next_before i) || same literal.otherwise is.otherwise_before i
 
--- a step may stand after more steps
+-- a step may come after more steps
 IsStep-more : (step : Step) (count more : ℕ) (leading further : (ℕ → Bool) → ℕ → Bool) → IsStep count leading step → count ≤ more
     → ((held : ℕ → Bool) (place : ℕ) → place < count → further held place ≡ leading held place) → IsStep more further step
 IsStep-more Done count more leading further is longer same = tt
@@ -43,7 +43,7 @@ among-last : (held : ℕ → Bool) (step : Step) (earlier : List Step)
 among-last held step earlier =
     ap (λ last. cond last (leads_by held (leads_among held earlier) step) (leads_among held earlier (length earlier))) (eq-eqb (length earlier) (length earlier) refl)
 
--- a step stands at a place, where the last one stands first
+-- a step is at a place, in reverse order
 pub record IsThere (steps : List Step) (place : ℕ) (step : Step) : Type 0 where
   pub leading : (held : ℕ → Bool) → leads_among held steps place ≡ leads_by held (leads_among held steps) step
   pub fits : IsStep (length steps) (λ held. leads_among held steps) step
@@ -72,7 +72,7 @@ there-earlier last step earlier place before is = record {
 reverse-cons : (last : Step) (earlier : List Step) → reverse (last ∷ earlier) ≡ reverse earlier ++ last ∷ []
 reverse-cons last earlier = reverse-append (last ∷ []) earlier
 
--- what stands at a place among steps is there
+-- the step that a list has at a place is there
 pub there : (steps : List Step) (place : ℕ) (step other : Step) → AreSteps steps → place < length steps → get_or (reverse steps) place other ≡ step
     → IsThere steps place step
 there [] place step other are within is = absurd (omega arith)
@@ -95,7 +95,7 @@ there (last ∷ earlier) place step other are within is =
           there-earlier last step earlier place before (there earlier place step other are.1 before found)
     ]
 
--- the same, where the last one stands last
+-- the same, in their own order
 pub record StandsAt (steps : List Step) (place : ℕ) (step : Step) : Type 0 where
   pub leading : (held : ℕ → Bool) → leads held steps place ≡ leads_by held (leads held steps) step
   pub fits : IsStep (length steps) (λ held. leads held steps) step

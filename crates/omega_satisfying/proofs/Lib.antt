@@ -2,3 +2,5 @@
 pub mod Branching
 pub mod Leading
 pub mod Parts
+pub mod Valuations
+pub mod WordLemmas

@@ -1,4 +1,5 @@
--- Which labels are given up; in `private` what only private contracts cite.
+-- Labels that can be true, and those that are left undecided; in `private` what only private contracts cite.
 pub mod Limits
+pub mod Satisfiable
 pub mod Undecided
 pub mod private

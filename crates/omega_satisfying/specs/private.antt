@@ -1,5 +1,7 @@
--- What only private contracts cite: steps of the search, how labels become steps, and the branches that wait.
+-- What only private contracts cite: words of 64 valuations, steps of the search, how labels become steps, and the
+-- pending branches.
 pub mod Branching
 pub mod Leading
-pub mod Taking
-pub mod Waiting
+pub mod Encoding
+pub mod Pending
+pub mod Words

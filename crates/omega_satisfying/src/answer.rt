@@ -1,22 +1,21 @@
-ghost use Rattle.std.specs.Prelude.{◌↔◌, IfErr, IfOk, IfSome, IsTrue};
-ghost use Rattle.omega_text.specs.Cases.{IsMemory};
-ghost use Rattle.omega_acc.specs.label.Satisfiable.{IsSatisfiable};
+ghost use Rattle.std.specs.Prelude.{◌↔◌, IfErr, IfOk, IfSome, IsOkUnless, IsTrue};
+ghost use Rattle.omega_satisfying.specs.Satisfiable.{IsSatisfiable};
 ghost use Rattle.omega_satisfying.specs.Undecided.{IsUndecidedLabel};
 
+use crate::encoding::{Exits, append_label};
+use crate::satisfying::satisfiable;
 use crate::search::search;
 use crate::steps::{DONE, STUCK, first_steps};
-use crate::taking::{Ways, put};
-use omega_acc::{Label, satisfiable};
+use omega_label::Label;
 use omega_text::{Refusal, TaskFault};
 use std::alloc::Global;
 
 /// Whether some set of propositions makes `label` true.
 ///
 /// A label that mentions at most `MOST_MENTIONED` propositions is judged by [`satisfiable`], without memory. For others
-/// a DPLL-like search assumes the first literal that it needs and goes on; if this fails it tries what else the label
-/// offers. It visits at most [`MOST_VISITED`](crate::MOST_VISITED) steps. A conjunction of literals or a disjunction of
-/// such takes about as many as it has atoms and operators. Refuses by `TaskFault::TooManyPropositions` if they do not
-/// suffice.
+/// a DPLL-like search assumes the first literal that it needs and goes on; if this fails it backtracks. It visits at
+/// most [`MOST_VISITED`](crate::MOST_VISITED) steps. A conjunction of literals or a disjunction of these takes about
+/// as many as it has atoms and operators. Fails with [`TaskFault::TooManyPropositions`] if the steps do not suffice.
 pub fn is_satisfiable(alloc: Global, label: &Label) -> Result<bool, Refusal>
     ensures ok { IfOk result (λ possible. IsTrue possible ↔ IsSatisfiable label.now) }
     ensures err { IfErr result (IsUndecidedLabel label.now) }
@@ -33,15 +32,15 @@ pub fn is_satisfiable(alloc: Global, label: &Label) -> Result<bool, Refusal>
 /// Returns the answer of the search, or none if it takes too many steps.
 fn searched(alloc: Global, label: &Label) -> Result<Option<bool>, Refusal>
     ensures ok { IfOk result (λ answer. IfSome answer (λ possible. IsTrue possible ↔ IsSatisfiable label.now)) }
-    ensures err { IfErr result IsMemory }
+    ensures memory { IsOkUnless result Refusal.Memory }
 {
     let shape = label.shape(alloc)?;
     let mut steps = first_steps(alloc)?;
-    let ways = Ways {
+    let exits = Exits {
         after: DONE,
         otherwise: STUCK,
         whole: true,
     };
-    let start = put(&shape, true, ways, &mut steps)?;
+    let start = append_label(&shape, true, exits, &mut steps)?;
     search(alloc, steps.as_slice(), start)
 }

@@ -1,7 +1,6 @@
-ghost use Rattle.std.specs.Prelude.{◌≡◌, ◌&&◌, ◌||◌, ℕ, Bool, false, true, not, if◌then◌else◌, nat_eq, IfErr, IfNone, IfOk, IfSome, OnOk};
+ghost use Rattle.std.specs.Prelude.{◌≡◌, not, if◌then◌else◌, nat_eq, IfNone, IfOk, IfSome, IsOkUnless, OnOk};
 ghost use Rattle.std.specs.HashMap.{get};
-ghost use Rattle.omega_text.specs.Cases.{IsMemory};
-ghost use Rattle.omega_satisfying.specs.private.Waiting.{IsFree, fits_one};
+ghost use Rattle.omega_satisfying.specs.private.Pending.{IsFree};
 
 use crate::steps::Literal;
 use indexmap::IndexMap;
@@ -13,7 +12,7 @@ use std::alloc::Global;
 pub(crate) struct Later {
     pub(crate) place: usize,
     pub(crate) count: usize,
-    pub(crate) against: Option<(u32, bool)>,
+    pub(crate) extra: Option<(u32, bool)>,
 }
 
 /// The open branches of a search: the assumptions of the current one, and the pending ones.
@@ -24,14 +23,12 @@ pub(crate) struct Branches {
 }
 
 impl Branches {
-    ghost use Rattle.omega_satisfying.specs.private.Leading.{is_as, leads_by};
-    ghost use Rattle.omega_satisfying.specs.private.Branching.{AreWaiting, branches_lead};
-    ghost use Rattle.omega_satisfying.specs.declared.steps.Step.TheVariants.{Try};
+    ghost use Rattle.omega_satisfying.specs.private.Branching.{ArePending, HasValuation, IsAssumed, IsDeferred, IsExhausted, IsOneBranch, IsResumed, IsTried};
 
     /// Returns one branch without assumptions.
     pub(crate) fn new(alloc: Global) -> Self
-        ensures leading { (held onward : ℕ → Bool) (now : Bool) → branches_lead held onward result now ≡ now }
-        ensures waiting { AreWaiting result }
+        ensures leading { IsOneBranch result }
+        ensures pending { ArePending result }
     {
         Branches {
             assumed: IndexMap::new(alloc),
@@ -39,23 +36,22 @@ impl Branches {
         }
     }
 
-    /// Tries `literal` and returns the place where the search goes on.
+    /// Tries `literal` and returns the place at which the search goes on.
     pub(crate) fn take(&mut self, literal: Literal) -> Result<usize, Refusal>
-        requires { AreWaiting self.old }
-        ensures ok { IfOk result (λ place. (held onward : ℕ → Bool) → (literal.whole ≡ true → onward literal.otherwise ≡ true → onward literal.next ≡ true)
-            → branches_lead held onward self.new (onward place) ≡ branches_lead held onward self.old (leads_by held onward (Try literal))) }
-        ensures waiting { OnOk result (AreWaiting self.new) }
-        ensures err { IfErr result IsMemory }
+        requires { ArePending self.old }
+        ensures ok { IfOk result (IsTried self.old self.new literal) }
+        ensures pending { OnOk result (ArePending self.new) }
+        ensures memory { IsOkUnless result Refusal.Memory }
     {
         match self.value_of(literal.proposition) {
             Some(value) if value != literal.sign => Ok(literal.otherwise),
             Some(_) if literal.whole => Ok(literal.next),
             Some(_) => {
-                self.put_off(literal.otherwise, None)?;
+                self.defer(literal.otherwise, None)?;
                 Ok(literal.next)
             }
             None => {
-                self.put_off(literal.otherwise, against(literal))?;
+                self.defer(literal.otherwise, opposite(literal))?;
                 self.assume(literal.proposition, literal.sign)?;
                 Ok(literal.next)
             }
@@ -63,41 +59,36 @@ impl Branches {
     }
 
     /// Adds a pending branch that goes on at `place`, under the current assumptions and one more or none.
-    pub(crate) fn put_off(
-        &mut self,
-        place: usize,
-        against: Option<(u32, bool)>,
-    ) -> Result<(), Refusal>
-        requires waiting { AreWaiting self.old }
-        requires free { IsFree self.old.assumed.entries against }
+    pub(crate) fn defer(&mut self, place: usize, extra: Option<(u32, bool)>) -> Result<(), Refusal>
+        requires pending { ArePending self.old }
+        requires free { IsFree self.old.assumed.entries extra }
         ensures assumed { self.new.assumed ≡ self.old.assumed }
-        ensures leading { OnOk result ((held onward : ℕ → Bool) (now : Bool) → branches_lead held onward self.new now
-            ≡ branches_lead held onward self.old (now || (fits_one held against && onward place))) }
-        ensures waiting { OnOk result (AreWaiting self.new) }
-        ensures err { IfErr result IsMemory }
+        ensures leading { OnOk result (IsDeferred self.old self.new place extra) }
+        ensures pending { OnOk result (ArePending self.new) }
+        ensures memory { IsOkUnless result Refusal.Memory }
     {
         let count = self.assumed.len();
         self.later.push(Later {
             place,
             count,
-            against,
+            extra,
         })?;
         Ok(())
     }
 
-    /// Takes up the branch that was added last and returns its place, or none if no branch is left.
-    pub(crate) fn back(&mut self) -> Result<Option<usize>, Refusal>
-        requires { AreWaiting self.old }
-        ensures some { IfOk result (λ next. IfSome next (λ place. (held onward : ℕ → Bool) → branches_lead held onward self.new (onward place) ≡ branches_lead held onward self.old false)) }
-        ensures none { IfOk result (λ next. IfNone next ((held onward : ℕ → Bool) → branches_lead held onward self.old false ≡ false)) }
-        ensures waiting { OnOk result (AreWaiting self.new) }
-        ensures err { IfErr result IsMemory }
+    /// Goes on with the pending branch that was added last and returns its place, or none if no branch is left.
+    pub(crate) fn backtrack(&mut self) -> Result<Option<usize>, Refusal>
+        requires { ArePending self.old }
+        ensures some { IfOk result (λ next. IfSome next (IsResumed self.old self.new)) }
+        ensures none { IfOk result (λ next. IfNone next (IsExhausted self.old)) }
+        ensures pending { OnOk result (ArePending self.new) }
+        ensures memory { IsOkUnless result Refusal.Memory }
     {
         let Some(next) = self.later.pop() else {
             return Ok(None);
         };
         self.assumed.truncate(next.count);
-        if let Some((proposition, value)) = next.against {
+        if let Some((proposition, value)) = next.extra {
             self.assume(proposition, value)?;
         }
         Ok(Some(next.place))
@@ -105,19 +96,18 @@ impl Branches {
 
     /// Shows that some valuation meets all assumptions.
     pub(crate) fn has_valuation(&self)
-        ensures { (held : ℕ → Bool) × ((onward : ℕ → Bool) → branches_lead held onward self.now true ≡ true) }
+        ensures { HasValuation self.now }
     {
         let _unique = self.assumed.len();
     }
 
     /// Assumes `value` for `proposition`.
     fn assume(&mut self, proposition: u32, value: bool) -> Result<(), Refusal>
-        requires waiting { AreWaiting self.old }
+        requires pending { ArePending self.old }
         requires free { get nat_eq self.old.assumed proposition ≡ None }
-        ensures leading { OnOk result ((held onward : ℕ → Bool) (now : Bool) → branches_lead held onward self.new now
-            ≡ branches_lead held onward self.old (is_as value (held proposition) && now)) }
-        ensures waiting { OnOk result (AreWaiting self.new) }
-        ensures err { IfErr result IsMemory }
+        ensures leading { OnOk result (IsAssumed self.old self.new proposition value) }
+        ensures pending { OnOk result (ArePending self.new) }
+        ensures memory { IsOkUnless result Refusal.Memory }
     {
         self.assumed.insert(proposition, value)?;
         Ok(())
@@ -131,8 +121,9 @@ impl Branches {
     }
 }
 
-/// Returns the assumption for the other branch of `literal`: that it fails, if it need not hold there.
-fn against(literal: Literal) -> Option<(u32, bool)>
+/// Returns the assumption under which the other branch of `literal` goes on: the opposite of `literal` if it is whole,
+/// otherwise none.
+fn opposite(literal: Literal) -> Option<(u32, bool)>
     ensures { result ≡ (if literal.whole then Some (literal.proposition, not literal.sign) else None) }
 {
     if literal.whole {

@@ -1,17 +1,22 @@
 //! Whether a label can be true, even if it mentions many propositions.
 //!
-//! A label is turned into steps of a search (`steps`, `taking`), whose open branches lie on a stack (`branches`); the
-//! search goes from step to step (`search`).
+//! A label that mentions few is judged under all their valuations (`satisfying`), 64 at once in the bits of a word
+//! (`words`, `mentioned`). Another is turned into steps of a search (`steps`, `encoding`), whose open branches lie on a
+//! stack (`branches`); the search goes from step to step (`search`).
 //!
 //! docs/formats.md says when each [`Refusal`] comes.
 #![tactic(auto)]
 
 mod answer;
 mod branches;
+mod encoding;
 mod limits;
+mod mentioned;
+mod satisfying;
 mod search;
 mod steps;
-mod taking;
+mod words;
 
 pub use answer::is_satisfiable;
 pub use limits::{MOST_VISITED, visits_limit_is_stated};
+pub use satisfying::satisfiable;

@@ -1,6 +1,5 @@
-ghost use Rattle.std.specs.Prelude.{◌≡◌, ◌↔◌, ℕ, Bool, true, IfErr, IfOk, IfSome, IsTrue};
-ghost use Rattle.omega_text.specs.Cases.{IsMemory};
-ghost use Rattle.omega_satisfying.specs.private.Leading.{ArePlanned, leads};
+ghost use Rattle.std.specs.Prelude.{◌↔◌, IfOk, IfSome, IsOkUnless, IsTrue};
+ghost use Rattle.omega_satisfying.specs.private.Leading.{ArePlanned, ReachesEnd};
 
 use crate::branches::Branches;
 use crate::limits::MOST_VISITED;
@@ -11,8 +10,8 @@ use std::alloc::Global;
 /// Returns whether some valuation leads from the place `start` to the end, or none if that takes too many steps.
 pub(crate) fn search(alloc: Global, steps: &[Step], start: usize) -> Result<Option<bool>, Refusal>
     requires { ArePlanned steps.now }
-    ensures ok { IfOk result (λ answer. IfSome answer (λ possible. IsTrue possible ↔ ((held : ℕ → Bool) × (leads held steps.now start ≡ true)))) }
-    ensures err { IfErr result IsMemory }
+    ensures ok { IfOk result (λ answer. IfSome answer (λ possible. IsTrue possible ↔ ReachesEnd steps.now start)) }
+    ensures memory { IsOkUnless result Refusal.Memory }
 {
     let mut branches = Branches::new(alloc);
     let mut place = start;
@@ -22,12 +21,12 @@ pub(crate) fn search(alloc: Global, steps: &[Step], start: usize) -> Result<Opti
                 branches.has_valuation();
                 return Ok(Some(true));
             }
-            Step::Stuck => match branches.back()? {
+            Step::Stuck => match branches.backtrack()? {
                 Some(next) => next,
                 None => return Ok(Some(false)),
             },
             Step::Either(one, other) => {
-                branches.put_off(other, None)?;
+                branches.defer(other, None)?;
                 one
             }
             Step::Try(literal) => branches.take(literal)?,

@@ -1,9 +1,9 @@
 -- The promises of all runs of a solver, however the budget is dealt out to them.
 use Rattle.std.specs.Prelude.{◌≡◌, ◌↔◌, ℕ, ◌+◌, ◌≤◌, Bool, true, false, Option, Some, List, [], ◌∷◌, length, slice_get, sum}
-use Rattle.omega_game.specs.declared.player.Player.{Player}
-use Rattle.omega_game.specs.Game.{Node, IsGame, owner_at, priorities}
-use Rattle.omega_game.specs.Bound.{bound_of}
-use Rattle.omega_game.specs.Winning.{Chooses, InRegion, IsStrategy, Wins}
+use Rattle.omega_parity_game.specs.declared.player.Player.{Player}
+use Rattle.omega_parity_game.specs.Game.{Node, IsGame, owner_at, priorities}
+use Rattle.omega_parity_game.specs.Bound.{bound_of}
+use Rattle.omega_parity_game.specs.Winning.{Chooses, InRegion, IsStrategy, Wins}
 use Rattle.omega_lift_laws.specs.Answer.{AreChoices, won_in}
 use Rattle.omega_solve.specs.Solver.{SolverState, IsFinished, IsReached, HasLiftDue, LiftsWithin, start_of}
 

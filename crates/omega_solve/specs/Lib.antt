@@ -1,7 +1,7 @@
 -- What contracts of the solver cite, which are its promises, and in `private` what private contracts alone cite.
-pub use Rattle.omega_game.specs.Game
-pub use Rattle.omega_game.specs.Winning
-pub use Rattle.omega_game.specs.Bound
+pub use Rattle.omega_parity_game.specs.Game
+pub use Rattle.omega_parity_game.specs.Winning
+pub use Rattle.omega_parity_game.specs.Bound
 pub use Rattle.omega_lift_laws.specs.Measure
 pub use Rattle.omega_lift_laws.specs.Allowance
 pub use Rattle.omega_lift_laws.specs.Run

@@ -1,8 +1,8 @@
 -- A solver as its callers see it, and the bounds of its lifts and takes.
 use Rattle.std.specs.Prelude.{◌≡◌, ℕ, ◌+◌, ◌*◌, ◌≤◌, Bool, false, List, length}
-use Rattle.omega_game.specs.declared.player.Player.{Player}
-use Rattle.omega_game.specs.Game.{Node, successor_count, priorities}
-use Rattle.omega_game.specs.Bound.{bound_of, product_of}
+use Rattle.omega_parity_game.specs.declared.player.Player.{Player}
+use Rattle.omega_parity_game.specs.Game.{Node, successor_count, priorities}
+use Rattle.omega_parity_game.specs.Bound.{bound_of, product_of}
 use Rattle.omega_lift_laws.specs.Run.{IsDue, IsLiftingRun, IsStable, zero_table}
 use Rattle.omega_measure.specs.Table.{Content, zero_content}
 use Rattle.omega_solve.specs.Schedule.{Pending, all_pending}

@@ -133,7 +133,9 @@ fn pending_from(
 /// Returns the place of the least pending position of all.
 fn first_pending(permutation: &Permutation, pending: &[u64]) -> Option<u32>
     requires { HasBits pending.now (length permutation.now.places) }
-    ensures { MatchOption result (IsEmpty permutation.now.places pending.now) (IsSomePosition permutation.now.places pending.now) }
+    ensures { MatchOption result
+        (IsEmpty permutation.now.places pending.now)
+        (IsSomePosition permutation.now.places pending.now) }
 {
     for position in 0..permutation.len() as usize {
         if let Some(place) = pending_at(permutation, pending, position) {
@@ -147,7 +149,9 @@ fn first_pending(permutation: &Permutation, pending: &[u64]) -> Option<u32>
 #[inline(always)]
 fn pending_at(permutation: &Permutation, pending: &[u64], position: usize) -> Option<u32>
     requires { HasBits pending.now (length permutation.now.places) }
-    ensures { MatchOption result (position < length permutation.now.places → is_set pending.now position ≡ false) (IsPlaceAt permutation.now.places pending.now position) }
+    ensures { MatchOption result
+        (position < length permutation.now.places → is_set pending.now position ≡ false)
+        (IsPlaceAt permutation.now.places pending.now position) }
 {
     if position < permutation.len() as usize && contains(pending, position) {
         Some(permutation.place(position as u32))

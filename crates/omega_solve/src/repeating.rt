@@ -1,5 +1,5 @@
 ghost use Rattle.std.specs.Prelude.{◌≡◌, ◌+◌, ◌-◌, ◌^◌, ◌<◌, ◌≤◌, length, IsTrue, MatchBool};
-ghost use Rattle.omega_game.specs.Game.{HasEdge, IsGame};
+ghost use Rattle.omega_parity_game.specs.Game.{HasEdge, IsGame};
 ghost use Rattle.omega_solve.specs.private.solving.Repeating.{LiftsAgain};
 ghost use Rattle.omega_solve.specs.private.solving.Successor.{IsTableOf};
 
@@ -23,7 +23,8 @@ pub(crate) fn lift_again<T: MeasureTable, S: Schedule>(
     requires table { IsTableOf game.now player (T.content table.old) }
     requires counted { (S.waiting schedule.old).taken + most ≤ 2 ^ 64 - 1 }
     ensures within { result ≤ most }
-    ensures lifted { LiftsAgain game.now player place result (T.content table.old) (T.content table.new) (S.waiting schedule.old) (S.waiting schedule.new) }
+    ensures lifted { LiftsAgain game.now player place result
+        (T.content table.old) (T.content table.new) (S.waiting schedule.old) (S.waiting schedule.new) }
 {
     let mut made = 0u64;
     if leads_to_itself(game, place) {
@@ -49,8 +50,10 @@ fn lift_once_more<T: MeasureTable, S: Schedule>(
     requires table { IsTableOf game.now player (T.content table.old) }
     requires counted { (S.waiting schedule.old).taken < 2 ^ 64 - 1 }
     ensures { MatchBool result
-        (LiftsAgain game.now player place 1 (T.content table.old) (T.content table.new) (S.waiting schedule.old) (S.waiting schedule.new))
-        (LiftsAgain game.now player place 0 (T.content table.old) (T.content table.new) (S.waiting schedule.old) (S.waiting schedule.new)) }
+        (LiftsAgain game.now player place 1
+        (T.content table.old) (T.content table.new) (S.waiting schedule.old) (S.waiting schedule.new))
+        (LiftsAgain game.now player place 0
+        (T.content table.old) (T.content table.new) (S.waiting schedule.old) (S.waiting schedule.new)) }
 {
     allowances_are_unique();
     runs_keep_tables();

@@ -27,7 +27,7 @@ pub trait Schedule: Drop {
         Self::prepare(alloc, game.len() as u32)
     }
 
-    /// Returns some pending place, or none if there is none.
+    /// Returns some pending place, or `None` if no place is pending.
     fn look(&self) -> Option<u32>
         ensures { MatchOption result (IsIdle (waiting self.now)) (IsPending (waiting self.now)) };
 
@@ -41,7 +41,9 @@ pub trait Schedule: Drop {
     /// again. A yes counts as a take.
     fn take_again(&mut self) -> bool
         requires { (waiting self.old).taken < 2 ^ 64 - 1 }
-        ensures { MatchBool result (waiting self.new ≡ with_taken_again (waiting self.old)) (waiting self.new ≡ waiting self.old) }
+        ensures { MatchBool result
+            (waiting self.new ≡ with_taken_again (waiting self.old))
+            (waiting self.new ≡ waiting self.old) }
     {
         false
     }

@@ -1,5 +1,5 @@
 ghost use Rattle.std.specs.Prelude.{◌≡◌, ◌↔◌, ℕ, ◌+◌, ◌-◌, ◌^◌, ◌<◌, ◌≤◌, true, false, is_some, length, slice_get, Some, IsTrue, IsOk, IsOkUnless, IsSome, IfOk, IfErr, IfSome, MatchOption};
-ghost use Rattle.omega_game.specs.Game.{priorities};
+ghost use Rattle.omega_parity_game.specs.Game.{priorities};
 ghost use Rattle.omega_measure.specs.Table.{IsPrepareRefusal, is_too_wide, zero_content};
 ghost use Rattle.omega_solve.specs.Limits.{most_lifts};
 ghost use Rattle.omega_solve.specs.Solver.{start_of};
@@ -43,7 +43,9 @@ impl<'g, T: MeasureTable, S: Schedule> Model for Solver<'g, T, S> {
 
     ghost view = { λ s. solver_state s.game.now s.player (T.content s.table) (S.waiting s.schedule) s.lifts s.done };
 
-    ghost invariant = { λ s. IsSolver (solver_state s.game.now s.player (T.content s.table) (S.waiting s.schedule) s.lifts s.done) s.won.items s.choice.items };
+    ghost invariant = { λ s. IsSolver
+        (solver_state s.game.now s.player (T.content s.table) (S.waiting s.schedule) s.lifts s.done)
+        s.won.items s.choice.items };
 }
 
 impl<'g, T: MeasureTable, S: Schedule> Solver<'g, T, S> {
@@ -184,8 +186,10 @@ impl<'g, T: MeasureTable, S: Schedule> Solver<'g, T, S> {
         ensures done { is_some result ≡ self.now.done }
         ensures finished { IsSome result → IsFinished self.now }
         ensures won { IfSome result (λ answer. answer.won.now ≡ won_in self.now.table.measures) }
-        ensures chosen { IfSome result (λ answer. AreChoices self.now.nodes self.now.player self.now.table.measures answer.choice.now) }
-        ensures exact { IfSome result (λ answer. IsExact self.now.nodes self.now.player answer.won.now answer.choice.now) }
+        ensures chosen { IfSome result (λ answer.
+            AreChoices self.now.nodes self.now.player self.now.table.measures answer.choice.now) }
+        ensures exact { IfSome result (λ answer.
+            IsExact self.now.nodes self.now.player answer.won.now answer.choice.now) }
     {
         choices_are_a_strategy();
         choices_win();
@@ -199,7 +203,7 @@ impl<'g, T: MeasureTable, S: Schedule> Solver<'g, T, S> {
         })
     }
 
-    /// Returns a pending place. If there is none, no lift is due.
+    /// Returns a pending place. If it returns `None`, no lift is due.
     fn next(&self) -> Option<u32>
         ensures pending { MatchOption result (IsIdle self.now.pending) (IsPending self.now.pending) }
         ensures finished { MatchOption result (IsFinished self.now) (λ place. place < length self.now.nodes) }
@@ -211,12 +215,14 @@ impl<'g, T: MeasureTable, S: Schedule> Solver<'g, T, S> {
     fn due_towards(&self, place: u32) -> Option<u32>
         requires { place < length self.now.nodes }
         ensures { let solver = self.now in
-            MatchOption result (¬ IsDue solver.nodes solver.player solver.table.measures place) (IsDueTowards solver.nodes solver.player solver.table.measures place) }
+            MatchOption result
+            (¬ IsDue solver.nodes solver.player solver.table.measures place)
+            (IsDueTowards solver.nodes solver.player solver.table.measures place) }
     {
         due_towards(self.game, self.player, &self.table, place)
     }
 
-    /// Takes out `place`, where no lift is due.
+    /// Takes out `place`, at which no lift is due.
     fn settle(&mut self, place: u32)
         requires pending { IsPending self.old.pending place }
         requires done { self.old.done ≡ false }

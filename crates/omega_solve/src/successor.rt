@@ -1,6 +1,6 @@
 ghost use Rattle.std.specs.Prelude.{◌≡◌, ◌≢◌, ◌↔◌, ◌<◌, ℕ, length, IsTrue, MatchOption};
 ghost use Rattle.std.specs.declared.cmp.Ordering.TheVariants.{Equal};
-ghost use Rattle.omega_game.specs.Game.{IsGame, owner_at, priorities, priority_at, successors_at};
+ghost use Rattle.omega_parity_game.specs.Game.{IsGame, owner_at, priorities, priority_at, successors_at};
 ghost use Rattle.omega_lift_laws.specs.Run.{IsDue};
 ghost use Rattle.omega_solve.specs.private.solving.Successor.{IsChoiceAt, IsDueTowards, IsFirstBest, IsLeastExceeded, IsTableOf, KeepsToSome, order_from};
 
@@ -39,7 +39,7 @@ pub(crate) fn due_towards<T: MeasureTable>(
     }
 }
 
-/// Returns the choice of an answer at `place`, where no lift is due: the first successor of least allowance, if
+/// Returns the choice of an answer at `place`, at which no lift is due: the first successor of least allowance, if
 /// `player` owns the place and its measure is below top.
 pub(crate) fn chosen_successor<T: MeasureTable>(
     game: &Game,
@@ -81,7 +81,9 @@ fn least_exceeded<T: MeasureTable>(game: &Game, table: &T, place: u32) -> Option
     requires game { IsGame game.now }
     requires entries { length (T.content table.now).measures ≡ length game.now }
     requires priorities { (T.content table.now).priorities ≡ priorities game.now }
-    ensures { MatchOption result (KeepsToSome game.now (T.content table.now) place) (IsLeastExceeded game.now (T.content table.now) place) }
+    ensures { MatchOption result
+        (KeepsToSome game.now (T.content table.now) place)
+        (IsLeastExceeded game.now (T.content table.now) place) }
 {
     measures_are_ordered();
     let successors = game.successors(place);
@@ -103,7 +105,7 @@ fn least_exceeded<T: MeasureTable>(game: &Game, table: &T, place: u32) -> Option
 
 /// Returns the first successor of `place` such that no other's measure compares to its own as `wanted`, on the entries
 /// for priorities at least that of the place.
-// Inlined, so that the wanted order is known where words are compared.
+// Inlined, so that the wanted order is known at each comparison of words.
 #[inline(always)]
 fn best_successor<T: MeasureTable>(game: &Game, table: &T, place: u32, wanted: Ordering) -> u32
     requires inside { place < length game.now }
@@ -112,7 +114,8 @@ fn best_successor<T: MeasureTable>(game: &Game, table: &T, place: u32, wanted: O
     requires priorities { (T.content table.now).priorities ≡ priorities game.now }
     requires wanted { wanted ≢ Equal }
     ensures { let successors = successors_at game.now place in
-        IsFirstBest (order_from (T.content table.now) (priority_at game.now place)) wanted successors (length successors) result }
+        IsFirstBest (order_from (T.content table.now) (priority_at game.now place))
+        wanted successors (length successors) result }
 {
     measures_are_ordered();
     let successors = game.successors(place);

@@ -13,7 +13,7 @@ pub struct Sweep {
     pending: Vec<bool>,
     /// The number of pending places.
     count: u32,
-    /// Where the rest of the round begins: right after the last place looked at and taken.
+    /// The place at which the rest of the round begins: right after the last place looked at and taken.
     from: u32,
     /// The place to look at: the first pending one from `from` on, round the end, if there is one.
     place: u32,

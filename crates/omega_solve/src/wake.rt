@@ -1,5 +1,5 @@
 ghost use Rattle.std.specs.Prelude.{◌≡◌, ◌<◌, length};
-ghost use Rattle.omega_game.specs.Game.{predecessors_of};
+ghost use Rattle.omega_parity_game.specs.Game.{predecessors_of};
 ghost use Rattle.omega_solve.specs.private.solving.Wake.{Wakes};
 
 use crate::schedule::Schedule;
@@ -16,7 +16,8 @@ pub(crate) fn wake_predecessors<T: MeasureTable, S: Schedule>(
     requires measures { length (T.content table.now).measures ≡ length game.now }
     requires flags { length (S.waiting schedule.old).flags ≡ length game.now }
     ensures { let predecessors = predecessors_of game.now place in
-        Wakes (T.content table.now).measures predecessors (length predecessors) (S.waiting schedule.old) (S.waiting schedule.new) }
+        Wakes (T.content table.now).measures predecessors (length predecessors)
+        (S.waiting schedule.old) (S.waiting schedule.new) }
 {
     for predecessor in game.predecessors(place) {
         if !table.is_top(*predecessor) {

@@ -29,7 +29,8 @@ impl Model for Worklist {
 
     ghost view = { λ w. record { flags = w.pending.items; taken = w.taken } };
 
-    ghost invariant = { λ w. IsWorklist (record { flags = w.pending.items; taken = w.taken }) w.ring.items w.first w.count };
+    ghost invariant = { λ w. IsWorklist
+        (record { flags = w.pending.items; taken = w.taken }) w.ring.items w.first w.count };
 }
 
 impl Schedule for Worklist {

@@ -1,6 +1,7 @@
 -- The answer of `show` for a stream of automata: a line for each item.
 use Rattle.std.specs.Prelude.{ℕ, List, ◌++◌, codes, decimal, length}
-use Rattle.omega_acc.specs.Writing.{acc_text}
+use Rattle.omega_formula.specs.Acceptance.{AccTree}
+use Rattle.omega_formula.specs.Writing.{acc_text}
 use Rattle.omega_automaton.specs.Automaton.{Description, edge_count}
 use Rattle.omega_hoa.specs.declared.item.Item.{Item}
 use Rattle.omega_hoa.specs.declared.item.Item.TheVariants.{Aborted, Automaton}
@@ -10,12 +11,16 @@ use Rattle.omega_stream_reading.specs.Telling.{IsTelling}
 abbrev pub count_text : List ℕ → ℕ → List ℕ
 count_text what count = what ++ decimal count
 
+-- the acceptance formula, and before it what it is
+abbrev pub acceptance_text : AccTree → List ℕ
+acceptance_text formula = codes " acceptance " ++ (acc_text formula).bytes
+
 -- the sizes of an automaton: its numbers of states, edges, propositions and sets, and its acceptance formula
 abbrev pub sizes_text : Description → List ℕ
 sizes_text a =
     count_text (codes "automaton states ") a.states ++ (count_text (codes " edges ") (edge_count a)
     ++ (count_text (codes " propositions ") (length a.propositions) ++ (count_text (codes " sets ") a.sets
-    ++ (codes " acceptance " ++ (acc_text a.acceptance).bytes))))
+    ++ acceptance_text a.acceptance)))
 
 -- the text for an item
 abbrev pub item_text : Item → List ℕ

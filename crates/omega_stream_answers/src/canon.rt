@@ -1,10 +1,9 @@
 ghost use Rattle.std.specs.Prelude.{◌≡◌, ◌+◌, ◌-◌, ◌^◌, ◌<◌, IfOk, IfErr};
-ghost use Rattle.omega_text.specs.Cases.{or_io, or_memory};
-ghost use Rattle.omega_hoa.specs.Stream.{IsStreamRefusal};
 ghost use Rattle.omega_io.specs.Failures.{failures_of};
-ghost use Rattle.omega_io.specs.Reading.{ReadsText, ReadsWhole};
+ghost use Rattle.omega_io.specs.Reading.{ReadsWhole};
 ghost use Rattle.omega_canon.specs.Stream.{canonical_item};
 ghost use Rattle.omega_stream_answers.specs.Canon.{IsStreamCanonAnswer};
+ghost use Rattle.omega_stream_answers.specs.Refusing.{RefusesStream};
 
 use omega_canon::write_canonical;
 use omega_stream_reading::{Input, Item, ItemText, tell_stream};
@@ -15,8 +14,9 @@ use std::alloc::Global;
 /// [Refusal::Text] or [Refusal::Automaton] of the stream, or with [Refusal::Io] if a read failed.
 pub fn canon_stream<R: Input>(alloc: Global, input: &mut R) -> Result<Vec<u8>, Refusal>
     requires { R.failed input.old < 2 ^ 64 - 1 }
-    ensures answer { IfOk result (λ output. ReadsWhole (R.remaining input.old) (R.remaining input.new) (λ text. IsStreamCanonAnswer text output.items)) }
-    ensures refused { IfErr result (or_memory (or_io (λ refusal. ReadsText (R.remaining input.old) (R.remaining input.new) (λ text. IsStreamRefusal text refusal)))) }
+    ensures answer { IfOk result (λ output. ReadsWhole (R.remaining input.old) (R.remaining input.new)
+        (λ text. IsStreamCanonAnswer text output.items)) }
+    ensures refused { IfErr result (RefusesStream (R.remaining input.old) (R.remaining input.new)) }
     ensures counted { R.failed input.new ≡ R.failed input.old + failures_of result }
 {
     tell_stream::<CanonicalPart, R>(alloc, input)

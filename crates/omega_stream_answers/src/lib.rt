@@ -1,6 +1,6 @@
 //! What `check`, `show` and `canon` answer to streams of automata.
 //!
-//! Numbers of refusals are those of `Refusal`; docs/formats.md says when each comes.
+//! docs/formats.md says when each refusal comes.
 #![tactic(auto)]
 
 mod canon;

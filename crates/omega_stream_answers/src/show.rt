@@ -1,13 +1,10 @@
-ghost use Rattle.std.specs.Prelude.{◌≡◌, ◌++◌, ◌+◌, ◌-◌, ◌^◌, ◌<◌, IfOk, IfErr, OnOk, IsOkUnless, codes};
-ghost use Rattle.omega_text.specs.Cases.{or_io, or_memory};
-ghost use Rattle.omega_text.specs.declared.refusal.Refusal.TheVariants.{Memory};
-ghost use Rattle.omega_acc.specs.Writing.{acc_text};
-ghost use Rattle.omega_hoa.specs.Stream.{IsStreamRefusal};
+ghost use Rattle.std.specs.Prelude.{◌≡◌, ◌++◌, ◌+◌, ◌-◌, ◌^◌, ◌<◌, IfOk, IfErr, OnOk, IsOkUnless};
 ghost use Rattle.omega_io.specs.Failures.{failures_of};
-ghost use Rattle.omega_io.specs.Reading.{ReadsText, ReadsWhole};
-ghost use Rattle.omega_stream_answers.specs.Show.{IsStreamShowAnswer, count_text, item_line, item_text, sizes_text};
+ghost use Rattle.omega_io.specs.Reading.{ReadsWhole};
+ghost use Rattle.omega_stream_answers.specs.Refusing.{RefusesStream};
+ghost use Rattle.omega_stream_answers.specs.Show.{IsStreamShowAnswer, acceptance_text, count_text, item_line, item_text, sizes_text};
 
-use omega_acc::{Acc, write_acc};
+use omega_formula::{Acc, write_acc};
 use omega_stream_reading::{Automaton, Input, Item, ItemText, tell_stream};
 use omega_text::{Refusal, write_number};
 use std::alloc::Global;
@@ -17,8 +14,9 @@ use std::alloc::Global;
 /// read failed.
 pub fn show_stream<R: Input>(alloc: Global, input: &mut R) -> Result<Vec<u8>, Refusal>
     requires { R.failed input.old < 2 ^ 64 - 1 }
-    ensures answer { IfOk result (λ output. ReadsWhole (R.remaining input.old) (R.remaining input.new) (λ text. IsStreamShowAnswer text output.items)) }
-    ensures refused { IfErr result (or_memory (or_io (λ refusal. ReadsText (R.remaining input.old) (R.remaining input.new) (λ text. IsStreamRefusal text refusal)))) }
+    ensures answer { IfOk result (λ output. ReadsWhole (R.remaining input.old) (R.remaining input.new)
+        (λ text. IsStreamShowAnswer text output.items)) }
+    ensures refused { IfErr result (RefusesStream (R.remaining input.old) (R.remaining input.new)) }
     ensures counted { R.failed input.new ≡ R.failed input.old + failures_of result }
 {
     tell_stream::<LineOfItem, R>(alloc, input)
@@ -41,7 +39,7 @@ impl ItemText for LineOfItem {
 
 fn append_item(item: &Item, out: &mut Vec<u8>) -> Result<(), Refusal>
     ensures text { OnOk result (out.new.items ≡ out.old.items ++ item_text item.now) }
-    ensures memory { IsOkUnless result Memory }
+    ensures memory { IsOkUnless result Refusal.Memory }
 {
     match item {
         Item::Automaton(automaton) => append_sizes(automaton, out),
@@ -51,7 +49,7 @@ fn append_item(item: &Item, out: &mut Vec<u8>) -> Result<(), Refusal>
 
 fn append_sizes(automaton: &Automaton, out: &mut Vec<u8>) -> Result<(), Refusal>
     ensures text { OnOk result (out.new.items ≡ out.old.items ++ sizes_text automaton.now) }
-    ensures memory { IsOkUnless result Memory }
+    ensures memory { IsOkUnless result Refusal.Memory }
 {
     append_count(b"automaton states ", automaton.state_count() as usize, out)?;
     append_count(b" edges ", automaton.edge_count() as usize, out)?;
@@ -63,15 +61,15 @@ fn append_sizes(automaton: &Automaton, out: &mut Vec<u8>) -> Result<(), Refusal>
 
 fn append_count(what: &[u8], count: usize, out: &mut Vec<u8>) -> Result<(), Refusal>
     ensures text { OnOk result (out.new.items ≡ out.old.items ++ count_text what.now count) }
-    ensures memory { IsOkUnless result Memory }
+    ensures memory { IsOkUnless result Refusal.Memory }
 {
     out.extend_from_slice(what)?;
     write_number(count as u128, out)
 }
 
 fn append_acceptance(formula: &Acc, out: &mut Vec<u8>) -> Result<(), Refusal>
-    ensures text { OnOk result (out.new.items ≡ out.old.items ++ (codes " acceptance " ++ (acc_text formula.now).bytes)) }
-    ensures memory { IsOkUnless result Memory }
+    ensures text { OnOk result (out.new.items ≡ out.old.items ++ acceptance_text formula.now) }
+    ensures memory { IsOkUnless result Refusal.Memory }
 {
     out.extend_from_slice(b" acceptance ")?;
     write_acc(formula, out)

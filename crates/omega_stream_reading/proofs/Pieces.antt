@@ -50,7 +50,7 @@ no_io source (inr (short, (items, fault))) = elim fault.refused [
   ]
 ]
 
--- so no read failed where the text is refused
+-- so no read failed if the text is refused
 pub none_failed : {A : Type 0} (result : Result A Refusal) (source : List ℕ) → IfErr result (IsStreamRefusal source) → failures_of result ≡ 0
 none_failed (Ok value) source refused = refl
 none_failed (Err (Text fault)) source refused = refl

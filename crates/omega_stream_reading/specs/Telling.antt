@@ -3,7 +3,7 @@ use Rattle.std.specs.Prelude.{◌≡◌, ℕ, ◌+◌, List, [], ◌∷◌, ◌+
 use Rattle.omega_hoa.specs.Stream.{IsStreamText}
 use Rattle.omega_hoa.specs.declared.item.Item.{Item}
 
--- the texts of items, the first of which has this number
+-- the texts of items, numbered from this number on
 abbrev pub texts_from : (ℕ → Item → List ℕ) → ℕ → List Item → List ℕ
 texts_from text number [] = []
 texts_from text number (item ∷ items) = text number item ++ texts_from text (number + 1) items

@@ -4,7 +4,6 @@ use omega_text::Refusal;
 /// The text that is written for each item of a stream.
 pub trait ItemText {
     ghost use Rattle.std.specs.Prelude.{◌≡◌, ◌++◌, ℕ, List, OnOk, IsOkUnless};
-    ghost use Rattle.omega_text.specs.declared.refusal.Refusal.TheVariants.{Memory};
     ghost use Rattle.omega_hoa.specs.declared.item.Item.{Item};
 
     /// The text of the item with this number. The first item has the number 0.
@@ -13,5 +12,5 @@ pub trait ItemText {
     /// Appends the text of `item` to `out`.
     fn append(number: usize, item: &Item, out: &mut Vec<u8>) -> Result<(), Refusal>
         ensures reported { OnOk result (out.new.items ≡ out.old.items ++ text number item.now) }
-        ensures memory { IsOkUnless result Memory };
+        ensures memory { IsOkUnless result Refusal.Memory };
 }

@@ -2,7 +2,7 @@ ghost use Rattle.std.specs.Prelude.{◌≡◌, ◌+◌, ◌-◌, ◌^◌, ◌<�
 ghost use Rattle.omega_text.specs.Cases.{or_io, or_memory};
 ghost use Rattle.omega_hoa.specs.Stream.{IsStreamRefusal};
 ghost use Rattle.omega_io.specs.Failures.{failures_of};
-ghost use Rattle.omega_io.specs.Reading.{ReadsText, ReadsWhole};
+ghost use Rattle.omega_io.specs.Reading.{ReadsTextFrom, ReadsWholeFrom};
 ghost use Rattle.omega_stream_reading.specs.Telling.{IsTelling};
 
 use crate::item_text::ItemText;
@@ -19,8 +19,10 @@ use std::alloc::Global;
 /// past the greatest length of a text.
 pub fn tell_stream<T: ItemText, R: Input>(alloc: Global, input: &mut R) -> Result<Vec<u8>, Refusal>
     requires { R.failed input.old < 2 ^ 64 - 1 }
-    ensures reported { IfOk result (λ reported. ReadsWhole (R.remaining input.old) (R.remaining input.new) (λ text. IsTelling T.text text reported.items)) }
-    ensures refused { IfErr result (or_memory (or_io (λ refusal. ReadsText (R.remaining input.old) (R.remaining input.new) (λ text. IsStreamRefusal text refusal)))) }
+    ensures reported { IfOk result (λ reported.
+        ReadsWholeFrom R.Input input.old input.new (λ text. IsTelling T.text text reported.items)) }
+    ensures refused { IfErr result (or_memory (or_io (λ refusal.
+        ReadsTextFrom R.Input input.old input.new (λ text. IsStreamRefusal text refusal)))) }
     ensures counted { R.failed input.new ≡ R.failed input.old + failures_of result }
 {
     let mut telling = begin::<T>(alloc);

@@ -1,9 +1,6 @@
-ghost use Rattle.std.specs.Prelude.{◌≡◌, ◌++◌, ◌+◌, ◌^◌, ◌<◌, ◌≤◌, [], List, ℕ, length, IfErr, IfOk, IsOkUnless, OnOk};
-ghost use Rattle.omega_text.specs.Limits.{most_text};
-ghost use Rattle.omega_text.specs.declared.refusal.Refusal.TheVariants.{Memory};
-ghost use Rattle.omega_hoa.specs.Stream.{IsStreamRefusal};
-ghost use Rattle.omega_stream_reading.specs.Telling.{IsTelling, texts_from};
-ghost use Rattle.omega_stream_reading.specs.private.steps.Following.{FollowsTelling, FollowsSome};
+ghost use Rattle.std.specs.Prelude.{◌≡◌, ◌++◌, ◌+◌, ◌^◌, ◌<◌, [], length, IfErr, IfOk, IsOkUnless, OnOk};
+ghost use Rattle.omega_stream_reading.specs.Telling.{texts_from};
+ghost use Rattle.omega_stream_reading.specs.private.steps.Following.{EndsRefused, EndsReported, FollowsPiece, FollowsSome, FollowsTelling};
 
 use crate::item_text::ItemText;
 use omega_hoa::{Item, Stream};
@@ -37,8 +34,8 @@ pub(crate) fn begin<T: ItemText>(alloc: Global) -> Telling
 /// and those after it add no text, and the stream keeps its refusal.
 pub(crate) fn take_piece<T: ItemText>(telling: &mut Telling, piece: &[u8]) -> Result<(), Refusal>
     requires { FollowsSome T.text telling.old }
-    ensures follows { OnOk result ((seen : List ℕ) → length seen + length piece.now ≤ most_text → FollowsTelling T.text seen telling.old → FollowsTelling T.text (seen ++ piece.now) telling.new) }
-    ensures memory { IsOkUnless result Memory }
+    ensures follows { OnOk result (FollowsPiece T.text piece.now telling.old telling.new) }
+    ensures memory { IsOkUnless result Refusal.Memory }
 {
     HoaKind::goes_on_one_way();
     telling.items.clear();
@@ -63,7 +60,7 @@ pub(crate) fn take_piece<T: ItemText>(telling: &mut Telling, piece: &[u8]) -> Re
 fn append_items<T: ItemText>(first: usize, items: &[Item], out: &mut Vec<u8>) -> Result<(), Refusal>
     requires { first + length items.now < 2 ^ 64 }
     ensures reported { OnOk result (out.new.items ≡ out.old.items ++ texts_from T.text first items.now) }
-    ensures memory { IsOkUnless result Memory }
+    ensures memory { IsOkUnless result Refusal.Memory }
 {
     for (place, item) in items.iter().enumerate() {
         T::append(first + place, item, out)?;
@@ -74,8 +71,8 @@ fn append_items<T: ItemText>(first: usize, items: &[Item], out: &mut Vec<u8>) ->
 /// Ends the stream, and returns the texts of its items. Fails with a [Refusal::Text] or [Refusal::Automaton], the
 /// refusal of the stream's text.
 pub(crate) fn end<T: ItemText>(telling: Telling) -> Result<Vec<u8>, Refusal>
-    ensures reported { IfOk result (λ reported. (seen : List ℕ) → FollowsTelling T.text seen telling → IsTelling T.text seen reported.items) }
-    ensures refused { IfErr result (λ refusal. (seen : List ℕ) → length seen ≤ most_text → FollowsTelling T.text seen telling → IsStreamRefusal seen refusal) }
+    ensures reported { IfOk result (λ reported. EndsReported T.text telling reported.items) }
+    ensures refused { IfErr result (EndsRefused T.text telling) }
 {
     let Telling {
         stream,

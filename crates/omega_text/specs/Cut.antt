@@ -1,4 +1,4 @@
--- How texts of a format are cut into tokens, and where they can't be.
+-- How texts of a format are cut into tokens, and at which places they can't be.
 use Rattle.std.specs.Prelude.{◌≡◌, ℕ, ◌⊎◌, List, [], ◌∷◌, ◌++◌}
 use Rattle.omega_text.specs.Cases.{never, or_memory, or_text}
 use Rattle.omega_text.specs.Format.{TextFormat}

@@ -106,7 +106,7 @@ task_name UnknownNode = codes "UnknownNode"
 task_name TooLarge = codes "TooLarge"
 task_name (NotDeterministic state) = codes "NotDeterministic"
 
--- the number that a fault of a task tells: that of a state
+-- the number that a fault of a task has: that of a state
 abbrev pub task_place : TaskFault → Option ℕ
 task_place NotParity = None
 task_place UniversalBranch = None

@@ -16,7 +16,7 @@ pub struct ByteString {
     held: Held,
 }
 
-/// Where the bytes are kept.
+/// The bytes, in place or in an allocation.
 #[derive(Debug, Drop)]
 enum Held {
     /// In place: the first `count` of `bytes`.

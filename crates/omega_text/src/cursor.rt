@@ -55,7 +55,7 @@ impl<'t, 'a, K: Copy> Cursor<'t, 'a, K> {
         Some(first)
     }
 
-    /// Returns the place where the next token begins, or the length of the text at the end.
+    /// Returns the place at which the next token begins, or the length of the text at the end.
     pub fn place(&self) -> usize
         ensures { result ≡ next_place self.now.0 self.now.1 }
     {

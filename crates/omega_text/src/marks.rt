@@ -11,7 +11,7 @@ pub struct Marks {
     written: Written,
 }
 
-/// Where the sets are kept, if there are braces.
+/// The sets, if there are braces.
 #[derive(Debug, Drop)]
 enum Written {
     /// There are no braces.

@@ -16,7 +16,7 @@ pub struct Numbers {
     pub(crate) held: Held,
 }
 
-/// Where the numbers are kept.
+/// The numbers, in place or in an allocation.
 #[derive(Debug, Drop)]
 pub(crate) enum Held {
     /// In place: the first `count` of `values`.

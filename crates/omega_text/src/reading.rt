@@ -13,7 +13,8 @@ use crate::token_reader::{TokenReader, read_tokens};
 /// then syntax ([TextFault::Syntax]). The bytes are read once, from the left.
 pub fn read_text<K: TokenKind, R: TokenReader<K>>(reader: R, bytes: &[u8]) -> Result<R, Refusal>
     requires { R.becomes reader [] reader }
-    ensures read { IfOk result (λ after. IsReadText K.format (λ lexemes. R.becomes reader lexemes after) R.completes bytes.now) }
+    ensures read { IfOk result (λ after.
+        IsReadText K.format (λ lexemes. R.becomes reader lexemes after) R.completes bytes.now) }
     ensures refused { IfErr result (IsReadingRefusal K.format R.begins R.completes bytes.now) }
 {
     if bytes.len() > MOST_TEXT {

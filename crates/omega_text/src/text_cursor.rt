@@ -147,7 +147,8 @@ fn end_of(source: &[u8]) -> Span
 fn next_left<K: TokenKind>(source: &[u8], at: usize) -> Option<Token<'_, K>>
     requires within { at ≤ length source.now }
     requires cut { ∥ ((lexemes : List (Lexeme K)) × IsRestOfText K.format source.now at lexemes) ∥₁ }
-    ensures { (lexemes : List (Lexeme K)) → IsRestOfText K.format source.now at lexemes → IsAllLeft K.format source.now (option_map lexeme_of result) lexemes }
+    ensures { (lexemes : List (Lexeme K)) → IsRestOfText K.format source.now at lexemes
+        → IsAllLeft K.format source.now (option_map lexeme_of result) lexemes }
 {
     K::goes_on_one_way();
     match K::next_token(source, at) {
@@ -160,7 +161,8 @@ fn next_left<K: TokenKind>(source: &[u8], at: usize) -> Option<Token<'_, K>>
 #[inline(always)]
 fn plain_left<K: TokenKind>(source: &[u8], at: usize) -> Option<Token<'_, K>>
     requires { at ≤ length source.now }
-    ensures { IfSome result (λ token. (lexemes : List (Lexeme K)) → IsRestOfText K.format source.now at lexemes → IsAllLeft K.format source.now (Some (lexeme_of token)) lexemes) }
+    ensures { IfSome result (λ token. (lexemes : List (Lexeme K)) → IsRestOfText K.format source.now at lexemes
+        → IsAllLeft K.format source.now (Some (lexeme_of token)) lexemes) }
 {
     K::goes_on_one_way();
     K::plain_token(source, at)

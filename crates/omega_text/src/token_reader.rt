@@ -46,7 +46,8 @@ pub trait TokenReader<K: TokenKind>: Drop {
     /// Whether the tokens that were taken are a text.
     fn is_complete(&self) -> bool
         requires { ((start : Self) × ((before : List (Lexeme K)) × becomes start before self.now)) }
-        ensures { (start : Self) (before : List (Lexeme K)) → becomes start before self.now → IsWholeOrUnfinished result begins completes before };
+        ensures { (start : Self) (before : List (Lexeme K))
+            → becomes start before self.now → IsWholeOrUnfinished result begins completes before };
 }
 
 /// Returns what `reader` becomes by the tokens of `bytes`, if they can be cut and no token is wrong.

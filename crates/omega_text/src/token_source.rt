@@ -25,7 +25,7 @@ pub trait TokenSource<'a, K> {
         ensures none { IfNone result ((left self.old ≡ []) × (left self.new ≡ [])) }
         ensures length { length self.new ≡ length self.old };
 
-    /// Returns the place where the next token begins, or the length of the text at the end.
+    /// Returns the place at which the next token begins, or the length of the text at the end.
     fn place(&self) -> usize
         ensures { result ≡ next_place (left self.now) (length self.now) };
 }

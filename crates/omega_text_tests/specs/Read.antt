@@ -4,6 +4,6 @@ use Rattle.omega_text.specs.Lexeme.{Lexeme}
 use Rattle.omega_text.specs.declared.hoa.kind.HoaKind.{HoaKind}
 use Rattle.omega_text.specs.hoa.Pieces.{Reading}
 
--- so many bytes were read
+-- this many bytes were read
 abbrev pub HasReadTo : Reading → ℕ → Type 0
 HasReadTo IsRead place = (seen : List ℕ) × (lexemes : List (Lexeme HoaKind)) × IsRead seen lexemes × (length seen ≡ place)

@@ -308,7 +308,7 @@ fn wrong_cut(
     Ok(None)
 }
 
-// The first byte by which not so many tokens are settled; 9 stands for a fault.
+// The first byte by which the number of settled tokens differs from its count; a fault counts as 9.
 fn wrong_byte(alloc: Global, text: &[u8], counts: &[usize]) -> Result<Option<usize>, AllocError>
     requires { length text.now < 2 ^ 59 }
 {
@@ -386,7 +386,7 @@ fn texts_are_cut_whole_and_in_two_pieces(rt: HostRuntime) {
     }
 }
 
-// Whether so many tokens are settled by each byte of a text.
+// Whether as many tokens are settled by each byte of a text as its count says.
 fn are_settled(alloc: Global, text: &[u8], counts: &[usize]) -> bool {
     text.len() < LONGEST && is_nowhere(wrong_byte(alloc, text, counts))
 }

@@ -50,7 +50,7 @@ fn refusal_of(alloc: Global, text: &str) -> Option<(u32, Option<usize>)> {
     }
 }
 
-// Texts that end too early, tokens that stand where none of their kind may, digits that are no number, bytes that begin
+// Texts that end too early, tokens of a kind that is not allowed there, digits that are no number, bytes that begin
 // no token, and of two faults that of tokens.
 static REFUSED: [(&str, u32, usize); 20] = [
     ("", 3, 0),

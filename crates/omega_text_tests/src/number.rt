@@ -19,7 +19,7 @@ fn is_written(alloc: Global, number: u128, want: &[u8]) -> bool {
 // The greatest power of ten that a `u128` can be, after `<`.
 const GREATEST: &[u8] = b"<100000000000000000000000000000000000000";
 
-// Whether each power of ten is written as one and so many zeros.
+// Whether each power of ten is written as one with its zeros.
 fn are_powers_written(alloc: Global) -> bool {
     let mut power = 1u128;
     for digits in 1..39usize {

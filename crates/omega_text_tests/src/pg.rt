@@ -116,7 +116,7 @@ fn tokens_come_one_at_a_time(rt: HostRuntime) -> Result<(), Fail> {
     Ok(())
 }
 
-// The value, the beginning and the end of the number that is told at once from a place of a text on.
+// The value, the beginning and the end of the number that is settled at once from a place of a text on.
 fn number_at(text: &str, at: usize) -> Option<(u32, usize, usize)> {
     let bytes = text.as_bytes();
     if at > bytes.len() {
@@ -126,7 +126,8 @@ fn number_at(text: &str, at: usize) -> Option<(u32, usize, usize)> {
     Some((token.value, token.span.start, token.span.end))
 }
 
-// Places of texts, and the numbers there. Where none is, the text has no number, or what ends it is not there yet.
+// Places of texts, and the numbers there. At a place without one, the text has no number, or what ends it is not there
+// yet.
 static NUMBERS: [(&str, usize, Option<(u32, usize, usize)>); 13] = [
     ("7;", 0, Some((7, 0, 1))),
     (" 0,", 0, Some((0, 1, 2))),

@@ -32,7 +32,7 @@ pub(crate) fn has_kind(token: Option<Token<'_, PgKind>>, kind: PgKind) -> bool {
     }
 }
 
-/// Whether a source gives no more, and stands at the end of a text of this length.
+/// Whether a source gives no more, and is at the end of a text of this length.
 pub(crate) fn is_at_end<'a, S: TokenSource<'a, PgKind>>(source: &mut S, length: usize) -> bool {
     source.look().is_none() && source.take().is_none() && source.place() == length
 }

@@ -27,7 +27,7 @@ fn main(rt: HostRuntime) -> ExitCode {
     ))
 }
 
-/// What the words of the command line ask for.
+/// Returns the line that the words of the command line request.
 fn asked_of(rt: &HostRuntime) -> Result<Line, Refusal>
     ensures { IfOk result IsRunnable }
 {
@@ -37,7 +37,7 @@ fn asked_of(rt: &HostRuntime) -> Result<Line, Refusal>
     }
 }
 
-/// The line for words that are no text, unless there was no memory for them.
+/// Returns the line for words that are no text, unless there was no memory for them.
 fn no_text(alloc: Global, kind: io::ErrorKind) -> Result<Line, Refusal>
     ensures fault { IfOk result IsFaultLine }
     ensures memory { IsOkUnless result Memory }

@@ -1,7 +1,7 @@
 -- Closed walks through edges that make a formula hold.
 use Rattle.std.proofs.Common.{◌≡◌, ℕ, ◌<◌, true, IsTrue, List, [], ◌∷◌, length, All, Contains, sym, ◌∙◌, arith}
 use Rattle.std.proofs.lemmas.List.Elements.{All-head}
-use Rattle.omega_acc.specs.formula.Acceptance.{AccTree}
+use Rattle.omega_formula.specs.Acceptance.{AccTree}
 use Rattle.omega_walk_laws.specs.Marks.{ListsAll, accepts_apart}
 use Rattle.omega_walk_laws.specs.Rules.{IsConnected}
 use Rattle.omega_walk_laws.specs.Walks.{EdgeSet, MarkedGraph, HasAccepting, IsAccepting, IsClosedEdgeWalk, marks_on}
@@ -25,7 +25,7 @@ module _ (graph : MarkedGraph) (edges : EdgeSet) where
         formula holds;
   }
 
-  -- a tour through edges of a connected set does
+  -- so does a tour through edges of a connected set
   pub tour_accepts : (some all : List ℕ) (formula : AccTree) → IsConnected graph edges → All (λ number. IsTrue (edges number)) some
       → 0 < length some → ListsAll edges all
       → accepts_apart (marks_on graph some) (marks_on graph all) formula ≡ true → HasAccepting graph edges formula

@@ -1,11 +1,11 @@
--- A formula in which an atom `Fin` has a value: it holds of no more where the value is false or the atom true, and of
--- no less where the value is true or the atom false.
+-- A formula with a value in place of an atom `Fin`. It is stronger if the value implies the atom, and weaker if the
+-- atom implies the value.
 use Rattle.std.proofs.Common.{◌≡◌, ℕ, Bool, true, false, not, inl, inr, List, ◌==◌, if◌then◌else◌, sym, ap, refl, ◌∙◌}
 use Rattle.std.proofs.lemmas.Bool.{and_from, and_parts, eqb-true, false≢true, not-true, not_from_false, or_cases, or_left, or_right}
-use Rattle.omega_acc.specs.formula.Acceptance.{AccTree, accepts, conjunction, constant, disjunction, fin, inf, occurs}
+use Rattle.omega_formula.specs.Acceptance.{AccTree, accepts, conjunction, constant, disjunction, fin, inf, occurs}
 use Rattle.omega_walk_laws.specs.Marks.{assumed, is_same_atom}
 
--- a `Bool` that is the same as another
+-- two equal `Bool`s
 same_sign : (x y : Bool) → (if x then y else not y) ≡ true → x ≡ y
 same_sign true true is = refl
 same_sign true false is = absurd (false≢true is)

@@ -1,7 +1,7 @@
 -- What the edges of a list meet occurs on it, and nothing else does.
 use Rattle.std.proofs.Common.{◌≡◌, ℕ, ◌<◌, Bool, true, false, not, ◌⊎◌, inl, inr, List, [], ◌∷◌, length, Contains, sym, ap, ◌∙◌, arith}
 use Rattle.std.proofs.lemmas.Bool.{cases_Bool, false≢true, or_cases, or_left, or_right}
-use Rattle.omega_acc.specs.formula.Acceptance.{occurs}
+use Rattle.omega_formula.specs.Acceptance.{occurs}
 use Rattle.omega_walk_laws.specs.Marks.{meets}
 use Rattle.omega_walk_laws.specs.Walks.{MarkedGraph, marks_on}
 use Rattle.omega_walk_laws.proofs.Walking.{first_or_later, has_first, has_later}
@@ -59,7 +59,7 @@ module _ (graph : MarkedGraph) (negated : Bool) (set : ℕ) where
       let found = met_by xs is in
       met_on ys found.0 (among found.0 found.1) found.2
 
-  -- where all edges give one answer, a list of some of them does
+  -- if all edges give one answer, so does a list of some of them
   pub all_alike : (walk : List ℕ) (value : Bool) → 0 < length walk
       → ((number : ℕ) → Contains walk number → meets negated set (graph number).marks ≡ value)
       → occurs (marks_on graph walk) negated set ≡ value

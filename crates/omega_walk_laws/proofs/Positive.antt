@@ -1,10 +1,10 @@
--- Formulas are positive in their atoms: with `Inf` asked of more marks and `Fin` of fewer they hold of no less.
+-- Formulas are monotone in their atoms: they still hold with `Inf` judged on more marks and `Fin` on fewer.
 use Rattle.std.proofs.Common.{◌≡◌, ℕ, Bool, true, false, not, ◌&&◌, ◌||◌, ◌⊎◌, inl, inr, List, sym, ap, refl, ◌∙◌}
 use Rattle.std.proofs.lemmas.Bool.{and_from, and_parts, cases_Bool, false≢true, not-true, not_from_false, or_cases, or_left, or_parts, or_right, true≢false}
-use Rattle.omega_acc.specs.formula.Acceptance.{AccTree, accepts, conjunction, constant, disjunction, fin, inf, occurs}
+use Rattle.omega_formula.specs.Acceptance.{AccTree, accepts, conjunction, constant, disjunction, fin, inf, occurs}
 use Rattle.omega_walk_laws.specs.Marks.{accepts_apart, has_fin}
 
--- what holds with `Inf` and `Fin` asked of the same marks holds of them
+-- a formula that holds with `Inf` and `Fin` judged on the same marks holds of them
 pub apart_same : (marks : List (List ℕ)) (formula : AccTree) → accepts_apart marks marks formula ≡ accepts marks formula
 apart_same marks (constant value) = refl
 apart_same marks (inf negated set) = refl
@@ -14,7 +14,7 @@ apart_same marks (conjunction left right) =
 apart_same marks (disjunction left right) =
     ap (λ b. b || accepts_apart marks marks right) (apart_same marks left) ∙ ap (λ b. accepts marks left || b) (apart_same marks right)
 
--- a formula without `Fin` asks nothing of those marks
+-- for a formula without `Fin` the marks for `Fin` do not matter
 pub without_fin : (some all other : List (List ℕ)) (formula : AccTree) → has_fin formula ≡ false
     → accepts_apart some all formula ≡ accepts_apart some other formula
 without_fin some all other (constant value) none = refl
@@ -29,7 +29,7 @@ without_fin some all other (disjunction left right) none =
     ap (λ b. b || accepts_apart some all right) (without_fin some all other left parts.0)
     ∙ ap (λ b. accepts_apart some other left || b) (without_fin some all other right parts.1)
 
--- whatever occurs in some marks occurs in others
+-- each set that occurs in `fewer` marks occurs in `more`
 abbrev pub OccursIn : List (List ℕ) → List (List ℕ) → Type 0
 OccursIn fewer more = (negated : Bool) (set : ℕ) → occurs fewer negated set ≡ true → occurs more negated set ≡ true
 

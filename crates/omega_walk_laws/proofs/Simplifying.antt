@@ -1,6 +1,6 @@
--- A formula keeps its value where constants stand for atoms of that value, and where operators on constants fall.
+-- A formula keeps its value if atoms are replaced by known values and operators on constants are simplified.
 use Rattle.std.proofs.Common.{◌≡◌, ℕ, Bool, true, false, not, ◌&&◌, ◌||◌, List, Option, Some, None, sym, ap, refl, ◌∙◌}
-use Rattle.omega_acc.specs.formula.Acceptance.{AccTree, accepts, conjunction, constant, disjunction, fin, inf, occurs}
+use Rattle.omega_formula.specs.Acceptance.{AccTree, accepts, conjunction, constant, disjunction, fin, inf, occurs}
 use Rattle.omega_walk_laws.specs.Marks.{Known, both_of, either_of, known_not, known_or, simplified}
 
 and_true : (x : Bool) → x ≡ (x && true)
@@ -40,7 +40,7 @@ module _ (marks : List (List ℕ)) where
   known_value None atom right = refl
   known_value (Some b) atom right = sym (right b refl)
 
-  -- the same with the opposite of what is known
+  -- the same for the negation of a known value
   opposite_value : (value : Option Bool) (atom : AccTree) → ((b : Bool) → value ≡ Some b → accepts marks atom ≡ not b)
       → accepts marks (known_or (known_not value) atom) ≡ accepts marks atom
   opposite_value None atom right = refl

@@ -1,4 +1,4 @@
--- Tours: a walk through each of some edges of a connected set, back to the first.
+-- Tours: a walk through given edges of a connected set, back to the first.
 use Rattle.std.proofs.Common.{ℕ, ◌<◌, IsTrue, inl, inr, List, [], ◌∷◌, ◌++◌, length, All, Contains, refl, subst, arith}
 use Rattle.std.proofs.lemmas.List.Elements.{All-head, All-tail, Contains-append_right}
 use Rattle.omega_walk_laws.specs.Rules.{IsConnected}
@@ -13,7 +13,7 @@ module _ (graph : MarkedGraph) (edges : EdgeSet) (connected : IsConnected graph 
     pub longer : 0 < length walk
     pub passes : (passed : ℕ) → Contains (number ∷ numbers) passed → Contains walk passed
 
-  -- there is one through edges of the set
+  -- some such walk stays in the set
   pub tour : (number : ℕ) (numbers : List ℕ) (last : ℕ) → All (λ n. IsTrue (edges n)) (number ∷ numbers) → IsTrue (edges last) → Tour number numbers last
   tour number [] last all is =
       let here = All-head (λ n. IsTrue (edges n)) number [] all in

@@ -1,4 +1,4 @@
--- Closed walks of graphs whose edges carry marks, and the rules by which one that accepts is found or excluded.
+-- Closed walks of graphs with marked edges, and the rules by which an accepting one is found or excluded.
 pub mod Walks
 pub mod Marks
 pub mod Rules

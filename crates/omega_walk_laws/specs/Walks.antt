@@ -1,6 +1,6 @@
--- Graphs whose edges carry marks, sets of their edges, and closed walks of whose marks an acceptance formula holds.
+-- Graphs with marked edges, sets of their edges, and closed walks whose marks satisfy an acceptance formula.
 use Rattle.std.specs.Prelude.{◌≡◌, ℕ, ◌<◌, Bool, IsTrue, List, [], ◌∷◌, length, map}
-use Rattle.omega_acc.specs.formula.Acceptance.{AccTree, accepts}
+use Rattle.omega_formula.specs.Acceptance.{AccTree, accepts}
 
 -- an edge: the state that it leaves, the state that it enters, and its marks
 pub record MarkedEdge : Type 0 where
@@ -16,27 +16,27 @@ MarkedGraph = ℕ → MarkedEdge
 abbrev pub EdgeSet : Type 0
 EdgeSet = ℕ → Bool
 
--- edges of a set lead from a state to a state: each leaves the state that the one before enters
+-- edges of the set lead from `from` to `to`: each leaves the state that the one before enters
 abbrev pub IsEdgeWalk : MarkedGraph → EdgeSet → ℕ → List ℕ → ℕ → Type 0
 IsEdgeWalk graph edges from [] to = from ≡ to
 IsEdgeWalk graph edges from (number ∷ numbers) to =
     IsTrue (edges number) × ((graph number).from ≡ from) × IsEdgeWalk graph edges (graph number).to numbers to
 
--- a closed walk in a set of edges: at least one edge, and they lead from a state back to it
+-- a closed walk in a set of edges: at least one edge, leading from a state back to it
 pub record IsClosedEdgeWalk (graph : MarkedGraph) (edges : EdgeSet) (walk : List ℕ) : Type 0 where
   pub loop_state : ℕ
   pub leads : IsEdgeWalk graph edges loop_state walk loop_state
   pub longer : 0 < length walk
 
--- the marks of edges, in order
+-- the marks of a walk's edges, in order
 abbrev pub marks_on : MarkedGraph → List ℕ → List (List ℕ)
 marks_on graph walk = map (λ number. (graph number).marks) walk
 
--- a closed walk in a set of edges of whose marks the formula holds
+-- a closed walk in a set of edges whose marks satisfy the formula
 pub record IsAccepting (graph : MarkedGraph) (edges : EdgeSet) (formula : AccTree) (walk : List ℕ) : Type 0 where
   pub closed : IsClosedEdgeWalk graph edges walk
   pub accepted : IsTrue (accepts (marks_on graph walk) formula)
 
--- there is one
+-- some closed walk in the set accepts
 abbrev pub HasAccepting : MarkedGraph → EdgeSet → AccTree → Type 0
 HasAccepting graph edges formula = (walk : List ℕ) × IsAccepting graph edges formula walk

@@ -1,5 +1,5 @@
-//! Closed walks of graphs whose edges carry marks: laws by which a search finds one that an acceptance formula holds
-//! of, or excludes that there is one.
+//! Closed walks of graphs with marked edges: laws by which a search finds one that satisfies an acceptance formula, or
+//! excludes one.
 #![tactic(auto)]
 
 mod rules;

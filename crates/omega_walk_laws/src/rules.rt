@@ -1,61 +1,63 @@
-//! The rules of the search, each a law that stands by itself. All hold of every formula, since a formula is positive in
-//! its atoms: to make an atom true never makes it false.
+//! The rules of the search, each a law by itself. They hold for every formula, since a formula is monotone in its
+//! atoms: making an atom true never makes the formula false.
 ghost use Rattle.omega_walk_laws.specs.Rules.{AllEdgesShowInf, ConnectedEdgesAccept, DisjunctionsSplit, FinIsTriedBothWays, FinTakesEdges, KnownAtomsFall, PassingWalksAccept, WalksAreKept, WalksHaveEdges, WalksNeedInf, WalksStayInComponents};
 
-/// A closed walk in fewer edges is one in more.
+/// States that an accepting closed walk in a set of edges is one in every larger set.
 pub fn walks_are_kept()
     ensures { WalksAreKept }
 {}
 
-/// A closed walk lies in one strongly connected component: where no edge leads to a component of a greater number, in
-/// one of those.
+/// States that a closed walk lies in one strongly connected component, if components are numbered such that no edge
+/// leads to a greater number.
 pub fn walks_stay_in_components()
     ensures { WalksStayInComponents }
 {}
 
-/// An atom whose set of marks each edge meets, or none does, has one value on all closed walks.
+/// States that a formula keeps its value on every closed walk if atoms are replaced by their known values. An atom has
+/// a known value if every edge meets its set of marks, or none does.
 pub fn known_atoms_fall()
     ensures { KnownAtomsFall }
 {}
 
-/// A closed walk has an edge of its set: where there is none, no walk accepts.
+/// States that a set of edges with an accepting closed walk has an edge.
 pub fn walks_have_edges()
     ensures { WalksHaveEdges }
 {}
 
-/// Where a formula holds with `Inf` asked of some edges and `Fin` of all edges of a set, each closed walk in the set
-/// that passes those accepts.
+/// States that a closed walk through given edges accepts if the formula holds with each `Inf` judged on these edges and
+/// each `Fin` on all edges of the set.
 pub fn passing_walks_accept()
     ensures { PassingWalksAccept }
 {}
 
-/// Where a formula holds with `Inf` asked of some edges of a connected set and `Fin` of all its edges, a closed walk
-/// accepts.
+/// States that a strongly connected set has an accepting closed walk if the formula holds with each `Inf` judged on
+/// given edges of it, at least one, and each `Fin` on all.
 pub fn connected_edges_accept()
     ensures { ConnectedEdgesAccept }
 {}
 
-/// Where a closed walk accepts, the formula holds with `Inf` asked of all edges and each `Fin` true.
+/// States that the formula holds with each `Inf` judged on all edges and each `Fin` true, if some closed walk accepts.
 pub fn walks_need_inf()
     ensures { WalksNeedInf }
 {}
 
-/// A formula without `Fin` that some closed walk satisfies holds of all edges together.
+/// States that a formula without `Fin` holds of all edges together if some closed walk satisfies it.
 pub fn all_edges_show_inf()
     ensures { AllEdgesShowInf }
 {}
 
-/// A closed walk accepts by a disjunction exactly if one accepts by one of its parts.
+/// States that a disjunction has an accepting closed walk exactly if one of its parts has one.
 pub fn disjunctions_split()
     ensures { DisjunctionsSplit }
 {}
 
-/// A conjunct `Fin` takes away the edges that it forbids.
+/// States that a conjunct `Fin` removes the edges that it forbids.
 pub fn fin_takes_edges()
     ensures { FinTakesEdges }
 {}
 
-/// An atom `Fin` anywhere in a formula is tried both ways: true, without the edges that it forbids, and false.
+/// States that a search can split on an atom `Fin` anywhere in a formula. A closed walk accepts exactly if one does
+/// with the atom true and without the edges that it forbids, or with the atom false.
 pub fn fin_is_tried_both_ways()
     ensures { FinIsTriedBothWays }
 {}

@@ -1,6 +1,6 @@
 //! Which places are in play, and attractors: the places from which a player forces a visit to a set.
 use crate::numbers::{NONE, Numbers, number_of};
-use omega_game::{Game, Player};
+use omega_parity_game::{Game, Player};
 use std::alloc::{AllocError, Global};
 
 /// The depth of a place that is won.

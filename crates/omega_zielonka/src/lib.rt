@@ -27,6 +27,6 @@ mod subgame;
 mod suggestion;
 mod zielonka;
 
-pub use omega_game::{Game, Player};
+pub use omega_parity_game::{Game, Player};
 pub use searching::search;
 pub use suggestion::Suggestion;

@@ -4,7 +4,7 @@ use crate::numbers::NONE;
 use crate::sorting::by_priority;
 use crate::suggestion::Suggestion;
 use crate::zielonka::Zielonka;
-use omega_game::{Game, Player};
+use omega_parity_game::{Game, Player};
 use std::alloc::{AllocError, Global};
 
 /// Searches for the winning regions of `game`, first as a whole and then by components. Returns none if both searches

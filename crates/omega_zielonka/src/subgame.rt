@@ -1,5 +1,5 @@
 use crate::chains::Chain;
-use omega_game::Player;
+use omega_parity_game::Player;
 
 /// The places that each player wins.
 #[derive(Clone, Copy)]

@@ -1,4 +1,4 @@
-use omega_game::Player;
+use omega_parity_game::Player;
 
 /// The suggestion of a search. Nothing is proved of it, not even that its lists have an entry for each place. Its user
 /// judges it.

@@ -5,7 +5,7 @@ ghost use Rattle.omega.specs.Running.{AreWords, HasNoText, is_nul};
 use omega_text::Refusal;
 use std::alloc::Global;
 
-/// The words of a command line, the program's name first; none where one of them is not UTF-8. 60 alone.
+/// Returns the words of a command line, the program's name first, or none if one of them is not UTF-8.
 pub(crate) fn words_in(alloc: Global, text: &[u8]) -> Result<Option<Vec<String>>, Refusal>
     ensures words { IfOk result (λ found. IfSome found (λ words. AreWords text.now (map string_bytes words.items))) }
     ensures none { IfOk result (λ found. IfNone found (HasNoText text.now)) }
@@ -24,7 +24,7 @@ pub(crate) fn words_in(alloc: Global, text: &[u8]) -> Result<Option<Vec<String>>
     Ok(Some(words))
 }
 
-/// The index of the first NUL.
+/// Returns the index of the first NUL.
 fn first_nul(text: &[u8]) -> Option<usize>
     ensures { result ≡ position is_nul text.now }
 {

@@ -1,6 +1,6 @@
 -- An acceptance formula as a list of nodes, each after its parts.
 use Rattle.std.specs.Prelude.{◌≡◌, ℕ, ◌<◌, false, List, [], ◌∷◌, ◌++◌, length, slice_index_or}
-use Rattle.omega_acc.specs.formula.Acceptance.{AccTree, conjunction, constant, disjunction, fin, inf}
+use Rattle.omega_formula.specs.Acceptance.{AccTree, conjunction, constant, disjunction, fin, inf}
 use Rattle.omega_accepting_walk.specs.declared.node.Node.{Node}
 use Rattle.omega_accepting_walk.specs.declared.node.Node.TheVariants.{And, Constant, Fin, Inf, Or}
 
@@ -12,7 +12,7 @@ node_tree trees (Fin negated set) = fin negated set
 node_tree trees (And left right) = conjunction (trees left) (trees right)
 node_tree trees (Or left right) = disjunction (trees left) (trees right)
 
--- the formula at a place, or `f` if there is none
+-- the formula at a place, or `f` past the last one
 abbrev pub tree_among : List AccTree → ℕ → AccTree
 tree_among trees place = slice_index_or trees place (constant false)
 
@@ -30,12 +30,15 @@ abbrev pub IsNode : (ℕ → AccTree) → ℕ → Node → Type 0
 IsNode trees place (Constant value) = trees place ≡ constant value
 IsNode trees place (Inf negated set) = trees place ≡ inf negated set
 IsNode trees place (Fin negated set) = trees place ≡ fin negated set
-IsNode trees place (And left right) = (left < place) × (right < place) × (trees place ≡ conjunction (trees left) (trees right))
-IsNode trees place (Or left right) = (left < place) × (right < place) × (trees place ≡ disjunction (trees left) (trees right))
+IsNode trees place (And left right) =
+    (left < place) × (right < place) × (trees place ≡ conjunction (trees left) (trees right))
+IsNode trees place (Or left right) =
+    (left < place) × (right < place) × (trees place ≡ disjunction (trees left) (trees right))
 
 -- this holds of each node of a list
 abbrev pub IsFormula : List Node → Type 0
-IsFormula nodes = (place : ℕ) (node : Node) → place < length nodes → IsNode (tree_at nodes) place (slice_index_or nodes place node)
+IsFormula nodes =
+    (place : ℕ) (node : Node) → place < length nodes → IsNode (tree_at nodes) place (slice_index_or nodes place node)
 
 -- the parts of a node are among the first `count` places
 abbrev pub IsMade : ℕ → Node → Type 0
@@ -44,7 +47,3 @@ IsMade count (Inf negated set) = Unit {0}
 IsMade count (Fin negated set) = Unit {0}
 IsMade count (And left right) = (left < count) × (right < count)
 IsMade count (Or left right) = (left < count) × (right < count)
-
--- a list of nodes extends another one, so that earlier nodes keep their places
-abbrev pub Goes : List Node → List Node → Type 0
-Goes before after = (more : List Node) × (after ≡ before ++ more)

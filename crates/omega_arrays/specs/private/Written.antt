@@ -1,9 +1,9 @@
 -- How solutions are written into arrays, and judged there.
 use Rattle.std.specs.Prelude.{◌≡◌, ◌↔◌, ◌≢◌, ℕ, ◌<◌, ◌≤◌, List, slice_index, unwrap_or}
-use Rattle.omega_game.specs.declared.solution.Solution.{Solution}
-use Rattle.omega_game.specs.Game.{Node, owner_at}
-use Rattle.omega_game.specs.Solution.{choices_of, winner_at}
-use Rattle.omega_game.specs.Winning.{choice_at}
+use Rattle.omega_parity_game.specs.declared.solution.Solution.{Solution}
+use Rattle.omega_parity_game.specs.Game.{Node, owner_at}
+use Rattle.omega_parity_game.specs.Solution.{choices_of, winner_at}
+use Rattle.omega_parity_game.specs.Winning.{choice_at}
 use Rattle.omega_arrays.specs.Arrays.{player_of}
 use Rattle.omega_arrays.specs.Answer.{no_choice}
 
@@ -18,7 +18,7 @@ abbrev pub AreWritten : Solution → ℕ → (winners choices : List ℕ) → Ty
 AreWritten solution count winners choices =
     (v : ℕ) → v < count → IsEntry solution (slice_index winners v) (slice_index choices v) v
 
--- a choice stands exactly where the owner wins
+-- there is a choice exactly if the owner wins
 abbrev pub ChoosesWhereWon : List Node → (winners choices : List ℕ) → ℕ → Type 0
 ChoosesWhereWon nodes winners choices v =
     (slice_index choices v ≢ no_choice) ↔ (owner_at nodes v ≡ player_of (slice_index winners v))

@@ -4,11 +4,11 @@ use Rattle.std.specs.List.{filter_map, slice_get}
 use Rattle.std.specs.Str.{bytes_eq}
 use Rattle.std.specs.Prelude.{codes}
 use Rattle.std.proofs.lemmas.Bool.{ltb-false, not-false}
-use Rattle.omega_acc.specs.formula.Meaning.{acc_meant, acc_sets, both_meant}
-use Rattle.omega_acc.specs.formula.Acceptance.{AccTree, acc_depth}
-use Rattle.omega_acc.specs.formula.Acceptance as acc
-use Rattle.omega_acc.specs.Limits.{most_depth}
-use Rattle.omega_acc.specs.formula.Raw.{RawAccTree, atom, conjunction, constant, disjunction, group, raw_acc_depth}
+use Rattle.omega_formula.specs.Meaning.{acc_meant, acc_sets, both_meant}
+use Rattle.omega_formula.specs.Acceptance.{AccTree, acc_depth}
+use Rattle.omega_formula.specs.Acceptance as acc
+use Rattle.omega_expression.specs.Limits.{most_depth}
+use Rattle.omega_formula.specs.Raw.{RawAccTree, atom, conjunction, constant, disjunction, group, raw_acc_depth}
 use Rattle.omega_raw.specs.declared.raw_automaton.RawAutomaton.{RawAutomaton}
 use Rattle.omega_automaton.specs.Automaton.{AreBelow, sets_of}
 use Rattle.omega_automaton.specs.Faults.{has_deep_expression, has_set_beyond, has_set_out_of_range, set_count}

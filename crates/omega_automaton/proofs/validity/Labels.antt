@@ -5,11 +5,11 @@ use Rattle.std.specs.Str.{bytes_eq}
 use Rattle.std.proofs.lemmas.Bool.{and_from, and_parts, ltb-false, ltb-true, not-false}
 use Rattle.std.proofs.lemmas.List.Elements.{All-cons, All-head, All-nil, All-push, All-tail}
 use Rattle.std.proofs.lemmas.List.Folds.{list_all-append}
-use Rattle.omega_acc.specs.label.Expanding.{Defined, Entry, Meaning, both, entries_of, expansion, fault_of_meaning, in_parentheses, negated, replaced, stands_for}
-use Rattle.omega_acc.specs.label.Label.{LabelTree, label_size, propositions}
-use Rattle.omega_acc.specs.label.Label as label
-use Rattle.omega_acc.specs.Limits.{most_depth, most_size}
-use Rattle.omega_acc.specs.label.Raw.{RawLabelTree, alias, conjunction, constant, disjunction, group, negation, proposition, raw_propositions}
+use Rattle.omega_label.specs.Expanding.{Defined, Entry, Meaning, both, entries_of, expansion, fault_of_meaning, in_parentheses, negated, replaced, stands_for}
+use Rattle.omega_label.specs.Label.{LabelTree, label_size, propositions}
+use Rattle.omega_label.specs.Label as label
+use Rattle.omega_expression.specs.Limits.{most_depth, most_size}
+use Rattle.omega_label.specs.Raw.{RawLabelTree, alias, conjunction, constant, disjunction, group, negation, proposition, raw_propositions}
 use Rattle.omega_text.specs.declared.refusal.automaton.AutomatonFault.{AutomatonFault}
 use Rattle.omega_text.specs.declared.refusal.automaton.AutomatonFault.TheVariants.{Expansion, TooDeep}
 use Rattle.omega_automaton.specs.Automaton.{AreBelow}
@@ -72,7 +72,7 @@ cond_below : (count : ℕ) (b : Bool) (here there : Option Meaning) → Mentions
 cond_below count true here there one other = one
 cond_below count false here there one other = other
 
--- what a name stands for
+-- the value of a name
 named_below : (count : ℕ) (entries : List Entry) (name : List ℕ) → AllMentionBelow count entries → MentionsBelow count (stands_for entries name)
 named_below count [] name all = tt
 named_below count (entry ∷ entries) name all =
@@ -112,7 +112,7 @@ entries_below count before (next ∷ rest) all bodies =
     (entries_below count (before ++ entry ∷ []) rest (All-push (λ entry. MentionsBelow count entry.meaning) before entry all here)
     (All-tail (λ defined. is_beyond count defined.body ≡ false) next rest bodies))
 
--- what a label means under definitions, where neither it nor they are beyond a count
+-- what a label means under definitions, if neither it nor they are beyond a count
 pub expansion_below : (count : ℕ) (definitions : List Defined) (raw : RawLabelTree) → All (λ defined. is_beyond count defined.body ≡ false) definitions
     → is_beyond count raw ≡ false → MentionsBelow count (expansion definitions raw)
 expansion_below count definitions raw bodies h =

@@ -4,12 +4,12 @@ use Rattle.std.specs.List.{AllZip, cons_option, filter_map, flat_map, list_any, 
 use Rattle.std.proofs.lemmas.Bool.{false≢true, not-false}
 use Rattle.std.proofs.lemmas.List.Elements.{All-head, All-tail}
 use Rattle.omega_text.specs.declared.refusal.automaton.AutomatonFault.TheVariants.{AcceptanceAtom, Alias, Expansion, MissingAcceptance, TooDeep}
-use Rattle.omega_acc.specs.formula.Meaning.{acc_meant}
-use Rattle.omega_acc.specs.formula.Acceptance.{AccTree}
-use Rattle.omega_acc.specs.label.Expanding.{Defined, Meaning, expansion, fault_of_meaning}
-use Rattle.omega_acc.specs.label.Label.{LabelTree, label_size}
-use Rattle.omega_acc.specs.Limits.{most_depth, most_size}
-use Rattle.omega_acc.specs.label.Raw.{RawLabelTree}
+use Rattle.omega_formula.specs.Meaning.{acc_meant}
+use Rattle.omega_formula.specs.Acceptance.{AccTree}
+use Rattle.omega_label.specs.Expanding.{Defined, Meaning, expansion, fault_of_meaning}
+use Rattle.omega_label.specs.Label.{LabelTree, label_size}
+use Rattle.omega_expression.specs.Limits.{most_depth, most_size}
+use Rattle.omega_label.specs.Raw.{RawLabelTree}
 use Rattle.omega_raw.specs.declared.raw_automaton.RawAutomaton.{RawAutomaton}
 use Rattle.omega_raw.specs.declared.raw_edge.RawEdge.{RawEdge}
 use Rattle.omega_raw.specs.declared.raw_state.RawState.{RawState}

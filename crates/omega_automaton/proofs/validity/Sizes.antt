@@ -2,9 +2,9 @@
 use Rattle.std.proofs.Common.{◌≡◌, ℕ, ◌+◌, List, [], ◌∷◌, map, sum_by, Option, Some, None, refl, ap, sym, ◌∙◌}
 use Rattle.std.specs.List.{AllZip}
 use Rattle.std.proofs.lemmas.List.Sums.{sum_by-cons}
-use Rattle.omega_acc.specs.label.Expanding.{Defined, expansion}
-use Rattle.omega_acc.specs.label.Label.{LabelTree}
-use Rattle.omega_acc.specs.label.Raw.{RawLabelTree}
+use Rattle.omega_label.specs.Expanding.{Defined, expansion}
+use Rattle.omega_label.specs.Label.{LabelTree}
+use Rattle.omega_label.specs.Raw.{RawLabelTree}
 use Rattle.omega_raw.specs.declared.raw_state.RawState.{RawState}
 use Rattle.omega_automaton.specs.Automaton.{size_of, total_size}
 use Rattle.omega_automaton.specs.Faults.{label_total, size_under}
@@ -12,7 +12,7 @@ use Rattle.omega_automaton.specs.Meaning.{IsEdgeOf, IsLabelOf, IsStateOf}
 use Rattle.omega_automaton.specs.declared.state.State.{State}
 use Rattle.omega_automaton.proofs.validity.Labels.{tree_size}
 
--- two sums are one where their items are related one by one, and such items have one size
+-- two sums are one if their items are related one by one, and such items have one size
 sums_same : {A B : Type 0} (R : A → B → Type 0) (f : A → ℕ) (g : B → ℕ) → ((a : A) (b : B) → R a b → g b ≡ f a)
     → (as_ : List A) (bs : List B) → AllZip R as_ bs → sum_by g bs ≡ sum_by f as_
 sums_same R f g each [] [] zip = refl

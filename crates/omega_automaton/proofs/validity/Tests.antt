@@ -11,14 +11,14 @@ pub neither : (a b : Bool) → (a || b) ≡ false → (a ≡ false) × (b ≡ fa
 neither true b h = absurd (false≢true (sym h))
 neither false b h = (refl, h)
 
--- where no item passes each fails
+-- if no item passes each fails
 pub all_fail : {X : Type 0} (test : X → Bool) (xs : List X) → list_any test xs ≡ false → All (λ x. test x ≡ false) xs
 all_fail test [] h = All-nil (λ x. test x ≡ false)
 all_fail test (x ∷ xs) h =
     let both = neither (test x) (list_any test xs) h in
     All-cons (λ x. test x ≡ false) x xs both.0 (all_fail test xs both.1)
 
--- where no number is from a count on all are below it
+-- if no number is from a count on all are below it
 pub all_below : (count : ℕ) (numbers : List ℕ) → list_any (nat_le count) numbers ≡ false → AreBelow count numbers
 all_below count numbers h =
     All-weaker (λ number. nat_le count number ≡ false) (λ number. number < count) (leb-false count) numbers (all_fail (nat_le count) numbers h)
@@ -46,7 +46,7 @@ pub first_of : {X : Type 0} (P : X → Type 0) (xs : List X) → All P xs → If
 first_of P [] all = tt
 first_of P (x ∷ xs) all = All-head P x xs all
 
--- what is related one by one to items of which something holds
+-- what is related one by one to items that satisfy something
 pub zip_all : {A B : Type 0} (Q : A → Type 0) (R : A → B → Type 0) (P : B → Type 0) → ((a : A) (b : B) → Q a → R a b → P b)
     → (as_ : List A) (bs : List B) → All Q as_ → AllZip R as_ bs → All P bs
 zip_all Q R P each [] [] all zip = All-nil P

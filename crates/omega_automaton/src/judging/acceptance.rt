@@ -1,13 +1,13 @@
 ghost use Rattle.std.specs.Prelude.{◌≡◌, is_none, nat_lt, IfErr, IfOk};
 ghost use Rattle.std.specs.List.{list_any};
-ghost use Rattle.omega_acc.specs.formula.Meaning.{acc_meant};
+ghost use Rattle.omega_formula.specs.Meaning.{acc_meant};
 ghost use Rattle.omega_text.specs.Cases.{IsMemory};
-ghost use Rattle.omega_acc.specs.Limits.{most_depth};
-ghost use Rattle.omega_acc.specs.formula.Raw.{raw_acc_depth};
+ghost use Rattle.omega_expression.specs.Limits.{most_depth};
+ghost use Rattle.omega_formula.specs.Raw.{raw_acc_depth};
 ghost use Rattle.omega_automaton.specs.Faults.{has_wrong_atom as wrong_atom, passes};
 ghost use Rattle.omega_automaton.specs.Items.{acceptance_in};
 
-use omega_acc::RawAcc;
+use omega_formula::RawAcc;
 use omega_raw::{RawAutomaton, RawItem};
 use omega_text::{AutomatonFault, Refusal};
 use std::alloc::Global;
@@ -23,7 +23,8 @@ pub(crate) fn has_wrong_atom(alloc: Global, raw: &RawAutomaton) -> Result<bool, 
 
 /// Whether one of `items` is an acceptance with an atom that is neither `Fin` nor `Inf`.
 fn any_wrong(alloc: Global, items: &[RawItem]) -> Result<bool, Refusal>
-    ensures ok { IfOk result (λ wrong. wrong ≡ list_any (λ item. passes (λ accepted. is_none (acc_meant accepted.formula)) (acceptance_in item)) items.now) }
+    ensures ok { IfOk result (λ wrong. wrong ≡ list_any
+        (λ item. passes (λ accepted. is_none (acc_meant accepted.formula)) (acceptance_in item)) items.now) }
     ensures err { IfErr result IsMemory }
 {
     for item in items {
@@ -36,7 +37,8 @@ fn any_wrong(alloc: Global, items: &[RawItem]) -> Result<bool, Refusal>
 
 /// Whether `item` is an acceptance with an atom that is neither `Fin` nor `Inf`.
 fn is_wrong(alloc: Global, item: &RawItem) -> Result<bool, Refusal>
-    ensures ok { IfOk result (λ wrong. wrong ≡ passes (λ accepted. is_none (acc_meant accepted.formula)) (acceptance_in item.now)) }
+    ensures ok { IfOk result (λ wrong.
+        wrong ≡ passes (λ accepted. is_none (acc_meant accepted.formula)) (acceptance_in item.now)) }
     ensures err { IfErr result IsMemory }
 {
     match item {
@@ -60,7 +62,9 @@ fn means_nothing(alloc: Global, formula: &RawAcc) -> Result<bool, Refusal>
 
 /// Whether one of `items` is an acceptance that is too deep.
 pub(crate) fn has_deep_acceptance(items: &[RawItem]) -> bool
-    ensures { result ≡ list_any (λ item. passes (λ accepted. nat_lt most_depth (raw_acc_depth accepted.formula)) (acceptance_in item)) items.now }
+    ensures { result ≡ list_any
+        (λ item. passes (λ accepted. nat_lt most_depth (raw_acc_depth accepted.formula)) (acceptance_in item))
+        items.now }
 {
     for item in items {
         if is_deep(item) {
@@ -72,7 +76,8 @@ pub(crate) fn has_deep_acceptance(items: &[RawItem]) -> bool
 
 /// Whether `item` is an acceptance that is too deep.
 fn is_deep(item: &RawItem) -> bool
-    ensures { result ≡ passes (λ accepted. nat_lt most_depth (raw_acc_depth accepted.formula)) (acceptance_in item.now) }
+    ensures { result
+        ≡ passes (λ accepted. nat_lt most_depth (raw_acc_depth accepted.formula)) (acceptance_in item.now) }
 {
     match item {
         RawItem::Acceptance { formula, .. } => formula.is_too_deep(),

@@ -2,13 +2,13 @@ ghost use Rattle.std.specs.Prelude.{◌≡◌, ◌≤◌, ◌+◌, Some, false, 
 ghost use Rattle.std.specs.List.{list_any};
 ghost use Rattle.std.specs.Option.{option_copied};
 ghost use Rattle.omega_text.specs.Cases.{IsMemory};
-ghost use Rattle.omega_acc.specs.label.Expanding.{expansion};
+ghost use Rattle.omega_label.specs.Expanding.{expansion};
 ghost use Rattle.omega_automaton.specs.Faults.{is_labelled, label_total, passes, size_under};
 ghost use Rattle.omega_automaton.specs.Limits.{most_total_size};
 ghost use Rattle.omega_automaton.specs.private.layout.Findings.{AreFound, AreJoinedFindings, labels_pass};
 
 use crate::limits::MOST_TOTAL_SIZE;
-use omega_acc::{Aliases, RawLabel, expanded_size};
+use omega_label::{Aliases, RawLabel, expanded_size};
 use omega_raw::{RawEdges, RawState};
 use omega_text::{AutomatonFault, Refusal};
 use std::alloc::Global;
@@ -60,7 +60,9 @@ pub(crate) fn findings_of_states(
     states: &[RawState],
     aliases: &Aliases,
 ) -> Result<Findings, Refusal>
-    ensures ok { IfOk result (AreFound (λ test. labels_pass test aliases.now states.now) (sum_by (label_total aliases.now) states.now)) }
+    ensures ok { IfOk result (AreFound
+        (λ test. labels_pass test aliases.now states.now)
+        (sum_by (label_total aliases.now) states.now)) }
     ensures err { IfErr result IsMemory }
 {
     let mut found = Findings::none();
@@ -77,7 +79,9 @@ fn findings_of_state(
     state: &RawState,
     aliases: &Aliases,
 ) -> Result<Findings, Refusal>
-    ensures ok { IfOk result (AreFound (λ test. is_labelled (λ label. test (expansion aliases.now label)) state.now) (label_total aliases.now state.now)) }
+    ensures ok { IfOk result (AreFound
+        (λ test. is_labelled (λ label. test (expansion aliases.now label)) state.now)
+        (label_total aliases.now state.now)) }
     ensures err { IfErr result IsMemory }
 {
     let own = findings_of_label(alloc, state.label.as_ref(), aliases)?;
@@ -91,7 +95,9 @@ fn findings_of_edges(
     edges: &RawEdges,
     aliases: &Aliases,
 ) -> Result<Findings, Refusal>
-    ensures ok { IfOk result (AreFound (λ test. list_any (λ edge. passes (λ label. test (expansion aliases.now label)) edge.label) edges.now) (sum_by (λ edge. size_under aliases.now edge.label) edges.now)) }
+    ensures ok { IfOk result (AreFound
+        (λ test. list_any (λ edge. passes (λ label. test (expansion aliases.now label)) edge.label) edges.now)
+        (sum_by (λ edge. size_under aliases.now edge.label) edges.now)) }
     ensures err { IfErr result IsMemory }
 {
     let mut found = Findings::none();
@@ -109,7 +115,9 @@ fn findings_of_label(
     label: Option<&RawLabel>,
     aliases: &Aliases,
 ) -> Result<Findings, Refusal>
-    ensures ok { IfOk result (AreFound (λ test. passes (λ label. test (expansion aliases.now label)) (option_copied label.entry)) (size_under aliases.now (option_copied label.entry))) }
+    ensures ok { IfOk result (AreFound
+        (λ test. passes (λ label. test (expansion aliases.now label)) (option_copied label.entry))
+        (size_under aliases.now (option_copied label.entry))) }
     ensures err { IfErr result IsMemory }
 {
     match label {
@@ -124,7 +132,9 @@ pub(crate) fn findings_of(
     label: &RawLabel,
     aliases: &Aliases,
 ) -> Result<Findings, Refusal>
-    ensures ok { IfOk result (AreFound (λ test. test (expansion aliases.now label.now)) (size_under aliases.now (Some label.now))) }
+    ensures ok { IfOk result (AreFound
+        (λ test. test (expansion aliases.now label.now))
+        (size_under aliases.now (Some label.now))) }
     ensures err { IfErr result IsMemory }
 {
     let mut found = Findings::none();

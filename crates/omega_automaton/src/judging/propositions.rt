@@ -10,7 +10,7 @@ use crate::judging::body::BodyFound;
 use crate::judging::counts::Counts;
 use crate::judging::repeats::has_name_twice;
 use crate::limits::MOST_PROPOSITIONS;
-use omega_acc::RawLabel;
+use omega_label::RawLabel;
 use omega_raw::{RawAutomaton, RawItem};
 use omega_text::{ByteString, Refusal, Seq};
 use std::alloc::Global;

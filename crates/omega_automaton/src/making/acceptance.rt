@@ -1,9 +1,9 @@
 ghost use Rattle.std.specs.Prelude.{◌≡◌, option_and_then, IfErr, IfOk};
-ghost use Rattle.omega_acc.specs.formula.Meaning.{acc_meant};
+ghost use Rattle.omega_formula.specs.Meaning.{acc_meant};
 ghost use Rattle.omega_text.specs.Cases.{IsMemory};
 ghost use Rattle.omega_automaton.specs.private.layout.Draft.{IsSoundAcceptance};
 
-use omega_acc::{Acc, RawAcc};
+use omega_formula::{Acc, RawAcc};
 use omega_text::Refusal;
 use std::alloc::Global;
 

@@ -1,6 +1,6 @@
 ghost use Rattle.std.specs.Prelude.{◌≡◌, Some, false, length, option_and_then, IfErr, IfOk};
 ghost use Rattle.std.specs.List.{AllZip, flat_map};
-ghost use Rattle.omega_acc.specs.formula.Meaning.{acc_meant};
+ghost use Rattle.omega_formula.specs.Meaning.{acc_meant};
 ghost use Rattle.omega_text.specs.Cases.{IsMemory};
 ghost use Rattle.omega_automaton.specs.Automaton.{edges_from};
 ghost use Rattle.omega_automaton.specs.Meaning.{IsStateOf};
@@ -11,7 +11,8 @@ use crate::making::acceptance::acceptance_of;
 use crate::making::edges::count_edges;
 use crate::making::states::states_of;
 use crate::state::State;
-use omega_acc::{Acc, Aliases, RawAcc};
+use omega_formula::{Acc, RawAcc};
+use omega_label::Aliases;
 use omega_raw::RawState;
 use omega_text::{Refusal, Seq};
 use std::alloc::Global;

@@ -7,7 +7,9 @@ use crate::state::State;
 
 /// Returns the number of edges of `states`, or none if it does not fit in 32 bits.
 pub(crate) fn count_edges(states: &[State]) -> Option<u32>
-    ensures { SomeIff result (length (flat_map edges_from states.now) < 2 ^ 32) (length (flat_map edges_from states.now)) }
+    ensures { SomeIff result
+        (length (flat_map edges_from states.now) < 2 ^ 32)
+        (length (flat_map edges_from states.now)) }
 {
     let mut count = 0u32;
     for state in states {

@@ -5,7 +5,7 @@ ghost use Rattle.omega_automaton.specs.private.layout.Gathered.{HasTaken};
 
 use crate::header::Header;
 use crate::tool::Tool;
-use omega_acc::{AccName, RawAcc};
+use omega_formula::{AccName, RawAcc};
 use omega_raw::RawItem;
 use omega_text::{ByteString, Numbers, Refusal, Seq};
 use std::alloc::Global;

@@ -1,4 +1,4 @@
-//! Acceptance formulas that are read from texts, and what is told of formulas and labels as they are written.
+//! Acceptance formulas that are read from texts, and properties of formulas and labels as they are written.
 use super::formula_text;
 use super::labels::is_read;
 use crate::outcomes::assert_row;
@@ -12,7 +12,7 @@ fn read_next(alloc: Global, cursor: &mut Cursor<'_, '_, HoaKind>) -> Result<Vec<
     formula_text(alloc, &read_acc(alloc, cursor)?)
 }
 
-// The canonical text of the formula that a text begins with, and where the cursor then stands.
+// The canonical text of the formula that a text begins with, and the place of the cursor after it.
 fn read(alloc: Global, text: &[u8]) -> Result<(Vec<u8>, usize), Refusal> {
     let tokens = hoa_tokens(alloc, text)?;
     let mut cursor = Cursor::new(tokens.as_slice(), text.len());
@@ -78,7 +78,7 @@ fn numbers_are_compared(rt: HostRuntime) {
     assert!(rt; propositions_end(label, 8));
 }
 
-// So many pairs of parentheses, and the depth that is counted, at most 257.
+// How many pairs of parentheses, and the depth that is counted, at most 257.
 static DEPTHS: [(usize, u32); 4] = [(0, 1), (255, 256), (256, 257), (300, 257)];
 
 fn is_formula_depth(found: Result<RawAcc, Refusal>, depth: u32) -> bool {
@@ -95,7 +95,7 @@ fn is_label_depth(found: Result<RawLabel, Refusal>, depth: u32) -> bool {
     }
 }
 
-// Whether `t` in so many pairs of parentheses is so deep, as a formula and as a label.
+// Whether `t` in this many pairs of parentheses has this depth, as a formula and as a label.
 fn is_deep(alloc: Global, pairs: usize, depth: u32) -> bool {
     match text_of(alloc, &[("(", pairs), ("t", 1), (")", pairs)]) {
         Ok(text) => {
@@ -132,7 +132,7 @@ fn is_read_as(alloc: Global, text: &str, formula: &RawAcc) -> Result<bool, Refus
     Ok(raw_formula(alloc, text.as_bytes())? == *formula)
 }
 
-// Whether a text is read as `(Foo(0)&Inf(!1))|t`, where it is read at all.
+// Whether a text is read as `(Foo(0)&Inf(!1))|t`, if it is read at all.
 fn is_group_or_true(alloc: Global, text: &str, want: bool) -> bool {
     match group_or_true(alloc) {
         Ok(formula) => is_read_as(alloc, text, &formula).is_ok_and(|same| same == want),

@@ -10,7 +10,7 @@ fn read_next(alloc: Global, cursor: &mut Cursor<'_, '_, HoaKind>) -> Result<Vec<
     text_of(alloc, &read_label(alloc, cursor)?)
 }
 
-// The canonical text of the label that a text begins with, and where the cursor then stands.
+// The canonical text of the label that a text begins with, and the place of the cursor after it.
 fn read(alloc: Global, text: &[u8]) -> Result<(Vec<u8>, usize), Refusal> {
     let tokens = hoa_tokens(alloc, text)?;
     let mut cursor = Cursor::new(tokens.as_slice(), text.len());

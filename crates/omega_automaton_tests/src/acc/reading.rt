@@ -5,8 +5,8 @@ use omega_acc::{read_acc, read_label};
 use omega_text::{Cursor, Refusal, hoa_tokens};
 use std::alloc::Global;
 
-// The number of the refusal of a text as a label, 0 where it begins with one, and the place of the refusal or, where
-// it has none, that of the cursor.
+// The number of the refusal of a text as a label, or 0 if it begins with one, and the place of the refusal or, if it
+// has none, that of the cursor.
 fn as_label(alloc: Global, text: &[u8]) -> Result<(u32, usize), Refusal> {
     let tokens = hoa_tokens(alloc, text)?;
     let mut cursor = Cursor::new(tokens.as_slice(), text.len());
@@ -22,7 +22,7 @@ fn as_formula(alloc: Global, text: &[u8]) -> Result<(u32, usize), Refusal> {
     Ok((outcome.0, outcome.1.unwrap_or(cursor.place())))
 }
 
-/// The number of a refusal, or 0, and its place or, where it has none, where the cursor is to stand.
+/// The number of a refusal, or 0, and its place or, if it has none, that of the cursor.
 type Want = (u32, usize);
 
 fn is_wanted(found: Result<(u32, usize), Refusal>, want: Want) -> bool {

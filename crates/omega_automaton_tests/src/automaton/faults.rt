@@ -172,7 +172,7 @@ fn states_with(alloc: Global, targets: &[u32]) -> Result<Seq<RawState>, Refusal>
     Ok(Seq::from_vec(states))
 }
 
-// An automaton of one state with an edge, where the start and the edge list these states.
+// An automaton of one state with an edge, in which the start and the edge list these states.
 fn written(alloc: Global, start: &[u32], targets: &[u32]) -> Result<RawAutomaton, Refusal> {
     let version = ByteString::from_slice(alloc, b"v1")?;
     let items = items_with(alloc, start)?;

@@ -139,7 +139,7 @@ fn is_state(
         && state.marks.as_slice() == marks
 }
 
-// An alias is replaced where it stands, parentheses go, and marks that are repeated stand once.
+// An alias is replaced in its place, parentheses go, and marks that are repeated are kept once.
 #[test]
 fn an_alias_and_repeated_marks(rt: HostRuntime) {
     let items = "States: 1 Start: 0 AP: 1 \"a\" Alias: @b 0|t Acceptance: 1 Inf(0) acc-name: Buchi";
@@ -163,7 +163,7 @@ fn is_only_edge(alloc: Global, edges: &Edges) -> bool {
 const STATES: &str =
     "State: [@a] 3 \"n\" {2 0 2 1} 0 1&1 {1 0} State: 1 \"\" [0] 2 [(@b)] 0 {} State: 0";
 
-// States and edges stand in the order of the body, and an empty name differs from none.
+// States and edges are in the order of the body, and an empty name differs from none.
 #[test]
 fn states_stand_as_written(rt: HostRuntime) {
     let items = "AP: 1 \"p\" Alias: @a !0 Alias: @b @a|(0) Acceptance: 3 t";
@@ -198,8 +198,8 @@ fn are_labelled(alloc: Global, edges: &Edges) -> bool {
         && is_edge(alloc, &edges.edge(1), "!0|0", &[0], &[])
 }
 
-// Edges without labels, in a state where each leads to one state and is in one set at most,
-// and in one where braces are empty.
+// Edges without labels: in a state in which each leads to one state and is in one set at most, and in one in which
+// braces are empty.
 #[test]
 fn edges_without_labels(rt: HostRuntime) {
     let body = "State: 0 1 {1} 0 State: 1 0 {} 1 {0}";
@@ -237,7 +237,7 @@ const HEADER: &str =
     "properties: b a Start: 1&0 tool: \"t\" \"1\" x: t 3 \"s\" w name: \"n\" AP: 2 \"q\" \"p\" \
                       Acceptance: 1 Inf(0) y: acc-name: parity max even 1 t Start: 2 properties: b x: f";
 
-// What stands once, and what may repeat in the order of the items.
+// What is written at most once, and what may repeat in the order of the items.
 #[test]
 fn headers_stand_as_written(rt: HostRuntime) {
     match automaton_of(rt.alloc(), HEADER, "") {
@@ -361,7 +361,7 @@ fn is_word(parameter: &Parameter, want: &str) -> bool {
     }
 }
 
-// What may stand once and does not.
+// What may be left out and is.
 #[test]
 fn what_is_not_written_is_none(rt: HostRuntime) {
     match automaton_of(rt.alloc(), "Acceptance: 0 t", "") {

@@ -79,7 +79,7 @@ static PIECES: [(&[&str], &[Reported], (usize, usize)); 12] = [
     ),
 ];
 
-// Whether pieces and the end are answered so, and give so many items.
+// Whether pieces and the end are answered so, and give this many items.
 fn is_answered(alloc: Global, pieces: &[&str], want: &[Reported], count: (usize, usize)) -> bool {
     let mut items = Vec::new(alloc);
     match answers(alloc, pieces, &mut items) {

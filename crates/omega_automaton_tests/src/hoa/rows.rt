@@ -58,7 +58,7 @@ fn segments_are_judged_alone_and_in_streams(rt: HostRuntime) {
 pub(super) const ABORTED_FIRST: &str =
     "HOA: ( & 7 nonsense --ABORT-- /*a/*b*/c*/ HOA: v1 Acceptance: 0 t --BODY-- --END--";
 
-// Whether a text is a stream of so many aborted segments and automata.
+// Whether a text is a stream with these numbers of aborted segments and of automata.
 fn has_items(alloc: Global, text: &str, want: (usize, usize)) -> bool {
     match read_stream(alloc, text.as_bytes()) {
         Ok(items) => counts(items.as_slice()) == want,

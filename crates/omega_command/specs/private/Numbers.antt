@@ -1,4 +1,4 @@
--- What is said where `std` reads no number.
+-- What is said if `std` reads no number.
 use Rattle.std.specs.Prelude.{ℕ, Bool, cond, nat_lt}
 use Rattle.std.specs.Char.{digit_value}
 use Rattle.std.specs.declared.num.IntErrorKind.{IntErrorKind}
@@ -10,7 +10,7 @@ use Rattle.omega_command.specs.declared.mistake.Reason.TheVariants as reason
 abbrev pub is_decimal : ℕ → Bool
 is_decimal byte = nat_lt (digit_value byte) 10
 
--- the reason that stands for a kind of error, where the text is of digits alone or not
+-- the reason for a kind of error, by whether the text has only digits
 abbrev pub reason_for : Bool → IntErrorKind → Reason
 reason_for digits kind.Empty = reason.Empty
 reason_for digits kind.InvalidDigit = reason.NotDigits

@@ -1,8 +1,8 @@
 -- Labels of a state that are judged two by two.
 use Rattle.std.specs.Prelude.{◌≡◌, ℕ, ◌<◌, List, slice_get, Some}
-use Rattle.omega_acc.specs.label.Label.{LabelTree, conjunction}
-use Rattle.omega_acc.specs.label.Satisfiable.{IsSatisfiable}
-use Rattle.omega_acc.specs.label.Shape.{FitsALabel}
+use Rattle.omega_label.specs.Label.{LabelTree, conjunction}
+use Rattle.omega_satisfying.specs.Satisfiable.{IsSatisfiable}
+use Rattle.omega_label.specs.Shape.{FitsALabel}
 
 -- two labels fit together, and at no letter both are true
 pub record IsApart (one other : LabelTree) : Type 0 where

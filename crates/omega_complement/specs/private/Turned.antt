@@ -1,42 +1,63 @@
 -- Results and refusals of the private functions of the complement.
-use Rattle.std.specs.Prelude.{◌≡◌, ◌⊎◌, ◌↔◌, ℕ, ◌<◌, Bool, IsTrue, List}
-use Rattle.std.specs.Prelude.{length, Some}
+use Rattle.std.specs.Prelude.{◌≡◌, ◌⊎◌, ◌↔◌, ℕ, ◌<◌, Bool, false, IsTrue, List, length}
 use Rattle.std.specs.List.{AllZip, range_with_len}
 use Rattle.omega_text.specs.Cases.{never, or_memory, or_task}
 use Rattle.omega_text.specs.declared.refusal.Refusal.{Refusal}
-use Rattle.omega_text.specs.declared.refusal.automaton.AutomatonFault.{AutomatonFault}
-use Rattle.omega_text.specs.declared.refusal.task.TaskFault.TheVariants.{TooLarge, TooManyPropositions}
-use Rattle.omega_acc.specs.label.Label.{LabelTree}
-use Rattle.omega_acc.specs.label.Satisfiable.{mentioned}
-use Rattle.omega_acc.specs.label.Shape.{FitsALabel}
-use Rattle.omega_acc.specs.Limits.{most_mentioned}
+use Rattle.omega_text.specs.declared.refusal.task.TaskFault.TheVariants.{NotDeterministic, TooLarge, TooManyPropositions}
+use Rattle.omega_label.specs.Label.{LabelTree}
+use Rattle.omega_satisfying.specs.Satisfiable.{mentioned}
+use Rattle.omega_label.specs.Shape.{FitsALabel}
+use Rattle.omega_expression.specs.Limits.{most_mentioned}
 use Rattle.omega_automaton.specs.Automaton.{Description}
-use Rattle.omega_automaton.specs.Faults.{automaton_fault_of}
+use Rattle.omega_automaton.specs.declared.state.State.{State}
 use Rattle.omega_raw.specs.declared.raw_automaton.RawAutomaton.{RawAutomaton}
 use Rattle.omega_raw.specs.declared.raw_state.RawState.{RawState}
 use Rattle.omega_complement.specs.Complement.{AreExclusiveBelow, AreFittingBelow}
-use Rattle.omega_complement.specs.Labels.{labels_at, state_at}
-use Rattle.omega_complement.specs.Letters.{LacksLetter}
-use Rattle.omega_complement.specs.Refusing.{IsFirstFault, IsStateFault}
-use Rattle.omega_complement.specs.Written.{IsTurned}
+use Rattle.omega_complement.specs.Judged.{AreFitting}
+use Rattle.omega_complement.specs.Labels.{is_full, is_full_at, labels_at, labels_of}
+use Rattle.omega_complement.specs.Refusing.{BreaksLimit, IsFirstFault, IsSecondStart, IsStateFault}
+use Rattle.omega_complement.specs.Written.{IsTurnedAt, SomeLacksLetter}
+use Rattle.omega_complement.specs.declared.state_labels.StateLabels.{StateLabels}
 use Rattle.omega_edge_labels.specs.Fitting.{IsLarge}
 
 -- why a label is not judged: it is too deep or too large, or it mentions too many propositions
 abbrev pub IsUnjudged : LabelTree → Refusal → Type 0
 IsUnjudged label =
-    or_task (λ fault. ((fault ≡ TooLarge) × (FitsALabel label → ⊥)) ⊎ ((fault ≡ TooManyPropositions) × (most_mentioned < length (mentioned label))))
+    or_task (λ fault.
+    ((fault ≡ TooLarge) × (FitsALabel label → ⊥))
+    ⊎ ((fault ≡ TooManyPropositions) × (most_mentioned < length (mentioned label))))
     (or_memory never)
 
 -- the refusal of a state; `full` says whether it has an edge for each valuation
 abbrev pub IsStateRefusal : Bool → List LabelTree → ℕ → Refusal → Type 0
 IsStateRefusal full labels number = or_task (IsStateFault full labels number) (or_memory never)
 
+-- the labels of a state fit the limits, over `count` propositions
+abbrev pub AreFittingOf : ℕ → State → Type 0
+AreFittingOf count state = AreFitting (is_full count state) (labels_of count state)
+
+-- the refusal of a state over `count` propositions
+abbrev pub IsRefusalOf : ℕ → State → Refusal → Type 0
+IsRefusalOf count state = IsStateRefusal (is_full count state) (labels_of count state) state.number
+
+-- the refusal of the state with a number
+abbrev pub IsRefusalAt : Description → ℕ → Refusal → Type 0
+IsRefusalAt a number = IsStateRefusal (is_full_at a number) (labels_at a number) number
+
+-- the refusal of a state that is judged, as it has no edge for some valuation
+abbrev pub IsJudgingRefusal : StateLabels → Refusal → Type 0
+IsJudgingRefusal state = IsStateRefusal false state.labels.now state.number
+
+-- a second start is refused, with its state
+abbrev pub IsStartRefusal : Description → Refusal → Type 0
+IsStartRefusal a = or_task (λ fault. ((state : ℕ) × (fault ≡ NotDeterministic state) × IsSecondStart a state)) never
+
 -- the states below `count` have an edge for each letter, and `lacks` says whether one of them lacked a letter
 pub record AreTurned (a : Description) (count : ℕ) (states : List RawState) (lacks : Bool) : Type 0 where
-  pub turned : AllZip (λ number. IsTurned (length a.propositions) a.states (state_at a number)) (range_with_len 0 count) states
+  pub turned : AllZip (λ number. IsTurnedAt a number) (range_with_len 0 count) states
   pub apart : AreExclusiveBelow a count
   pub fitting : AreFittingBelow a count
-  pub lacking : IsTrue lacks ↔ ((number : ℕ) × (number < count) × LacksLetter (labels_at a number))
+  pub lacking : IsTrue lacks ↔ SomeLacksLetter a count
 
 -- the refusal of the states
 abbrev pub AreRefused : Description → Refusal → Type 0
@@ -44,4 +65,4 @@ AreRefused a = or_task (IsFirstFault a) (or_memory never)
 
 -- the written complement breaks a limit of automata
 abbrev pub IsUnformed : RawAutomaton → Refusal → Type 0
-IsUnformed raw = IsLarge ((fault : AutomatonFault) × (automaton_fault_of raw ≡ Some fault))
+IsUnformed raw = IsLarge (BreaksLimit raw)

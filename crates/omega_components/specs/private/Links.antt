@@ -1,7 +1,7 @@
 -- Lists of the indices at which a list has a state, each linked to the one before it.
 use Rattle.std.specs.Prelude.{◌≡◌, ℕ, zero, suc, ◌<◌, ◌==◌, if◌then◌else◌, List, length, slice_index}
 
--- one more than the last index below n at which a list has a state, 0 where there is none
+-- one more than the last index below n at which a list has a state, or 0 without such an index
 unfoldable pub last_before : List ℕ → ℕ → ℕ → ℕ
 last_before states state zero = 0
 last_before states state (suc n) = if slice_index states n == state then suc n else last_before states state n

@@ -5,16 +5,16 @@ use Rattle.std.proofs.lemmas.Bool.{le-ltb}
 use Rattle.std.proofs.lemmas.List.Elements.{All-contains_itself, All-weaker}
 use Rattle.omega_text.specs.declared.refusal.Refusal.{Refusal}
 use Rattle.omega_text.specs.declared.refusal.Refusal.TheVariants.{Memory}
-use Rattle.omega_acc.specs.declared.formula.kind.AccKind.{AccKind}
+use Rattle.omega_formula.specs.declared.kind.AccKind.{AccKind}
 use Rattle.omega_automaton.specs.Automaton.{AreBelow, BodyEdge, Description, IsAutomaton, IsEdge, IsState, edges_of}
 use Rattle.omega_automaton.specs.declared.edge.Edge.{Edge}
 use Rattle.omega_automaton.specs.declared.state.State.{State}
-use Rattle.omega_game.proofs.building.Duplicates.{no_duplicate}
-use Rattle.omega_game.proofs.parts.PartGames.{memory_alone}
-use Rattle.omega_game.specs.Building.{IsBuildRefusal, game_fault_of, has_duplicate, has_undefined, listed_successors}
-use Rattle.omega_game.specs.Game.{Node}
-use Rattle.omega_game.specs.Limits.{most_nodes, most_successors}
-use Rattle.omega_game.specs.declared.node_spec.NodeSpec.{NodeSpec}
+use Rattle.omega_parity_game.proofs.building.Duplicates.{no_duplicate}
+use Rattle.omega_parity_game.proofs.parts.PartGames.{memory_alone}
+use Rattle.omega_parity_game.specs.Building.{IsBuildRefusal, game_fault_of, has_duplicate, has_undefined, listed_successors}
+use Rattle.omega_parity_game.specs.Game.{Node}
+use Rattle.omega_parity_game.specs.Limits.{most_nodes, most_successors}
+use Rattle.omega_parity_game.specs.declared.node_spec.NodeSpec.{NodeSpec}
 use Rattle.omega_empty.specs.Counters.{counters}
 use Rattle.omega_automaton.specs.Branching.{has_universal_branching}
 use Rattle.omega_empty.specs.EmptinessGame.{span, table}

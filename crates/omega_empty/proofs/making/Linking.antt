@@ -4,8 +4,8 @@ use Rattle.std.proofs.lemmas.List.{append-nil, map-append}
 use Rattle.std.specs.Prelude.{filter}
 use Rattle.std.specs.List.{range_with_len}
 use Rattle.std.proofs.lemmas.List.Elements.{filter-append}
-use Rattle.omega_game.specs.Building.{with_last, with_successor}
-use Rattle.omega_game.specs.declared.node_spec.NodeSpec.{NodeSpec}
+use Rattle.omega_parity_game.specs.Building.{with_last, with_successor}
+use Rattle.omega_parity_game.specs.declared.node_spec.NodeSpec.{NodeSpec}
 use Rattle.omega_empty.specs.EmptinessGame.{is_usable, plain_node}
 use Rattle.omega_empty.specs.private.layout.Nodes.{begun, linked}
 use Rattle.omega_empty.specs.private.layout.Ranges.{usable_in}
@@ -47,7 +47,7 @@ linked_is false specs initial id (y ∷ ys) x is some = absurd (none (some.1 (om
     none : false ≡ true → ⊥
     none e = cc
 
--- there is a last one where one was begun
+-- there is a last node if one was begun
 pub begun_some : (specs initial : List NodeSpec) (id : ℕ) (xs : List ℕ) → specs ≡ initial ++ begun id xs → 0 < length xs → 0 < length specs
 begun_some specs initial id [] is some = absurd (omega arith)
 begun_some specs initial id (y ∷ ys) is some = omega (arith, ap length is, length-append initial (plain_node id 0 (y ∷ ys) ∷ []))

@@ -1,4 +1,4 @@
--- Where the edges of each state stand, state by state.
+-- The range of the edges of each state, state by state.
 use Rattle.std.proofs.Common.{◌≡◌, ◌≢◌, ℕ, zero, suc, ◌+◌, ◌-◌, ◌<◌, ◌≤◌, ◌⊎◌, inl, inr, ◌&&◌, Bool, true, false, cond, eqb, List, [], ◌∷◌, ◌++◌, length, map, take, get_or, set, sym, ap, refl, ◌∙◌, subst, arith, add-zero, length-append, replicate, nat_eq}
 use Rattle.std.specs.Prelude.{filter}
 use Rattle.std.specs.List.{flat_map, list_any, range_with_len}
@@ -69,7 +69,7 @@ numbers_at [] i d below = absurd (omega arith)
 numbers_at (x ∷ xs) zero d below = refl
 numbers_at (x ∷ xs) (suc i) d below = numbers_at xs i d (omega arith)
 
--- the states before one have other numbers, where none repeats
+-- the states before one have other numbers, if none repeats
 before_others : (usable : List Bool) (states : List State) (index : ℕ) (state : State) → has_repeat nat_eq (map (λ state. state.number) states) ≡ false
     → index < length states → state ≡ get_or states index state → Others usable state.number (take index states)
 before_others usable [] index state once below here = absurd (omega arith)

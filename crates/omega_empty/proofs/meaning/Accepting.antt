@@ -4,15 +4,15 @@ use Rattle.std.proofs.Common.{◌≡◌, ℕ, ◌+◌, ◌%◌, ◌<◌, List, [
 use Rattle.std.specs.Prelude.{slice_index_or}
 use Rattle.std.proofs.lemmas.List.{length-map}
 use Rattle.std.proofs.lemmas.List.Elements.{All-contains, All-head, All-map}
-use Rattle.omega_acc.specs.formula.Acceptance.{accepts}
-use Rattle.omega_acc.specs.formula.Kind.{greatest_number}
-use Rattle.omega_acc.specs.formula.KindLaws.{BuchiIsEverySet, ParityIsPriority}
-use Rattle.omega_acc.specs.declared.formula.kind.AccKind.{AccKind}
-use Rattle.omega_acc.specs.declared.formula.kind.AccKind.TheVariants as kinds
+use Rattle.omega_formula.specs.Acceptance.{accepts}
+use Rattle.omega_formula.specs.Kind.{greatest_number}
+use Rattle.omega_acc.specs.KindLaws.{BuchiIsEverySet, ParityIsPriority}
+use Rattle.omega_formula.specs.declared.kind.AccKind.{AccKind}
+use Rattle.omega_formula.specs.declared.kind.AccKind.TheVariants as kinds
 use Rattle.omega_automaton.specs.Automaton.{AreTargets, BodyEdge, Description, IsAutomaton, edge_at}
-use Rattle.omega_game.specs.Game.{Node, identifier_at}
-use Rattle.omega_game.specs.Winning.{IsClosedWalk, end_of, greatest_on}
-use Rattle.omega_game.specs.declared.player.Player.TheVariants.{Zero}
+use Rattle.omega_parity_game.specs.Game.{Node, identifier_at}
+use Rattle.omega_parity_game.specs.Winning.{IsClosedWalk, end_of, greatest_on}
+use Rattle.omega_parity_game.specs.declared.player.Player.TheVariants.{Zero}
 use Rattle.omega_empty.specs.Counters.{counters}
 use Rattle.omega_automaton.specs.AcceptanceKind.{HasKind}
 use Rattle.omega_empty.specs.EmptinessGame.{IsEmptinessGame, span, state_id}

@@ -1,12 +1,11 @@
--- Nodes of a game that is built of specifications: each specification stands at one place,
--- and its identifier tells which.
+-- Nodes of a game that is built of specifications: each specification has one place, and its identifier tells which.
 use Rattle.std.proofs.Common.{◌≡◌, ℕ, ◌<◌, List, length, map, Contains, sym, ap, ◌∙◌, subst, arith}
 use Rattle.std.proofs.lemmas.List.{get_or-map, length-map}
 use Rattle.std.proofs.lemmas.List.Sorted.{Contains-permutation}
-use Rattle.omega_game.proofs.elements.Membership.{Contains-under}
-use Rattle.omega_game.specs.Building.{IsGameOf, specified}
-use Rattle.omega_game.specs.Game.{HasEdge, Node, identifier_at, no_node, node_at, successors_at}
-use Rattle.omega_game.specs.declared.node_spec.NodeSpec.{NodeSpec}
+use Rattle.omega_parity_game.proofs.elements.Membership.{Contains-under}
+use Rattle.omega_parity_game.specs.Building.{IsGameOf, specified}
+use Rattle.omega_parity_game.specs.Game.{HasEdge, Node, identifier_at, no_node, node_at, successors_at}
+use Rattle.omega_parity_game.specs.declared.node_spec.NodeSpec.{NodeSpec}
 use Rattle.omega_empty.proofs.playing.Places.{same_place}
 
 -- the node at a place is as it is specified
@@ -15,14 +14,14 @@ pub record IsAt (nodes : List Node) (spec : NodeSpec) (v : ℕ) : Type 0 where
   pub is : specified nodes (node_at nodes v) ≡ spec
 
 module _ (specs : List NodeSpec) (nodes : List Node) (made : IsGameOf specs nodes) where
-  -- each specification stands somewhere
+  -- each specification has a place
   pub place : (spec : NodeSpec) → Contains specs spec → (v : ℕ) × IsAt nodes spec v
   place spec within =
       let found = Contains-permutation specs (map (specified nodes) nodes) spec made.rearranged within in
       let below : found.0 < length nodes = omega (arith, found.1, length-map nodes (specified nodes)) in
       (found.0, record { node = below; is = sym (get_or-map (specified nodes) nodes found.0 no_node spec below) ∙ found.2 })
 
-  -- where its identifier is
+  -- the place that has its identifier
   pub known : (spec : NodeSpec) (v : ℕ) → Contains specs spec → v < length nodes → identifier_at nodes v ≡ spec.id → IsAt nodes spec v
   known spec v within below same =
       let found = place spec within in

@@ -1,13 +1,13 @@
 -- Walks of an emptiness game from a state's node: edges of the automaton in order, unless they end in the sink.
 use Rattle.std.proofs.Common.{◌≡◌, ℕ, suc, ◌+◌, ◌<◌, ◌⊎◌, inl, inr, Bool, List, [], ◌∷◌, ◌++◌, length, map, max, Option, Some, sym, ap, refl, ◌∙◌, subst, arith}
-use Rattle.omega_acc.specs.formula.Kind.{greatest_number}
-use Rattle.omega_acc.specs.declared.formula.kind.AccKind.{AccKind}
+use Rattle.omega_formula.specs.Kind.{greatest_number}
+use Rattle.omega_formula.specs.declared.kind.AccKind.{AccKind}
 use Rattle.omega_automaton.specs.Automaton.{BodyEdge, Description, IsAutomaton, edge_at}
-use Rattle.omega_game.specs.Building.{IsGameOf}
-use Rattle.omega_game.specs.Game.{Node, priority_at}
-use Rattle.omega_game.specs.Winning.{IsWalk, end_of, greatest_on}
-use Rattle.omega_game.specs.declared.node_spec.NodeSpec.{NodeSpec}
-use Rattle.omega_game.specs.declared.player.Player.{Player}
+use Rattle.omega_parity_game.specs.Building.{IsGameOf}
+use Rattle.omega_parity_game.specs.Game.{Node, priority_at}
+use Rattle.omega_parity_game.specs.Winning.{IsWalk, end_of, greatest_on}
+use Rattle.omega_parity_game.specs.declared.node_spec.NodeSpec.{NodeSpec}
+use Rattle.omega_parity_game.specs.declared.player.Player.{Player}
 use Rattle.omega_empty.specs.Counters.{counter_after, priority_at_counter}
 use Rattle.omega_runs.specs.Judging.{AreUsable}
 use Rattle.omega_empty.specs.EmptinessGame.{table}

@@ -2,12 +2,12 @@
 -- until a place comes again.
 use Rattle.std.proofs.Common.{◌≡◌, ℕ, zero, suc, ◌+◌, ◌-◌, ◌%◌, ◌<◌, ◌⊎◌, inl, inr, List, length, map, IsTrue, sym, ap, refl, ◌∙◌, subst, arith, eq-eqb}
 use Rattle.std.proofs.lemmas.Bool.{cases_eq}
-use Rattle.omega_acc.specs.formula.KindLaws.{BuchiIsEverySet, ParityIsPriority}
+use Rattle.omega_acc.specs.KindLaws.{BuchiIsEverySet, ParityIsPriority}
 use Rattle.omega_automaton.specs.Automaton.{Description, IsAutomaton}
-use Rattle.omega_game.specs.Game.{Node, identifier_at}
-use Rattle.omega_game.specs.Player.{loses}
-use Rattle.omega_game.specs.Winning.{InRegion, IsClosedWalk, IsWalk, Leaves, end_of, greatest_on}
-use Rattle.omega_game.specs.declared.player.Player.TheVariants.{Zero}
+use Rattle.omega_parity_game.specs.Game.{Node, identifier_at}
+use Rattle.omega_parity_game.specs.Player.{loses}
+use Rattle.omega_parity_game.specs.Winning.{InRegion, IsClosedWalk, IsWalk, Leaves, end_of, greatest_on}
+use Rattle.omega_parity_game.specs.declared.player.Player.TheVariants.{Zero}
 use Rattle.omega_region_laws.proofs.Following.{choice_at, end-trail, longer_trail, reached, reached-add, reached_below, some_left, trail, walk_of_trail}
 use Rattle.omega_region_laws.proofs.Pigeonhole.{Repeats, repeats}
 use Rattle.omega_region_laws.specs.Laws.{RegionsCover}
@@ -20,7 +20,7 @@ use Rattle.omega_empty.proofs.meaning.Accepting.{at_start, first_counter, first_
 use Rattle.omega_empty.proofs.meaning.Reading.{Reading, half, reading, sunk, whole}
 use Rattle.omega_empty.proofs.meaning.Steps.{state_place, state_within}
 
--- so many nodes after the first
+-- a number of nodes after the first
 length_trail : (next : ℕ → ℕ) (k v : ℕ) → length (trail next v k) ≡ k
 length_trail next zero v = refl
 length_trail next (suc k) v = ap suc (length_trail next k (next v))
@@ -50,7 +50,7 @@ module _ (a : Description) (game : List Node) (automaton : IsAutomaton a) (is : 
   inside : (u : ℕ) → u < length game → next u < length game
   inside u below = is.game_is.game.closed u (next u) (left u below).listed
 
-  -- after an even number of steps no edge's node stands
+  -- after an even number of steps the node is no edge's
   ends : (there around : List ℕ) (i : ℕ) → length there ≡ i + i → IsClosedWalk game Zero region.choices (end_of v there) around
       → greatest_on game (end_of v there) around % 2 ≡ 0
       → Reading is.kind a is.usable game automaton is.usable_are is.game_is v 0 start there → within_counter a game (end_of v there) < a.states

@@ -4,12 +4,12 @@ use Rattle.std.proofs.Common.{◌≡◌, ℕ, ◌+◌, ◌-◌, ◌*◌, ◌%◌
 use Rattle.std.proofs.lemmas.Bool.{lt-ltb, le-ltb}
 use Rattle.std.proofs.lemmas.Nat.{mod-mul-add, mul-add-lt}
 use Rattle.std.proofs.lemmas.Option.{slice_get-get_or, slice_get_within}
-use Rattle.omega_acc.specs.declared.formula.kind.AccKind.{AccKind}
+use Rattle.omega_formula.specs.declared.kind.AccKind.{AccKind}
 use Rattle.omega_automaton.specs.Automaton.{BodyEdge, Description, IsAutomaton, edge_at, edge_count, edges_of}
-use Rattle.omega_game.proofs.elements.Membership.{Contains-cases, Contains-nothing, map-Contains}
-use Rattle.omega_game.specs.Building.{IsGameOf}
-use Rattle.omega_game.specs.Game.{HasEdge, Node, identifier_at}
-use Rattle.omega_game.specs.declared.node_spec.NodeSpec.{NodeSpec}
+use Rattle.omega_parity_game.proofs.elements.Membership.{Contains-cases, Contains-nothing, map-Contains}
+use Rattle.omega_parity_game.specs.Building.{IsGameOf}
+use Rattle.omega_parity_game.specs.Game.{HasEdge, Node, identifier_at}
+use Rattle.omega_parity_game.specs.declared.node_spec.NodeSpec.{NodeSpec}
 use Rattle.omega_empty.specs.Counters.{counter_after, counters}
 use Rattle.omega_runs.specs.Judging.{AreUsable}
 use Rattle.omega_empty.specs.EmptinessGame.{edge_id, edge_node, is_usable, leaving, sink_id, sink_node, span, state_id, state_node, table}
@@ -32,11 +32,11 @@ usable_from_is usable number below one = slice_get-get_or usable number false be
 
 module _ (kind : AccKind) (a : Description) (usable : List Bool) (game : List Node)
     (automaton : IsAutomaton a) (judged : AreUsable a usable) (made : IsGameOf (table kind a usable) game) where
-  -- the node of a state at a counter stands at a place
+  -- the node of a state at a counter has a place
   abbrev pub AtState : ℕ → ℕ → ℕ → Type 0
   AtState v counter state = Stands kind a usable game automaton judged made v counter state
 
-  -- the node of a usable edge at a counter does
+  -- the node of a usable edge at a counter has one
   pub record AtEdge (v counter number : ℕ) (edge : BodyEdge) : Type 0 where
     pub place_below : v < length game
     pub named : identifier_at game v ≡ edge_id a counter number
@@ -44,19 +44,19 @@ module _ (kind : AccKind) (a : Description) (usable : List Bool) (game : List No
     pub numbered : edge_at a number ≡ Some edge
     pub one : is_usable usable number ≡ true
 
-  -- the sink does
+  -- the sink has one
   pub record AtSink (v : ℕ) : Type 0 where
     pub place_below : v < length game
     pub named : identifier_at game v ≡ sink_id kind a
 
-  -- an edge that leaves a state stands at a place
+  -- an edge that leaves a state has a place
   pub record Leaving (w counter state : ℕ) : Type 0 where
     pub number : ℕ
     pub edge : BodyEdge
     pub at_edge : AtEdge w counter number edge
     pub leaves : edge.source.number ≡ state
 
-  -- the state that an edge enters does, at the counter that its marks bring
+  -- the state that an edge enters has one, at the counter that its marks bring
   pub record Entering (u counter : ℕ) (edge : BodyEdge) : Type 0 where
     pub state : ℕ
     pub at_state : AtState u (counter_after kind counter (marks_of edge)) state
@@ -73,7 +73,7 @@ module _ (kind : AccKind) (a : Description) (usable : List Bool) (game : List No
       let below : number < edge_count a = slice_get_within (edges_of a) number edge at.numbered in
       remainder (identifier_at game v) counter (span a) a.states number at.named (omega (arith, below))
 
-  -- so the one stands for no number, and the other for its own
+  -- so a state's node gives no number, and an edge's its own
   pub state_number : (v counter state : ℕ) → AtState v counter state → number_at a game v ≡ []
   state_number v counter state at =
       ap (λ (m : ℕ). cond (nat_lt m a.states) [] ((m - a.states) ∷ [])) (state_within v counter state at)
@@ -106,7 +106,7 @@ module _ (kind : AccKind) (a : Description) (usable : List Bool) (game : List No
       let same : counter * span a + state ≡ counters kind * span a = sym at.named ∙ sink.named in
       lt_irrefl (counters kind * span a) (subst (λ n. n < counters kind * span a) same (subst (λ n. counter * span a + state < n) turned less))
 
-  -- what stands there
+  -- the node at a place
   pub state_stands : (v counter state : ℕ) → AtState v counter state → IsAt game (state_node kind a usable counter state) v
   state_stands v counter state at =
       known (table kind a usable) game made (state_node kind a usable counter state) v
@@ -120,7 +120,7 @@ module _ (kind : AccKind) (a : Description) (usable : List Bool) (game : List No
   pub sink_stands : (v : ℕ) → AtSink v → IsAt game (sink_node kind a) v
   sink_stands v at = known (table kind a usable) game made (sink_node kind a) v (table_has_sink kind a usable) at.place_below at.named
 
-  -- each state stands at each counter
+  -- each state has a place at each counter
   pub state_place : (counter state : ℕ) → counter < counters kind → state < a.states → (v : ℕ) × AtState v counter state
   state_place counter state counter_below state_below =
       let found = place (table kind a usable) game made (state_node kind a usable counter state) (table_has_state kind a usable counter state counter_below state_below) in (

@@ -1,5 +1,5 @@
--- The places of an emptiness game: each stands for a state at a counter, an edge at a counter or the sink,
--- and edges of the automaton lead from place to place.
+-- The places of an emptiness game: each is that of a state at a counter, of an edge at a counter or of the sink, and
+-- edges of the automaton lead from place to place.
 use Rattle.std.proofs.Common.{◌≡◌, ℕ, zero, suc, ◌+◌, ◌<◌, inl, inr, Bool, true, List, [], ◌∷◌, length, map, get_or, Contains, Option, Some, sym, ap, refl, ◌∙◌, subst, arith, zero-add}
 use Rattle.std.specs.Prelude.{slice_get}
 use Rattle.std.specs.List.Sorted.{IsStrictlyIncreasing}
@@ -8,15 +8,15 @@ use Rattle.std.proofs.lemmas.List.Kept.{AllPairs-from_increasing}
 use Rattle.std.proofs.lemmas.List.Sorted.{Contains-permutation, IsPermutation-sym}
 use Rattle.std.proofs.lemmas.List.{length-map}
 use Rattle.std.proofs.lemmas.Option.{slice_get_within}
-use Rattle.omega_acc.specs.formula.Kind.{greatest_number}
-use Rattle.omega_acc.specs.declared.formula.kind.AccKind.{AccKind}
+use Rattle.omega_formula.specs.Kind.{greatest_number}
+use Rattle.omega_formula.specs.declared.kind.AccKind.{AccKind}
 use Rattle.omega_automaton.specs.Automaton.{AreBelow, Description, IsAutomaton, edge_count, edges_of}
-use Rattle.omega_game.proofs.elements.Membership.{map-Contains}
-use Rattle.omega_game.specs.Building.{IsGameOf, specified}
-use Rattle.omega_game.specs.Game.{HasEdge, Node, identifier_at, identifiers, node_at, owner_at, priority_at, successors_at}
-use Rattle.omega_game.specs.Winning.{IsWalk, Leaves, end_of, greatest_on}
-use Rattle.omega_game.specs.declared.node_spec.NodeSpec.{NodeSpec}
-use Rattle.omega_game.specs.declared.player.Player.TheVariants.{Zero, One}
+use Rattle.omega_parity_game.proofs.elements.Membership.{map-Contains}
+use Rattle.omega_parity_game.specs.Building.{IsGameOf, specified}
+use Rattle.omega_parity_game.specs.Game.{HasEdge, Node, identifier_at, identifiers, node_at, owner_at, priority_at, successors_at}
+use Rattle.omega_parity_game.specs.Winning.{IsWalk, Leaves, end_of, greatest_on}
+use Rattle.omega_parity_game.specs.declared.node_spec.NodeSpec.{NodeSpec}
+use Rattle.omega_parity_game.specs.declared.player.Player.TheVariants.{Zero, One}
 use Rattle.omega_empty.specs.Counters.{counter_after, counters, priority_at_counter}
 use Rattle.omega_runs.specs.Judging.{AreUsable}
 use Rattle.omega_empty.specs.EmptinessGame.{edge_id, edge_node, is_usable, leaving, or_sink, sink_id, state_id, state_node, table}
@@ -64,7 +64,7 @@ module _ (kind : AccKind) (a : Description) (usable : List Bool) (nodes : List N
       (Contains-permutation (map (specified nodes) nodes) (table kind a usable) (specified nodes (node_at nodes v))
       (IsPermutation-sym (table kind a usable) (map (specified nodes) nodes) made.rearranged) (specified_at nodes nodes v below))
 
-  -- a place stands for a state at a counter
+  -- a place is that of a state at a counter
   pub record Stands (v counter state : ℕ) : Type 0 where
     pub place : v < length nodes
     pub named : identifier_at nodes v ≡ state_id a counter state

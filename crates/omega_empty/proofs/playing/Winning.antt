@@ -6,15 +6,15 @@ use Rattle.std.proofs.Math.Nat.{zero-mul}
 use Rattle.std.proofs.lemmas.Bool.{eq-eqb}
 use Rattle.std.proofs.lemmas.List.{length-map, map-append}
 use Rattle.std.proofs.lemmas.List.Elements.{All-map}
-use Rattle.omega_acc.specs.formula.Acceptance.{accepts}
-use Rattle.omega_acc.specs.formula.Kind.{greatest_number}
-use Rattle.omega_acc.specs.formula.KindLaws.{BuchiIsEverySet, ParityIsPriority}
-use Rattle.omega_acc.specs.declared.formula.kind.AccKind.{AccKind}
-use Rattle.omega_acc.specs.declared.formula.kind.AccKind.TheVariants as kinds
+use Rattle.omega_formula.specs.Acceptance.{accepts}
+use Rattle.omega_formula.specs.Kind.{greatest_number}
+use Rattle.omega_acc.specs.KindLaws.{BuchiIsEverySet, ParityIsPriority}
+use Rattle.omega_formula.specs.declared.kind.AccKind.{AccKind}
+use Rattle.omega_formula.specs.declared.kind.AccKind.TheVariants as kinds
 use Rattle.omega_automaton.specs.Automaton.{AreBelow, Description, IsAutomaton}
-use Rattle.omega_game.specs.Game.{Node}
-use Rattle.omega_game.specs.Winning.{InRegion, Wins, end_of, greatest_on}
-use Rattle.omega_game.specs.declared.player.Player.TheVariants.{Zero, One}
+use Rattle.omega_parity_game.specs.Game.{Node}
+use Rattle.omega_parity_game.specs.Winning.{InRegion, Wins, end_of, greatest_on}
+use Rattle.omega_parity_game.specs.declared.player.Player.TheVariants.{Zero, One}
 use Rattle.omega_region_laws.proofs.Pigeonhole.{Repeats, repeats}
 use Rattle.omega_region_laws.specs.Laws.{RegionsCover}
 use Rattle.omega_empty.specs.Counters.{counters}

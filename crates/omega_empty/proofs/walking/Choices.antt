@@ -1,5 +1,5 @@
--- The choices of player 0 are followed from a start's node that it wins: each two steps pass an edge,
--- and where a place comes again is a lasso.
+-- The choices of player 0 are followed from a start's node that it wins: each two steps pass an edge, and once a place
+-- comes again there is a lasso.
 use Rattle.std.proofs.Common.{◌≡◌, ℕ, ◌+◌, ◌-◌, ◌%◌, ◌<◌, ◌≤◌, ◌⊎◌, inl, inr, Bool, true, List, [], ◌∷◌, ◌++◌, length, get_or, replicate, set, drop, Option, None, Some, slice_get, sum_by, sym, ap, refl, ◌∙◌, subst, arith, append_assoc, length-append}
 use Rattle.std.proofs.Math.Seq.{drop-append_seam, take-append_seam}
 use Rattle.std.proofs.lemmas.Bool.{cases_eq}
@@ -8,10 +8,10 @@ use Rattle.std.proofs.lemmas.List.{get_or-replicate, get_or-set_other, get_or-se
 use Rattle.std.proofs.lemmas.List.Sums.{sum_by-set}
 use Rattle.std.proofs.lemmas.Option.{get_or_from_slice_get, none-some, slice_get-get_or, slice_get_read, slice_get_within}
 use Rattle.omega_automaton.specs.Automaton.{Description, IsAutomaton, edge_count, edges_of}
-use Rattle.omega_game.specs.Game.{Node, owner_at}
-use Rattle.omega_game.specs.Winning.{Chooses, IsClosedWalk, IsWalk, Leaves, Wins, end_of, greatest_on}
-use Rattle.omega_game.specs.declared.node_spec.NodeSpec.{NodeSpec}
-use Rattle.omega_game.specs.declared.player.Player.TheVariants.{Zero}
+use Rattle.omega_parity_game.specs.Game.{Node, owner_at}
+use Rattle.omega_parity_game.specs.Winning.{Chooses, IsClosedWalk, IsWalk, Leaves, Wins, end_of, greatest_on}
+use Rattle.omega_parity_game.specs.declared.node_spec.NodeSpec.{NodeSpec}
+use Rattle.omega_parity_game.specs.declared.player.Player.TheVariants.{Zero}
 use Rattle.omega_lift_laws.proofs.Reaching.{end_of-append, walk-append}
 use Rattle.omega_region_laws.proofs.Walks.{wins_onward}
 use Rattle.omega_solve.specs.Headline.{IsExact}
@@ -51,7 +51,7 @@ put seen at u j k below here = go (cases_eq u at)
 
 module _ (a : Description) (game : List Node) (automaton : IsAutomaton a) (is : IsEmptinessGame a game)
     (won : List Bool) (choices : List (Option ℕ)) (exact : IsExact game Zero won choices) where
-  -- the node of a state stands at a place from which the choices win
+  -- the node of a state has a place from which the choices win
   pub record AtWon (v : ℕ) : Type 0 where
     pub counter : ℕ
     pub state : ℕ
@@ -86,7 +86,7 @@ module _ (a : Description) (game : List Node) (automaton : IsAutomaton a) (is : 
       exact.chosen w (region w (is.game_is.game.closed v w edge.listed) (wins_onward game Zero choices v w edge here.wins))
       (next_owner w here.counter here.state (leaves_state is.kind a is.usable game automaton is.usable_are is.game_is v w here.counter here.state here.at edge.listed))
 
-  -- two steps pass the edge whose node stands between
+  -- two steps pass the edge whose node is between
   pub record Passed (v w u : ℕ) : Type 0 where
     pub between : w < length game
     pub following : a.states ≤ within_counter a game w
@@ -123,7 +123,7 @@ module _ (a : Description) (game : List Node) (automaton : IsAutomaton a) (is : 
         next = record { counter = _; state = step.entering.state; at = step.entering.at_state; wins = step.kept };
       }
 
-  -- a place was met after so many edges, and walks lead there and on
+  -- a place was met after a number of edges, and walks lead there and on
   pub record Met (v at u j : ℕ) (edges : List ℕ) : Type 0 where
     pub before : List ℕ
     pub after : List ℕ
@@ -279,7 +279,7 @@ no_mark n u j marked =
     let inside : u < n = omega (arith, slice_get_within (replicate n none) u (Some j) marked, length-replicate n none) in
     none-some j (sym (get_or-replicate n u none None inside) ∙ get_or_from_slice_get (replicate n none) u (Some j) None marked)
 
--- what is no mark is none
+-- an entry that is no mark is empty
 pub none_cloned : (P : Option ℕ → Type 0) → ((j : ℕ) → P (Some j) → ⊥) → (y : Option ℕ) → P y → y ≡ None
 none_cloned P others None same = refl
 none_cloned P others (Some j) same = absurd (others j same)

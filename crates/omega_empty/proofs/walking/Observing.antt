@@ -1,11 +1,11 @@
--- What is told of the run in an emptiness game is told of the automaton's, also where it goes on to be refused.
+-- The reports of a run in an emptiness game are reports of the automaton's run, also if it goes on to be refused.
 use Rattle.std.proofs.Common.{◌≢◌, List, Option, None, Some, subst, sym}
 use Rattle.omega_text.specs.declared.refusal.Refusal.{Refusal}
 use Rattle.omega_text.specs.declared.refusal.Refusal.TheVariants.{Task}
 use Rattle.omega_text.specs.declared.refusal.task.TaskFault.TheVariants.{Budget}
 use Rattle.omega_automaton.specs.Automaton.{Description}
-use Rattle.omega_game.specs.Game.{Node}
-use Rattle.omega_game.specs.declared.player.Player.{Player}
+use Rattle.omega_parity_game.specs.Game.{Node}
+use Rattle.omega_parity_game.specs.declared.player.Player.{Player}
 use Rattle.omega_budget.proofs.Observed.{made_refused}
 use Rattle.omega_empty.specs.EmptinessGame.{IsEmptinessGame}
 use Rattle.omega_empty.specs.Observing.{LiftsAutomaton}

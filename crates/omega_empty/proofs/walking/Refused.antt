@@ -3,14 +3,14 @@ use Rattle.std.proofs.Common.{◌≡◌, ℕ, List, Ok, Err, Result, IfOk, IfErr
 use Rattle.omega_text.specs.declared.refusal.Refusal.{Refusal}
 use Rattle.omega_text.specs.declared.refusal.Refusal.TheVariants.{Automaton, Game, Io, Memory, Task, Text}
 use Rattle.omega_automaton.specs.Automaton.{Description}
-use Rattle.omega_game.specs.Game.{Node, priorities}
-use Rattle.omega_game.specs.declared.player.Player.TheVariants.{Zero}
+use Rattle.omega_parity_game.specs.Game.{Node, priorities}
+use Rattle.omega_parity_game.specs.declared.player.Player.TheVariants.{Zero}
 use Rattle.omega_measure.specs.Table.{is_too_wide}
 use Rattle.omega_budget.specs.Within.{IsFound, IsSolvingRefusal}
 use Rattle.omega_budget.specs.declared.found.Found.{Found}
 use Rattle.omega_empty.specs.EmptinessGame.{IsEmptinessGame}
 use Rattle.omega_empty.specs.Refusing.{IsGameRefusal, IsGiven}
-use Rattle.omega_empty.specs.Verdict.{IsEmptinessRefusal, IsSolvedWithin}
+use Rattle.omega_empty.specs.Deciding.{IsEmptinessRefusal, IsSolvedWithin}
 
 -- what is found in a game that is not too wide solves it within the budget
 pub found_solved : (budget : ℕ) (given game : List Node) (answer : Result Found Refusal) → given ≡ game
@@ -42,7 +42,7 @@ unsolved_refused a budget game (Task fault) given game_is is = inr (record { giv
 unsolved_refused a budget game Memory given game_is is = tt
 unsolved_refused a budget game Io given game_is is = is
 
--- what holds of a refusal holds where it is passed on
+-- what holds of a refusal holds if it is passed on
 pub passed_on : {A : Type 0} (answer : Result A Refusal) (refusal : Refusal) (wanted : Refusal → Type 0) → IsErrAnd answer (λ e. e ≡ refusal) → wanted refusal → IfErr answer wanted
 passed_on (Ok value) refusal wanted is holds = tt
 passed_on (Err error) refusal wanted is holds = subst wanted (sym is) holds

@@ -4,12 +4,12 @@ use Rattle.std.proofs.lemmas.List.{get_or-map, length-map}
 use Rattle.std.proofs.lemmas.List.Quantifiers.{position-Some}
 use Rattle.std.proofs.lemmas.Option.{get_or_from_slice_get, none-some, slice_get-get_or}
 use Rattle.omega_automaton.specs.Automaton.{Description}
-use Rattle.omega_game.proofs.elements.Membership.{place_of_contained}
-use Rattle.omega_game.specs.Game.{IsGame, Node, identifier_at, identifiers, no_node}
+use Rattle.omega_parity_game.proofs.elements.Membership.{place_of_contained}
+use Rattle.omega_parity_game.specs.Game.{IsGame, Node, identifier_at, identifiers, no_node}
 use Rattle.omega_empty.specs.private.layout.Following.{HasNoWonStart, IsWonAt}
 use Rattle.omega_empty.proofs.playing.Places.{same_place}
 
--- the identifier that stands at a place
+-- the identifier at a place
 identified : (game : List Node) (v d : ℕ) → v < length game → get_or (identifiers game) v d ≡ identifier_at game v
 identified game v d below = get_or-map (λ (node : Node). node.identifier) game v no_node d below
 
@@ -20,7 +20,7 @@ place_found game id v here =
     let below : v < length game = omega (arith, found.0, length-map game (λ (node : Node). node.identifier)) in
     (below, sym (identified game v 0 below) ∙ eqb-true (get_or (identifiers game) v 0) id found.1)
 
--- where none is found no node has it
+-- if none is found no node has it
 pub none_found : (game : List Node) (won : List Bool) (id v : ℕ) → None ≡ position (λ x. x == id) (identifiers game) → IsWonAt game won id v → ⊥
 none_found game won id v nowhere at =
     let within : Contains (identifiers game) id =

@@ -1,9 +1,9 @@
--- Verdicts: the lasso of a loop is right, and `Empty` is where no start is won.
+-- Verdicts: the lasso of a loop is right, and so is `Empty` if no start is won.
 use Rattle.std.proofs.Common.{◌≡◌, ℕ, Bool, List, Some, Ok, Err, Result, IfOk, drop, slice_get, sym, subst, take, true}
 use Rattle.omega_text.specs.declared.refusal.Refusal.{Refusal}
 use Rattle.omega_automaton.specs.Automaton.{Description, IsAutomaton}
-use Rattle.omega_game.specs.Game.{Node}
-use Rattle.omega_game.specs.declared.player.Player.TheVariants.{Zero}
+use Rattle.omega_parity_game.specs.Game.{Node}
+use Rattle.omega_parity_game.specs.declared.player.Player.TheVariants.{Zero}
 use Rattle.omega_solve.specs.Headline.{IsExact}
 use Rattle.omega_budget.specs.declared.found.Found.{Found}
 use Rattle.omega_empty.specs.EmptinessGame.{IsEmptinessGame}
@@ -23,7 +23,7 @@ loop_state_is_right a edges list loop_state (Ok verdict) looped same is =
     subst (λ (l : List ℕ). IsAcceptingLasso a (take loop_state l) (drop loop_state l)) (sym same) looped.accepting in
     subst (λ (v : Verdict). IsVerdict a v) (sym is) accepting
 
--- where what is won is exact and no start is won, no lasso accepts
+-- if what is won is exact and no start is won, no lasso accepts
 pub none_accepts : UnwonIsEmpty → (a : Description) (game : List Node) (found : Found) (won : List Bool)
     → IsAutomaton a → IsEmptinessGame a game → IsExact game Zero found.won.items found.choice.items
     → won ≡ found.won.items → HasNoWonStart a game won → (stem cycle : List ℕ) → IsAcceptingLasso a stem cycle → ⊥

@@ -4,7 +4,7 @@ use Rattle.std.specs.Prelude.{◌≡◌, ◌⊎◌, ◌++◌, Bool, false, true,
 use Rattle.omega_text.specs.declared.refusal.Refusal.{Refusal}
 use Rattle.omega_automaton.specs.Automaton.{Description}
 use Rattle.omega_empty.specs.Refusing.{IsGiven}
-use Rattle.omega_empty.specs.Verdict.{IsDecidedWithin, IsEmptinessRefusal}
+use Rattle.omega_empty.specs.Deciding.{IsDecidedWithin, IsEmptinessRefusal}
 use Rattle.omega_runs.specs.Verdict.{IsVerdict}
 use Rattle.omega_runs.specs.declared.verdict.Verdict.{Verdict}
 use Rattle.omega_runs.specs.declared.verdict.Verdict.TheVariants.{Empty, Lasso}
@@ -16,29 +16,29 @@ use Rattle.omega_lasso_word.specs.WordText.{word_text}
 -- the lines of a lasso, and with `word` one with its word
 abbrev pub lasso_lines : Description → Bool → (stem cycle : List ℕ) → List ℕ
 lasso_lines automaton false stem cycle = lasso_text stem cycle
-lasso_lines automaton true stem cycle = lasso_text stem cycle ++ (codes "word " ++ (word_text automaton stem cycle ++ codes "\n"))
+lasso_lines automaton true stem cycle =
+    lasso_text stem cycle ++ (codes "word " ++ (word_text automaton stem cycle ++ codes "\n"))
 
 -- the output for a verdict: `empty`, or the lines of the lasso
 abbrev pub emptiness_text : Description → Bool → Verdict → List ℕ
 emptiness_text automaton word Empty = codes "empty\n"
 emptiness_text automaton word (Lasso stem cycle) = lasso_lines automaton word stem cycle
 
--- the output for an automaton without universal branching, by a search: a right verdict, an accepting lasso or that
--- none accepts
+-- the output of a search for an automaton without universal branching: a right verdict, an accepting lasso or that none
+-- accepts
 pub record IsSearchDecision (automaton : Description) (word : Bool) (output : List ℕ) : Type 0 where
   pub given : IsSearchable automaton
   pub verdict : Verdict
   pub right : IsVerdict automaton verdict
   pub written : output ≡ emptiness_text automaton word verdict
 
--- the answer of `empty --search`: the text stands for an automaton, and its output is such
+-- the answer of `empty --search`: the text is that of an automaton, and the output of the search for it is written
 pub record IsEmptySearchAnswer (text : List ℕ) (word : Bool) (output : List ℕ) : Type 0 where
   pub automaton : Description
   pub read : IsAutomatonText text automaton
   pub decided : IsSearchDecision automaton word output
 
--- the output for an automaton to which none of 13, 40, 41 and 42 applies and whose emptiness game is solved within the
--- budget: a right verdict
+-- the output for an automaton that has an emptiness game, which is solved within the budget: a right verdict
 pub record IsDecision (automaton : Description) (budget : ℕ) (word : Bool) (output : List ℕ) : Type 0 where
   pub given : IsGiven automaton
   pub within : IsDecidedWithin budget automaton
@@ -46,13 +46,13 @@ pub record IsDecision (automaton : Description) (budget : ℕ) (word : Bool) (ou
   pub right : IsVerdict automaton verdict
   pub written : output ≡ emptiness_text automaton word verdict
 
--- the answer of `empty` with a budget: the text stands for an automaton, and its output is such
+-- the answer of `empty` with a budget: the text is that of an automaton, and the output for it is written
 pub record IsEmptyAnswer (text : List ℕ) (budget : ℕ) (word : Bool) (output : List ℕ) : Type 0 where
   pub automaton : Description
   pub read : IsAutomatonText text automaton
   pub decided : IsDecision automaton budget word output
 
--- the text stands for an automaton whose emptiness is not decided within the budget: 13, 40, 41, 42, 50 or 51
+-- the text is that of an automaton whose emptiness is not decided within the budget
 pub record RefusesEmptiness (text : List ℕ) (budget : ℕ) (refusal : Refusal) : Type 0 where
   pub automaton : Description
   pub read : IsAutomatonText text automaton
@@ -62,7 +62,7 @@ pub record RefusesEmptiness (text : List ℕ) (budget : ℕ) (refusal : Refusal)
 abbrev pub IsEmptyRefusal : List ℕ → ℕ → Refusal → Type 0
 IsEmptyRefusal text budget refusal = IsAutomatonRefusal text refusal ⊎ RefusesEmptiness text budget refusal
 
--- the text stands for an automaton that the search refuses: 41 or 42
+-- the text is that of an automaton that the search refuses
 pub record RefusesSearch (text : List ℕ) (refusal : Refusal) : Type 0 where
   pub automaton : Description
   pub read : IsAutomatonText text automaton

@@ -7,10 +7,10 @@ use std::alloc::Global;
 use std::process::Abort;
 use std::test::Fail;
 
-/// What stands for no component.
+/// The entry for no component.
 const NONE: u32 = u32::MAX;
 
-/// A graph of so many states with these edges, without those that are no edges between its states.
+/// Returns a graph of `states` states with those of `edges` that are edges between its states.
 fn graph_of(alloc: Global, states: u32, edges: &[(u32, u32)]) -> Result<Graph, Refusal>
     ensures { IfOk result (λ graph. graph.states ≡ states) }
 {
@@ -23,7 +23,7 @@ fn graph_of(alloc: Global, states: u32, edges: &[(u32, u32)]) -> Result<Graph, R
     Ok(graph)
 }
 
-/// All edges of a graph.
+/// Returns all edges of a graph.
 fn all_edges(alloc: Global, graph: &Graph) -> Result<Vec<u32>, Refusal>
     ensures { IfOk result (λ edges. AreEdges graph.now edges.items) }
 {
@@ -34,7 +34,7 @@ fn all_edges(alloc: Global, graph: &Graph) -> Result<Vec<u32>, Refusal>
     Ok(edges)
 }
 
-/// Those of these numbers that are of edges of a graph.
+/// Returns those of the numbers that are numbers of edges of a graph.
 fn edges_in(alloc: Global, graph: &Graph, listed: &[u32]) -> Result<Vec<u32>, Refusal>
     ensures { IfOk result (λ edges. AreEdges graph.now edges.items) }
 {
@@ -47,7 +47,7 @@ fn edges_in(alloc: Global, graph: &Graph, listed: &[u32]) -> Result<Vec<u32>, Re
     Ok(edges)
 }
 
-/// Those of these numbers that are of states of a graph.
+/// Returns those of the numbers that are numbers of states of a graph.
 fn states_in(alloc: Global, graph: &Graph, listed: &[u32]) -> Result<Vec<u32>, Refusal>
     ensures { IfOk result (λ states. AreStates graph.now states.items) }
 {
@@ -60,7 +60,7 @@ fn states_in(alloc: Global, graph: &Graph, listed: &[u32]) -> Result<Vec<u32>, R
     Ok(states)
 }
 
-/// Which states these edges reach from these states.
+/// Returns which states these edges reach from these states.
 fn reached_by(
     alloc: Global,
     graph: &Graph,
@@ -72,7 +72,7 @@ fn reached_by(
     reached(alloc, graph, &edges, &sources)
 }
 
-/// A walk of these edges from one of these states to another, none where that is no state.
+/// Returns a walk of these edges from one of these states to another, or none if that is no state.
 fn path_by(
     alloc: Global,
     graph: &Graph,
@@ -88,7 +88,7 @@ fn path_by(
     path(alloc, graph, &edges, &sources, target)
 }
 
-/// The components of these edges.
+/// Returns the components of these edges.
 fn components_by(
     alloc: Global,
     scratch: &mut Scratch,
@@ -102,7 +102,7 @@ fn components_by(
     components(alloc, scratch, graph, &edges)
 }
 
-/// The components of all edges of a graph.
+/// Returns the components of all edges of a graph.
 fn components_of(
     alloc: Global,
     states: u32,
@@ -114,7 +114,7 @@ fn components_of(
     components(alloc, &mut scratch, &graph, &all)
 }
 
-/// For each of so many edges the least edge of its component, or `NONE`.
+/// Returns for each edge the least edge of its component, or `NONE`.
 fn least_of(
     alloc: Global,
     edges: usize,

@@ -1,5 +1,5 @@
 -- How strategies are checked: cited by private contracts alone.
-pub mod Reaching
+pub mod Following
 pub mod Recurring
 pub mod Ordering
 pub mod Decision

@@ -1,8 +1,9 @@
 //! Whether no place that is reached bears a losing priority and recurs: suggested by a fast search, checked, and else
 //! tested plainly.
-ghost use Rattle.std.specs.Prelude.{◌≡◌, ℕ, ◌<◌, length, vec_len, IfOk, IfSome, IsTrue};
+ghost use Rattle.std.specs.Prelude.{◌≡◌, ◌<◌, length, IfOk, IfSome, IsTrue};
+ghost use Rattle.omega_parity_game.specs.Reaching.{LeadsInside};
 ghost use Rattle.omega_game.specs.private.checking.Decision.{IsLosingPlace, IsRightDecision};
-ghost use Rattle.omega_game.specs.private.checking.Reaching.{LeadsInside, AreClosed};
+ghost use Rattle.omega_game.specs.private.checking.Following.{AreClosed};
 
 use crate::checking::components::Edge;
 use crate::checking::decision::Decision;
@@ -11,9 +12,7 @@ use crate::checking::nesting::search_nested;
 use crate::checking::ordering::shows_none;
 use crate::checking::recurring::{decide_plainly, recurs};
 use crate::checking::top_nodes::search_by_top_nodes;
-use crate::forward_game::ForwardGame;
-use crate::player::Player;
-use crate::reaching::edges_left;
+use omega_parity_game::{ForwardGame, Player, edges_left};
 use std::alloc::{AllocError, Global};
 
 /// Decides whether no marked place of a priority that loses for the player recurs.
@@ -36,7 +35,7 @@ pub(crate) fn decide(
     Ok(decision)
 }
 
-/// The same where what the fast search suggests is confirmed, else none.
+/// Decides as `decide` does if the suggestion of the fast search is confirmed; else returns `None`.
 pub(crate) fn decide_fast(
     alloc: Global,
     game: &ForwardGame,
@@ -58,7 +57,7 @@ pub(crate) fn decide_fast(
     confirmed(alloc, game, player, choices, marks, finding)
 }
 
-/// The decision that a search suggests, none where it is not confirmed.
+/// Returns the decision that a search suggests, or `None` if it is not confirmed.
 fn confirmed(
     alloc: Global,
     game: &ForwardGame,
@@ -110,7 +109,7 @@ fn loses_at(
     Ok(answer)
 }
 
-/// What the search by nested components finds among the marked places.
+/// Returns the finding of the search by nested components among the marked places.
 fn suggest(
     alloc: Global,
     game: &ForwardGame,

@@ -1,6 +1,6 @@
 ghost use Rattle.std.specs.Prelude.{◌≡◌};
 
-/// What is found of a strategy where it is followed from the places that are reached.
+/// The decision on a strategy, which is followed from the places that are reached.
 #[derive(Clone, Copy)]
 pub(crate) enum Decision {
     /// It wins.

@@ -1,18 +1,16 @@
 //! Both players' strategies judged at once along one order, each at the places given to its player.
-ghost use Rattle.std.specs.Prelude.{◌≡◌, ℕ, ◌<◌, length, IfOk, IsTrue};
-ghost use Rattle.omega_game.specs.declared.player.Player.{Player};
-ghost use Rattle.omega_game.specs.Solution.{WinsAsGiven, choices_of};
-ghost use Rattle.omega_game.specs.Winning.{IsStrategy};
+ghost use Rattle.std.specs.Prelude.{◌≡◌, ◌<◌, length, IfOk, IsTrue};
+ghost use Rattle.omega_parity_game.specs.declared.player.Player.{Player};
+ghost use Rattle.omega_parity_game.specs.Solution.{WinsAsGiven, choices_of};
+ghost use Rattle.omega_parity_game.specs.Winning.{IsStrategy};
 ghost use Rattle.omega_game.specs.private.checking.Ordering.{AreEnds, StandsAsGiven};
 
 use crate::checking::ordering::{ends_of, is_in_order, numbers_in, ranks_along};
-use crate::forward_game::ForwardGame;
-use crate::reaching::edges_left;
-use crate::solution::Solution;
+use omega_parity_game::{ForwardGame, Solution, edges_left};
 use std::alloc::{AllocError, Global};
 
-/// Whether an order of the places shows that each player's choices win from all places given to the player, if no edge
-/// that they leave possible leads to a place given to the other. Linear in nodes and edges.
+/// Whether an order of the places shows that each player's choices win from all places given to the player. No edge
+/// that they leave possible may lead to a place given to the other. Linear in nodes and edges.
 pub(crate) fn shows_given(
     alloc: Global,
     game: &ForwardGame,
@@ -39,7 +37,7 @@ pub(crate) fn shows_given(
     Ok(shown)
 }
 
-/// Whether each place stands in the order as one of its winner's.
+/// Whether each place is in the order as `stands_as_given` requires.
 fn all_stand_as_given(
     game: &ForwardGame,
     solution: &Solution,
@@ -63,8 +61,8 @@ fn all_stand_as_given(
     true
 }
 
-/// Whether a place stands in the order at a position of its priority, with each edge that its winner leaves possible in
-/// order for the winner, and leading to a place of that winner.
+/// Whether a place is in the order at a position of its priority, and each edge that its winner leaves possible is in
+/// order for the winner and leads to a place of that winner.
 fn stands_as_given(
     game: &ForwardGame,
     solution: &Solution,

@@ -1,27 +1,27 @@
 use std::alloc::{AllocError, Global};
 
-/// What stands where there is no number.
+/// The number that is read past the end.
 pub(crate) const NONE: u32 = u32::MAX;
 
-/// Numbers by index. What is past the end reads as none and is not written.
+/// Numbers by index. Past the end each reads as `NONE`, and none is written.
 #[derive(Drop)]
 pub(crate) struct Numbers {
     items: Vec<u32>,
 }
 
 impl Numbers {
-    /// So many times the same number.
+    /// Returns the same number `count` times.
     pub(crate) fn filled(alloc: Global, count: usize, number: u32) -> Result<Numbers, AllocError> {
         let items = vec![in alloc; number; count]?;
         Ok(Numbers { items })
     }
 
-    /// These numbers.
+    /// Returns these numbers.
     pub(crate) fn of(items: Vec<u32>) -> Numbers {
         Numbers { items }
     }
 
-    /// The number at an index.
+    /// Returns the number at an index.
     #[inline(always)]
     pub(crate) fn at(&self, index: u32) -> u32 {
         match self.items.get(index as usize) {
@@ -38,7 +38,7 @@ impl Numbers {
         }
     }
 
-    /// The numbers as they are kept.
+    /// Returns the vector of the numbers.
     pub(crate) fn into_items(self) -> Vec<u32> {
         let Numbers { items } = self;
         items

@@ -1,13 +1,12 @@
 //! A proof that a strategy wins, as an order of the places: each edge leads forward, or back to a place whose priority
 //! does not lose and is the greatest on the way. A closed walk passes its greatest priority by such a step back.
-ghost use Rattle.std.specs.Prelude.{◌≡◌, ℕ, ◌<◌, ◌≤◌, ◌+◌, ◌^◌, length, vec_len, All, IfOk, IsTrue, slice_index};
-ghost use Rattle.omega_game.specs.private.checking.Reaching.{mark_at, LeadsInside, AreClosed};
-ghost use Rattle.omega_game.specs.private.checking.Ordering.{AreEnds, IsInOrder, StandsInOrder};
+ghost use Rattle.std.specs.Prelude.{◌≡◌, ℕ, ◌<◌, ◌≤◌, ◌+◌, ◌^◌, length, vec_len, IfOk, IsTrue, slice_index};
+ghost use Rattle.omega_parity_game.specs.Reaching.{LeadsInside};
+ghost use Rattle.omega_game.specs.private.checking.Following.{AreClosed};
+ghost use Rattle.omega_game.specs.private.checking.Ordering.{AreEnds, AreEndsAfter, IsInOrder, StandsInOrder};
 ghost use Rattle.omega_game.specs.private.checking.Recurring.{NoneRecurs};
 
-use crate::forward_game::ForwardGame;
-use crate::player::Player;
-use crate::reaching::edges_left;
+use omega_parity_game::{ForwardGame, Player, edges_left};
 use std::alloc::{AllocError, Global};
 
 /// Whether an order of the places shows that no marked place of a losing priority recurs. Linear in nodes and edges.
@@ -42,7 +41,7 @@ pub(crate) fn shows_none(
     Ok(shown)
 }
 
-/// The position of each place in the order, 0 where it has none.
+/// Returns the position of each place in the order, 0 if it has none.
 pub(crate) fn numbers_in(alloc: Global, count: usize, order: &[u32]) -> Result<Vec<u32>, AllocError>
     requires { length order.now < 2 ^ 32 }
     ensures { IfOk result (λ numbers. vec_len numbers ≡ count) }
@@ -57,7 +56,7 @@ pub(crate) fn numbers_in(alloc: Global, count: usize, order: &[u32]) -> Result<V
     Ok(numbers)
 }
 
-/// The priorities of the places in the order.
+/// Returns the priorities of the places in the order.
 pub(crate) fn ranks_along(
     alloc: Global,
     game: &ForwardGame,
@@ -78,7 +77,7 @@ pub(crate) fn ranks_along(
     Ok(ranks)
 }
 
-/// For each position the first one after it with a greater rank, or the length.
+/// Returns for each position the first one after it with a greater rank, or the length.
 pub(crate) fn ends_of(alloc: Global, ranks: &[u32]) -> Result<Vec<u32>, AllocError>
     requires few { length ranks.now + 1 < 2 ^ 32 }
     ensures count { IfOk result (λ ends. vec_len ends ≡ length ranks.now) }
@@ -94,13 +93,13 @@ pub(crate) fn ends_of(alloc: Global, ranks: &[u32]) -> Result<Vec<u32>, AllocErr
     Ok(ends)
 }
 
-/// The first position after `index` with a greater rank, found by the ends of the positions after it.
+/// Returns the first position after `index` with a greater rank, found by the ends of the positions after it.
 fn end_after(ranks: &[u32], ends: &[u32], index: u32) -> u32
     requires few { length ranks.now + 1 < 2 ^ 32 }
     requires index { index < length ranks.now }
     requires count { length ends.now ≡ length ranks.now }
     requires onward { (i : ℕ) → index < i → i < length ranks.now → i < slice_index ends.now i }
-    requires ends { (i k : ℕ) → index < i → i < length ranks.now → i ≤ k → k < slice_index ends.now i → slice_index ranks.now k ≤ slice_index ranks.now i }
+    requires ends { AreEndsAfter index ranks.now ends.now }
     ensures following { index < result }
     ensures ranks { (k : ℕ) → index ≤ k → k < result → slice_index ranks.now k ≤ slice_index ranks.now index }
 {
@@ -112,7 +111,7 @@ fn end_after(ranks: &[u32], ends: &[u32], index: u32) -> u32
     end
 }
 
-/// Whether each marked place stands in the order.
+/// Whether each marked place is in the order as `stands` requires.
 fn all_stand(
     game: &ForwardGame,
     player: Player,
@@ -138,7 +137,7 @@ fn all_stand(
     true
 }
 
-/// Whether a place stands in the order at a position of its priority, with each of its edges in order.
+/// Whether a place is in the order at a position of its priority, and each of its edges is in order.
 fn stands(
     game: &ForwardGame,
     player: Player,

@@ -1,14 +1,13 @@
 //! A search in breadth: each place that is reached is met on a shortest way.
-ghost use Rattle.std.specs.Prelude.{◌≡◌, ℕ, ◌<◌, length, vec_len, All, IfOk, OnOk};
-ghost use Rattle.omega_game.specs.private.checking.Reaching.{LeadsInside};
+ghost use Rattle.std.specs.Prelude.{◌≡◌, ◌<◌, length, vec_len, All, IfOk, OnOk};
+ghost use Rattle.omega_parity_game.specs.Reaching.{LeadsInside};
 ghost use Rattle.omega_game.specs.private.refuting.Ways.{AreMet, IsTree, MeetsAll};
 
-use crate::forward_game::ForwardGame;
-use crate::reaching::edges_left;
+use omega_parity_game::{ForwardGame, edges_left};
 use std::alloc::{AllocError, Global};
 
-/// The places that a search met, in its order, and for each the index of the one from which it was met, none where the
-/// search began.
+/// The places that a search met, in its order, and for each the index of the one from which it was met. Those that the
+/// search began with have none.
 #[derive(Drop)]
 pub(crate) struct Met {
     pub places: Vec<u32>,
@@ -65,7 +64,10 @@ fn meet(
     requires inside { All (λ place. place < length game.now) places.now }
     requires count { vec_len marks.old ≡ length game.now }
     requires even { vec_len origins.old ≡ vec_len met.old }
-    ensures met { OnOk result (AreMet game.now most places.now origin marks.old.items met.old.items origins.old.items marks.new.items met.new.items origins.new.items) }
+    ensures met { OnOk result
+        (AreMet game.now most places.now origin
+        marks.old.items met.old.items origins.old.items
+        marks.new.items met.new.items origins.new.items) }
 {
     for place in places {
         let index = *place as usize;

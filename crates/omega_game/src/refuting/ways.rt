@@ -1,14 +1,14 @@
 //! Shortest ways to a place that is reached.
-ghost use Rattle.std.specs.Prelude.{◌≡◌, ℕ, ◌<◌, length, vec_len, All, Contains, IfOk, slice_index};
-ghost use Rattle.omega_game.specs.private.checking.Reaching.{LeadsInside, IsReachedFrom};
+ghost use Rattle.std.specs.Prelude.{◌≡◌, ◌<◌, length, All, Contains, IfOk, slice_index};
+ghost use Rattle.omega_parity_game.specs.Reaching.{LeadsInside, IsReachedFrom};
 ghost use Rattle.omega_game.specs.private.refuting.Ways.{IsWay, LeadBack, LeadsTo};
 
-use crate::forward_game::ForwardGame;
 use crate::refuting::breadth::met_from;
+use omega_parity_game::ForwardGame;
 use std::alloc::{AllocError, Global};
 
-/// The places before the target on a shortest way to it from one of the places through priorities at most `most`.
-/// Linear in nodes and edges.
+/// Returns the places before the target on a shortest way to it from one of the places, through priorities at most
+/// `most`. Linear in nodes and edges.
 pub(crate) fn way_to(
     alloc: Global,
     game: &ForwardGame,
@@ -28,7 +28,7 @@ pub(crate) fn way_to(
     Ok(before)
 }
 
-/// An index of a place that was met.
+/// Returns an index of a place that was met.
 fn index_of(met: &[u32], target: u32) -> usize
     requires { Contains met.now target }
     ensures within { result < length met.now }
@@ -41,7 +41,7 @@ fn index_of(met: &[u32], target: u32) -> usize
     index
 }
 
-/// The places before the one at an index on the way on which it was met.
+/// Returns the places before the one at an index, on the way on which it was met.
 fn way_back(
     alloc: Global,
     met: &[u32],

@@ -2,9 +2,9 @@
 use Rattle.std.specs.Prelude.{◌≡◌, ◌↔◌, ◌++◌, List, Option, false, ℕ, IsSome, Contains, codes, decimal, option_map}
 use Rattle.std.specs.List.{flat_map}
 use Rattle.std.specs.List.Sorted.{IsStrictlyIncreasing}
-use Rattle.omega_game.specs.declared.player.Player.{Player}
-use Rattle.omega_game.specs.Game.{Node, node_at, owner_at, priorities}
-use Rattle.omega_game.specs.Winning.{Chooses, InRegion, IsStrategy, Wins, choice_at}
+use Rattle.omega_parity_game.specs.declared.player.Player.{Player}
+use Rattle.omega_parity_game.specs.Game.{Node, node_at, owner_at, priorities}
+use Rattle.omega_parity_game.specs.Winning.{Chooses, InRegion, IsStrategy, Wins, choice_at}
 use Rattle.omega_measure.specs.Table.{is_too_wide}
 use Rattle.omega_pg.specs.solution.Canonical.{choice_part}
 use Rattle.omega_budget.specs.Within.{EndsWithin}

@@ -4,8 +4,8 @@ use Rattle.omega_text.specs.Cases.{or_task}
 use Rattle.omega_text.specs.declared.refusal.Refusal.{Refusal}
 use Rattle.omega_text.specs.declared.refusal.task.TaskFault.{TaskFault}
 use Rattle.omega_text.specs.declared.refusal.task.TaskFault.TheVariants.{Budget, TooWide, UnknownNode}
-use Rattle.omega_game.specs.declared.player.Player.{Player}
-use Rattle.omega_game.specs.Game.{Node, priorities}
+use Rattle.omega_parity_game.specs.declared.player.Player.{Player}
+use Rattle.omega_parity_game.specs.Game.{Node, priorities}
 use Rattle.omega_measure.specs.Table.{is_too_wide}
 use Rattle.omega_pg.specs.game.Refusing.{IsRefusal}
 use Rattle.omega_pg.specs.game.Text.{IsGameText}
@@ -53,8 +53,9 @@ IsSolveFault game asked None budget fault = IsWholeFault game asked budget fault
 IsSolveFault game asked (Some identifier) budget UnknownNode = IsUnknownIdentifier game identifier
 IsSolveFault game asked (Some identifier) budget fault = IsPartFault game asked identifier budget fault
 
--- the text stands for a game that has this fault
-pub record IsSolveTaskFault (text : List ℕ) (asked : Asked) (from : Option ℕ) (budget : ℕ) (fault : TaskFault) : Type 0 where
+-- the text is that of a game that has this fault
+pub record IsSolveTaskFault (text : List ℕ) (asked : Asked) (from : Option ℕ) (budget : ℕ) (fault : TaskFault)
+    : Type 0 where
   pub game : List Node
   pub read : IsGameText text game
   pub fault_there : IsSolveFault game asked from budget fault

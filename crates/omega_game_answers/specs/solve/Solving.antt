@@ -1,9 +1,9 @@
 -- The answer of `solve`: a right answer for the game, or for the part that one node reaches.
 use Rattle.std.specs.Prelude.{◌↔◌, ◌<◌, List, Option, Some, None, ℕ, length, slice_index}
-use Rattle.omega_game.specs.declared.player.Player.{Player}
-use Rattle.omega_game.specs.Game.{Node}
-use Rattle.omega_game.specs.Part.{IsPartAt}
-use Rattle.omega_game.specs.Winning.{InRegion}
+use Rattle.omega_parity_game.specs.declared.player.Player.{Player}
+use Rattle.omega_parity_game.specs.Game.{Node}
+use Rattle.omega_parity_game.specs.Part.{IsPartAt}
+use Rattle.omega_parity_game.specs.Winning.{InRegion}
 use Rattle.omega_pg.specs.game.Text.{IsGameText}
 use Rattle.omega_game_answers.specs.Part.{HasIdentifier}
 use Rattle.omega_game_answers.specs.solve.AnswerText.{IsAnswerOf}
@@ -38,7 +38,7 @@ abbrev pub Solves : List Node → Asked → Option ℕ → ℕ → List ℕ → 
 Solves game asked None budget output = SolvesWhole game asked budget output
 Solves game asked (Some identifier) budget output = SolvesPart game asked identifier budget output
 
--- the answer of `solve`: the text stands for a game, and a right answer is written
+-- the answer of `solve`: the text is that of a game, and a right answer is written
 pub record IsSolveAnswer (text : List ℕ) (asked : Asked) (from : Option ℕ) (budget : ℕ) (output : List ℕ) : Type 0 where
   pub game : List Node
   pub read : IsGameText text game

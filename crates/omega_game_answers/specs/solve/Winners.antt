@@ -1,7 +1,7 @@
 -- The winners of nodes, given the nodes that player 0 wins.
 use Rattle.std.specs.Prelude.{Bool, true, false, List, map}
-use Rattle.omega_game.specs.declared.player.Player.{Player}
-use Rattle.omega_game.specs.declared.player.Player.TheVariants.{One, Zero}
+use Rattle.omega_parity_game.specs.declared.player.Player.{Player}
+use Rattle.omega_parity_game.specs.declared.player.Player.TheVariants.{One, Zero}
 
 -- the winner of a node, which player 0 wins or does not
 abbrev pub winner_of : Bool → Player

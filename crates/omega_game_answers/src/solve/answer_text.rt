@@ -1,8 +1,7 @@
-ghost use Rattle.std.specs.Prelude.{◌≡◌, ◌++◌, ℕ, ◌<◌, Some, IfOk, IfSome, OnOk, IsOkUnless, length, slice_get, true};
-ghost use Rattle.omega_text.specs.declared.refusal.Refusal.TheVariants.{Memory};
-ghost use Rattle.omega_game.specs.Winning.{IsStrategy};
+ghost use Rattle.std.specs.Prelude.{◌≡◌, ◌++◌, ◌<◌, IfOk, IfSome, OnOk, IsOkUnless, length};
+ghost use Rattle.omega_parity_game.specs.Winning.{IsStrategy};
 ghost use Rattle.omega_game_answers.specs.solve.AnswerText.{answer_text, lifts_line, answer_line};
-ghost use Rattle.omega_game_answers.specs.private.steps.Places.{places_from};
+ghost use Rattle.omega_game_answers.specs.private.steps.Places.{MarksNodes, places_from};
 
 use crate::player_text::append_player;
 use omega_game::{ForwardGame, Player, Refusal};
@@ -19,10 +18,11 @@ pub fn write_answer(
     won: &[bool],
     choices: &[Option<u32>],
 ) -> Result<Vec<u8>, Refusal>
-    requires places { (v : ℕ) → slice_get won.now v ≡ Some true → v < length game.now }
+    requires places { MarksNodes game.now won.now }
     requires strategy { IsStrategy game.now player choices.now }
-    ensures text { IfOk result (λ text. text.items ≡ answer_text player lifts game.now (places_from 0 won.now) choices.now) }
-    ensures memory { IsOkUnless result Memory }
+    ensures text { IfOk result
+        (λ text. text.items ≡ answer_text player lifts game.now (places_from 0 won.now) choices.now) }
+    ensures memory { IsOkUnless result Refusal.Memory }
 {
     game.keeps_limits();
     let mut out = Vec::new(alloc);
@@ -37,7 +37,7 @@ pub fn write_answer(
 
 fn append_lifts(player: Player, lifts: u64, out: &mut Vec<u8>) -> Result<(), Refusal>
     ensures text { OnOk result (out.new.items ≡ out.old.items ++ lifts_line player lifts) }
-    ensures memory { IsOkUnless result Memory }
+    ensures memory { IsOkUnless result Refusal.Memory }
 {
     append_player(player, out)?;
     out.extend_from_slice(b" lifts ")?;
@@ -55,7 +55,7 @@ fn append_won(
     requires node { place < length game.now }
     requires successor { IfSome choice (λ w. w < length game.now) }
     ensures text { OnOk result (out.new.items ≡ out.old.items ++ answer_line game.now place choice) }
-    ensures memory { IsOkUnless result Memory }
+    ensures memory { IsOkUnless result Refusal.Memory }
 {
     write_number(u128::from(game.id(place)), out)?;
     if let Some(successor) = choice {

@@ -1,13 +1,12 @@
 ghost use Rattle.std.specs.Prelude.{◌≡◌, ◌≤◌, IfOk, IfErr, IsOk, IsOkUnless, None, false, true};
-ghost use Rattle.omega_game.specs.declared.player.Player.{Player};
-ghost use Rattle.omega_game.specs.Game.{priorities};
+ghost use Rattle.omega_parity_game.specs.Game.{priorities};
 ghost use Rattle.omega_measure.specs.Table.{is_too_wide};
 ghost use Rattle.omega_text.specs.declared.refusal.task.TaskFault.TheVariants.{TooWide};
 ghost use Rattle.omega_game_answers.specs.solve.Refusing.{IsTooWide};
 ghost use Rattle.omega_solve.specs.Limits.{most_lifts};
-ghost use Rattle.omega_text.specs.declared.refusal.Refusal.TheVariants.{Memory, Task};
+ghost use Rattle.omega_text.specs.declared.refusal.Refusal.TheVariants.{Task};
 ghost use Rattle.omega_game_answers.specs.declared.solve.asked.Asked.TheVariants.{Both};
-ghost use Rattle.omega_game_answers.specs.solve.Solution.{IsRight, IsSolutionOf};
+ghost use Rattle.omega_game_answers.specs.solve.Solution.{IsNarrow, IsRight, IsSolutionOf};
 ghost use Rattle.omega_game_answers.specs.private.steps.SolveGameRefusal.{IsSolveGameRefusal};
 ghost use Rattle.omega_game_answers.specs.solve.Winners.{winners_of};
 ghost use Rattle.omega_game_answers.specs.private.steps.Lifts.{LiftsWholeGame};
@@ -31,7 +30,8 @@ pub fn solve_both<L, W: Reporter<L>>(
     requires { budget ≤ most_lifts }
     ensures answer { IfOk result (λ output. IsSolutionOf game.now budget output.items) }
     ensures refused { IfErr result (IsSolveGameRefusal game.now Both None budget) }
-    ensures reported { IsObserved (LiftsWholeGame game.now Both) (refusal_in result) (W.tells reporter.now) (W.pace reporter.now) budget observer.old observer.new }
+    ensures reported { IsObserved (LiftsWholeGame game.now Both) (refusal_in result)
+        (W.tells reporter.now) (W.pace reporter.now) budget observer.old observer.new }
 {
     let solution = solution_of(alloc, game, budget, reporter, observer)?;
     write_solution(alloc, game, &solution)
@@ -50,7 +50,8 @@ pub fn solution_of<L, W: Reporter<L>>(
     requires { budget ≤ most_lifts }
     ensures right { IfOk result (IsRight game.now budget) }
     ensures refused { IfErr result (IsSolveGameRefusal game.now Both None budget) }
-    ensures reported { IsObserved (LiftsWholeGame game.now Both) (refusal_in result) (W.tells reporter.now) (W.pace reporter.now) budget observer.old observer.new }
+    ensures reported { IsObserved (LiftsWholeGame game.now Both) (refusal_in result)
+        (W.tells reporter.now) (W.pace reporter.now) budget observer.old observer.new }
 {
     fits_both(game)?;
     let reordered = Reordered::of(alloc, game)?;
@@ -69,10 +70,11 @@ fn lifted_solution<L, W: Reporter<L>>(
 ) -> Result<Solution, Refusal>
     requires budget { budget ≤ most_lifts }
     requires given { reordered.now.given ≡ game.now }
-    requires narrow { (player : Player) → is_too_wide player (priorities game.now) ≡ false }
+    requires narrow { IsNarrow game.now }
     ensures right { IfOk result (IsRight game.now budget) }
     ensures refused { IfErr result (IsSolveGameRefusal game.now Both None budget) }
-    ensures reported { IsObserved (LiftsWholeGame game.now Both) (refusal_in result) (W.tells reporter.now) (W.pace reporter.now) budget observer.old observer.new }
+    ensures reported { IsObserved (LiftsWholeGame game.now Both) (refusal_in result)
+        (W.tells reporter.now) (W.pace reporter.now) budget observer.old observer.new }
 {
     regions_are_apart();
     regions_cover();
@@ -93,7 +95,7 @@ fn lifted_solution<L, W: Reporter<L>>(
 
 /// Fails with [TaskFault::TooWide] alone, if the game is too wide for either player.
 pub fn fits_both(game: &ForwardGame) -> Result<(), Refusal>
-    ensures narrow { IsOk result → (player : Player) → is_too_wide player (priorities game.now) ≡ false }
+    ensures narrow { IsOk result → IsNarrow game.now }
     ensures refused { IfErr result (λ refusal. (refusal ≡ Task TooWide) × IsTooWide game.now Both) }
 {
     fits_for(game, Player::Zero)?;
@@ -103,7 +105,8 @@ pub fn fits_both(game: &ForwardGame) -> Result<(), Refusal>
 /// Fails with [TaskFault::TooWide] alone, if the game is too wide for `player`.
 fn fits_for(game: &ForwardGame, player: Player) -> Result<(), Refusal>
     ensures narrow { IsOk result → is_too_wide player (priorities game.now) ≡ false }
-    ensures refused { IfErr result (λ refusal. (refusal ≡ Task TooWide) × (is_too_wide player (priorities game.now) ≡ true)) }
+    ensures refused { IfErr result
+        (λ refusal. (refusal ≡ Task TooWide) × (is_too_wide player (priorities game.now) ≡ true)) }
 {
     if fits(game, player) {
         Ok(())
@@ -115,7 +118,7 @@ fn fits_for(game: &ForwardGame, player: Player) -> Result<(), Refusal>
 /// Returns the winner of each node: player 0 if `won` says so, else player 1.
 pub fn winners_of(alloc: Global, won: &[bool]) -> Result<Vec<Player>, Refusal>
     ensures winners { IfOk result (λ winners. winners.items ≡ winners_of won.now) }
-    ensures memory { IsOkUnless result Memory }
+    ensures memory { IsOkUnless result Refusal.Memory }
 {
     let mut winners = Vec::with_capacity(alloc, won.len())?;
     for is_won in won {

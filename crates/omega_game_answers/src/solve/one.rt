@@ -22,9 +22,11 @@ pub fn solve_one<L, W: Reporter<L>>(
     observer: &mut L,
 ) -> Result<Vec<u8>, Refusal>
     requires { budget ≤ most_lifts }
-    ensures answer { IfOk result (λ output. CountsReported (W.tells reporter.now) (W.pace reporter.now) game.now (way.Player player) budget output.items observer.old observer.new) }
+    ensures answer { IfOk result (λ output. CountsReported (W.tells reporter.now) (W.pace reporter.now)
+        game.now (way.Player player) budget output.items observer.old observer.new) }
     ensures refused { IfErr result (IsSolveGameRefusal game.now (way.Player player) None budget) }
-    ensures reported { IsObserved (LiftsWholeGame game.now (way.Player player)) (refusal_in result) (W.tells reporter.now) (W.pace reporter.now) budget observer.old observer.new }
+    ensures reported { IsObserved (LiftsWholeGame game.now (way.Player player)) (refusal_in result)
+        (W.tells reporter.now) (W.pace reporter.now) budget observer.old observer.new }
 {
     let reordered = Reordered::of(alloc, game)?;
     let found = reordered.solve(alloc, player, budget, reporter, observer)?;

@@ -1,7 +1,7 @@
 ghost use Rattle.std.specs.Prelude.{◌≤◌, IfOk, IfErr, None};
 ghost use Rattle.omega_solve.specs.Limits.{most_lifts};
 ghost use Rattle.omega_game_answers.specs.declared.solve.asked.Asked.TheVariants.{Search};
-ghost use Rattle.omega_game.specs.Solution.{IsExactSolution};
+ghost use Rattle.omega_parity_game.specs.Solution.{IsExactSolution};
 ghost use Rattle.omega_game_answers.specs.solve.Solution.{IsExactSolutionOf};
 ghost use Rattle.omega_game_answers.specs.private.steps.SolveGameRefusal.{IsSolveGameRefusal};
 ghost use Rattle.omega_game_answers.specs.private.steps.Lifts.{LiftsWholeGame};
@@ -27,7 +27,8 @@ pub fn solve_by_judged_search<L, W: Reporter<L>>(
     requires { budget ≤ most_lifts }
     ensures answer { IfOk result (λ output. IsExactSolutionOf game output.items) }
     ensures refused { IfErr result (IsSolveGameRefusal game Search None budget) }
-    ensures reported { IsObserved (LiftsWholeGame game Search) (refusal_in result) (W.tells reporter.now) (W.pace reporter.now) budget observer.old observer.new }
+    ensures reported { IsObserved (LiftsWholeGame game Search) (refusal_in result)
+        (W.tells reporter.now) (W.pace reporter.now) budget observer.old observer.new }
 {
     let whole = game.with_predecessors(alloc)?;
     searched_text(alloc, &whole, budget, reporter, observer)
@@ -44,7 +45,8 @@ fn searched_text<L, W: Reporter<L>>(
     requires { budget ≤ most_lifts }
     ensures answer { IfOk result (λ output. IsExactSolutionOf game.now output.items) }
     ensures refused { IfErr result (IsSolveGameRefusal game.now Search None budget) }
-    ensures reported { IsObserved (LiftsWholeGame game.now Search) (refusal_in result) (W.tells reporter.now) (W.pace reporter.now) budget observer.old observer.new }
+    ensures reported { IsObserved (LiftsWholeGame game.now Search) (refusal_in result)
+        (W.tells reporter.now) (W.pace reporter.now) budget observer.old observer.new }
 {
     let solution = searched_solution(alloc, game, budget, reporter, observer)?;
     write_solution(alloc, game.forward(), &solution)
@@ -62,7 +64,8 @@ fn searched_solution<L, W: Reporter<L>>(
     requires { budget ≤ most_lifts }
     ensures exact { IfOk result (IsExactSolution game.now) }
     ensures refused { IfErr result (IsSolveGameRefusal game.now Search None budget) }
-    ensures reported { IsObserved (LiftsWholeGame game.now Search) (refusal_in result) (W.tells reporter.now) (W.pace reporter.now) budget observer.old observer.new }
+    ensures reported { IsObserved (LiftsWholeGame game.now Search) (refusal_in result)
+        (W.tells reporter.now) (W.pace reporter.now) budget observer.old observer.new }
 {
     match solve_by_search(alloc, game)? {
         Some(solution) => Ok(solution),

@@ -1,8 +1,7 @@
 //! Explains why the choices of a solution do not win.
-ghost use Rattle.std.specs.Prelude.{◌≡◌, ◌<◌, ◌++◌, All, IfNone, IfOk, IfSome, IsOkUnless, OnOk, length, true};
-ghost use Rattle.omega_text.specs.declared.refusal.Refusal.TheVariants.{Memory};
-ghost use Rattle.omega_game.specs.Solution.{IsSolution, WinsGiven};
-ghost use Rattle.omega_game_answers.specs.Verify.{IsSolutionVerdict, LosesGiven, explained_text, identifiers_text};
+ghost use Rattle.std.specs.Prelude.{◌≡◌, ◌++◌, IfNone, IfOk, IfSome, IsOkUnless, OnOk, true};
+ghost use Rattle.omega_parity_game.specs.Solution.{IsSolution, WinsGiven};
+ghost use Rattle.omega_game_answers.specs.Verify.{ArePlacesOf, IsSolutionVerdict, LosesGiven, explained_text, identifiers_text};
 
 use omega_game::{ForwardGame, Lasso, Player, Refusal, Solution, counterexample};
 use omega_io::Exit;
@@ -17,7 +16,7 @@ pub(crate) fn explained(
 ) -> Result<(Exit, Vec<u8>), Refusal>
     requires { IsSolution game.now solution.now }
     ensures verdict { IfOk result (λ made. IsSolutionVerdict game.now solution.now true made.0 made.1.items) }
-    ensures memory { IsOkUnless result Memory }
+    ensures memory { IsOkUnless result Refusal.Memory }
 {
     if let Some(lasso) = lost_by(alloc, game, solution, Player::Zero)? {
         let text = explanation(alloc, game, Player::Zero, &lasso)?;
@@ -41,9 +40,9 @@ pub fn lost_by(
     requires { IsSolution game.now solution.now }
     ensures wins { IfOk result (λ found. IfNone found (WinsGiven game.now solution.now player)) }
     ensures loses { IfOk result (λ found. IfSome found (LosesGiven game.now solution.now player)) }
-    ensures inside { IfOk result (λ found. IfSome found (λ lasso. All (λ place. place < length game.now) lasso.stem)) }
-    ensures round { IfOk result (λ found. IfSome found (λ lasso. All (λ place. place < length game.now) lasso.cycle)) }
-    ensures memory { IsOkUnless result Memory }
+    ensures inside { IfOk result (λ found. IfSome found (λ lasso. ArePlacesOf game.now lasso.stem)) }
+    ensures round { IfOk result (λ found. IfSome found (λ lasso. ArePlacesOf game.now lasso.cycle)) }
+    ensures memory { IsOkUnless result Refusal.Memory }
 {
     game.keeps_limits();
     let places = solution.places_given(alloc, player)?;
@@ -59,10 +58,10 @@ fn explanation(
     player: Player,
     lasso: &Lasso,
 ) -> Result<Vec<u8>, Refusal>
-    requires stem { All (λ place. place < length game.now) lasso.now.stem }
-    requires cycle { All (λ place. place < length game.now) lasso.now.cycle }
+    requires stem { ArePlacesOf game.now lasso.now.stem }
+    requires cycle { ArePlacesOf game.now lasso.now.cycle }
     ensures text { IfOk result (λ text. text.items ≡ explained_text game.now player lasso.now) }
-    ensures memory { IsOkUnless result Memory }
+    ensures memory { IsOkUnless result Refusal.Memory }
 {
     let mut out = Vec::new(alloc);
     out.extend_from_slice(b"no\nplayer ")?;
@@ -77,9 +76,9 @@ fn explanation(
 
 /// Appends the identifiers of the nodes at `places`, a space before each.
 fn write_identifiers(game: &ForwardGame, places: &[u32], out: &mut Vec<u8>) -> Result<(), Refusal>
-    requires { All (λ place. place < length game.now) places.now }
+    requires { ArePlacesOf game.now places.now }
     ensures ok { OnOk result (out.new.items ≡ out.old.items ++ identifiers_text game.now places.now) }
-    ensures memory { IsOkUnless result Memory }
+    ensures memory { IsOkUnless result Refusal.Memory }
 {
     for place in places {
         out.push(b' ')?;

@@ -1,13 +1,13 @@
 -- A step of the search for the nodes that a place reaches.
 use Rattle.std.specs.Prelude.{◌≡◌, ◌⊎◌, ℕ, ◌+◌, Bool, not, IsTrue, List, length, Contains, count_by}
-use Rattle.omega_game.specs.Game.{Node, HasEdge}
+use Rattle.omega_parity_game.specs.Game.{Node, HasEdge}
 use Rattle.omega_game_drawing.specs.Extent.{is_drawn}
 
 -- an edge leads to w from one of the places
 abbrev pub IsAfter : List Node → List ℕ → ℕ → Type 0
 IsAfter nodes front w = (v : ℕ) × Contains front v × HasEdge nodes v w
 
--- the places of which this holds are flagged, and those that were not flagged before are the next
+-- the places that this holds of are flagged, and those that were not flagged before are the next
 pub record AreEntered (Holds : ℕ → Type 0) (drawn : List Bool) (next : List ℕ) (drawn' : List Bool) (next' : List ℕ) : Type 0 where
   pub count : length drawn' ≡ length drawn
   pub kept : (v : ℕ) → IsTrue (is_drawn drawn v) → IsTrue (is_drawn drawn' v)

@@ -42,7 +42,7 @@ static GAMES: [(&str, &str); 10] = [
     ),
 ];
 
-/// Texts that stand for no game, the number of the refusal, and its place if it has one.
+/// Texts of no game, the number of the refusal, and its place if it has one.
 static REFUSED: [(&str, u32, Option<usize>); 52] = [
     ("", 3, Some(0)),
     (" \n", 3, Some(2)),

@@ -31,7 +31,7 @@ const SOLUTIONS: [(&str, &str, &str); 4] = [
     ),
 ];
 
-/// Texts that stand for no solution of `GAME`, the number of the refusal, and its place if it has one.
+/// Texts of no solution of `GAME`, the number of the refusal, and its place if it has one.
 static REFUSED: [(&str, u32, Option<usize>); 39] = [
     ("", 3, Some(0)),
     ("  ", 3, Some(2)),
@@ -85,7 +85,7 @@ fn is_rewritten(alloc: Global, game: &str, text: &str, want: &str) -> bool {
     }
 }
 
-/// The written form of the solution that a text stands for.
+/// Returns the written form of the solution in a text.
 fn rewritten(alloc: Global, game: &Game, text: &str) -> Result<Vec<u8>, Refusal> {
     match read_solution(alloc, game.forward(), text.as_bytes()) {
         Ok(solution) => write_solution(alloc, game.forward(), &solution),
@@ -93,7 +93,7 @@ fn rewritten(alloc: Global, game: &Game, text: &str) -> Result<Vec<u8>, Refusal>
     }
 }
 
-/// The solution of `GAME` that a text stands for.
+/// Returns the solution of `GAME` in a text.
 fn solution_of_game(alloc: Global, text: &str) -> Result<Solution, Refusal> {
     match read_game(alloc, GAME.as_bytes()) {
         Ok(game) => read_solution(alloc, game.forward(), text.as_bytes()),
@@ -101,7 +101,7 @@ fn solution_of_game(alloc: Global, text: &str) -> Result<Solution, Refusal> {
     }
 }
 
-/// The places that the solution of `GAME` for which a text stands gives to a player.
+/// Returns the places that the solution of `GAME` in a text gives to a player.
 fn places_given(alloc: Global, text: &str, player: Player) -> Result<Vec<u32>, Refusal> {
     match read_game(alloc, GAME.as_bytes()) {
         Ok(game) => places_given_in(alloc, &game, text, player),
@@ -109,7 +109,7 @@ fn places_given(alloc: Global, text: &str, player: Player) -> Result<Vec<u32>, R
     }
 }
 
-/// The places that the solution of a game for which a text stands gives to a player.
+/// Returns the places that the solution of a game in a text gives to a player.
 fn places_given_in(
     alloc: Global,
     game: &Game,

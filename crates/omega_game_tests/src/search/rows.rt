@@ -8,8 +8,8 @@ use std::alloc::Global;
 /// Identifier, priority and owner of a node, and its one or two successors.
 type Node = (u8, u8, Player, u8, Option<u8>);
 
-/// A game with a byte for each place: `0` or `1` for the winner where there is no choice; where there is one, for
-/// player 0 the place chosen as `a`, `b` or `c`, for player 1 as `A`, `B` or `C`.
+/// A game with a byte for each place. Without a choice it is `0` or `1` for the winner. With a choice it is the place
+/// chosen: `a`, `b` or `c` for player 0, and `A`, `B` or `C` for player 1.
 type Row = (&'static [Node], &'static [u8]);
 
 const ONE_EVEN_NODE: [Node; 1] = [(0, 0, Zero, 0, None)];
@@ -67,7 +67,7 @@ fn add_nodes(builder: &mut GameBuilder, nodes: &[Node]) -> Result<(), Refusal> {
     Ok(())
 }
 
-/// The game of the nodes, or Io where there is none.
+/// Returns the game of the nodes, or [Refusal::Io] if no node is given.
 fn game_of(alloc: Global, nodes: &[Node]) -> Result<Game, Refusal> {
     let mut builder = GameBuilder::new(alloc);
     match add_nodes(&mut builder, nodes) {
@@ -76,7 +76,7 @@ fn game_of(alloc: Global, nodes: &[Node]) -> Result<Game, Refusal> {
     }
 }
 
-/// The byte that stands for a winner and the choices at a place, `?` where both players choose.
+/// Returns the byte for a winner and the choices at a place, or `?` if both players choose.
 fn byte_of(winner: Player, zero: Option<u32>, one: Option<u32>) -> u8 {
     match (winner, zero, one) {
         (Zero, None, None) => b'0',
@@ -87,7 +87,7 @@ fn byte_of(winner: Player, zero: Option<u32>, one: Option<u32>) -> u8 {
     }
 }
 
-/// Whether these are the regions that stand there.
+/// Whether the regions are the wanted ones.
 fn are_regions(regions: &Solution, wanted: &[u8]) -> bool {
     let winners = regions.winners.as_slice();
     let zero = regions.zero.choice.as_slice();

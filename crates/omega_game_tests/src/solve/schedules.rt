@@ -6,7 +6,7 @@ use omega_solve::{Nested, Schedule, Sweep, Worklist};
 use std::alloc::Global;
 use std::process::Abort;
 
-/// Takes a schedule of so many places through steps, after which none is pending. A digit is the place to look at,
+/// Takes a schedule of `places` places through steps, after which none is pending. A digit is the place to look at,
 /// which is taken out; one after a `+` is made pending.
 fn follow<S: Schedule, R: Abort>(rt: &R, schedule: &mut S, places: u32, steps: &[u8])
     requires { length (S.waiting schedule.old).flags ≡ places }
@@ -42,7 +42,7 @@ fn take_after<S: Schedule, R: Abort>(rt: &R, schedule: &mut S, others: &[u8])
     assert!(rt; schedule.takes() == 4);
 }
 
-/// Takes a new schedule of so many places through steps.
+/// Takes a new schedule of `places` places through steps.
 fn follows<S: Schedule, R: Abort>(rt: &R, alloc: Global, places: u32, steps: &[u8]) {
     match S::prepare(alloc, places) {
         Ok(mut schedule) => follow(rt, &mut schedule, places, steps),

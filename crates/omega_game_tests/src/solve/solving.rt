@@ -49,8 +49,8 @@ const EQUAL_ALLOWANCES: &[Node] = &[
     (2, 2, Player::One, 0, None),
 ];
 
-/// A game and a player; the bound, the number of lifts (none where it depends on the schedule) and the most attempts;
-/// and the answer: for each place `-` where the player does not win, the place chosen, or `.` where there is no choice.
+/// A game and a player; the bound, the number of lifts unless it depends on the schedule, and the most attempts; and
+/// the answer. At a place the answer is `-` if the player does not win, else the place chosen, or `.` for no choice.
 type Row<'a> = (&'a [Node], Player, u128, Option<u64>, u64, &'a [u8]);
 
 const ROWS: [Row<'static>; 14] = [
@@ -82,7 +82,7 @@ fn add_nodes(builder: &mut GameBuilder, nodes: &[Node]) -> Result<(), Refusal> {
     Ok(())
 }
 
-/// The game of these nodes, or Io where there are none.
+/// Returns the game of these nodes, or [Refusal::Io] if no node is given.
 fn game_of(alloc: Global, nodes: &[Node]) -> Result<Game, Refusal> {
     let mut builder = GameBuilder::new(alloc);
     match add_nodes(&mut builder, nodes) {
@@ -91,7 +91,7 @@ fn game_of(alloc: Global, nodes: &[Node]) -> Result<Game, Refusal> {
     }
 }
 
-/// The byte that stands for an answer at a place.
+/// Returns the byte for an answer at a place.
 fn byte_of(won: bool, choice: Option<u32>) -> u8 {
     match choice {
         Some(0) if won => b'0',
@@ -102,7 +102,7 @@ fn byte_of(won: bool, choice: Option<u32>) -> u8 {
     }
 }
 
-/// Whether these are the answer that stands there.
+/// Whether the answer is the wanted one.
 fn is_answer(won: &[bool], choice: &[Option<u32>], wanted: &[u8]) -> bool {
     if won.len() != wanted.len() || choice.len() != wanted.len() {
         return false;
@@ -198,7 +198,7 @@ fn dealt<T: MeasureTable, S: Schedule, R: Abort>(
     }
 }
 
-/// What a new solver finds, given the whole budget in one run.
+/// Returns what a new solver finds, given the whole budget in one run.
 fn found_by<T: MeasureTable, S: Schedule>(
     alloc: Global,
     mut solver: Solver<'_, T, S>,
@@ -221,7 +221,7 @@ fn found_by<T: MeasureTable, S: Schedule>(
     }
 }
 
-/// What is found within a budget, or Io where it is above each that a solver takes.
+/// Returns what is found within a budget, or [Refusal::Io] if it is above each that a solver takes.
 fn found<T: MeasureTable, S: Schedule>(
     alloc: Global,
     game: &Game,
@@ -277,8 +277,8 @@ fn deal_each<T: MeasureTable, S: Schedule, R: Abort>(
     dealt::<T, S, R>(rt, alloc, game, row, needed, &ones)
 }
 
-/// Solves the game of a row over one table and one schedule, with each budget up to the lifts that it needs, and, where
-/// that does not change how many lifts are needed, with each budget dealt out to two runs or more.
+/// Solves the game of a row over one table and one schedule, with each budget up to the lifts that it needs. If that
+/// does not change how many lifts are needed, also with each budget dealt out to two runs or more.
 fn solves<T: MeasureTable, S: Schedule, R: Abort>(
     rt: &R,
     alloc: Global,
@@ -294,8 +294,8 @@ fn solves<T: MeasureTable, S: Schedule, R: Abort>(
     Ok(())
 }
 
-/// The same over each table and each schedule. In the nested order a run that ends while it lifts one place again and
-/// again may change the number of lifts, where that is not the same in each order.
+/// Solves it over each table and each schedule. In the nested order a run that ends while it lifts one place again and
+/// again may change the number of lifts, if that is not the same in each order.
 fn solves_by_all<R: Abort>(
     rt: &R,
     alloc: Global,
@@ -311,7 +311,8 @@ fn solves_by_all<R: Abort>(
     solves::<PackedTable, Nested, R>(rt, alloc, game, row, alike)
 }
 
-/// What is found in an order of its own within a budget, or Io where it is above each that a solver takes.
+/// Returns what is found in an order of its own within a budget, or [Refusal::Io] if it is above each that a solver
+/// takes.
 fn found_reordered(
     alloc: Global,
     reordered: &Reordered<'_>,

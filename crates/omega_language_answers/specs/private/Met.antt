@@ -1,4 +1,4 @@
--- The product of two automata, as it is written.
+-- The product of two automata that were read, as it is written.
 use Rattle.std.specs.Prelude.{◌≡◌, ℕ, List}
 use Rattle.omega_automaton.specs.Automaton.{Description}
 use Rattle.omega_canon.specs.Canonical.{canonical_automaton}
@@ -6,7 +6,7 @@ use Rattle.omega_product.specs.Limits.{IsWithin}
 use Rattle.omega_product.specs.Product.{IsProduct}
 use Rattle.omega_product.specs.Refusing.{HaveNoBranch}
 
--- the canonical text of the product of two automata
+-- the canonical text of the product of two automata without universal branching
 pub record IsMet (first second : Description) (output : List ℕ) : Type 0 where
   pub given : HaveNoBranch first second
   pub product : Description

@@ -1,16 +1,16 @@
 -- Generalized Büchi acceptance: each set occurs for ever.
 use Rattle.std.proofs.Common.{◌≡◌, ◌==◌, ◌⊎◌, ℕ, zero, suc, ◌+◌, ◌-◌, ◌<◌, ◌≤◌, inl, inr, Bool, true, false, if◌then◌else◌, List, Some, None, refl, sym, ap, subst, ◌∙◌, arith, eqb-true}
 use Rattle.std.proofs.lemmas.Bool.{cases_lt}
-use Rattle.omega_acc.specs.formula.Acceptance.{AccTree}
-use Rattle.omega_acc.specs.formula.Kind.{buchi_formula, parity_formula}
-use Rattle.omega_acc.specs.formula.Names.{IsAcceptanceRow}
-use Rattle.omega_acc.specs.declared.formula.kind.AccKind.{AccKind}
-use Rattle.omega_acc.specs.declared.formula.kind.AccKind.TheVariants as kind
-use Rattle.omega_acc.specs.declared.formula.kind.Order.{Order}
-use Rattle.omega_acc.specs.declared.formula.kind.Order.TheVariants.{Max, Min}
-use Rattle.omega_acc.specs.declared.formula.kind.Parity.{Parity}
-use Rattle.omega_acc.specs.declared.formula.kind.Parity.TheVariants.{Even, Odd}
-use Rattle.omega_acc.specs.declared.formula.name.AccName.{AccName}
+use Rattle.omega_formula.specs.Acceptance.{AccTree}
+use Rattle.omega_formula.specs.Kind.{buchi_formula, parity_formula}
+use Rattle.omega_formula.specs.Names.{IsAcceptanceRow}
+use Rattle.omega_formula.specs.declared.kind.AccKind.{AccKind}
+use Rattle.omega_formula.specs.declared.kind.AccKind.TheVariants as kind
+use Rattle.omega_formula.specs.declared.kind.Order.{Order}
+use Rattle.omega_formula.specs.declared.kind.Order.TheVariants.{Max, Min}
+use Rattle.omega_formula.specs.declared.kind.Parity.{Parity}
+use Rattle.omega_formula.specs.declared.kind.Parity.TheVariants.{Even, Odd}
+use Rattle.omega_formula.specs.declared.name.AccName.{AccName}
 use Rattle.omega_automaton.specs.Automaton.{Description}
 use Rattle.omega_runs.specs.Runs.{ForEver, Satisfies}
 use Rattle.omega_product.specs.Acceptance.{IsBuchi, buchi_sets, moved_after, parity_buchi_sets}

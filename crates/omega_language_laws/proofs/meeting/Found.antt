@@ -11,7 +11,7 @@ use Rattle.omega_product.specs.Pairs.{AreReached, Pair, pair_number, same_pair, 
 use Rattle.omega_language_laws.proofs.meeting.Labels.{and_both, both_and}
 use Rattle.omega_language_laws.proofs.meeting.Lists.{contains_flat_map}
 
--- what is told to be the same pair is
+-- pairs that the test says are the same are
 pub same_is : (a b : Pair) → same_pair a b ≡ true → a ≡ b
 same_is a b e =
     let both = and_both (a.0 == b.0) (a.1 == b.1) e in

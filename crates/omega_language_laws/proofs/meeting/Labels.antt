@@ -1,8 +1,8 @@
 -- Labels of a product: when they are true, and whether they can be.
 use Rattle.std.proofs.Common.{◌≡◌, ◌==◌, ◌↔◌, ℕ, zero, suc, ◌<◌, ◌⊎◌, inl, inr, Bool, true, false, not, ◌&&◌, ◌||◌, if◌then◌else◌, List, [], ◌∷◌, Contains, refl, sym, ap, ap₂, ◌∙◌, arith, eqb-true, eq-eqb, true≢false}
 use Rattle.std.proofs.lemmas.List.Elements.{Contains-append_left, Contains-append_right}
-use Rattle.omega_acc.specs.label.Label.{LabelTree, conjunction, constant, disjunction, negation, proposition, propositions, truth}
-use Rattle.omega_acc.specs.label.Satisfiable.{IsSatisfiable}
+use Rattle.omega_label.specs.Label.{LabelTree, conjunction, constant, disjunction, negation, proposition, propositions, truth}
+use Rattle.omega_satisfying.specs.Satisfiable.{IsSatisfiable}
 use Rattle.omega_product.proofs.Membership.{Contains-cases, Contains-here, Contains-nothing}
 use Rattle.omega_runs.specs.Words.{IsValuation, has_bit}
 use Rattle.omega_product.specs.Joining.{number_among, relabelled}
@@ -101,7 +101,7 @@ true_somewhere label wanted holds (p ∷ ps) held known =
     go true e rest = or_first (is_true_under_some ps (with_value p true held) label) (is_true_under_some ps (with_value p false held) label) (rest true e)
     go false e rest = or_second (is_true_under_some ps (with_value p true held) label) (is_true_under_some ps (with_value p false held) label) (rest false e)
 
--- whether a label can be true is told
+-- the test says whether a label can be true
 pub can_hold_iff : (label : LabelTree) → (can_hold label ≡ true) ↔ IsSatisfiable label
 can_hold_iff label = (
   some_true (propositions label) (λ p. false) label,

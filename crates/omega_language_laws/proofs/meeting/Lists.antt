@@ -1,4 +1,4 @@
--- Lists: what stands at an index, and what maps, filters and joined lists contain.
+-- Lists: the element at an index, and what maps, filters and joined lists contain.
 use Rattle.std.proofs.Common.{◌≡◌, ℕ, zero, suc, ◌+◌, ◌⊎◌, inl, inr, Bool, true, false, List, [], ◌∷◌, ◌++◌, length, map, filter, slice_get, Contains, Some, cond, refl, sym, ap, subst, ◌∙◌, arith, true≢false}
 use Rattle.std.specs.List.{AllZip, flat_map, list_any}
 use Rattle.std.proofs.lemmas.List.Elements.{Contains-append_cases, Contains-append_left, Contains-append_right}
@@ -7,7 +7,7 @@ use Rattle.omega_runs.proofs.SingleTargets.{none_passes}
 use Rattle.omega_product.proofs.Membership.{Contains-cases, Contains-here, Contains-nothing, Contains-there}
 
 module _ {X : Type 0} where
-  -- what a list contains stands at an index
+  -- what a list contains is at an index
   pub index_of : (xs : List X) (x : X) → Contains xs x → (k : ℕ) × (slice_get xs k ≡ Some x)
   index_of xs x within = (within.0, slice_get-get_or xs within.0 x within.1 ∙ ap Some within.2)
 
@@ -76,7 +76,7 @@ module _ {X Y : Type 0} where
     | inr later ↦ let rest = flat_map_contains f zs y later in (rest.0, Contains-there z rest.0 zs rest.1, rest.2)
   ]
 
-  -- what stands beside something
+  -- elements of two lists at one index
   pub beside_left : (R : X → Y → Type 0) (xs : List X) (ys : List Y) → AllZip R xs ys → (x : X) → Contains xs x → (y : Y) × Contains ys y × R x y
   beside_left R [] [] all x within = absurd (Contains-nothing x within)
   beside_left R [] (y ∷ ys) all x within = absurd all

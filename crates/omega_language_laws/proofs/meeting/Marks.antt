@@ -1,7 +1,7 @@
--- Acceptance formulas over marks that stand among those of another automaton.
+-- Acceptance formulas over marks that are among those of another automaton.
 use Rattle.std.proofs.Common.{◌≡◌, ◌==◌, ℕ, ◌+◌, ◌<◌, ◌⊎◌, inl, inr, Bool, true, false, not, ◌||◌, if◌then◌else◌, List, [], ◌∷◌, ◌++◌, map, Contains, refl, sym, ap, subst, ◌∙◌, arith, eqb-true, eq-eqb, true≢false}
 use Rattle.std.proofs.lemmas.List.Elements.{Contains-append_cases, Contains-append_left, Contains-append_right}
-use Rattle.omega_acc.specs.formula.Acceptance.{AccTree, conjunction, constant, disjunction, fin, holds, inf}
+use Rattle.omega_formula.specs.Acceptance.{AccTree, conjunction, constant, disjunction, fin, holds, inf}
 use Rattle.omega_automaton.specs.Automaton.{sets_of}
 use Rattle.omega_automaton.specs.Meaning.{AreMarksOf}
 use Rattle.omega_product.proofs.Membership.{Contains-cases, Contains-here, Contains-nothing, Contains-there}

@@ -4,10 +4,10 @@ use Rattle.std.specs.List.{list_any}
 use Rattle.std.specs.Option.{IfSome, option_or}
 use Rattle.std.proofs.lemmas.Bool.{lt-ltb}
 use Rattle.std.proofs.lemmas.List.Elements.{All-append, All-contains}
-use Rattle.omega_acc.specs.formula.Acceptance.{AccTree, holds}
-use Rattle.omega_acc.specs.formula.Kind.{buchi_formula}
-use Rattle.omega_acc.specs.label.Label.{LabelTree, conjunction, truth}
-use Rattle.omega_acc.specs.label.Satisfiable.{IsSatisfiable}
+use Rattle.omega_formula.specs.Acceptance.{AccTree, holds}
+use Rattle.omega_formula.specs.Kind.{buchi_formula}
+use Rattle.omega_label.specs.Label.{LabelTree, conjunction, truth}
+use Rattle.omega_satisfying.specs.Satisfiable.{IsSatisfiable}
 use Rattle.omega_automaton.specs.Automaton.{AreTargets, BodyEdge, Description, IsAutomaton, edge_at, edges_of, sets_of}
 use Rattle.omega_automaton.specs.Meaning.{AreMarksOf}
 use Rattle.omega_automaton.specs.Branching.{has_universal_branching, state_branches}
@@ -18,9 +18,9 @@ use Rattle.omega_runs.proofs.Flat.{IsListed, contains_flat, listed_flat}
 use Rattle.omega_runs.proofs.Kept.{edge_kept, marks_are}
 use Rattle.omega_product.specs.Acceptance.{IsJointAcceptance, moved_after}
 use Rattle.omega_product.specs.Joining.{number_among, part_of_word}
-use Rattle.omega_product.specs.Pairs.{Pair, can_meet, first_standing, pair_number, partners, second_standing, start_pairs, start_state}
+use Rattle.omega_product.specs.Pairs.{Pair, can_meet, first_view, pair_number, partners, second_view, start_pairs, start_state}
 use Rattle.omega_product.specs.Product.{IsJointEdge, IsPairState, IsProduct, joint_transitions, taken_together}
-use Rattle.omega_product.specs.Transitions.{Standing, transitions_at}
+use Rattle.omega_product.specs.Transitions.{View, transitions_at}
 use Rattle.omega_product.specs.declared.transition.Transition.{Transition}
 use Rattle.omega_language_laws.specs.Products.{ProductsMeet}
 use Rattle.omega_language_laws.proofs.meeting.Buchi.{both_buchi, buchi_both, buchi_is}
@@ -59,14 +59,14 @@ abbrev HoldsMoved : ℕ → ℕ → List ℕ → List ℕ → Type 0
 HoldsMoved sets before marks all = (set : ℕ) → set < sets → holds set marks ≡ holds (before + set) all
 
 -- an automaton accepts its part of a word by transitions that lead from a start
-module _ (x : Description) (standing : Standing) (counted : length x.propositions ≡ standing.count)
+module _ (x : Description) (view : View) (counted : length x.propositions ≡ view.count)
     (automaton : IsAutomaton x) (plain : has_universal_branching x ≡ false) (word : ℕ → ℕ → Bool)
     (states : ℕ → ℕ) (t : ℕ → Transition) (all : ℕ → List ℕ)
-    (moves : (i : ℕ) → Contains (transitions_at standing x.defined (states i)) (t i))
+    (moves : (i : ℕ) → Contains (transitions_at view x.defined (states i)) (t i))
     (leads : (i : ℕ) → (t i).target ≡ states (i + 1))
     (true_there : (i : ℕ) → truth (word i) (t i).label ≡ true) where
-  found : (i : ℕ) → (number : ℕ) × (edge : BodyEdge) × IsTransition x standing number edge (t i) × (edge.source.number ≡ states i)
-  found i = found_transition x standing counted automaton plain (states i) (t i) (moves i)
+  found : (i : ℕ) → (number : ℕ) × (edge : BodyEdge) × IsTransition x view number edge (t i) × (edge.source.number ≡ states i)
+  found i = found_transition x view counted automaton plain (states i) (t i) (moves i)
 
   step : (i : ℕ) → IsStep x (states i) (found i).0 (states (i + 1))
   step i =
@@ -74,19 +74,19 @@ module _ (x : Description) (standing : Standing) (counted : length x.proposition
       record {
         edge = f.1;
         numbered = f.2.numbered;
-        usable = usable_of x f.0 (label_of f.1) (λ p. word i (number_among standing.places p)) ((f.2.label (word i)).0 (true_there i));
+        usable = usable_of x f.0 (label_of f.1) (λ p. word i (number_among view.places p)) ((f.2.label (word i)).0 (true_there i));
         leaves = f.3;
         enters = f.2.target ∙ ap (λ n. n ∷ []) (leads i);
       }
 
-  accepted_by : IsStart x (states 0) → ((i : ℕ) (marks : List ℕ) → (t i).marks ≡ map (λ s. standing.before + s) marks → HoldsMoved x.sets standing.before marks (all i))
-      → Satisfies all (moved_after standing.before x.acceptance) → IsAccepted x (part_of_word standing.places word)
+  accepted_by : IsStart x (states 0) → ((i : ℕ) (marks : List ℕ) → (t i).marks ≡ map (λ s. view.before + s) marks → HoldsMoved x.sets view.before marks (all i))
+      → Satisfies all (moved_after view.before x.acceptance) → IsAccepted x (part_of_word view.places word)
   accepted_by begins same h = record {
     states = states;
     edges = λ i. (found i).0;
     accepting = record {
       run = record { begins = begins; steps = step };
-      accepted = moved_satisfies standing.before (λ i. marks_at x (found i).0) all x.acceptance
+      accepted = moved_satisfies view.before (λ i. marks_at x (found i).0) all x.acceptance
           (λ set within i.
           (let f = found i in
           ap (holds set) (marks_are x f.0 f.1 f.2.numbered)
@@ -99,10 +99,10 @@ module _ (x : Description) (standing : Standing) (counted : length x.proposition
 module _ (one other a : Description) (automaton : IsAutomaton one) (automaton' : IsAutomaton other)
     (plain : has_universal_branching one ≡ false) (plain' : has_universal_branching other ≡ false) (is : IsProduct one other a) where
   abbrev firsts : ℕ → List Transition
-  firsts s = transitions_at (first_standing one other) one.defined s
+  firsts s = transitions_at (first_view one other) one.defined s
 
   abbrev seconds : ℕ → List Transition
-  seconds s = transitions_at (second_standing one other) other.defined s
+  seconds s = transitions_at (second_view one other) other.defined s
 
   -- an edge of the product, taken apart
   record IsJoint (edge : BodyEdge) : Type 0 where
@@ -167,7 +167,7 @@ module _ (one other a : Description) (automaton : IsAutomaton one) (automaton' :
   -- marks of edges of the first are below its count of sets
   first_low : (s : ℕ) (t : Transition) → Contains (firsts s) t → (marks : List ℕ) × (t.marks ≡ map (λ m. 0 + m) marks) × ((m : ℕ) → Contains marks m → m < one.sets)
   first_low s t within =
-      let f = found_transition one (first_standing one other) refl automaton plain s t within in
+      let f = found_transition one (first_view one other) refl automaton plain s t within in
       let kept = edge_kept one automaton f.0 f.1 f.2.numbered in (
         marks_of f.1,
         f.2.marks,
@@ -179,7 +179,7 @@ module _ (one other a : Description) (automaton : IsAutomaton one) (automaton' :
   first_moved : (s s' : ℕ) (t u : Transition) (all : List ℕ) → Contains (firsts s) t → Contains (seconds s') u → AreMarksOf (t.marks ++ u.marks) all
       → (marks : List ℕ) → t.marks ≡ map (λ m. 0 + m) marks → HoldsMoved one.sets 0 marks all
   first_moved s s' t u all t_in u_in are marks e set below =
-      let g = found_transition other (second_standing one other) refl automaton' plain' s' u u_in in
+      let g = found_transition other (second_view one other) refl automaton' plain' s' u u_in in
       first_holds set one.sets marks (marks_of g.1) all below (subst (λ ms. AreMarksOf ms all) (ap₂ ◌++◌ e g.2.marks) are)
 
   second_moved : (s s' : ℕ) (t u : Transition) (all : List ℕ) → Contains (firsts s) t → Contains (seconds s') u → AreMarksOf (t.marks ++ u.marks) all
@@ -275,36 +275,36 @@ module _ (one other a : Description) (automaton : IsAutomaton one) (automaton' :
             subst (Contains other.starts) (one_start other automaton' plain' s'.0 s'.1 ∙ ap (λ (p : Pair). p.1 ∷ []) e) s'.1,
           )
 
-      first_accepts : IsAccepted one (part_of_word (first_standing one other).places word)
+      first_accepts : IsAccepted one (part_of_word (first_view one other).places word)
       first_accepts =
-          accepted_by one (first_standing one other) refl automaton plain word (λ i. (apart i).pair.0) (λ i. (apart i).first) (λ i. marks_at a (accepted.edges i))
+          accepted_by one (first_view one other) refl automaton plain word (λ i. (apart i).pair.0) (λ i. (apart i).first) (λ i. marks_at a (accepted.edges i))
           (λ i. (apart i).first_in) (λ i. ap (λ (p : Pair). p.0) (sym (next_is i)))
           (λ i. (and_both _ _ (labels_true i)).0) starts_apart.0
           (λ i. first_moved (apart i).pair.0 (apart i).pair.1 (apart i).first (apart i).second (marks_at a (accepted.edges i)) (apart i).first_in (apart i).second_in (are_both i))
           (let P : AccTree → Type 0 = λ f. Satisfies (λ i. marks_at a (accepted.edges i)) f in subst P (sym (moved_nowhere one.acceptance)) satisfied.0)
 
-      second_accepts : IsAccepted other (part_of_word (second_standing one other).places word)
+      second_accepts : IsAccepted other (part_of_word (second_view one other).places word)
       second_accepts =
-          accepted_by other (second_standing one other) refl automaton' plain' word (λ i. (apart i).pair.1) (λ i. (apart i).second) (λ i. marks_at a (accepted.edges i))
+          accepted_by other (second_view one other) refl automaton' plain' word (λ i. (apart i).pair.1) (λ i. (apart i).second) (λ i. marks_at a (accepted.edges i))
           (λ i. (apart i).second_in) (λ i. ap (λ (p : Pair). p.1) (sym (next_is i)))
           (λ i. (and_both _ _ (labels_true i)).1) starts_apart.1
           (λ i. second_moved (apart i).pair.0 (apart i).pair.1 (apart i).first (apart i).second (marks_at a (accepted.edges i)) (apart i).first_in (apart i).second_in (are_both i))
           satisfied.1
 
     -- runs of both, put together
-    module _ (accepted : IsAccepted one (part_of_word (first_standing one other).places word))
-        (accepted' : IsAccepted other (part_of_word (second_standing one other).places word)) where
+    module _ (accepted : IsAccepted one (part_of_word (first_view one other).places word))
+        (accepted' : IsAccepted other (part_of_word (second_view one other).places word)) where
       abbrev first_edge : ℕ → BodyEdge
       first_edge i = (accepted.taken i).edge
 
       abbrev second_edge : ℕ → BodyEdge
       second_edge i = (accepted'.taken i).edge
 
-      first_at : (i : ℕ) → (t : Transition) × Contains (firsts (first_edge i).source.number) t × IsTransition one (first_standing one other) (accepted.edges i) (first_edge i) t
-      first_at i = listed_transition one (first_standing one other) refl automaton plain (accepted.edges i) (first_edge i) (accepted.taken i).numbered
+      first_at : (i : ℕ) → (t : Transition) × Contains (firsts (first_edge i).source.number) t × IsTransition one (first_view one other) (accepted.edges i) (first_edge i) t
+      first_at i = listed_transition one (first_view one other) refl automaton plain (accepted.edges i) (first_edge i) (accepted.taken i).numbered
 
-      second_at : (i : ℕ) → (t : Transition) × Contains (seconds (second_edge i).source.number) t × IsTransition other (second_standing one other) (accepted'.edges i) (second_edge i) t
-      second_at i = listed_transition other (second_standing one other) refl automaton' plain' (accepted'.edges i) (second_edge i) (accepted'.taken i).numbered
+      second_at : (i : ℕ) → (t : Transition) × Contains (seconds (second_edge i).source.number) t × IsTransition other (second_view one other) (accepted'.edges i) (second_edge i) t
+      second_at i = listed_transition other (second_view one other) refl automaton' plain' (accepted'.edges i) (second_edge i) (accepted'.taken i).numbered
 
       first_same : (i : ℕ) → (accepted.accepting.run.steps i).edge ≡ first_edge i
       first_same i = same_some _ _ (sym (accepted.accepting.run.steps i).numbered ∙ (accepted.taken i).numbered)

@@ -6,7 +6,7 @@ use Rattle.std.specs.Option.{unwrap_or}
 use Rattle.std.proofs.lemmas.Bool.{cases_lt, lt-ltb}
 use Rattle.std.proofs.lemmas.List.{length-map}
 use Rattle.std.proofs.lemmas.Option.{slice_get-map, slice_get_within}
-use Rattle.omega_acc.specs.label.Label.{LabelTree, truth}
+use Rattle.omega_label.specs.Label.{LabelTree, truth}
 use Rattle.omega_automaton.specs.Automaton.{BodyEdge, Description, IsAutomaton, edge_at, edges_from, has_repeat}
 use Rattle.omega_automaton.specs.declared.edge.Edge.{Edge}
 use Rattle.omega_automaton.specs.declared.state.State.{State}
@@ -19,30 +19,30 @@ use Rattle.omega_runs.proofs.Taken.{allows_where_true}
 use Rattle.omega_runs.proofs.Flat.{IsListed, listed_flat}
 use Rattle.omega_runs.proofs.SingleTargets.{EntersOne, enters_one}
 use Rattle.omega_product.specs.Joining.{number_among, relabelled}
-use Rattle.omega_product.specs.Transitions.{Standing, transition_of, transitions_at, transitions_from}
+use Rattle.omega_product.specs.Transitions.{View, transition_of, transitions_at, transitions_from}
 use Rattle.omega_edge_labels.specs.Labels.{valuation_label}
 use Rattle.omega_product.specs.declared.transition.Transition.{Transition}
 use Rattle.omega_language_laws.proofs.meeting.Labels.{truth_relabelled, valuation_true}
 use Rattle.omega_language_laws.proofs.meeting.Lists.{at_left, at_right, contains_at, contains_map, passes_nowhere, same_some}
 
-module _ (standing : Standing) where
+module _ (view : View) where
   -- edges of a state at their indices
-  from_contains : (state : State) (first : ℕ) (edges : List Edge) (t : Transition) → Contains (transitions_from standing state first edges) t
-      → (k : ℕ) × (edge : Edge) × (slice_get edges k ≡ Some edge) × (t ≡ transition_of standing state (first + k) edge)
+  from_contains : (state : State) (first : ℕ) (edges : List Edge) (t : Transition) → Contains (transitions_from view state first edges) t
+      → (k : ℕ) × (edge : Edge) × (slice_get edges k ≡ Some edge) × (t ≡ transition_of view state (first + k) edge)
   from_contains state first [] t within = absurd (Contains-nothing t within)
   from_contains state first (edge ∷ edges) t within =
-      elim (Contains-cases (transition_of standing state first edge) t (transitions_from standing state (first + 1) edges) within) [
+      elim (Contains-cases (transition_of view state first edge) t (transitions_from view state (first + 1) edges) within) [
         | inl here ↦
             let e : first ≡ first + 0 = omega arith in
-            (0, edge, refl, sym here ∙ ap (λ i. transition_of standing state i edge) e)
+            (0, edge, refl, sym here ∙ ap (λ i. transition_of view state i edge) e)
         | inr later ↦
             let rest = from_contains state (first + 1) edges t later in
             let e : (first + 1) + rest.0 ≡ first + suc rest.0 = omega arith in
-            (suc rest.0, rest.1, rest.2, rest.3 ∙ ap (λ i. transition_of standing state i rest.1) e)
+            (suc rest.0, rest.1, rest.2, rest.3 ∙ ap (λ i. transition_of view state i rest.1) e)
       ]
 
   contains_from : (state : State) (first k : ℕ) (edges : List Edge) (edge : Edge) → slice_get edges k ≡ Some edge
-      → Contains (transitions_from standing state first edges) (transition_of standing state (first + k) edge)
+      → Contains (transitions_from view state first edges) (transition_of view state (first + k) edge)
   contains_from state first zero [] edge at = absurd (none at)
     where
       none : slice_get {X = Edge} [] zero ≡ Some edge → ⊥
@@ -53,20 +53,20 @@ module _ (standing : Standing) where
       none e = cc
   contains_from state first zero (x ∷ edges) edge at =
       let e : first ≡ first + 0 = omega arith in
-      let P : Transition → Type 0 = λ t. Contains (transitions_from standing state first (x ∷ edges)) t in
-      subst P (ap (transition_of standing state first) (same_some x edge at) ∙ ap (λ i. transition_of standing state i edge) e)
-      (Contains-here (transition_of standing state first x) (transitions_from standing state (first + 1) edges))
+      let P : Transition → Type 0 = λ t. Contains (transitions_from view state first (x ∷ edges)) t in
+      subst P (ap (transition_of view state first) (same_some x edge at) ∙ ap (λ i. transition_of view state i edge) e)
+      (Contains-here (transition_of view state first x) (transitions_from view state (first + 1) edges))
   contains_from state first (suc k) (x ∷ edges) edge at =
       let e : (first + 1) + k ≡ first + suc k = omega arith in
-      let P : Transition → Type 0 = λ t. Contains (transitions_from standing state first (x ∷ edges)) t in
-      subst P (ap (λ i. transition_of standing state i edge) e)
-      (Contains-there (transition_of standing state first x) (transition_of standing state ((first + 1) + k) edge) (transitions_from standing state (first + 1) edges)
+      let P : Transition → Type 0 = λ t. Contains (transitions_from view state first (x ∷ edges)) t in
+      subst P (ap (λ i. transition_of view state i edge) e)
+      (Contains-there (transition_of view state first x) (transition_of view state ((first + 1) + k) edge) (transitions_from view state (first + 1) edges)
       (contains_from state (first + 1) k edges edge at))
 
   -- an edge of the body at a number, and its transition
   record IsListedAt (states : List State) (number : ℕ) (edge : BodyEdge) (t : Transition) : Type 0 where
     pub at : slice_get (flat_map edges_from states) number ≡ Some edge
-    pub is : t ≡ transition_of standing edge.source (index_in states number) edge.edge
+    pub is : t ≡ transition_of view edge.source (index_in states number) edge.edge
 
   -- the index of an edge within the first state, and after it
   index_first : (state : State) (states : List State) (k : ℕ) → k < length state.edges → index_in (state ∷ states) k ≡ k
@@ -82,12 +82,12 @@ module _ (standing : Standing) where
       ∙ ap (index_in states) e
 
   -- each transition is that of an edge
-  found_at : (states : List State) (s : ℕ) (t : Transition) → Contains (transitions_at standing states s) t
+  found_at : (states : List State) (s : ℕ) (t : Transition) → Contains (transitions_at view states s) t
       → (number : ℕ) × (edge : BodyEdge) × IsListedAt states number edge t × (edge.source.number ≡ s)
   found_at [] s t within = absurd (Contains-nothing t within)
   found_at (state ∷ states) s t within = go (state.number == s) refl within (λ h. found_at states s t h)
     where
-      first : state.number ≡ s → (k : ℕ) × (edge : Edge) × (slice_get state.edges k ≡ Some edge) × (t ≡ transition_of standing state (0 + k) edge)
+      first : state.number ≡ s → (k : ℕ) × (edge : Edge) × (slice_get state.edges k ≡ Some edge) × (t ≡ transition_of view state (0 + k) edge)
           → (number : ℕ) × (edge : BodyEdge) × IsListedAt (state ∷ states) number edge t × (edge.source.number ≡ s)
       first same (k, edge, at, is) =
           let body : BodyEdge = record { source = state; edge = edge } in
@@ -97,7 +97,7 @@ module _ (standing : Standing) where
           let index : 0 + k ≡ index_in (state ∷ states) k = e ∙ sym (index_first state states k (slice_get_within state.edges k edge at)) in (
             k,
             body,
-            record { at = at_left (edges_from state) (flat_map edges_from states) k body mapped; is = is ∙ ap (λ i. transition_of standing state i edge) index },
+            record { at = at_left (edges_from state) (flat_map edges_from states) k body mapped; is = is ∙ ap (λ i. transition_of view state i edge) index },
             same,
           )
 
@@ -111,14 +111,14 @@ module _ (standing : Standing) where
             record {
               at = ap (slice_get (edges_from state ++ flat_map edges_from states)) e
                   ∙ at_right (edges_from state) (flat_map edges_from states) number ∙ listed.at;
-              is = listed.is ∙ ap (λ i. transition_of standing edge.source i edge.edge) (sym (index_later state states number));
+              is = listed.is ∙ ap (λ i. transition_of view edge.source i edge.edge) (sym (index_later state states number));
             },
             same,
           )
 
       go : (b : Bool) → (state.number == s) ≡ b
-          → Contains (if b then transitions_from standing state 0 state.edges else transitions_at standing states s) t
-          → (Contains (transitions_at standing states s) t → (number : ℕ) × (edge : BodyEdge) × IsListedAt states number edge t × (edge.source.number ≡ s))
+          → Contains (if b then transitions_from view state 0 state.edges else transitions_at view states s) t
+          → (Contains (transitions_at view states s) t → (number : ℕ) × (edge : BodyEdge) × IsListedAt states number edge t × (edge.source.number ≡ s))
           → (number : ℕ) × (edge : BodyEdge) × IsListedAt (state ∷ states) number edge t × (edge.source.number ≡ s)
       go true e h rest = first (eqb-true state.number s e) (from_contains state 0 state.edges t h)
       go false e h rest = later (rest h)
@@ -159,7 +159,7 @@ module _ (standing : Standing) where
   -- and each edge has one
   listed_at : (states : List State) → has_repeat nat_eq (map (λ (state : State). state.number) states) ≡ false → (number : ℕ) (edge : BodyEdge)
       → slice_get (flat_map edges_from states) number ≡ Some edge
-      → Contains (transitions_at standing states edge.source.number) (transition_of standing edge.source (index_in states number) edge.edge)
+      → Contains (transitions_at view states edge.source.number) (transition_of view edge.source (index_in states number) edge.edge)
   listed_at [] once zero edge at = absurd (none at)
     where
       none : slice_get {X = BodyEdge} [] zero ≡ Some edge → ⊥
@@ -175,24 +175,24 @@ module _ (standing : Standing) where
       long = length-map state.edges (λ (e : Edge). record { source = state; edge = e })
 
       target : Type 0
-      target = Contains (transitions_at standing (state ∷ states) edge.source.number) (transition_of standing edge.source (index_in (state ∷ states) number) edge.edge)
+      target = Contains (transitions_at view (state ∷ states) edge.source.number) (transition_of view edge.source (index_in (state ∷ states) number) edge.edge)
 
       here : number < length state.edges → (slice_get state.edges number ≡ Some edge.edge) × (state ≡ edge.source)
-          → Contains (transitions_at standing (state ∷ states) edge.source.number) (transition_of standing edge.source (index_in (state ∷ states) number) edge.edge)
+          → Contains (transitions_at view (state ∷ states) edge.source.number) (transition_of view edge.source (index_in (state ∷ states) number) edge.edge)
       here below (inside, same) =
           let b : (state.number == edge.source.number) ≡ true = eq-eqb state.number edge.source.number (ap (λ (s : State). s.number) same) in
           let e : 0 + number ≡ index_in (state ∷ states) number = (let z : 0 + number ≡ number = omega arith in z ∙ sym (index_first state states number below)) in
-          let P : Bool → Type 0 = λ c. Contains (if c then transitions_from standing state 0 state.edges else transitions_at standing states edge.source.number)
-          (transition_of standing edge.source (index_in (state ∷ states) number) edge.edge) in
-          let Q : Transition → Type 0 = λ t. Contains (transitions_from standing state 0 state.edges) t in
+          let P : Bool → Type 0 = λ c. Contains (if c then transitions_from view state 0 state.edges else transitions_at view states edge.source.number)
+          (transition_of view edge.source (index_in (state ∷ states) number) edge.edge) in
+          let Q : Transition → Type 0 = λ t. Contains (transitions_from view state 0 state.edges) t in
           subst P (sym b)
-          (subst Q (ap (λ i. transition_of standing state i edge.edge) e ∙ ap (λ s. transition_of standing s (index_in (state ∷ states) number) edge.edge) same)
+          (subst Q (ap (λ i. transition_of view state i edge.edge) e ∙ ap (λ s. transition_of view s (index_in (state ∷ states) number) edge.edge) same)
           (contains_from state 0 number state.edges edge.edge inside))
 
       there : (k : ℕ) → length state.edges + k ≡ number
           → (slice_get (flat_map edges_from states) k ≡ Some edge)
-          → Contains (transitions_at standing states edge.source.number) (transition_of standing edge.source (index_in states k) edge.edge)
-          → Contains (transitions_at standing (state ∷ states) edge.source.number) (transition_of standing edge.source (index_in (state ∷ states) number) edge.edge)
+          → Contains (transitions_at view states edge.source.number) (transition_of view edge.source (index_in states k) edge.edge)
+          → Contains (transitions_at view (state ∷ states) edge.source.number) (transition_of view edge.source (index_in (state ∷ states) number) edge.edge)
       there k sum inside rest =
           let from : IsListed states edge = listed_flat states edge (contains_at (flat_map edges_from states) k edge inside) in
           let among : Contains states edge.source = (from.place, from.below, sym from.here) in
@@ -201,15 +201,15 @@ module _ (standing : Standing) where
           (contains_map (λ (s : State). s.number) states edge.source among) in
           let b : (state.number == edge.source.number) ≡ false = apart state.number edge.source.number differs in
           let e : index_in states k ≡ index_in (state ∷ states) number = sym (index_later state states k) ∙ ap (index_in (state ∷ states)) sum in
-          let P : Bool → Type 0 = λ c. Contains (if c then transitions_from standing state 0 state.edges else transitions_at standing states edge.source.number)
-          (transition_of standing edge.source (index_in (state ∷ states) number) edge.edge) in
-          let Q : ℕ → Type 0 = λ i. Contains (transitions_at standing states edge.source.number) (transition_of standing edge.source i edge.edge) in
+          let P : Bool → Type 0 = λ c. Contains (if c then transitions_from view state 0 state.edges else transitions_at view states edge.source.number)
+          (transition_of view edge.source (index_in (state ∷ states) number) edge.edge) in
+          let Q : ℕ → Type 0 = λ i. Contains (transitions_at view states edge.source.number) (transition_of view edge.source i edge.edge) in
           subst P (sym b) (subst Q e rest)
 
       go : (number < length state.edges) ⊎ (length state.edges ≤ number)
           → ((k : ℕ) → slice_get (flat_map edges_from states) k ≡ Some edge
-          → Contains (transitions_at standing states edge.source.number) (transition_of standing edge.source (index_in states k) edge.edge))
-          → Contains (transitions_at standing (state ∷ states) edge.source.number) (transition_of standing edge.source (index_in (state ∷ states) number) edge.edge)
+          → Contains (transitions_at view states edge.source.number) (transition_of view edge.source (index_in states k) edge.edge))
+          → Contains (transitions_at view (state ∷ states) edge.source.number) (transition_of view edge.source (index_in (state ∷ states) number) edge.edge)
       go (inl below) rest =
           here below (mapped_from state state.edges number edge (sym (left_part (edges_from state) (flat_map edges_from states) number (omega (arith, long))) ∙ at))
       go (inr past) rest =
@@ -221,33 +221,33 @@ module _ (standing : Standing) where
           there k sum inside (rest k inside)
 
 -- a transition of an automaton within a product is that of an edge
-pub record IsTransition (a : Description) (standing : Standing) (number : ℕ) (edge : BodyEdge) (t : Transition) : Type 0 where
+pub record IsTransition (a : Description) (view : View) (number : ℕ) (edge : BodyEdge) (t : Transition) : Type 0 where
   pub numbered : edge_at a number ≡ Some edge
   pub target : edge.edge.targets ≡ t.target ∷ []
-  pub marks : t.marks ≡ map (λ set. standing.before + set) (marks_of edge)
-  pub label : (held : ℕ → Bool) → (truth held t.label ≡ true) ↔ Allows a number (label_of edge) (λ p. held (number_among standing.places p))
+  pub marks : t.marks ≡ map (λ set. view.before + set) (marks_of edge)
+  pub label : (held : ℕ → Bool) → (truth held t.label ≡ true) ↔ Allows a number (label_of edge) (λ p. held (number_among view.places p))
 
-module _ (a : Description) (standing : Standing) (counted : length a.propositions ≡ standing.count) where
+module _ (a : Description) (view : View) (counted : length a.propositions ≡ view.count) where
   -- the label of a valuation is one of its index
-  is_index_label : (number : ℕ) → IsIndexLabel a number (valuation_label (index_in a.defined number) standing.count)
+  is_index_label : (number : ℕ) → IsIndexLabel a number (valuation_label (index_in a.defined number) view.count)
   is_index_label number held =
       let index : ℕ = index_in a.defined number in
-      subst (λ (count : ℕ). (truth held (valuation_label index standing.count) ≡ true) ↔ IsValuation count index held) (sym counted)
-      (valuation_true index standing.count held)
+      subst (λ (count : ℕ). (truth held (valuation_label index view.count) ≡ true) ↔ IsValuation count index held) (sym counted)
+      (valuation_true index view.count held)
 
   -- its label is true where the edge allows it
   label_allows : (number : ℕ) (held : ℕ → Bool) (label : Option LabelTree)
-      → (truth held (relabelled standing.places (unwrap_or label (valuation_label (index_in a.defined number) standing.count))) ≡ true)
-      ↔ Allows a number label (λ p. held (number_among standing.places p))
+      → (truth held (relabelled view.places (unwrap_or label (valuation_label (index_in a.defined number) view.count))) ≡ true)
+      ↔ Allows a number label (λ p. held (number_among view.places p))
   label_allows number held label =
-      let index_label : LabelTree = valuation_label (index_in a.defined number) standing.count in
-      let e = truth_relabelled standing.places held (unwrap_or label index_label) in
-      let allowed = allows_where_true a number index_label (is_index_label number) label (λ p. held (number_among standing.places p)) in
+      let index_label : LabelTree = valuation_label (index_in a.defined number) view.count in
+      let e = truth_relabelled view.places held (unwrap_or label index_label) in
+      let allowed = allows_where_true a number index_label (is_index_label number) label (λ p. held (number_among view.places p)) in
       (λ t. allowed.1 (sym e ∙ t), λ t. e ∙ allowed.0 t)
 
   module _ (automaton : IsAutomaton a) (plain : has_universal_branching a ≡ false) where
     transition_is : (number : ℕ) (edge : BodyEdge) → edge_at a number ≡ Some edge
-        → IsTransition a standing number edge (transition_of standing edge.source (index_in a.defined number) edge.edge)
+        → IsTransition a view number edge (transition_of view edge.source (index_in a.defined number) edge.edge)
     transition_is number edge at =
         let enters : EntersOne a.states edge = enters_one a automaton plain number edge at in
         record {
@@ -258,18 +258,18 @@ module _ (a : Description) (standing : Standing) (counted : length a.proposition
         }
 
     -- each transition is that of an edge
-    pub found_transition : (s : ℕ) (t : Transition) → Contains (transitions_at standing a.defined s) t
-        → (number : ℕ) × (edge : BodyEdge) × IsTransition a standing number edge t × (edge.source.number ≡ s)
+    pub found_transition : (s : ℕ) (t : Transition) → Contains (transitions_at view a.defined s) t
+        → (number : ℕ) × (edge : BodyEdge) × IsTransition a view number edge t × (edge.source.number ≡ s)
     found_transition s t within =
-        let found = found_at standing a.defined s t within in
-        let P : Transition → Type 0 = λ u. IsTransition a standing found.0 found.1 u in
+        let found = found_at view a.defined s t within in
+        let P : Transition → Type 0 = λ u. IsTransition a view found.0 found.1 u in
         (found.0, found.1, subst P (sym found.2.is) (transition_is found.0 found.1 found.2.at), found.3)
 
     -- and each edge has one
     pub listed_transition : (number : ℕ) (edge : BodyEdge) → edge_at a number ≡ Some edge
-        → (t : Transition) × Contains (transitions_at standing a.defined edge.source.number) t × IsTransition a standing number edge t
+        → (t : Transition) × Contains (transitions_at view a.defined edge.source.number) t × IsTransition a view number edge t
     listed_transition number edge at = (
-      transition_of standing edge.source (index_in a.defined number) edge.edge,
-      listed_at standing a.defined automaton.once number edge at,
+      transition_of view edge.source (index_in a.defined number) edge.edge,
+      listed_at view a.defined automaton.once number edge at,
       transition_is number edge at,
     )

@@ -5,8 +5,8 @@ use Rattle.std.specs.Prelude.{slice_index_or}
 use Rattle.std.proofs.lemmas.Bool.{cases_lt}
 use Rattle.std.proofs.lemmas.List.Elements.{All-contains, Contains-append_cases}
 use Rattle.std.proofs.lemmas.Option.{get_or_from_slice_get, slice_get_within}
-use Rattle.omega_acc.specs.formula.Acceptance.{disjunction, holds, inf}
-use Rattle.omega_acc.specs.label.Label.{LabelTree, truth}
+use Rattle.omega_formula.specs.Acceptance.{disjunction, holds, inf}
+use Rattle.omega_label.specs.Label.{LabelTree, truth}
 use Rattle.omega_automaton.specs.Automaton.{AreBelow, AreTargets, Description, IsAutomaton, IsEdge, IsState}
 use Rattle.omega_automaton.specs.declared.edge.Edge.{Edge}
 use Rattle.omega_automaton.specs.Meaning.{Means}

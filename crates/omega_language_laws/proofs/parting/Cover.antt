@@ -3,8 +3,8 @@
 use Rattle.std.proofs.Common.{◌≡◌, ◌==◌, ℕ, zero, suc, ◌+◌, ◌<◌, ◌≤◌, ◌⊎◌, inl, inr, Bool, true, false, ◌||◌, List, [], ◌∷◌, ◌++◌, length, slice_get, Some, Contains, refl, sym, ap, subst, ◌∙◌, arith, eqb-true, eq-eqb, true≢false}
 use Rattle.std.specs.Prelude.{IsTrue}
 use Rattle.std.specs.List.{list_any}
-use Rattle.omega_acc.specs.formula.Acceptance.{holds}
-use Rattle.omega_acc.specs.label.Label.{truth}
+use Rattle.omega_formula.specs.Acceptance.{holds}
+use Rattle.omega_label.specs.Label.{truth}
 use Rattle.omega_automaton.specs.Automaton.{Description, IsAutomaton}
 use Rattle.omega_automaton.specs.Meaning.{Means}
 use Rattle.omega_automaton.specs.declared.edge.Edge.{Edge}

@@ -1,6 +1,6 @@
 -- A formula and its dual part the marks.
 use Rattle.std.proofs.Common.{◌≡◌, ℕ, ◌⊎◌, inl, inr, Bool, true, false, not, List, refl, sym, ap, ◌∙◌, true≢false}
-use Rattle.omega_acc.specs.formula.Acceptance.{AccTree, conjunction, constant, disjunction, fin, holds, inf}
+use Rattle.omega_formula.specs.Acceptance.{AccTree, conjunction, constant, disjunction, fin, holds, inf}
 use Rattle.omega_walk_laws.specs.Marks.{meets}
 use Rattle.omega_runs.specs.Runs.{AtLastNever, ForEver, Satisfies}
 use Rattle.omega_complement.specs.Dual.{dual}

@@ -6,14 +6,15 @@ use Rattle.std.specs.Option.{option_or}
 use Rattle.std.proofs.lemmas.Bool.{cases_lt}
 use Rattle.std.proofs.lemmas.List.FromFn.{length-range_with_len}
 use Rattle.std.proofs.lemmas.Option.{slice_get-get_or, slice_get_within}
-use Rattle.omega_acc.specs.formula.Acceptance.{holds}
-use Rattle.omega_acc.specs.formula.Acceptance as acc
-use Rattle.omega_acc.specs.formula.Meaning.{acc_meant}
-use Rattle.omega_acc.specs.WritingLaws.{acc_written, label_written}
-use Rattle.omega_acc.specs.label.Expanding.{Defined, IsExpansion, Meaning}
-use Rattle.omega_acc.specs.label.Label.{LabelTree, truth}
-use Rattle.omega_acc.specs.label.Label as label
-use Rattle.omega_acc.specs.label.Raw.{RawLabelTree}
+use Rattle.omega_formula.specs.Acceptance.{holds}
+use Rattle.omega_formula.specs.Acceptance as acc
+use Rattle.omega_formula.specs.Meaning.{acc_meant}
+use Rattle.omega_label.specs.Writing.{label_written}
+use Rattle.omega_formula.specs.Writing.{acc_written}
+use Rattle.omega_label.specs.Expanding.{Defined, IsExpansion, Meaning}
+use Rattle.omega_label.specs.Label.{LabelTree, truth}
+use Rattle.omega_label.specs.Label as label
+use Rattle.omega_label.specs.Raw.{RawLabelTree}
 use Rattle.omega_automaton.specs.Automaton.{Description, IsAutomaton}
 use Rattle.omega_automaton.specs.Faults.{definitions_of}
 use Rattle.omega_automaton.specs.Items.{acceptance_in, alias_in, first_said, start_in}

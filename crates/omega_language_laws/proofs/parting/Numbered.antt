@@ -89,7 +89,7 @@ edge_found (state ∷ states) number be e = go (cases_lt number (length state.ed
           edge_is = ap (λ b. slice_get be.source.edges (if b then number else index_in states (number - length state.edges))) (lt_false number (length state.edges) past) ∙ found.edge_is;
         }
 
--- an edge of a state has a number, by which its index is told
+-- an edge of a state has a number, which determines its index
 pub record IsNumbered (states : List State) (state : State) (index : ℕ) (edge : Edge) : Type 0 where
   pub number : ℕ
   pub is : slice_get (flat_map edges_from states) number ≡ Some (record { source = state; edge = edge })

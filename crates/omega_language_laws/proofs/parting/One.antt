@@ -1,9 +1,9 @@
 -- An automaton has one complement, since what is written of it is one.
 use Rattle.std.proofs.Common.{◌≡◌, ℕ, Bool, true, false, List, [], ◌∷◌, ◌++◌, length, Option, Some, None, refl, sym, ap, ap₂, subst, ◌∙◌, true≢false}
 use Rattle.std.specs.List.{AllZip, range_with_len}
-use Rattle.omega_acc.specs.WritingLaws.{label_written}
-use Rattle.omega_acc.specs.label.Label.{LabelTree}
-use Rattle.omega_acc.specs.label.Raw.{RawLabelTree}
+use Rattle.omega_label.specs.Writing.{label_written}
+use Rattle.omega_label.specs.Label.{LabelTree}
+use Rattle.omega_label.specs.Raw.{RawLabelTree}
 use Rattle.omega_automaton.specs.Automaton.{Description}
 use Rattle.omega_automaton.specs.Meaning.{Means}
 use Rattle.omega_automaton.proofs.Uniqueness.{meanings_one}

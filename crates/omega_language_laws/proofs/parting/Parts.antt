@@ -8,10 +8,10 @@ use Rattle.std.proofs.lemmas.Bool.{cases_lt}
 use Rattle.std.proofs.lemmas.List.Elements.{All-contains, Contains-append_cases}
 use Rattle.std.proofs.lemmas.List.Folds.{list_all-append}
 use Rattle.std.proofs.lemmas.Option.{slice_get_within}
-use Rattle.omega_acc.specs.WritingLaws.{label_written}
-use Rattle.omega_acc.specs.label.Label.{LabelTree, propositions}
-use Rattle.omega_acc.specs.label.Label as label
-use Rattle.omega_acc.specs.label.Raw.{RawLabelTree}
+use Rattle.omega_label.specs.Writing.{label_written}
+use Rattle.omega_label.specs.Label.{LabelTree, propositions}
+use Rattle.omega_label.specs.Label as label
+use Rattle.omega_label.specs.Raw.{RawLabelTree}
 use Rattle.omega_automaton.specs.Automaton.{AreBelow, Description, IsAutomaton, IsEdge, IsLabel, IsState}
 use Rattle.omega_automaton.specs.Faults.{passes}
 use Rattle.omega_automaton.specs.declared.edge.Edge.{Edge}

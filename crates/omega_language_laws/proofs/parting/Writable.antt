@@ -1,4 +1,4 @@
--- What is written of a complement has no fault but 32 and 33: fault by fault.
+-- A written complement has no other fault than `TooDeep` and `Expansion`: fault by fault.
 use Rattle.std.proofs.Common.{◌≡◌, ◌==◌, ℕ, zero, suc, ◌+◌, ◌<◌, ◌≤◌, ◌^◌, ◌⊎◌, inl, inr, Bool, true, false, not, ◌&&◌, ◌||◌, nat_eq, nat_le, nat_lt, List, [], ◌∷◌, ◌++◌, length, map, slice_get, Option, Some, option_map, unwrap_or, is_none, is_some, refl, sym, ap, ap₂, subst, ◌∙◌, arith, eqb-true, eq-eqb, true≢false}
 use Rattle.std.specs.Prelude.{codes, slice_index_or}
 use Rattle.std.specs.List.{AllZip, filter_map, list_any, range_with_len}
@@ -6,16 +6,18 @@ use Rattle.std.specs.Str.{bytes_eq}
 use Rattle.std.proofs.lemmas.List.{append-nil, map-append}
 use Rattle.omega_text.specs.declared.refusal.automaton.AutomatonFault.{AutomatonFault}
 use Rattle.omega_text.specs.declared.refusal.automaton.AutomatonFault.TheVariants.{AcceptanceAtom, Alias, Expansion, ImplicitCount, MissingAcceptance, MixedLabels, Proposition, RepeatedHeader, SetRange, StateRange, StateTwice, TooDeep, UnknownHeader, Version}
-use Rattle.omega_acc.specs.formula.Acceptance.{AccTree}
-use Rattle.omega_acc.specs.formula.Acceptance as acc
-use Rattle.omega_acc.specs.Writing.{acc_text, label_text}
-use Rattle.omega_acc.specs.WritingLaws.{acc_grouped, acc_written, grouped, label_written}
-use Rattle.omega_acc.specs.formula.Meaning.{acc_meant, acc_sets}
-use Rattle.omega_acc.specs.formula.Raw.{RawAccTree}
-use Rattle.omega_acc.specs.label.Expanding.{Defined, Entry, entries_of, expansion}
-use Rattle.omega_acc.specs.label.Label.{LabelTree, propositions}
-use Rattle.omega_acc.specs.label.Label as label
-use Rattle.omega_acc.specs.label.Raw.{RawLabelTree, raw_propositions}
+use Rattle.omega_formula.specs.Acceptance.{AccTree}
+use Rattle.omega_formula.specs.Acceptance as acc
+use Rattle.omega_label.specs.Writing.{label_text}
+use Rattle.omega_formula.specs.Writing.{acc_text}
+use Rattle.omega_label.specs.Writing.{grouped, label_written}
+use Rattle.omega_formula.specs.Writing.{acc_grouped, acc_written}
+use Rattle.omega_formula.specs.Meaning.{acc_meant, acc_sets}
+use Rattle.omega_formula.specs.Raw.{RawAccTree}
+use Rattle.omega_label.specs.Expanding.{Defined, Entry, entries_of, expansion}
+use Rattle.omega_label.specs.Label.{LabelTree, propositions}
+use Rattle.omega_label.specs.Label as label
+use Rattle.omega_label.specs.Raw.{RawLabelTree, raw_propositions}
 use Rattle.omega_automaton.specs.Automaton.{Description, IsAutomaton, has_repeat, sets_of}
 use Rattle.omega_automaton.specs.Faults.{applies, are_out_of_range, begins_capital, definitions_of, has_label, has_mixed_labels, has_other_version, has_repeated_item, has_set_beyond, has_set_out_of_range, has_state_out_of_range, has_state_twice, has_unknown_capital, has_wrong_alias, has_wrong_atom, has_wrong_edge_count, has_wrong_proposition, is_beyond, is_labelled, is_marked, is_miscounted, is_misnamed, is_mixed, is_out_of_range, lacks_acceptance, mentioned_count, passes, proposition_count, set_count, stands_twice, state_count}
 use Rattle.omega_automaton.specs.Items.{Accepted, Named, acc_name_in, acceptance_in, alias_in, first_said, name_in, propositions_in, start_in, states_in, tool_in, unknown_in}

@@ -5,8 +5,8 @@ use Rattle.std.specs.List.{AllByRecursion, AllZip, range_with_len}
 use Rattle.omega_text.specs.Limits.{most_number, most_text}
 use Rattle.omega_text.specs.hoa.Forms.{IsQuotable}
 use Rattle.omega_acc.specs.WritingLaws.{WrittenFormulasMean, WrittenLabelsMean}
-use Rattle.omega_acc.specs.label.Label.{LabelTree, constant}
-use Rattle.omega_acc.specs.label.Raw.{RawLabelTree}
+use Rattle.omega_label.specs.Label.{LabelTree, constant}
+use Rattle.omega_label.specs.Raw.{RawLabelTree}
 use Rattle.omega_raw.specs.Grammar.{IsRawItem}
 use Rattle.omega_raw.specs.declared.raw_state.RawState.{RawState}
 use Rattle.omega_automaton.specs.Automaton.{Description}

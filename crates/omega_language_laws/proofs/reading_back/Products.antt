@@ -7,10 +7,11 @@ use Rattle.omega_text.specs.Bytes.{is_word_byte}
 use Rattle.omega_text.specs.Forms.{IsWord}
 use Rattle.omega_text.specs.Limits.{most_number, most_text}
 use Rattle.omega_text.specs.hoa.Forms.{IsQuotable}
-use Rattle.omega_acc.specs.WritingLaws.{WrittenFormulasMean, WrittenLabelsMean, acc_written}
-use Rattle.omega_acc.specs.formula.Acceptance.{AccTree}
-use Rattle.omega_acc.specs.formula.Raw.{RawAccTree}
-use Rattle.omega_acc.specs.declared.formula.name.AccName.{AccName}
+use Rattle.omega_formula.specs.Writing.{acc_written}
+use Rattle.omega_acc.specs.WritingLaws.{WrittenFormulasMean, WrittenLabelsMean}
+use Rattle.omega_formula.specs.Acceptance.{AccTree}
+use Rattle.omega_formula.specs.Raw.{RawAccTree}
+use Rattle.omega_formula.specs.declared.name.AccName.{AccName}
 use Rattle.omega_raw.specs.Grammar.{IsRawItem}
 use Rattle.omega_raw.specs.declared.raw_automaton.RawAutomaton.{RawAutomaton}
 use Rattle.omega_automaton.specs.Automaton.{Description}

@@ -1,41 +1,43 @@
--- The graph of an automaton, whose states keep their numbers or are numbered anew.
+-- The graph of an automaton, whose states keep their numbers or get new ones. The names of a graph are the states that
+-- its numbers represent, in order.
 use Rattle.std.specs.Prelude.{◌≡◌, ℕ, ◌<◌, ◌≤◌, List, [], ◌∷◌, ◌++◌, length, map, All, slice_index_or}
 use Rattle.omega_automaton.specs.Automaton.{BodyEdge, Description, edges_of}
 use Rattle.omega_components.specs.Graph.{Shape}
 use Rattle.omega_components.specs.declared.edge.Edge.{Edge}
+use Rattle.omega_lasso_search.specs.declared.numbering.Numbered.{Numbered}
 
--- the first state of a list, 0 where there is none
+-- the first state of a list, or 0 if it is empty
 abbrev pub first_of : List ℕ → ℕ
 first_of [] = 0
 first_of (state ∷ states) = state
 
--- the state that an edge leaves, and the first that it lists
+-- the ends of an edge: the state that it leaves and the first of its targets
 abbrev pub ends_of : BodyEdge → Edge
 ends_of edge = record { from = edge.source.number; to = first_of edge.edge.targets }
 
--- the state that a number stands for
+-- the state that a number represents; 0 if the number has no name
 abbrev pub name_in : List ℕ → ℕ → ℕ
 name_in names number = slice_index_or names number 0
 
--- the ends of an edge, by the states that its numbers stand for
+-- the ends of an edge of the graph, as the states that they represent
 abbrev pub ends_in : List ℕ → Edge → Edge
 ends_in names edge = record { from = name_in names edge.from; to = name_in names edge.to }
 
--- the numbers of an edge stand for states
+-- both ends of an edge have names
 abbrev pub IsNamed : List ℕ → Edge → Type 0
 IsNamed names edge = (edge.from < length names) × (edge.to < length names)
 
--- names after others, which keep their numbers: so many more at most
+-- `after` is `before` and at most `count` more names
 pub record Grows (count : ℕ) (before after : List ℕ) : Type 0 where
   pub more : List ℕ
   pub is : after ≡ before ++ more
   pub few : length more ≤ count
 
--- two numbers stand for two states
+-- different numbers have different names
 abbrev pub AreDistinctNames : List ℕ → Type 0
 AreDistinctNames names = (p q : ℕ) → p < length names → q < length names → name_in names p ≡ name_in names q → p ≡ q
 
--- the edges of a graph stand for some edges, and the sources for the first states of lists
+-- the graph has edges with these ends, and the sources are the first states of the lists
 pub record AreNamed (lists : List (List ℕ)) (edges : List Edge) (names sources : List ℕ) (graph : Shape) : Type 0 where
   pub apart : AreDistinctNames names
   pub inside : All (IsNamed names) graph.edges
@@ -44,6 +46,14 @@ pub record AreNamed (lists : List (List ℕ)) (edges : List Edge) (names sources
   pub states : All (λ source. source < graph.states) sources
   pub starts : map (name_in names) sources ≡ map first_of lists
 
--- the edges stand for those of an automaton, and the sources for its starts
+-- the graph has the edges of the automaton, and the sources are its starts
 abbrev pub AreNumbered : Description → List ℕ → List ℕ → Shape → Type 0
 AreNumbered a names sources graph = AreNamed a.starts (map ends_of (edges_of a)) names sources graph
+
+-- under some names the numbered graph has edges with these ends, and its sources are the first states of the lists
+abbrev pub Represents : List (List ℕ) → List Edge → Numbered → Type 0
+Represents lists edges numbered = (names : List ℕ) × AreNamed lists edges names numbered.sources.items numbered.graph
+
+-- under some names the numbered graph has the edges of the automaton, and its sources are the starts
+abbrev pub RepresentsAutomaton : Description → Numbered → Type 0
+RepresentsAutomaton a numbered = (names : List ℕ) × AreNumbered a names numbered.sources.items numbered.graph

@@ -4,7 +4,7 @@ use Rattle.omega_lasso_text.specs.Symbols.{LassoSymbol, cycle, number, stem}
 use Rattle.omega_lasso_text.specs.declared.stage.Stage.{Stage}
 use Rattle.omega_lasso_text.specs.declared.stage.Stage.TheVariants.{Cycle, Start, Stem}
 
--- what was read so far: where it stands, and the numbers
+-- what was read so far: the stage, and the numbers of the stem and of the cycle
 pub record LassoState : Type 0 where
   pub stage : Stage
   pub before : List ℕ
@@ -14,35 +14,35 @@ pub record LassoState : Type 0 where
 abbrev pub kept : Stage → List ℕ → List ℕ → LassoState
 kept stage before around = record { stage = stage; before = before; around = around }
 
--- nothing was read
+-- the state before the first symbol
 abbrev pub initial : LassoState
 initial = kept Start [] []
 
--- what a number makes of the state at a stage
+-- the state after the number `n`, if a number may come at this stage
 abbrev pub number_at : Stage → ℕ → LassoState → Option LassoState
 number_at Start n state = None
 number_at Stem n state = Some (kept Stem (state.before ++ n ∷ []) state.around)
 number_at Cycle n state = Some (kept Cycle state.before (state.around ++ n ∷ []))
 
--- what the word `stem` makes of the state at a stage
+-- the state after the word `stem`, if it may come at this stage
 abbrev pub stem_at : Stage → LassoState → Option LassoState
 stem_at Start state = Some (kept Stem state.before state.around)
 stem_at Stem state = None
 stem_at Cycle state = None
 
--- what the word `cycle` makes of the state at a stage
+-- the state after the word `cycle`, if it may come at this stage
 abbrev pub cycle_at : Stage → LassoState → Option LassoState
 cycle_at Start state = None
 cycle_at Stem state = Some (kept Cycle state.before state.around)
 cycle_at Cycle state = None
 
--- what a symbol makes of the state, or none where no text goes on so
+-- the state after a symbol, or none if no text goes on with it
 abbrev pub step : LassoState → LassoSymbol → Option LassoState
 step state (number n) = number_at state.stage n state
 step state stem = stem_at state.stage state
 step state cycle = cycle_at state.stage state
 
--- what symbols make of the state, one step after the other
+-- the state after the symbols, one by one
 abbrev pub run : LassoState → List LassoSymbol → Option LassoState
 run state [] = Some state
 run state (symbol ∷ symbols) = option_and_then (λ next. run next symbols) (step state symbol)
@@ -51,7 +51,7 @@ run state (symbol ∷ symbols) = option_and_then (λ next. run next symbols) (st
 abbrev pub IsEnded : LassoState → Type 0
 IsEnded state = (state.stage ≡ Cycle) × (0 < length state.around)
 
--- a call took a symbol and the next state is kept, or it refused it and there is none
+-- the symbol was taken and the next state is kept, or it was refused and there is no next state
 abbrev pub Goes : Bool → Option LassoState → LassoState → Type 0
 Goes true next state = next ≡ Some state
 Goes false next state = next ≡ None

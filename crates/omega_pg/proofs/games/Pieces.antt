@@ -13,11 +13,11 @@ use Rattle.omega_text.specs.declared.pg.kind.PgKind.TheVariants.{Comma, Number, 
 use Rattle.omega_text.specs.declared.refusal.Refusal.{Refusal}
 use Rattle.omega_text.proofs.formats.Cutting.{cuts_join}
 use Rattle.omega_text.proofs.pg_texts.Written.{sign_longest, written_follows}
-use Rattle.omega_game.specs.Building.{with_last, with_successor}
-use Rattle.omega_game.specs.Player.{player_number}
-use Rattle.omega_game.specs.declared.node_spec.NodeSpec.{NodeSpec}
-use Rattle.omega_game.specs.declared.player.Player.{Player}
-use Rattle.omega_game.specs.declared.player.Player.TheVariants.{One, Zero}
+use Rattle.omega_parity_game.specs.Building.{with_last, with_successor}
+use Rattle.omega_parity_game.specs.Player.{player_number}
+use Rattle.omega_parity_game.specs.declared.node_spec.NodeSpec.{NodeSpec}
+use Rattle.omega_parity_game.specs.declared.player.Player.{Player}
+use Rattle.omega_parity_game.specs.declared.player.Player.TheVariants.{One, Zero}
 use Rattle.omega_pg.specs.Symbols.{PgSymbol, comma, number, semicolon, pg_symbol_of, symbol}
 use Rattle.omega_pg.specs.private.reader.Symbols.{symbols_of}
 use Rattle.omega_pg.specs.private.game.reader.Automaton.{GameReaderState, IsReachedBy, IsReady, IsReadyAt, begun, initial, run, step, to_stage, with_node}
@@ -31,7 +31,7 @@ use Rattle.omega_pg.proofs.reader.Runs.{run_by_on}
 abbrev pub head_symbols : ℕ → ℕ → Player → ℕ → List PgSymbol
 head_symbols id priority owner first = number id ∷ number priority ∷ number (player_number owner) ∷ number first ∷ []
 
--- nothing stands between a place and itself
+-- nothing is between a place and itself
 nothing : (source : List ℕ) (from : ℕ) → from ≤ length source → IsPiece source from from []
 nothing source from within = record { lexemes = []; cuts = refl; spelled = refl; forward = omega arith; within = within }
 
@@ -66,7 +66,7 @@ head_piece source from one two three to id priority number-of first owner a b c 
     (piece_on source one two to (number priority ∷ []) (number number-of ∷ number first ∷ []) b
     (piece_on source two three to (number number-of ∷ []) (number first ∷ []) c d)))
 
--- what stands from a byte on
+-- the rest from a byte on
 from_byte : (source : List ℕ) (at byte : ℕ) → at < length source → get_or source at 0 ≡ byte → drop at source ≡ byte ∷ drop (at + 1) source
 from_byte source at byte inside is =
     subst (λ n. drop at source ≡ byte ∷ drop n source) (sym (add-one at)) (drop-cons source at 0 inside ∙ ap (λ b. b ∷ drop (suc at) source) is)

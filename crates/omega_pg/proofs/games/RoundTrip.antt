@@ -1,4 +1,4 @@
--- The canonical text of a game stands for that game.
+-- The canonical text of a game describes that game.
 use Rattle.std.proofs.Common.{◌≡◌, ℕ, zero, suc, ◌+◌, ◌-◌, ◌<◌, ◌≤◌, Some, List, length, map, refl, ap, arith, All}
 use Rattle.std.specs.Prelude.{slice_index}
 use Rattle.std.specs.List.Sorted.{IsStrictlyIncreasing}
@@ -6,10 +6,10 @@ use Rattle.std.proofs.lemmas.List.{get_or-map, length-map}
 use Rattle.std.proofs.lemmas.List.Elements.{All-from_get_or, All-map}
 use Rattle.std.proofs.lemmas.List.Sorted.{IsPermutation-refl}
 use Rattle.omega_text.specs.pg.Laws.{EndsAreGaps, NamesAreLongest, NumbersAreLongest, SignsAreLongest, TokensFollow, WordsAreLongest}
-use Rattle.omega_game.specs.Building.{IsWellFormed, specified}
-use Rattle.omega_game.specs.Game.{IsGame, IsWithinLimits, Node, identifiers, no_node, node_at, successors_at, greatest_identifier, identifier_at}
+use Rattle.omega_parity_game.specs.Building.{IsWellFormed, specified}
+use Rattle.omega_parity_game.specs.Game.{IsGame, IsWithinLimits, Node, identifiers, no_node, node_at, successors_at, greatest_identifier, identifier_at}
 use Rattle.omega_text.specs.Limits.{most_number}
-use Rattle.omega_game.specs.declared.node_spec.NodeSpec.{NodeSpec}
+use Rattle.omega_parity_game.specs.declared.node_spec.NodeSpec.{NodeSpec}
 use Rattle.omega_pg.specs.game.Canonical.{canonical_game}
 use Rattle.omega_pg.specs.game.Laws.{CanonicalGamesAreRead}
 use Rattle.omega_pg.proofs.games.Written.{text_written}
@@ -57,7 +57,7 @@ greatest_is_greatest nodes game v inside =
     let there = get_or-map (λ (node : Node). node.identifier) nodes last no_node 0 (omega arith) in
     omega (arith, here, there, ap (slice_index (identifiers nodes)) sum, rise)
 
--- the canonical text stands for the game
+-- the canonical text describes the game
 pub canonical_read : TokensFollow → EndsAreGaps → NumbersAreLongest → WordsAreLongest → SignsAreLongest → NamesAreLongest → CanonicalGamesAreRead
 canonical_read tokens gaps numbers words signs names nodes game limits short =
     let specs = map (specified nodes) nodes in

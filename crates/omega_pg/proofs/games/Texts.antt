@@ -8,9 +8,9 @@ use Rattle.omega_text.specs.Syntax.{TextFaultsAreOne, TextsHaveNoFault}
 use Rattle.omega_text.specs.pg.Format.{pg_format}
 use Rattle.omega_text.specs.declared.refusal.Refusal.TheVariants.{Automaton, Game, Io, Memory, Task, Text}
 use Rattle.omega_text.specs.declared.refusal.game.GameFault.{GameFault}
-use Rattle.omega_game.specs.Building.{IsGameOf, game_fault_of, fault_with}
-use Rattle.omega_game.specs.Laws.{GamesHaveNoFault, SpecificationsHaveOneGame}
-use Rattle.omega_game.specs.declared.node_spec.NodeSpec.{NodeSpec}
+use Rattle.omega_parity_game.specs.Building.{IsGameOf, game_fault_of, fault_with}
+use Rattle.omega_parity_game.specs.Laws.{GamesHaveNoFault, SpecificationsHaveOneGame}
+use Rattle.omega_parity_game.specs.declared.node_spec.NodeSpec.{NodeSpec}
 use Rattle.omega_pg.specs.game.Grammar.{RawGame, game_syntax}
 use Rattle.omega_pg.specs.game.Laws.{GamesAreNotRefused, GamesOfTextsAreOne, GameRefusalsAreOne}
 use Rattle.omega_pg.specs.game.Refusing.{fault_in, is_header_small}
@@ -18,7 +18,7 @@ use Rattle.omega_pg.specs.game.Text.{Covers}
 use Rattle.omega_pg.proofs.reader.Deciding.{texts_one}
 use Rattle.omega_pg.proofs.games.Grammar.{decides_games}
 
--- a text stands for at most one game
+-- a text describes at most one game
 pub games_one : CutsAreOne pg_format → SpecificationsHaveOneGame → GamesOfTextsAreOne
 games_one cuts determined source one other a b =
     determined b.raw.specs one other
@@ -38,7 +38,7 @@ fault_in-none : (raw : RawGame) → game_fault_of raw.specs ≡ None → Covers 
 fault_in-none raw e covers =
     subst (λ small. fault_with small raw.specs ≡ None) (sym (small_from_Covers raw.header raw.specs covers)) e
 
--- a text that stands for a game has no refusal
+-- a text that describes a game has no refusal
 pub games_apart : CutsAreOne pg_format → TextsHaveNoFault game_syntax → GamesHaveNoFault → GamesAreNotRefused
 games_apart cuts none faultless source game (Text fault) text refused =
     none source text.raw fault text.short text.writes refused

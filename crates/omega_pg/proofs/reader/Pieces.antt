@@ -19,7 +19,7 @@ use Rattle.omega_text.specs.pg.Format.{pg_format}
 use Rattle.omega_text.specs.Limits.{most_number}
 use Rattle.omega_text.specs.declared.pg.kind.PgKind.{PgKind}
 use Rattle.omega_text.specs.declared.pg.kind.PgKind.TheVariants.{Comma, Name, Number, Parity, ParitySol, Semicolon}
-use Rattle.omega_game.specs.Game.{IsNameByte}
+use Rattle.omega_parity_game.specs.Game.{IsNameByte}
 use Rattle.omega_pg.specs.Symbols.{PgSymbol, comma, name, number, parity, paritysol, semicolon, symbol}
 use Rattle.omega_pg.specs.private.reader.Symbols.{symbols_of}
 use Rattle.omega_pg.proofs.games.WellFormed.{between-quoted}
@@ -40,7 +40,7 @@ IsWritten text symbols = (source : List ℕ) (from : ℕ) → from ≤ length so
 abbrev pub EndsNumber : List ℕ → Type 0
 EndsNumber rest = is_digit (slice_index rest 0) ≡ false
 
--- a byte that may stand in a name passes the test
+-- a byte that may be in a name passes the test
 name_byte_passes : (b : ℕ) → IsNameByte b → is_name_byte b ≡ true
 name_byte_passes b h =
     and_from (is_in_range 32 126 b) (not (b == 34))

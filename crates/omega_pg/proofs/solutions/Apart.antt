@@ -12,16 +12,16 @@ use Rattle.omega_text.specs.Cut.{CutsAreOne}
 use Rattle.omega_text.specs.Syntax.{TextFaultsAreOne, TextsHaveNoFault}
 use Rattle.omega_text.specs.pg.Format.{pg_format}
 use Rattle.omega_text.specs.declared.refusal.Refusal.TheVariants.{Automaton, Game, Io, Memory, Task, Text}
-use Rattle.omega_game.specs.Game.{IsGame, Node, identifiers, no_node, owner_at, successors_at, identifier_at}
-use Rattle.omega_game.specs.declared.player.Player.{Player}
-use Rattle.omega_game.specs.declared.player.Player.TheVariants.{One, Zero}
+use Rattle.omega_parity_game.specs.Game.{IsGame, Node, identifiers, no_node, owner_at, successors_at, identifier_at}
+use Rattle.omega_parity_game.specs.declared.player.Player.{Player}
+use Rattle.omega_parity_game.specs.declared.player.Player.TheVariants.{One, Zero}
 use Rattle.omega_pg.specs.solution.BadSolution.{IsNoSolution, IsWrongSuccessor}
 use Rattle.omega_pg.specs.solution.Grammar.{SolutionLine, RawSolution, no_line, solution_syntax}
-use Rattle.omega_game.specs.Solution.{IsSolution, choices_of, winner_at}
-use Rattle.omega_game.specs.Winning.{choice_at}
+use Rattle.omega_parity_game.specs.Solution.{IsSolution, choices_of, winner_at}
+use Rattle.omega_parity_game.specs.Winning.{choice_at}
 use Rattle.omega_pg.specs.solution.Text.{line_at, raw_solution}
 use Rattle.omega_pg.specs.solution.Laws.{ReasonsAreExact, SolutionRefusalsAreOne, SolutionsAreNotRefused, SolutionsOfTextsAreOne}
-use Rattle.omega_game.specs.declared.solution.Solution.{Solution}
+use Rattle.omega_parity_game.specs.declared.solution.Solution.{Solution}
 use Rattle.omega_pg.proofs.reader.Deciding.{texts_one}
 use Rattle.omega_pg.proofs.solutions.Outcomes.{solution_of}
 use Rattle.omega_pg.proofs.solutions.Decided.{raw_decided}
@@ -75,7 +75,7 @@ reasons_exact nodes raw = (
   ]),
 )
 
--- a text that stands for a solution has no refusal
+-- a text that describes a solution has no refusal
 pub solutions_apart : CutsAreOne pg_format → TextsHaveNoFault solution_syntax → SolutionsAreNotRefused
 solutions_apart cuts none nodes source solution (Text fault) text refused =
     none source (raw_solution nodes solution) fault text.short text.writes refused
@@ -122,7 +122,7 @@ identifiers_apart nodes v w game h k same =
       ]
     ]
 
--- two choices that stand where the same is true, and have one identifier there, are one
+-- two choices are one if they are there alike and have one identifier
 choice_same : (nodes : List Node) (one other : Option ℕ) (Own : Type 0) → IsGame nodes
     → IfSome one (λ w. w < length nodes) → IfSome other (λ w. w < length nodes) → IsSome one ↔ Own → IsSome other ↔ Own
     → (Own → option_map (identifier_at nodes) one ≡ option_map (identifier_at nodes) other) → one ≡ other
@@ -177,7 +177,7 @@ module _ (nodes : List Node) (one other : Solution) (game : IsGame nodes) (fits 
   pub alike_same : one ≡ other
   alike_same = solution_same one other winners_same (choices_same Zero) (choices_same One)
 
--- a text stands for at most one solution
+-- a text describes at most one solution
 pub solutions_one : CutsAreOne pg_format → SolutionsOfTextsAreOne
 solutions_one cuts nodes source one other game a b =
     alike_same nodes one other game a.fits b.fits

@@ -1,4 +1,4 @@
--- Each text stands for a solution of the game or has a refusal, and the reasons of refusal 53 are exact.
+-- Each text describes a solution of the game or has a refusal, and the reasons of `BadSolution` are exact.
 use Rattle.std.proofs.Common.{◌≡◌, ◌≢◌, ℕ, ◌<◌, ◌⊎◌, inl, inr, Bool, true, false, Option, Some, None, List, [], ◌∷◌, ◌++◌, ◌≤◌, length, refl, sym, subst, append_assoc, append-nil, arith, All, length-append}
 use Rattle.std.proofs.Math.Seq.{get_or-append_seam}
 use Rattle.std.specs.Prelude.{Contains}
@@ -8,18 +8,18 @@ use Rattle.omega_text.specs.Limits.{most_text}
 use Rattle.omega_text.specs.declared.refusal.Refusal.{Refusal}
 use Rattle.omega_text.specs.declared.refusal.Refusal.TheVariants.{Task, Text}
 use Rattle.omega_text.specs.declared.refusal.task.TaskFault.TheVariants.{BadSolution}
-use Rattle.omega_game.specs.Game.{Node, owner_at, successors_at, greatest_identifier, identifier_at}
-use Rattle.omega_game.specs.declared.player.Player.{Player}
-use Rattle.omega_game.specs.declared.player.Player.TheVariants.{One, Zero}
+use Rattle.omega_parity_game.specs.Game.{Node, owner_at, successors_at, greatest_identifier, identifier_at}
+use Rattle.omega_parity_game.specs.declared.player.Player.{Player}
+use Rattle.omega_parity_game.specs.declared.player.Player.TheVariants.{One, Zero}
 use Rattle.omega_pg.specs.solution.BadSolution.{IsNoSolution, IsWrongSuccessor}
 use Rattle.omega_pg.specs.solution.Grammar.{SolutionLine, RawSolution, no_line, solution_syntax}
-use Rattle.omega_game.specs.Solution.{IsSolution}
+use Rattle.omega_parity_game.specs.Solution.{IsSolution}
 use Rattle.omega_pg.specs.solution.Text.{raw_solution, IsSolutionText}
 use Rattle.omega_pg.specs.solution.Laws.{SolutionTextsAreReadOrRefused}
 use Rattle.omega_pg.specs.private.solution.reader.Lines.{AreJudged, IsWrongLine, Says}
 use Rattle.omega_pg.specs.solution.Refusing.{IsSolutionRefusal}
 use Rattle.omega_text.specs.Syntax.{IsDecidable as IsDecidedSyntax, IsTextOf, TextsAreReadOrFaulty}
-use Rattle.omega_game.specs.declared.solution.Solution.{Solution}
+use Rattle.omega_parity_game.specs.declared.solution.Solution.{Solution}
 use Rattle.omega_pg.proofs.reader.Deciding.{decided_from_run}
 use Rattle.omega_pg.proofs.solutions.Judging.{judged_kept, judged_wrong}
 use Rattle.omega_pg.proofs.solutions.Outcomes.{other_count, other_number, outcome_kept, solution_of, wrong_line}
@@ -180,7 +180,7 @@ raw_decided nodes raw =
     let all = lines_judged nodes [] raw.lines (none_judged nodes) in
     judged_decided nodes raw.greatest raw.lines all.good all.winners all.zeros all.ones all.judged
 
--- a text that writes a solution stands for it, and another is refused 53
+-- a text that writes a solution describes it, and another is refused with `BadSolution`
 written_decided : (nodes : List Node) (source : List ℕ) (raw : RawSolution) → length source ≤ most_text → IsTextOf solution_syntax source raw
     → ((solution : Solution) × IsSolutionText nodes source solution) ⊎ ((refusal : Refusal) × IsSolutionRefusal nodes source refusal)
 written_decided nodes source raw short writes =

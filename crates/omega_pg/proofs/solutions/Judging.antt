@@ -3,13 +3,13 @@ use Rattle.std.proofs.Common.{◌≡◌, ℕ, ◌<◌, Bool, true, false, Option
 use Rattle.std.specs.Prelude.{is_some}
 use Rattle.std.proofs.Math.ListN.{get_or-append}
 use Rattle.std.proofs.Math.Seq.{get_or-append_seam}
-use Rattle.omega_game.specs.Game.{Node, owner_at}
-use Rattle.omega_game.specs.declared.player.Player.{Player}
-use Rattle.omega_game.specs.declared.player.Player.TheVariants.{One, Zero}
+use Rattle.omega_parity_game.specs.Game.{Node, owner_at}
+use Rattle.omega_parity_game.specs.declared.player.Player.{Player}
+use Rattle.omega_parity_game.specs.declared.player.Player.TheVariants.{One, Zero}
 use Rattle.omega_pg.specs.solution.Grammar.{SolutionLine, no_line}
 use Rattle.omega_pg.specs.private.solution.reader.Lines.{AreJudged, AreSaid, IsKept, IsWrongLine, Says, entry_of}
 
--- what is mapped is none where it was
+-- a mapped option is none if the option is
 pub none_mapped : {A B : Type 0} (o : Option A) (p : Option B) (P Q : Type 0) → is_some p ≡ is_some o → (P → Q) → IfNone o P → IfNone p Q
 none_mapped None None P Q e f h = f h
 none_mapped None (Some y) P Q e f h = tt

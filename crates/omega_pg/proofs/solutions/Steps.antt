@@ -2,8 +2,8 @@
 use Rattle.std.proofs.Common.{◌≡◌, ℕ, Bool, true, false, Option, Some, Result, Ok, Err, IfOk, List, [], ◌∷◌, ◌++◌, refl, ap, sym, ◌∙◌, subst}
 use Rattle.std.specs.Prelude.{◌↔◌, IsTrue, option_map}
 use Rattle.omega_text.specs.declared.refusal.Refusal.{Refusal}
-use Rattle.omega_game.specs.Game.{Node}
-use Rattle.omega_game.specs.declared.player.Player.{Player}
+use Rattle.omega_parity_game.specs.Game.{Node}
+use Rattle.omega_parity_game.specs.declared.player.Player.{Player}
 use Rattle.omega_pg.specs.solution.Grammar.{SolutionLine}
 use Rattle.omega_pg.specs.private.solution.reader.Automaton.{SolutionReaderState, after_number, after_semicolon, after_word, stage_after_number, stage_after_word, step, to_stage, with_line}
 use Rattle.omega_pg.specs.private.solution.reader.Lines.{AreJudged}

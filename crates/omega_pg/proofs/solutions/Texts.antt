@@ -6,7 +6,7 @@ use Rattle.omega_text.specs.Syntax.{IsTextFault, IsTextOf, TokensComplete}
 use Rattle.omega_text.specs.pg.Format.{pg_format}
 use Rattle.omega_text.specs.declared.refusal.Refusal.{Refusal}
 use Rattle.omega_text.specs.declared.refusal.Refusal.TheVariants.{Automaton, Game, Io, Memory, Task, Text}
-use Rattle.omega_game.specs.Game.{Node}
+use Rattle.omega_parity_game.specs.Game.{Node}
 use Rattle.omega_pg.specs.private.reader.Symbols.{symbols_of}
 use Rattle.omega_pg.specs.solution.Grammar.{SpellsSolution, solution_syntax}
 use Rattle.omega_pg.specs.solution.Refusing.{IsReadSolutionRefusal}
@@ -14,7 +14,7 @@ use Rattle.omega_pg.specs.solution.Text.{IsSolutionText}
 use Rattle.omega_pg.specs.private.solution.reader.Lines.{IsOutcome}
 use Rattle.omega_pg.specs.private.solution.reader.Reader.{HasBecome}
 use Rattle.omega_pg.specs.private.solution.reader.Reading.{HasTaken}
-use Rattle.omega_game.specs.declared.solution.Solution.{Solution}
+use Rattle.omega_parity_game.specs.declared.solution.Solution.{Solution}
 use Rattle.omega_pg.specs.declared.solution.lines.Lines.{Lines}
 use Rattle.omega_pg.specs.declared.solution.reader.Reader.{Reader}
 use Rattle.omega_pg.specs.declared.solution.stage.Stage.{Stage}
@@ -59,7 +59,7 @@ text_read source nodes stage greatest lines read = record {
       (ended_from_run decides_solutions (symbols_of read.lexemes) read.all_taken.state read.complete.0 read.all_taken.runs read.complete.1));
 }
 
--- what the lines come to is what the text stands for
+-- the outcome of the lines is what the text describes
 module _ (source : List ℕ) (nodes : List Node) (stage : Stage) (greatest : ℕ) (lines : Lines) (read : LeadsTo source nodes stage greatest lines) where
   pub solution_read : (result : Result Solution Refusal) → IsOutcome nodes (record { greatest = greatest; lines = read.all_taken.state.lines }) result
       → IfOk result (IsSolutionText nodes source)

@@ -2,10 +2,10 @@
 use Rattle.std.specs.Prelude.{ℕ, Option, Some, None, List, [], ◌∷◌, ◌++◌, map, codes, decimal}
 use Rattle.std.specs.List.{flat_map}
 use Rattle.omega_text.specs.pg.Forms.{quoted}
-use Rattle.omega_game.specs.Building.{specified}
-use Rattle.omega_game.specs.Game.{Node, greatest_identifier}
-use Rattle.omega_game.specs.declared.node_spec.NodeSpec.{NodeSpec}
-use Rattle.omega_game.specs.Player.{player_number}
+use Rattle.omega_parity_game.specs.Building.{specified}
+use Rattle.omega_parity_game.specs.Game.{Node, greatest_identifier}
+use Rattle.omega_parity_game.specs.declared.node_spec.NodeSpec.{NodeSpec}
+use Rattle.omega_parity_game.specs.Player.{player_number}
 
 -- `parity`, a space, the number, `;` and a line feed
 abbrev pub header_line : ℕ → List ℕ

@@ -1,7 +1,7 @@
--- Why what a solution text says is no solution of the game: the reasons of refusal 53.
+-- The reasons of the refusal `BadSolution`: why no solution of the game is written so.
 use Rattle.std.specs.Prelude.{◌≡◌, ◌≢◌, ℕ, ◌<◌, ◌⊎◌, Option, Some, None, List, length, map, All, slice_index_or}
-use Rattle.omega_game.specs.Game.{Node, identifiers, owner_at, successors_at, greatest_identifier, identifier_at}
-use Rattle.omega_game.specs.declared.player.Player.{Player}
+use Rattle.omega_parity_game.specs.Game.{Node, identifiers, owner_at, successors_at, greatest_identifier, identifier_at}
+use Rattle.omega_parity_game.specs.declared.player.Player.{Player}
 use Rattle.omega_pg.specs.solution.Grammar.{SolutionLine, RawSolution, no_line}
 
 -- the header's number is not the game's greatest identifier
@@ -12,8 +12,8 @@ HasOtherNumber nodes raw = raw.greatest ≢ greatest_identifier nodes
 abbrev pub HasOtherIdentifiers : List Node → RawSolution → Type 0
 HasOtherIdentifiers nodes raw = map (λ line. line.identifier) raw.lines ≢ identifiers nodes
 
--- for the node at a place and its winner: a successor is missing where the owner wins, or stands where not,
--- or is not in the node's list
+-- for the node at a place and its winner: a successor is missing although the owner wins, or is given although the
+-- owner loses, or is not in the node's list
 abbrev pub IsWrongSuccessor : List Node → ℕ → Player → Option ℕ → Type 0
 IsWrongSuccessor nodes v winner None = owner_at nodes v ≡ winner
 IsWrongSuccessor nodes v winner (Some id) =

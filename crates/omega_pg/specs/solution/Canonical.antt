@@ -1,11 +1,11 @@
 -- The written form of a solution: the header, and a line for each node in rising order.
 use Rattle.std.specs.Prelude.{ℕ, Option, Some, None, List, [], ◌++◌, codes, decimal}
 use Rattle.std.specs.List.{flat_map}
-use Rattle.omega_game.specs.Game.{Node}
-use Rattle.omega_game.specs.Player.{player_number}
+use Rattle.omega_parity_game.specs.Game.{Node}
+use Rattle.omega_parity_game.specs.Player.{player_number}
 use Rattle.omega_pg.specs.solution.Grammar.{SolutionLine, RawSolution}
 use Rattle.omega_pg.specs.solution.Text.{raw_solution}
-use Rattle.omega_game.specs.declared.solution.Solution.{Solution}
+use Rattle.omega_parity_game.specs.declared.solution.Solution.{Solution}
 
 -- a space and the identifier, if there is one
 abbrev pub choice_part : Option ℕ → List ℕ

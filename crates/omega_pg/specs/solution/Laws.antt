@@ -1,18 +1,18 @@
--- What holds of the texts of a game's solutions, whatever reads or writes them.
+-- Laws of the texts of a game's solutions, whatever reads or writes them.
 use Rattle.std.specs.Prelude.{◌≡◌, ◌↔◌, ℕ, ◌≤◌, ◌⊎◌, List, length}
 use Rattle.omega_text.specs.Limits.{most_text}
 use Rattle.omega_text.specs.declared.refusal.Refusal.{Refusal}
-use Rattle.omega_game.specs.Game.{IsGame, IsWithinLimits, Node}
+use Rattle.omega_parity_game.specs.Game.{IsGame, IsWithinLimits, Node}
 use Rattle.omega_pg.specs.solution.BadSolution.{IsNoSolution}
 use Rattle.omega_pg.specs.solution.Grammar.{RawSolution}
-use Rattle.omega_game.specs.Solution.{IsSolution}
+use Rattle.omega_parity_game.specs.Solution.{IsSolution}
 use Rattle.omega_pg.specs.solution.Text.{raw_solution}
 use Rattle.omega_pg.specs.solution.Canonical.{solution_text}
 use Rattle.omega_pg.specs.solution.Refusing.{IsSolutionRefusal}
 use Rattle.omega_pg.specs.solution.Text.{IsSolutionText}
-use Rattle.omega_game.specs.declared.solution.Solution.{Solution}
+use Rattle.omega_parity_game.specs.declared.solution.Solution.{Solution}
 
--- a text stands for at most one solution of a game
+-- a text describes at most one solution of a game
 abbrev pub SolutionsOfTextsAreOne : Type 0
 SolutionsOfTextsAreOne =
     (nodes : List Node) (source : List ℕ) (one other : Solution) → IsGame nodes
@@ -24,19 +24,20 @@ SolutionRefusalsAreOne =
     (nodes : List Node) (source : List ℕ) (one other : Refusal)
     → IsSolutionRefusal nodes source one → IsSolutionRefusal nodes source other → one ≡ other
 
--- a text that stands for a solution of a game has no refusal
+-- a text that describes a solution of a game has no refusal
 abbrev pub SolutionsAreNotRefused : Type 0
 SolutionsAreNotRefused =
     (nodes : List Node) (source : List ℕ) (solution : Solution) (refusal : Refusal)
     → IsSolutionText nodes source solution → IsSolutionRefusal nodes source refusal → ⊥
 
--- a text stands for a solution of a game or has a refusal
+-- a text describes a solution of a game or has a refusal
 abbrev pub SolutionTextsAreReadOrRefused : Type 0
 SolutionTextsAreReadOrRefused =
     (nodes : List Node) (source : List ℕ)
-    → ((solution : Solution) × IsSolutionText nodes source solution) ⊎ ((refusal : Refusal) × IsSolutionRefusal nodes source refusal)
+    → ((solution : Solution) × IsSolutionText nodes source solution)
+    ⊎ ((refusal : Refusal) × IsSolutionRefusal nodes source refusal)
 
--- the written form of a solution, within the limit of texts, stands for that solution
+-- the written form of a solution, within the limit of texts, describes that solution
 abbrev pub WrittenSolutionsAreRead : Type 0
 WrittenSolutionsAreRead =
     (nodes : List Node) (solution : Solution) → IsGame nodes → IsWithinLimits nodes → IsSolution nodes solution

@@ -5,7 +5,7 @@ use Rattle.omega_text.specs.Limits.{most_text}
 use Rattle.omega_text.specs.declared.refusal.Refusal.{Refusal}
 use Rattle.omega_text.specs.declared.refusal.Refusal.TheVariants.{Memory}
 use Rattle.omega_text.specs.declared.refusal.task.TaskFault.TheVariants.{BadSolution}
-use Rattle.omega_game.specs.Game.{Node}
+use Rattle.omega_parity_game.specs.Game.{Node}
 use Rattle.omega_text.specs.Syntax.{IsTextFault, IsTextOf}
 use Rattle.omega_pg.specs.solution.BadSolution.{IsNoSolution}
 use Rattle.omega_pg.specs.solution.Grammar.{RawSolution, solution_syntax}

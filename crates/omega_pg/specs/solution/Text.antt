@@ -1,15 +1,15 @@
--- Which solution of a game a text stands for.
+-- The solution of a game that a text describes.
 use Rattle.std.specs.Prelude.{ℕ, ◌≤◌, List, length, map, option_map}
 use Rattle.std.specs.List.{range_with_len}
 use Rattle.omega_text.specs.Limits.{most_text}
-use Rattle.omega_game.specs.Game.{Node, node_at, owner_at, greatest_identifier}
+use Rattle.omega_parity_game.specs.Game.{Node, node_at, owner_at, greatest_identifier}
 use Rattle.omega_text.specs.Syntax.{IsTextOf}
 use Rattle.omega_pg.specs.solution.Grammar.{SolutionLine, RawSolution, solution_syntax}
-use Rattle.omega_game.specs.Solution.{IsSolution, choices_of, winner_at}
-use Rattle.omega_game.specs.Winning.{choice_at}
-use Rattle.omega_game.specs.declared.solution.Solution.{Solution}
+use Rattle.omega_parity_game.specs.Solution.{IsSolution, choices_of, winner_at}
+use Rattle.omega_parity_game.specs.Winning.{choice_at}
+use Rattle.omega_parity_game.specs.declared.solution.Solution.{Solution}
 
--- the line of the node at a place: the choice of its owner stands there by its identifier
+-- the line of the node at a place, with the choice of its owner by its identifier
 abbrev pub line_at : List Node → Solution → ℕ → SolutionLine
 line_at nodes solution v = record {
   identifier = (node_at nodes v).identifier;
@@ -24,7 +24,7 @@ raw_solution nodes solution = record {
   lines = map (line_at nodes solution) (range_with_len 0 (length nodes));
 }
 
--- the text stands for the solution of the game
+-- the text describes the solution of the game
 pub record IsSolutionText (nodes : List Node) (source : List ℕ) (solution : Solution) : Type 0 where
   pub short : length source ≤ most_text
   pub writes : IsTextOf solution_syntax source (raw_solution nodes solution)

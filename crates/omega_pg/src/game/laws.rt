@@ -1,11 +1,11 @@
-//! What holds of every text of a game, for callers' proofs: each call does nothing and states one law.
+//! Laws of all texts of games, for the proofs of callers: each function does nothing and states one law.
 
 ghost use Rattle.omega_pg.specs.game.Grammar.{game_syntax};
 ghost use Rattle.omega_pg.specs.game.Laws.{CanonicalGamesAreRead, GamesAreNotRefused, GamesOfTextsAreOne, GameRefusalsAreOne, TextsAreReadOrRefused};
 ghost use Rattle.omega_text.specs.Syntax.{SyntaxFaultsAreFirst};
 
 use crate::game::syntax::GameSyntax;
-use omega_game::{
+use omega_parity_game::{
     games_exist, games_have_no_fault, games_keep_limits, specifications_have_one_game,
 };
 use omega_text::PgKind;
@@ -17,7 +17,7 @@ use omega_text::pg::laws::{
     words_are_longest,
 };
 
-/// A text stands for at most one game.
+/// States that a text describes at most one game.
 pub fn games_of_texts_are_one()
     ensures { GamesOfTextsAreOne }
 {
@@ -25,7 +25,7 @@ pub fn games_of_texts_are_one()
     specifications_have_one_game();
 }
 
-/// A text has at most one refusal.
+/// States that a text has at most one refusal.
 pub fn refusals_are_one()
     ensures { GameRefusalsAreOne }
 {
@@ -34,7 +34,7 @@ pub fn refusals_are_one()
     texts_have_no_fault::<GameSyntax>();
 }
 
-/// A text that stands for a game has no refusal.
+/// States that a text that describes a game has no refusal.
 pub fn games_are_not_refused()
     ensures { GamesAreNotRefused }
 {
@@ -43,7 +43,7 @@ pub fn games_are_not_refused()
     games_have_no_fault();
 }
 
-/// A text stands for a game or has a refusal.
+/// States that a text describes a game or has a refusal.
 pub fn texts_are_read_or_refused()
     ensures { TextsAreReadOrRefused }
 {
@@ -52,14 +52,15 @@ pub fn texts_are_read_or_refused()
     games_keep_limits();
 }
 
-/// A text of the grammar begins through each token before the place of a syntax fault, and through no other.
+/// States that some text of the grammar begins with the tokens before the place of a syntax fault, and none with one
+/// token more.
 pub fn syntax_faults_are_first()
     ensures { SyntaxFaultsAreFirst game_syntax }
 {
     omega_text::laws::syntax_faults_are_first::<GameSyntax>();
 }
 
-/// The canonical text of a game, within the limit of texts, stands for that game.
+/// States that the canonical text of a game, within the limit of texts, describes that game.
 pub fn canonical_texts_are_read()
     ensures { CanonicalGamesAreRead }
 {

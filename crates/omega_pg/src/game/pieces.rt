@@ -1,15 +1,15 @@
-//! Pieces of a game text that can be told at once, several tokens each. Where none is found, that says nothing.
+//! Pieces of a game text that can be read at once, several tokens each. If none is found, that says nothing.
 
 ghost use Rattle.std.specs.Prelude.{◌+◌, ◌<◌, ◌≤◌, [], ◌∷◌, length, IfSome, IsTrue};
-ghost use Rattle.omega_game.specs.Player.{player_number};
+ghost use Rattle.omega_parity_game.specs.Player.{player_number};
 ghost use Rattle.omega_pg.specs.Symbols.{comma, number, semicolon};
 ghost use Rattle.omega_pg.specs.private.game.reader.Pieces.{IsPiece};
 ghost use Rattle.omega_text.specs.Limits.{most_number};
 
-use omega_game::Player;
+use omega_parity_game::Player;
 use omega_text::next_pg_number;
 
-/// The numbers with which a node begins, through its first successor.
+/// The numbers that begin a node, through its first successor.
 #[derive(Clone, Copy)]
 pub(crate) struct Head {
     pub(crate) id: u32,
@@ -28,7 +28,7 @@ pub(crate) struct Successor {
     pub(crate) end: usize,
 }
 
-/// The head of a node that is next from a place on.
+/// Returns the head of a node that is next from `at` on, if it is found.
 #[inline(always)]
 pub(crate) fn next_head(source: &[u8], at: usize) -> Option<Head>
     requires { at ≤ length source.now }
@@ -53,11 +53,12 @@ pub(crate) fn next_head(source: &[u8], at: usize) -> Option<Head>
     })
 }
 
-/// The further successor that is next from a place on, if a comma stands there.
+/// Returns the further successor whose comma is at `at`, if it is found.
 #[inline(always)]
 pub(crate) fn next_successor(source: &[u8], at: usize) -> Option<Successor>
     requires { at ≤ length source.now }
-    ensures piece { IfSome result (λ successor. IsPiece source.now at successor.end (comma ∷ number successor.id ∷ [])) }
+    ensures piece { IfSome result
+        (λ successor. IsPiece source.now at successor.end (comma ∷ number successor.id ∷ [])) }
     ensures id { IfSome result (λ successor. successor.id ≤ most_number) }
     ensures progress { IfSome result (λ successor. at < successor.end) }
 {
@@ -71,7 +72,7 @@ pub(crate) fn next_successor(source: &[u8], at: usize) -> Option<Successor>
     })
 }
 
-/// Whether a semicolon stands at a place.
+/// Whether a semicolon is at the place `at`.
 #[inline(always)]
 pub(crate) fn has_semicolon(source: &[u8], at: usize) -> bool
     requires { at ≤ length source.now }

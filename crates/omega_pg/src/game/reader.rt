@@ -1,77 +1,90 @@
-ghost use Rattle.std.specs.Prelude.{◌≡◌, ◌≤◌, ◌↔◌, length, IfOk, OnOk, IsOkUnless, IsTrue, All, option_map};
+ghost use Rattle.std.specs.Prelude.{◌≡◌, ◌≤◌, ◌↔◌, length, IfOk, OnOk, IsOkUnless, IsTrue, All};
 ghost use Rattle.omega_text.specs.pg.Forms.{IsQuoted};
 ghost use Rattle.omega_text.specs.Limits.{most_number};
-ghost use Rattle.omega_game.specs.Game.{IsNameByte};
+ghost use Rattle.omega_parity_game.specs.Game.{IsNameByte};
 ghost use Rattle.omega_text.specs.Forms.{between_quotes};
 ghost use Rattle.omega_pg.specs.private.game.reader.Automaton.{is_above};
 
 use crate::game::stage::Stage;
-use omega_game::{GameBuilder, Player, Refusal};
+use omega_parity_game::{GameBuilder, Player, Refusal};
 use omega_text::{PgKind, Token, TokenReader};
 use std::alloc::Global;
+use std::marker::Model;
 
-/// What was read of a game text so far.
+/// A reader of game texts, which contracts see as a state of the automaton over their symbols.
 #[derive(Drop)]
 pub(crate) struct Reader {
     pub(crate) stage: Stage,
-    /// The number of the header, if one was read.
+    /// The number of the header, once it has ended.
     pub(crate) header: Option<u32>,
-    /// The specifications, of which the last is open where the stage says so.
-    pub(crate) builder: GameBuilder,
-    /// Whether an identifier is above the header's number.
+    /// The specifications. The last one is open at the stages `Listed`, `Comma` and `Named`.
+    pub(crate) specs: GameBuilder,
+    /// Whether an identifier is above the number of the header.
     pub(crate) header_too_small: bool,
 }
 
-impl Reader {
-    ghost use Rattle.omega_pg.specs.declared.game.stage.Stage.TheVariants.{Owner};
-    ghost use Rattle.omega_pg.specs.private.game.reader.Automaton.{IsReady, Takes, after_comma, after_name, after_number, after_semicolon, after_word, begun, initial, player_of, to_stage, with_node};
-    ghost use Rattle.omega_pg.specs.private.game.reader.Reader.{game_reader_state};
-    ghost use Rattle.omega_game.specs.Game.{IsNameByte};
+impl Model for Reader {
+    ghost use Rattle.omega_pg.specs.private.game.reader.Automaton.{GameReaderState};
 
+    ghost Value = { GameReaderState };
+
+    ghost use Rattle.omega_pg.specs.private.game.reader.Reader.{game_reader_state};
+
+    ghost view = { game_reader_state };
+}
+
+impl Reader {
+    ghost use Rattle.omega_parity_game.specs.Game.{IsNameByte};
+    ghost use Rattle.omega_pg.specs.Symbols.{comma, name, number, parity, semicolon};
+    ghost use Rattle.omega_pg.specs.private.game.reader.Automaton.{IsReady, Takes, after_owner, begun, initial, step, with_node};
+
+    /// Makes a reader before the first token.
     pub(crate) fn new(alloc: Global) -> Self
-        ensures { game_reader_state result ≡ initial }
+        ensures { result ≡ initial }
     {
         Reader {
             stage: Stage::Start,
             header: None,
-            builder: GameBuilder::new(alloc),
+            specs: GameBuilder::new(alloc),
             header_too_small: false,
         }
     }
 
-    /// Takes a number, unless no text goes on so.
+    /// Takes a number with this `value`, and returns false if no text goes on so.
     #[tactic(auto, using(crate::proofs::games::Changes::length_with_last))]
-    pub(crate) fn take_number(&mut self, number: u32) -> Result<bool, Refusal>
-        requires ready { IsReady (game_reader_state self.old) }
-        requires number { number ≤ most_number }
-        ensures takes { IfOk result (λ taken. Takes taken (after_number self.old.stage (game_reader_state self.old) number) (game_reader_state self.new)) }
+    fn take_number(&mut self, value: u32) -> Result<bool, Refusal>
+        requires ready { IsReady self.old }
+        requires number { value ≤ most_number }
+        ensures takes { IfOk result (λ taken. Takes taken (step self.old (number value)) self.new) }
         ensures memory { IsOkUnless result Refusal.Memory }
     {
         match self.stage {
             Stage::Start | Stage::Headed | Stage::Ended => {
-                self.stage = Stage::Identifier { id: number };
+                self.stage = Stage::Identifier { id: value };
                 Ok(true)
             }
             Stage::Word => {
-                self.stage = Stage::Number { header: number };
+                self.stage = Stage::Number { header: value };
                 Ok(true)
             }
             Stage::Identifier { id } => {
-                let priority = number;
-                self.stage = Stage::Priority { id, priority };
+                self.stage = Stage::Priority {
+                    id,
+                    priority: value,
+                };
                 Ok(true)
             }
-            Stage::Priority { id, priority } => Ok(self.take_owner(id, priority, number)),
+            Stage::Priority { id, priority } => Ok(self.take_owner(id, priority, value)),
             Stage::Owner {
                 id,
                 priority,
                 owner,
             } => {
-                self.begin_node(id, priority, owner, number)?;
+                self.begin_node(id, priority, owner, value)?;
                 Ok(true)
             }
             Stage::Comma => {
-                self.builder.add_successor(number)?;
+                self.specs.add_successor(value)?;
                 self.stage = Stage::Listed;
                 Ok(true)
             }
@@ -79,12 +92,12 @@ impl Reader {
         }
     }
 
-    /// Takes the number of an owner after an identifier and a priority, unless no player has it.
+    /// Takes the number of an owner after `id` and `priority`, and returns false if no player has it.
     #[tactic(auto, using(crate::proofs::games::Players::player_found, crate::proofs::games::Players::no_player_found))]
     fn take_owner(&mut self, id: u32, priority: u32, number: u32) -> bool
         requires id { id ≤ most_number }
         requires priority { priority ≤ most_number }
-        ensures { Takes result (option_map (λ owner. to_stage (Owner id priority owner) (game_reader_state self.old)) (player_of number)) (game_reader_state self.new) }
+        ensures { Takes result (after_owner self.old id priority number) self.new }
     {
         match Player::of_number(number) {
             None => false,
@@ -99,7 +112,7 @@ impl Reader {
         }
     }
 
-    /// Adds a node with its first successor.
+    /// Adds a node whose first successor is `first`.
     pub(crate) fn begin_node(
         &mut self,
         id: u32,
@@ -110,18 +123,18 @@ impl Reader {
         requires id { id ≤ most_number }
         requires priority { priority ≤ most_number }
         requires first { first ≤ most_number }
-        ensures begun { OnOk result (game_reader_state self.new ≡ with_node (begun id priority owner first) (game_reader_state self.old)) }
+        ensures begun { OnOk result (self.new ≡ with_node (begun id priority owner first) self.old) }
         ensures memory { IsOkUnless result Refusal.Memory }
     {
-        self.builder.add_node(id, priority, owner, first)?;
+        self.specs.add_node(id, priority, owner, first)?;
         self.header_too_small = self.header_too_small || is_above(self.header, id);
         self.stage = Stage::Listed;
         Ok(())
     }
 
-    /// Takes the word `parity`, unless no text goes on so.
-    pub(crate) fn take_word(&mut self) -> bool
-        ensures { Takes result (after_word self.old.stage (game_reader_state self.old)) (game_reader_state self.new) }
+    /// Takes the word `parity`, and returns false if no text goes on so.
+    fn take_word(&mut self) -> bool
+        ensures { Takes result (step self.old parity) self.new }
     {
         match self.stage {
             Stage::Start => {
@@ -132,10 +145,10 @@ impl Reader {
         }
     }
 
-    /// Takes a semicolon, unless no text goes on so.
-    pub(crate) fn take_semicolon(&mut self) -> bool
-        requires { IsReady (game_reader_state self.old) }
-        ensures { Takes result (after_semicolon self.old.stage (game_reader_state self.old)) (game_reader_state self.new) }
+    /// Takes a semicolon, and returns false if no text goes on so.
+    fn take_semicolon(&mut self) -> bool
+        requires { IsReady self.old }
+        ensures { Takes result (step self.old semicolon) self.new }
     {
         match self.stage {
             Stage::Number { header } => {
@@ -151,10 +164,10 @@ impl Reader {
         }
     }
 
-    /// Takes a comma, unless no text goes on so.
-    pub(crate) fn take_comma(&mut self) -> bool
-        requires { IsReady (game_reader_state self.old) }
-        ensures { Takes result (after_comma self.old.stage (game_reader_state self.old)) (game_reader_state self.new) }
+    /// Takes a comma, and returns false if no text goes on so.
+    fn take_comma(&mut self) -> bool
+        requires { IsReady self.old }
+        ensures { Takes result (step self.old comma) self.new }
     {
         match self.stage {
             Stage::Listed => {
@@ -165,17 +178,17 @@ impl Reader {
         }
     }
 
-    /// Takes a name without its quotes, unless no text goes on so.
+    /// Takes a name of these `bytes`, which are without quotes, and returns false if no text goes on so.
     #[tactic(auto, using(crate::proofs::games::Changes::length_with_last))]
-    pub(crate) fn take_name(&mut self, name: &[u8]) -> Result<bool, Refusal>
-        requires ready { IsReady (game_reader_state self.old) }
-        requires bytes { All IsNameByte name.now }
-        ensures takes { IfOk result (λ taken. Takes taken (after_name self.old.stage (game_reader_state self.old) name.now) (game_reader_state self.new)) }
+    fn take_name(&mut self, bytes: &[u8]) -> Result<bool, Refusal>
+        requires ready { IsReady self.old }
+        requires bytes { All IsNameByte bytes.now }
+        ensures takes { IfOk result (λ taken. Takes taken (step self.old (name bytes.now)) self.new) }
         ensures memory { IsOkUnless result Refusal.Memory }
     {
         match self.stage {
             Stage::Listed => {
-                self.builder.set_name(name)?;
+                self.specs.set_name(bytes)?;
                 self.stage = Stage::Named;
                 Ok(true)
             }
@@ -190,22 +203,22 @@ impl TokenReader<PgKind> for Reader {
     ghost use Rattle.omega_pg.specs.game.Grammar.{game_syntax};
     ghost use Rattle.omega_pg.specs.private.game.reader.Automaton.{IsReachedBy, IsReady, Takes, step};
     ghost use Rattle.omega_pg.specs.private.game.reader.Pieces.{LeadsOn};
-    ghost use Rattle.omega_pg.specs.private.game.reader.Reader.{game_reader_state};
     ghost use Rattle.omega_pg.specs.declared.game.stage.Stage.TheVariants.{Ended};
     ghost use Rattle.omega_text.specs.Lexeme.{lexeme_of};
     ghost use Rattle.omega_text.specs.Syntax.{TokensBegin, TokensComplete};
     ghost use Rattle.omega_text.specs.pg.Forms.{Spells};
 
-    ghost becomes = { λ _ lexemes reader. IsReachedBy (symbols_of lexemes) (game_reader_state reader) };
+    ghost becomes = { λ _ lexemes reader. IsReachedBy (symbols_of lexemes) reader };
 
     ghost begins = { TokensBegin game_syntax };
 
     ghost completes = { TokensComplete game_syntax };
 
     fn take(&mut self, token: &Token<'_, PgKind>) -> Result<bool, Refusal>
-        requires ready { IsReady (game_reader_state self.old) }
+        requires ready { IsReady self.old }
         requires token { Spells token.now.kind token.now.value token.now.text.now }
-        ensures takes { IfOk result (λ taken. Takes taken (step (game_reader_state self.old) (pg_symbol_of (lexeme_of token.now))) (game_reader_state self.new)) }
+        ensures takes { IfOk result
+            (λ taken. Takes taken (step self.old (pg_symbol_of (lexeme_of token.now))) self.new) }
         ensures memory { IsOkUnless result Refusal.Memory }
     {
         match token.kind {
@@ -219,9 +232,9 @@ impl TokenReader<PgKind> for Reader {
     }
 
     fn take_run(&mut self, source: &[u8], from: usize) -> Result<usize, Refusal>
-        requires ready { IsReady (game_reader_state self.old) }
+        requires ready { IsReady self.old }
         requires within { from ≤ length source.now }
-        ensures leads { IfOk result (λ to. LeadsOn source.now from to (game_reader_state self.old) (game_reader_state self.new)) }
+        ensures leads { IfOk result (λ to. LeadsOn source.now from to self.old self.new) }
         ensures memory { IsOkUnless result Refusal.Memory }
     {
         match self.stage {
@@ -238,7 +251,7 @@ impl TokenReader<PgKind> for Reader {
     }
 }
 
-/// Whether an identifier is above the number of a header, if there is one.
+/// Whether `id` is above the number of a `header`, if there is one.
 fn is_above(header: Option<u32>, id: u32) -> bool
     ensures { result ≡ is_above header id }
 {
@@ -248,7 +261,7 @@ fn is_above(header: Option<u32>, id: u32) -> bool
     }
 }
 
-/// The name between two quotes.
+/// Returns the name between the quotes of `text`.
 fn name_between_quotes(text: &[u8]) -> &[u8]
     requires { IsQuoted text.now }
     ensures name { result.now ≡ between_quotes text.now }

@@ -1,6 +1,6 @@
 use omega_text::{PgKind, TextSyntax, TokenKind};
 
-/// The syntax of game texts, of which laws are stated.
+/// The syntax of game texts, for their laws.
 pub(crate) struct GameSyntax;
 
 impl TextSyntax for GameSyntax {

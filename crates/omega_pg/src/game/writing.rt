@@ -1,13 +1,13 @@
 ghost use Rattle.std.specs.Prelude.{◌≡◌, ◌<◌, ◌++◌, All, IfOk, IsOkUnless, OnOk, codes, decimal, length, map, option_map};
-ghost use Rattle.omega_game.specs.Building.{specified};
-ghost use Rattle.omega_game.specs.Game.{IsGame, node_at, identifier_at};
+ghost use Rattle.omega_parity_game.specs.Building.{specified};
+ghost use Rattle.omega_parity_game.specs.Game.{IsGame, node_at, identifier_at};
 ghost use Rattle.omega_pg.specs.game.Canonical.{canonical_game, header_line, name_part, node_line, successors_after, successors_text};
 
-use omega_game::{ForwardGame, Refusal};
+use omega_parity_game::{ForwardGame, Refusal};
 use omega_text::write_number;
 use std::alloc::Global;
 
-/// The canonical text of a game. 60 alone.
+/// Returns the canonical text of `game`.
 ///
 /// If it has at most `MOST_TEXT` bytes, it is read back to the same game, by `laws::canonical_texts_are_read`. The
 /// cost is linear in the text.
@@ -24,7 +24,7 @@ pub fn write_game(alloc: Global, game: &ForwardGame) -> Result<Vec<u8>, Refusal>
     Ok(out)
 }
 
-/// Appends the line of the header.
+/// Appends the line of the header with this `number`.
 fn write_header(number: u32, out: &mut Vec<u8>) -> Result<(), Refusal>
     ensures ok { OnOk result (out.new.items ≡ out.old.items ++ header_line number) }
     ensures memory { IsOkUnless result Refusal.Memory }
@@ -35,11 +35,12 @@ fn write_header(number: u32, out: &mut Vec<u8>) -> Result<(), Refusal>
     Ok(())
 }
 
-/// Appends the line of the node at a place.
+/// Appends the line of the node at `place`.
 fn write_node(game: &ForwardGame, place: u32, out: &mut Vec<u8>) -> Result<(), Refusal>
     requires game { IsGame game.now }
     requires place { place < length game.now }
-    ensures ok { OnOk result (out.new.items ≡ out.old.items ++ node_line (specified game.now (node_at game.now place))) }
+    ensures ok { OnOk result
+        (out.new.items ≡ out.old.items ++ node_line (specified game.now (node_at game.now place))) }
     ensures memory { IsOkUnless result Refusal.Memory }
 {
     write_part(game.id(place), out)?;
@@ -51,7 +52,7 @@ fn write_node(game: &ForwardGame, place: u32, out: &mut Vec<u8>) -> Result<(), R
     Ok(())
 }
 
-/// Appends a number and a space.
+/// Appends `number` and a space.
 pub(crate) fn write_part(number: u32, out: &mut Vec<u8>) -> Result<(), Refusal>
     ensures ok { OnOk result (out.new.items ≡ out.old.items ++ (decimal number ++ codes " ")) }
     ensures memory { IsOkUnless result Refusal.Memory }
@@ -61,10 +62,11 @@ pub(crate) fn write_part(number: u32, out: &mut Vec<u8>) -> Result<(), Refusal>
     Ok(())
 }
 
-/// Appends the identifiers of nodes at places, with a comma between each two.
+/// Appends the identifiers of the nodes at `places`, with a comma between each two.
 fn write_listed(game: &ForwardGame, places: &[u32], out: &mut Vec<u8>) -> Result<(), Refusal>
     requires { All (λ place. place < length game.now) places.now }
-    ensures ok { OnOk result (out.new.items ≡ out.old.items ++ successors_text (map (identifier_at game.now) places.now)) }
+    ensures ok { OnOk result
+        (out.new.items ≡ out.old.items ++ successors_text (map (identifier_at game.now) places.now)) }
     ensures memory { IsOkUnless result Refusal.Memory }
 {
     if let [first, others @ ..] = places {
@@ -74,10 +76,11 @@ fn write_listed(game: &ForwardGame, places: &[u32], out: &mut Vec<u8>) -> Result
     Ok(())
 }
 
-/// Appends the identifiers of nodes at places, with a comma before each.
+/// Appends the identifiers of the nodes at `places`, with a comma before each.
 fn write_others(game: &ForwardGame, places: &[u32], out: &mut Vec<u8>) -> Result<(), Refusal>
     requires { All (λ place. place < length game.now) places.now }
-    ensures ok { OnOk result (out.new.items ≡ out.old.items ++ successors_after (map (identifier_at game.now) places.now)) }
+    ensures ok { OnOk result
+        (out.new.items ≡ out.old.items ++ successors_after (map (identifier_at game.now) places.now)) }
     ensures memory { IsOkUnless result Refusal.Memory }
 {
     for place in places {
@@ -87,9 +90,10 @@ fn write_others(game: &ForwardGame, places: &[u32], out: &mut Vec<u8>) -> Result
     Ok(())
 }
 
-/// Appends a space and the name between quotes, if there is one.
+/// Appends a space and `name` between quotes, if there is one.
 fn write_name(name: Option<&[u8]>, out: &mut Vec<u8>) -> Result<(), Refusal>
-    ensures ok { OnOk result (out.new.items ≡ out.old.items ++ name_part (option_map (λ name. name.now) name.entry)) }
+    ensures ok { OnOk result
+        (out.new.items ≡ out.old.items ++ name_part (option_map (λ name. name.now) name.entry)) }
     ensures memory { IsOkUnless result Refusal.Memory }
 {
     if let Some(name) = name {

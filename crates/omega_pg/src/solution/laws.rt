@@ -1,4 +1,4 @@
-//! What holds of every text of a solution, for callers' proofs: each call does nothing and states one law.
+//! Laws of all texts of solutions, for the proofs of callers: each function does nothing and states one law.
 
 ghost use Rattle.omega_pg.specs.solution.Grammar.{solution_syntax};
 ghost use Rattle.omega_pg.specs.solution.Laws.{ReasonsAreExact, SolutionRefusalsAreOne, SolutionTextsAreReadOrRefused, SolutionsAreNotRefused, SolutionsOfTextsAreOne, WrittenSolutionsAreRead};
@@ -15,14 +15,14 @@ use omega_text::pg::laws::{
     words_are_longest,
 };
 
-/// A text stands for at most one solution of a game.
+/// States that a text describes at most one solution of a game.
 pub fn solutions_of_texts_are_one()
     ensures { SolutionsOfTextsAreOne }
 {
     cuts_are_one::<PgKind>();
 }
 
-/// A text has at most one refusal as a solution text of a game.
+/// States that a text has at most one refusal as a solution text of a game.
 pub fn solution_refusals_are_one()
     ensures { SolutionRefusalsAreOne }
 {
@@ -30,7 +30,7 @@ pub fn solution_refusals_are_one()
     texts_have_no_fault::<SolutionSyntax>();
 }
 
-/// A text that stands for a solution of a game has no refusal.
+/// States that a text that describes a solution of a game has no refusal.
 pub fn solutions_are_not_refused()
     ensures { SolutionsAreNotRefused }
 {
@@ -38,21 +38,22 @@ pub fn solutions_are_not_refused()
     texts_have_no_fault::<SolutionSyntax>();
 }
 
-/// A text stands for a solution of a game or has a refusal.
+/// States that a text describes a solution of a game or has a refusal.
 pub fn solution_texts_are_read_or_refused()
     ensures { SolutionTextsAreReadOrRefused }
 {
     texts_are_read_or_faulty::<SolutionSyntax>();
 }
 
-/// A text of the grammar begins through each token before the place of a syntax fault, and through no other.
+/// States that some text of the grammar begins with the tokens before the place of a syntax fault, and none with one
+/// token more.
 pub fn solution_syntax_faults_are_first()
     ensures { SyntaxFaultsAreFirst solution_syntax }
 {
     syntax_faults_are_first::<SolutionSyntax>();
 }
 
-/// The written form of a solution, within the limit of texts, stands for that solution.
+/// States that the written form of a solution, within the limit of texts, describes that solution.
 pub fn written_solutions_are_read()
     ensures { WrittenSolutionsAreRead }
 {
@@ -64,7 +65,7 @@ pub fn written_solutions_are_read()
     names_are_longest();
 }
 
-/// The reasons of refusal 53 apply to what is written exactly if no solution of the game is written so.
+/// States that there is a reason for [TaskFault::BadSolution] exactly if no solution of the game is written so.
 pub fn reasons_are_exact()
     ensures { ReasonsAreExact }
 {}

@@ -1,14 +1,15 @@
 ghost use Rattle.std.specs.Prelude.{◌≡◌, ◌<◌, ◌^◌, ◌≢◌, ◌↔◌, ℕ, [], ◌∷◌, ◌++◌, true, All, Contains, IfNone, IfSome, IsOkUnless, OnOk, length};
-ghost use Rattle.omega_game.specs.Game.{identifier_at};
+ghost use Rattle.omega_parity_game.specs.Game.{identifier_at};
+ghost use Rattle.omega_pg.specs.solution.Grammar.{line_for};
 ghost use Rattle.omega_pg.specs.private.solution.reader.Lines.{IsWrongLine, Says};
 
-use omega_game::{ForwardGame, Player, Refusal, Seq, Solution, Strategy, TaskFault};
+use omega_parity_game::{ForwardGame, Player, Refusal, Seq, Solution, Strategy, TaskFault};
 use std::alloc::Global;
 
-/// The lines of a solution text as they are kept: a winner and two choices for each, by place.
+/// The lines of a solution text: for each a winner and two choices, by place.
 #[derive(Drop)]
 pub(crate) struct Lines {
-    /// Whether each line is one of a solution; if not, no further line is kept.
+    /// Whether each line is one of a solution. If not, no further line is kept.
     pub(crate) good: bool,
     pub(crate) winners: Vec<Player>,
     pub(crate) zero: Vec<Option<u32>>,
@@ -18,9 +19,10 @@ pub(crate) struct Lines {
 impl Lines {
     ghost use Rattle.std.specs.Prelude.{List};
     ghost use Rattle.omega_pg.specs.solution.Grammar.{SolutionLine};
-    ghost use Rattle.omega_pg.specs.private.solution.reader.Lines.{AreJudged, IsOutcome, entry_of};
-    ghost use Rattle.omega_game.specs.declared.player.Player.TheVariants.{One, Zero};
+    ghost use Rattle.omega_pg.specs.private.solution.reader.Lines.{AddsLine, IsOutcome, KeepsLines, entry_of};
+    ghost use Rattle.omega_parity_game.specs.declared.player.Player.TheVariants.{One, Zero};
 
+    /// Makes an empty list of lines.
     pub(crate) fn new(alloc: Global) -> Self
         ensures good { result.good ≡ true }
         ensures winners { result.winners.items ≡ [] }
@@ -35,7 +37,7 @@ impl Lines {
         }
     }
 
-    /// Adds a line, which is kept if it is one of a solution and so were all before.
+    /// Adds the line of `id`, `winner` and `successor`. It is kept if it is one of a solution and so were all before.
     pub(crate) fn add(
         &mut self,
         game: &ForwardGame,
@@ -43,8 +45,7 @@ impl Lines {
         winner: Player,
         successor: Option<u32>,
     ) -> Result<(), Refusal>
-        ensures judged { OnOk result ((lines : List SolutionLine) → AreJudged game.now lines self.old.good self.old.winners.items self.old.zero.items self.old.one.items
-            → AreJudged game.now (lines ++ record { identifier = id; winner = winner; successor = successor } ∷ []) self.new.good self.new.winners.items self.new.zero.items self.new.one.items) }
+        ensures judged { OnOk result (AddsLine game.now (line_for id winner successor) self.old self.new) }
         ensures memory { IsOkUnless result Refusal.Memory }
     {
         if !self.good {
@@ -60,9 +61,10 @@ impl Lines {
         }
     }
 
-    /// The solution of the lines, if they are those of one after a header with this number. 53 else.
+    /// Returns the solution of the lines after a header with the number `greatest`. Refused with
+    /// [TaskFault::BadSolution] if no solution of `game` is written so.
     pub(crate) fn finish(self, game: &ForwardGame, greatest: u32) -> Result<Solution, Refusal>
-        ensures judged { (lines : List SolutionLine) → AreJudged game.now lines self.good self.winners.items self.zero.items self.one.items
+        ensures judged { (lines : List SolutionLine) → KeepsLines game.now lines self
             → IsOutcome game.now (record { greatest = greatest; lines = lines }) result }
     {
         let nodes = game.len();
@@ -80,7 +82,7 @@ impl Lines {
         })
     }
 
-    /// Keeps a winner and the choice of an owner.
+    /// Keeps `winner` and the `choice` of `owner`.
     fn keep(&mut self, winner: Player, owner: Player, choice: Option<u32>) -> Result<(), Refusal>
         ensures winners { OnOk result (self.new.winners.items ≡ self.old.winners.items ++ winner ∷ []) }
         ensures zero { OnOk result (self.new.zero.items ≡ self.old.zero.items ++ entry_of Zero owner choice ∷ []) }
@@ -99,7 +101,8 @@ impl Lines {
     }
 }
 
-/// The choice that a line says of the node at a place, if a solution can say it.
+/// Returns the choice that a line of `id`, `winner` and `successor` says of the node at `place`, if a solution can say
+/// it.
 fn said_choice(
     game: &ForwardGame,
     place: usize,
@@ -108,8 +111,8 @@ fn said_choice(
     successor: Option<u32>,
 ) -> Option<Option<u32>>
     ensures small { IfSome result (λ _. place < 2 ^ 32) }
-    ensures said { IfSome result (Says game.now place (record { identifier = id; winner = winner; successor = successor })) }
-    ensures wrong { IfNone result (IsWrongLine game.now place (record { identifier = id; winner = winner; successor = successor })) }
+    ensures said { IfSome result (Says game.now place (line_for id winner successor)) }
+    ensures wrong { IfNone result (IsWrongLine game.now place (line_for id winner successor)) }
 {
     if place >= game.len() || game.id(place as u32) != id {
         return None;
@@ -124,7 +127,7 @@ fn said_choice(
     }
 }
 
-/// The first of some places whose node has an identifier.
+/// Returns the first of `places` whose node has the identifier `id`.
 fn place_with(game: &ForwardGame, places: &[u32], id: u32) -> Option<u32>
     requires { All (λ w. w < length game.now) places.now }
     ensures found { IfSome result (λ w. Contains places.now w × (identifier_at game.now w ≡ id)) }

@@ -3,24 +3,27 @@ ghost use Rattle.omega_pg.specs.private.solution.reader.Automaton.{stage_after_n
 
 use crate::solution::lines::Lines;
 use crate::solution::stage::Stage;
-use omega_game::{ForwardGame, Player, Refusal};
+use omega_parity_game::{ForwardGame, Player, Refusal};
 use omega_text::{PgKind, Token, TokenReader};
 use std::alloc::Global;
 
-/// What was read so far of a text of a game's solution.
+/// A reader of texts of a game's solution.
 #[derive(Drop)]
 pub(crate) struct Reader<'g> {
     pub(crate) game: &'g ForwardGame,
     pub(crate) stage: Stage,
-    /// The number of the header.
+    /// The number of the header, once it has ended.
     pub(crate) greatest: u32,
     pub(crate) lines: Lines,
 }
 
 impl<'g> Reader<'g> {
-    ghost use Rattle.omega_pg.specs.private.solution.reader.Automaton.{SolutionReaderState, after_semicolon, initial};
-    ghost use Rattle.omega_pg.specs.private.solution.reader.Reading.{GoesOnTo, Keeps, KeepsNext};
+    ghost use Rattle.omega_pg.specs.Symbols.{semicolon};
+    ghost use Rattle.omega_pg.specs.private.solution.reader.Automaton.{initial};
+    ghost use Rattle.omega_pg.specs.private.solution.reader.Reader.{GoesOn, Takes};
+    ghost use Rattle.omega_pg.specs.private.solution.reader.Reading.{Keeps};
 
+    /// Makes a reader before the first token of a text of a solution of `game`.
     pub(crate) fn new(alloc: Global, game: &'g ForwardGame) -> Self
         ensures game { result.game.now ≡ game.now }
         ensures keeps { Keeps game.now initial result.stage result.greatest result.lines }
@@ -33,9 +36,9 @@ impl<'g> Reader<'g> {
         }
     }
 
-    /// Goes on to a stage, if there is one.
+    /// Goes on to the stage `next`, and returns false without one.
     fn go_on(&mut self, next: Option<Stage>) -> bool
-        ensures goes { GoesOnTo result next self.old.stage self.old.greatest self.old.lines self.new.stage self.new.greatest self.new.lines }
+        ensures goes { GoesOn next self.old result self.new }
         ensures game { self.new.game.now ≡ self.old.game.now }
     {
         match next {
@@ -47,10 +50,9 @@ impl<'g> Reader<'g> {
         }
     }
 
-    /// Takes a semicolon, unless no text goes on so.
+    /// Takes a semicolon, and returns false if no text goes on so.
     fn take_semicolon(&mut self) -> Result<bool, Refusal>
-        ensures takes { IfOk result (λ taken. (state : SolutionReaderState) → Keeps self.old.game.now state self.old.stage self.old.greatest self.old.lines
-            → KeepsNext taken self.old.game.now (after_semicolon state.stage state) self.new.stage self.new.greatest self.new.lines) }
+        ensures takes { IfOk result (λ taken. Takes semicolon self.old taken self.new) }
         ensures game { self.new.game.now ≡ self.old.game.now }
         ensures memory { IsOkUnless result Refusal.Memory }
     {
@@ -82,9 +84,7 @@ impl<'g> Reader<'g> {
 impl TokenReader<PgKind> for Reader<'_> {
     ghost use Rattle.omega_pg.specs.Symbols.{pg_symbol_of};
     ghost use Rattle.omega_pg.specs.solution.Grammar.{solution_syntax};
-    ghost use Rattle.omega_pg.specs.private.solution.reader.Automaton.{SolutionReaderState, step};
-    ghost use Rattle.omega_pg.specs.private.solution.reader.Reader.{HasBecome};
-    ghost use Rattle.omega_pg.specs.private.solution.reader.Reading.{Keeps, KeepsNext};
+    ghost use Rattle.omega_pg.specs.private.solution.reader.Reader.{HasBecome, Takes};
     ghost use Rattle.omega_pg.specs.declared.solution.stage.Stage.TheVariants.{Ended};
     ghost use Rattle.omega_text.specs.Lexeme.{lexeme_of};
     ghost use Rattle.omega_text.specs.Syntax.{TokensBegin, TokensComplete};
@@ -96,8 +96,7 @@ impl TokenReader<PgKind> for Reader<'_> {
     ghost completes = { TokensComplete solution_syntax };
 
     fn take(&mut self, token: &Token<'_, PgKind>) -> Result<bool, Refusal>
-        ensures takes { IfOk result (λ taken. (state : SolutionReaderState) → Keeps self.old.game.now state self.old.stage self.old.greatest self.old.lines
-            → KeepsNext taken self.old.game.now (step state (pg_symbol_of (lexeme_of token.now))) self.new.stage self.new.greatest self.new.lines) }
+        ensures takes { IfOk result (λ taken. Takes (pg_symbol_of (lexeme_of token.now)) self.old taken self.new) }
         ensures game { self.new.game.now ≡ self.old.game.now }
         ensures memory { IsOkUnless result Refusal.Memory }
     {
@@ -118,7 +117,7 @@ impl TokenReader<PgKind> for Reader<'_> {
     }
 }
 
-/// Where a number leads.
+/// Returns the stage after a `number`, if a text goes on so.
 #[tactic(auto, using(crate::proofs::games::Players::player_found, crate::proofs::games::Players::no_player_found))]
 fn after_number(stage: Stage, number: u32) -> Option<Stage>
     ensures { result ≡ stage_after_number stage number }
@@ -138,7 +137,7 @@ fn after_number(stage: Stage, number: u32) -> Option<Stage>
     }
 }
 
-/// Where the word `paritysol` leads.
+/// Returns the stage after the word `paritysol`, if a text goes on so.
 fn after_word(stage: Stage) -> Option<Stage>
     ensures { result ≡ stage_after_word stage }
 {

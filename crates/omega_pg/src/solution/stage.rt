@@ -1,6 +1,6 @@
-use omega_game::Player;
+use omega_parity_game::Player;
 
-/// Where a solution text stands between two tokens: what was read last, with the parts of a line that has begun.
+/// A place between two tokens of a solution text, by what was read last, with the parts of a line that has begun.
 #[derive(Clone, Copy)]
 pub(crate) enum Stage {
     /// Nothing.

@@ -1,6 +1,6 @@
 use omega_text::{PgKind, TextSyntax, TokenKind};
 
-/// The syntax of solution texts, of which laws are stated.
+/// The syntax of solution texts, for their laws.
 pub(crate) struct SolutionSyntax;
 
 impl TextSyntax for SolutionSyntax {

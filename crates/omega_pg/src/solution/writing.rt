@@ -1,15 +1,15 @@
 ghost use Rattle.std.specs.Prelude.{◌≡◌, ◌<◌, ◌++◌, IfOk, IfSome, IsOkUnless, OnOk, length, option_map};
-ghost use Rattle.omega_game.specs.Game.{IsGame, identifier_at};
-ghost use Rattle.omega_game.specs.Solution.{IsSolution};
+ghost use Rattle.omega_parity_game.specs.Game.{IsGame, identifier_at};
+ghost use Rattle.omega_parity_game.specs.Solution.{IsSolution};
 ghost use Rattle.omega_pg.specs.solution.Text.{line_at};
 ghost use Rattle.omega_pg.specs.solution.Canonical.{choice_part, solution_line, solution_text};
 
 use crate::game::writing::write_part;
-use omega_game::{ForwardGame, Refusal, Solution};
+use omega_parity_game::{ForwardGame, Refusal, Solution};
 use omega_text::write_number;
 use std::alloc::Global;
 
-/// The text of a solution of the game. 60 alone.
+/// Returns the text of a `solution` of `game`.
 ///
 /// If it has at most `MOST_TEXT` bytes, it is read back to the same solution, by `laws::written_solutions_are_read`.
 /// The cost is linear in the nodes.
@@ -33,7 +33,7 @@ pub fn write_solution(
     Ok(out)
 }
 
-/// Appends the line of the node at a place.
+/// Appends the line of the node at `place`.
 fn write_line(
     game: &ForwardGame,
     solution: &Solution,
@@ -54,10 +54,11 @@ fn write_line(
     Ok(())
 }
 
-/// Appends a space and the identifier of a chosen place, if there is one.
+/// Appends a space and the identifier of the node that is the `choice`, if there is one.
 fn write_choice(game: &ForwardGame, choice: Option<u32>, out: &mut Vec<u8>) -> Result<(), Refusal>
     requires { IfSome choice (λ place. place < length game.now) }
-    ensures ok { OnOk result (out.new.items ≡ out.old.items ++ choice_part (option_map (identifier_at game.now) choice)) }
+    ensures ok { OnOk result
+        (out.new.items ≡ out.old.items ++ choice_part (option_map (identifier_at game.now) choice)) }
     ensures memory { IsOkUnless result Refusal.Memory }
 {
     if let Some(place) = choice {

@@ -2,11 +2,11 @@
 use Rattle.std.specs.Prelude.{◌≡◌, ◌<◌, true, false, List, length, Contains, Option, None, Some}
 use Rattle.omega_text.specs.declared.refusal.task.TaskFault.{TaskFault}
 use Rattle.omega_text.specs.declared.refusal.task.TaskFault.TheVariants.{BadSolution, Budget, NotDeterministic, NotParity, TooLarge, TooManyPropositions, TooWide, UniversalBranch, UnknownNode}
-use Rattle.omega_acc.specs.Limits.{most_mentioned}
-use Rattle.omega_acc.specs.label.Label.{conjunction}
-use Rattle.omega_acc.specs.label.Satisfiable.{mentioned}
-use Rattle.omega_acc.specs.label.Shape.{label_tree_of_shape}
-use Rattle.omega_acc.specs.declared.label.shape.LabelShape.{LabelShape}
+use Rattle.omega_expression.specs.Limits.{most_mentioned}
+use Rattle.omega_label.specs.Label.{conjunction}
+use Rattle.omega_satisfying.specs.Satisfiable.{mentioned}
+use Rattle.omega_label.specs.Shape.{label_tree_of_shape}
+use Rattle.omega_label.specs.declared.shape.LabelShape.{LabelShape}
 use Rattle.omega_product.specs.Pairs.{can_meet}
 use Rattle.omega_product.specs.declared.transition.Transition.{Transition}
 use Rattle.omega_edge_labels.specs.Fitting.{FitsAText}
@@ -17,11 +17,13 @@ IsMeeting transition other None = can_meet transition other ≡ false
 IsMeeting transition other (Some shape) =
     (can_meet transition other ≡ true) × (label_tree_of_shape shape ≡ conjunction transition.label other.label)
 
--- 42 if it is undecided whether they can be taken together, 55 if their joint label is too deep or too large
+-- `TooManyPropositions` if it may be undecided whether they can be taken together, `TooLarge` if their joint label is
+-- too deep or too large
 abbrev pub IsUnmet : Transition → Transition → TaskFault → Type 0
 IsUnmet transition other NotParity = ⊥
 IsUnmet transition other UniversalBranch = ⊥
-IsUnmet transition other TooManyPropositions = most_mentioned < length (mentioned (conjunction transition.label other.label))
+IsUnmet transition other TooManyPropositions =
+    most_mentioned < length (mentioned (conjunction transition.label other.label))
 IsUnmet transition other TooWide = ⊥
 IsUnmet transition other Budget = ⊥
 IsUnmet transition other BadSolution = ⊥
@@ -29,13 +31,13 @@ IsUnmet transition other UnknownNode = ⊥
 IsUnmet transition other TooLarge = FitsAText (conjunction transition.label other.label) → ⊥
 IsUnmet transition other (NotDeterministic state) = ⊥
 
--- this fault has an edge of the first with some edge of the second
+-- this fault has an edge with some edge of a list
 pub record HasUnmetPartner (transition : Transition) (others : List Transition) (fault : TaskFault) : Type 0 where
   pub other : Transition
   pub listed : Contains others other
   pub unmet : IsUnmet transition other fault
 
--- this fault has some edge of the first with some edge of the second
+-- this fault has some edge of one list with some edge of the other
 pub record HasUnmet (transitions others : List Transition) (fault : TaskFault) : Type 0 where
   pub transition : Transition
   pub listed : Contains transitions transition

@@ -1,7 +1,7 @@
 -- Tokens begin with at most one automaton.
 use Rattle.std.proofs.Common.{◌≡◌, List, [], ◌∷◌, refl, sym, ◌∙◌}
-use Rattle.omega_acc.specs.formula.Reading.{FormulasAreOne}
-use Rattle.omega_acc.specs.label.Reading.{LabelsAreOne}
+use Rattle.omega_formula.specs.Reading.{FormulasAreOne}
+use Rattle.omega_label.specs.Reading.{LabelsAreOne}
 use Rattle.omega_raw.proofs.uniqueness.Body.{state_one, state_part}
 use Rattle.omega_raw.proofs.uniqueness.Items.{item_one, item_part}
 use Rattle.omega_raw.proofs.uniqueness.Rows.{each_one}
@@ -14,7 +14,7 @@ use Rattle.omega_raw.specs.Symbols.{AutomatonSymbol, header, sign, word}
 use Rattle.omega_raw.specs.declared.raw_automaton.RawAutomaton.{RawAutomaton}
 use Rattle.omega_text.specs.declared.hoa.kind.HoaKind.TheVariants as kind
 
--- what stands after the items, and after the version
+-- what follows the items, and the version
 abbrev after_items : RawAutomaton → List AutomatonSymbol
 after_items raw = sign kind.Body ∷ each state_row raw.states (sign kind.End ∷ [])
 

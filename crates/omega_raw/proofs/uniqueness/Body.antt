@@ -1,6 +1,6 @@
 -- Tokens begin with at most one conj, label, sig, edge and state.
 use Rattle.std.proofs.Common.{◌≡◌, List, [], ◌∷◌, refl, ap, ◌∙◌, arith}
-use Rattle.omega_acc.specs.label.Reading.{LabelsAreOne, Reads}
+use Rattle.omega_label.specs.Reading.{LabelsAreOne, Reads}
 use Rattle.omega_raw.proofs.FollowLemmas.{all_any, edges_begin, edges_end, guard_ends, joined_end, name_ends, sig_ends, some_any, targets_end}
 use Rattle.omega_raw.proofs.PartLemmas.{IsPart}
 use Rattle.omega_raw.proofs.RowLemmas.{edge_same, state_same}
@@ -11,7 +11,7 @@ use Rattle.omega_raw.specs.Grammar.{IsConj, IsRawEdge, IsRawState, conj_row, eac
 use Rattle.omega_raw.specs.private.steps.Parts.{EndsConj, EndsEdge, EndsState, is_and, is_brace, is_bracket, is_edge, is_header, is_int, is_string}
 use Rattle.omega_raw.specs.private.steps.Reading.{IsAny, IsKind}
 use Rattle.omega_raw.specs.Symbols.{AutomatonSymbol, header, label, number, sign}
-use Rattle.omega_raw.specs.private.steps.First.{FirstIs}
+use Rattle.omega_raw.specs.First.{FirstIs}
 use Rattle.omega_raw.specs.declared.raw_state.RawState.{RawState}
 use Rattle.omega_text.specs.declared.hoa.kind.HoaKind.TheVariants as kind
 
@@ -71,7 +71,7 @@ edge_one labels tokens x y others more rest left is so ends last spells reads =
     let c = optional_one IsAny sig_row is_brace IsKind sig_part sig_one b.1.middle x.marks y.marks others more rest left (some_any x.marks) (some_any y.marks) (sig_ends others ends) (sig_ends more last) b.1.one b.1.other in
     (edge_same x.label x.targets x.marks y a.0 b.0 c.0, c.1)
 
--- what stands after the number of a state
+-- what follows the number of a state
 abbrev after_number : RawState → List AutomatonSymbol → List AutomatonSymbol
 after_number state others = optional_row string_row state.name (optional_row sig_row state.marks (each edge_row state.edges others))
 

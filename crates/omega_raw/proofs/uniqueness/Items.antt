@@ -1,10 +1,10 @@
 -- Tokens begin with at most one item of a header.
 use Rattle.std.proofs.Common.{◌≡◌, ℕ, List, Option, ◌∷◌, refl, sym, ap, ◌∙◌}
-use Rattle.omega_acc.specs.formula.Reading.{FormulasAreOne, ReadsAcc}
-use Rattle.omega_acc.specs.formula.Raw.{RawAccTree}
-use Rattle.omega_acc.specs.label.Raw.{RawLabelTree}
-use Rattle.omega_acc.specs.label.Reading.{LabelsAreOne, Reads}
-use Rattle.omega_acc.specs.declared.formula.name.AccName.{AccName}
+use Rattle.omega_formula.specs.Reading.{FormulasAreOne, ReadsAcc}
+use Rattle.omega_formula.specs.Raw.{RawAccTree}
+use Rattle.omega_label.specs.Raw.{RawLabelTree}
+use Rattle.omega_label.specs.Reading.{LabelsAreOne, Reads}
+use Rattle.omega_formula.specs.declared.name.AccName.{AccName}
 use Rattle.omega_raw.proofs.ContentLemmas.{acc_name_same, header_named-item_name, of_acc_name, of_acceptance, of_alias, of_properties, of_propositions, of_start, of_state_count, of_title, of_tool, of_unknown}
 use Rattle.omega_raw.proofs.FollowLemmas.{all_any, parameters_end, some_any, start_ends, strings_end, values_end, words_end}
 use Rattle.omega_raw.proofs.PartLemmas.{IsPart}
@@ -17,7 +17,7 @@ use Rattle.omega_raw.specs.private.steps.Rows.{item_header}
 use Rattle.omega_raw.specs.private.steps.Parts.{EndsItem, is_header, is_identifier, is_parameter, is_string, is_value}
 use Rattle.omega_raw.specs.private.steps.Reading.{IsAny, IsKind}
 use Rattle.omega_raw.specs.Symbols.{ReadsSymbols, AutomatonSymbol, Tokens, alias, formula, header, label, number, text, word}
-use Rattle.omega_raw.specs.private.steps.First.{FirstIs}
+use Rattle.omega_raw.specs.First.{FirstIs}
 use Rattle.omega_raw.specs.declared.header_value.HeaderValue.{HeaderValue}
 use Rattle.omega_raw.specs.declared.raw_item.RawItem.{RawItem}
 use Rattle.omega_raw.specs.declared.raw_item.RawItem.TheVariants as item
@@ -35,7 +35,7 @@ pub item_part : IsPart IsRawItem item_row is_header EndsItem
 item_part = record { begun = item_begun; follows = item_follows }
 
 module _ (labels : LabelsAreOne) (formulas : FormulasAreOne) (tokens : Tokens) (others more : List AutomatonSymbol) (rest left : Tokens) (ends : FirstIs EndsItem others) (last : FirstIs EndsItem more) where
-  -- an item that is read where another is written is that item
+  -- an item that is read in place of another that is written is that item
   abbrev IsSame : RawItem → RawItem → Type 0
   IsSame x y = ReadsSymbols tokens (content_row x others) rest → ReadsSymbols tokens (content_row y more) left → (x ≡ y) × Both others more rest left
 

@@ -1,22 +1,22 @@
--- Tokens begin with at most one of each row that stands for a token, a list or a part that may be there.
+-- Tokens begin with at most one of each row, for a token, a list or a part that may be there.
 use Rattle.std.proofs.Common.{◌≡◌, Bool, true, false, List, [], ◌∷◌, Option, Some, None, refl, ap, ◌∙◌, subst}
 use Rattle.std.specs.Prelude.{IfSome}
 use Rattle.std.specs.List.{AllByRecursion}
-use Rattle.omega_acc.specs.declared.formula.name.Parameter.{Parameter}
-use Rattle.omega_acc.specs.declared.formula.name.Parameter.TheVariants as parameter
+use Rattle.omega_formula.specs.declared.name.Parameter.{Parameter}
+use Rattle.omega_formula.specs.declared.name.Parameter.TheVariants as parameter
 use Rattle.omega_raw.proofs.PartLemmas.{IsPart, follows_part}
 use Rattle.omega_raw.proofs.SpellingLemmas.{first_then, next_clash, next_is, next_may}
 use Rattle.omega_raw.proofs.uniqueness.Tokens.{Both, IsToken, token_one}
 use Rattle.omega_raw.specs.Grammar.{each, int_row, optional_row, parameter_row, string_row, value_row, word_row}
 use Rattle.omega_raw.specs.private.steps.Reading.{EndsList, IsAny}
 use Rattle.omega_raw.specs.Symbols.{ReadsSymbols, AutomatonSymbol, Tokens, number, sign, text, word}
-use Rattle.omega_raw.specs.private.steps.First.{FirstIs}
+use Rattle.omega_raw.specs.First.{FirstIs}
 use Rattle.omega_raw.specs.declared.header_value.HeaderValue.{HeaderValue}
 use Rattle.omega_raw.specs.declared.header_value.HeaderValue.TheVariants as value
 use Rattle.omega_text.specs.declared.hoa.kind.HoaKind.{HoaKind}
 use Rattle.omega_text.specs.declared.hoa.kind.HoaKind.TheVariants as kind
 
--- tokens begin with at most one of this row, where such symbols follow
+-- tokens begin with at most one of this row, if such symbols follow
 abbrev pub IsOne : {X : Type 0} → (X → Type 0) → (X → List AutomatonSymbol → List AutomatonSymbol) → (List AutomatonSymbol → Type 0) → Type 0
 IsOne {X} Is row Follow = (tokens : Tokens) (x y : X) (others more : List AutomatonSymbol) (rest left : Tokens) → Is x → Is y → Follow others → Follow more
     → ReadsSymbols tokens (row x others) rest → ReadsSymbols tokens (row y more) left → (x ≡ y) × Both others more rest left
@@ -119,7 +119,7 @@ no_part begins May symbols others tokens rest left begun last spells reads =
     next_clash begins tokens (next_is (λ kind. begins kind ≡ true) symbols tokens rest begun spells)
     (next_may (λ kind. begins kind ≡ false) tokens (next_is (λ kind. begins kind ≡ false) others tokens left (first_then (EndsList begins May) (λ kind. begins kind ≡ false) others (λ kind holds. holds.0) last) reads))
 
--- as many parts as stand there
+-- as many parts as follow
 pub each_one : {X : Type 0} (Is : X → Type 0) (row : X → List AutomatonSymbol → List AutomatonSymbol) (begins : HoaKind → Bool) (May : HoaKind → Type 0) → IsPart Is row begins May → IsOne Is row (FirstIs May)
     → (tokens : Tokens) (x y : List X) (others more : List AutomatonSymbol) (rest left : Tokens) → AllByRecursion Is x → AllByRecursion Is y
     → FirstIs (EndsList begins May) others → FirstIs (EndsList begins May) more → ReadsSymbols tokens (each row x others) rest → ReadsSymbols tokens (each row y more) left
@@ -135,7 +135,7 @@ each_one Is row begins May part one tokens (x ∷ xs) (y ∷ ys) others more res
     let rests = each_one Is row begins May part one first.1.middle xs ys others more rest left are.1 all.1 ends last first.1.one first.1.other in
     (ap (λ it. it ∷ xs) first.0 ∙ ap (λ all. y ∷ all) rests.0, rests.1)
 
--- a part if it stands there
+-- a part if it follows
 pub optional_one : {X : Type 0} (Is : X → Type 0) (row : X → List AutomatonSymbol → List AutomatonSymbol) (begins : HoaKind → Bool) (May : HoaKind → Type 0) → IsPart Is row begins May → IsOne Is row (FirstIs May)
     → (tokens : Tokens) (x y : Option X) (others more : List AutomatonSymbol) (rest left : Tokens) → IfSome x Is → IfSome y Is
     → FirstIs (EndsList begins May) others → FirstIs (EndsList begins May) more → ReadsSymbols tokens (optional_row row x others) rest → ReadsSymbols tokens (optional_row row y more) left

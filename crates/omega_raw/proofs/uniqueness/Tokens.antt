@@ -67,7 +67,7 @@ pub sign_passed : (kind : HoaKind) (tokens : Tokens) (others more : List Automat
     → ReadsSymbols tokens (sign kind ∷ others) rest → ReadsSymbols tokens (sign kind ∷ more) left → Both others more rest left
 sign_passed kind tokens others more rest left token spells reads = (token_one (sign kind) (sign kind) tokens others more rest left token token spells reads).1
 
--- an expression of which tokens begin with at most one
+-- an expression that tokens begin with at most one of
 pub expression_one : {X : Type 0} (R : Tokens → X → Tokens → Type 0)
     → ((tokens : Tokens) (one other : X) (rest left : Tokens) → R tokens one rest → R tokens other left → (one ≡ other) × (rest ≡ left))
     → (one other : X) (tokens : Tokens) (others more : List AutomatonSymbol) (rest left : Tokens)

@@ -3,5 +3,4 @@ pub mod Beginnings
 pub mod Contents
 pub mod Parts
 pub mod Reading
-pub mod First
 pub mod Rows

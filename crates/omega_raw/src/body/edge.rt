@@ -1,6 +1,6 @@
 ghost use Rattle.std.specs.Prelude.{◌≡◌, IfErr};
 ghost use Rattle.std.specs.List.{AllByRecursion};
-ghost use Rattle.omega_raw.specs.private.steps.First.{FirstIs};
+ghost use Rattle.omega_raw.specs.First.{FirstIs};
 ghost use Rattle.omega_raw.specs.private.steps.Reading.{EndsList, Finds, GivesRow, IsSyntaxOrMemory};
 ghost use Rattle.omega_raw.specs.private.steps.Beginnings.{edge_begun, edge_follows};
 ghost use Rattle.omega_raw.specs.Grammar.{IsRawEdge, each, edge_row};
@@ -57,7 +57,8 @@ pub(crate) fn read_edges<'a, S: TokenSource<'a, HoaKind>>(
     source: &mut S,
 ) -> Result<RawEdges, Refusal>
     ensures gives { GivesRow (AllByRecursion IsRawEdge) (each edge_row) (S.left source.old) (S.left source.new) result }
-    ensures finds { Finds (AllByRecursion IsRawEdge) (each edge_row) (FirstIs (EndsList is_edge EndsEdge)) (S.left source.old) (S.left source.new) result }
+    ensures finds { Finds (AllByRecursion IsRawEdge) (each edge_row) (FirstIs (EndsList is_edge EndsEdge))
+        (S.left source.old) (S.left source.new) result }
     ensures err { IfErr result IsSyntaxOrMemory }
     ensures length { S.length source.new ≡ S.length source.old }
 {

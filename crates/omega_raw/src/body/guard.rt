@@ -6,7 +6,7 @@ ghost use Rattle.omega_raw.specs.private.steps.Reading.{IsAny, IsKind};
 use crate::expressions::label_expression;
 use crate::part::Part;
 use crate::taking::take_sign;
-use omega_acc::RawLabel;
+use omega_label::RawLabel;
 use omega_text::{HoaKind, Refusal, TokenSource};
 use std::alloc::Global;
 

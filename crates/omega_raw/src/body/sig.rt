@@ -1,6 +1,6 @@
 ghost use Rattle.std.specs.Prelude.{◌≡◌, IfErr, IfSome, refl};
 ghost use Rattle.omega_raw.specs.Grammar.{optional_row, sig_row};
-ghost use Rattle.omega_raw.specs.private.steps.First.{FirstIs};
+ghost use Rattle.omega_raw.specs.First.{FirstIs};
 ghost use Rattle.omega_raw.specs.private.steps.Parts.{is_brace};
 ghost use Rattle.omega_raw.specs.private.steps.Reading.{EndsList, Finds, GivesRow, IsAny, IsKind, IsSyntaxOrMemory};
 
@@ -47,8 +47,10 @@ pub(crate) fn read_marks<'a, S: TokenSource<'a, HoaKind>>(
     alloc: Global,
     source: &mut S,
 ) -> Result<Marks, Refusal>
-    ensures gives { GivesRow (λ it. IfSome it IsAny) (optional_row sig_row) (S.left source.old) (S.left source.new) result }
-    ensures finds { Finds (λ it. IfSome it IsAny) (optional_row sig_row) (FirstIs (EndsList is_brace IsKind)) (S.left source.old) (S.left source.new) result }
+    ensures gives { GivesRow (λ it. IfSome it IsAny) (optional_row sig_row)
+        (S.left source.old) (S.left source.new) result }
+    ensures finds { Finds (λ it. IfSome it IsAny) (optional_row sig_row) (FirstIs (EndsList is_brace IsKind))
+        (S.left source.old) (S.left source.new) result }
     ensures err { IfErr result IsSyntaxOrMemory }
     ensures length { S.length source.new ≡ S.length source.old }
 {

@@ -1,5 +1,5 @@
 ghost use Rattle.std.specs.Prelude.{◌≡◌, IfErr, IfSome};
-ghost use Rattle.omega_raw.specs.private.steps.First.{FirstIs};
+ghost use Rattle.omega_raw.specs.First.{FirstIs};
 ghost use Rattle.omega_raw.specs.private.steps.Reading.{EndsList, Finds, GivesRow, IsAny, IsKind, IsSyntaxOrMemory};
 ghost use Rattle.omega_raw.specs.private.steps.Beginnings.{state_begun, state_follows};
 ghost use Rattle.omega_raw.specs.Grammar.{IsRawState, optional_row, state_row, string_row};
@@ -60,8 +60,10 @@ fn read_name<'a, S: TokenSource<'a, HoaKind>>(
     alloc: Global,
     source: &mut S,
 ) -> Result<StateName, Refusal>
-    ensures gives { GivesRow (λ it. IfSome it IsAny) (optional_row string_row) (S.left source.old) (S.left source.new) result }
-    ensures finds { Finds (λ it. IfSome it IsAny) (optional_row string_row) (FirstIs (EndsList is_string IsKind)) (S.left source.old) (S.left source.new) result }
+    ensures gives { GivesRow (λ it. IfSome it IsAny) (optional_row string_row)
+        (S.left source.old) (S.left source.new) result }
+    ensures finds { Finds (λ it. IfSome it IsAny) (optional_row string_row) (FirstIs (EndsList is_string IsKind))
+        (S.left source.old) (S.left source.new) result }
     ensures err { IfErr result IsSyntaxOrMemory }
     ensures length { S.length source.new ≡ S.length source.old }
 {

@@ -11,7 +11,7 @@ use crate::part::{read_each, read_if};
 use crate::raw_item::RawItem;
 use crate::single::{NameParameter, Quoted, Word};
 use crate::taking::{copied, take_int, take_kind, take_string, take_word};
-use omega_acc::AccName;
+use omega_formula::AccName;
 use omega_text::{HoaKind, Refusal, TokenSource};
 use std::alloc::Global;
 

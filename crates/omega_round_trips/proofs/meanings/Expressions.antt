@@ -6,19 +6,22 @@ use Rattle.std.specs.List.{AllByRecursion, list_any}
 use Rattle.std.proofs.lemmas.Bool.{ltb-false}
 use Rattle.omega_text.specs.declared.refusal.automaton.AutomatonFault.{AutomatonFault}
 use Rattle.omega_text.specs.declared.refusal.automaton.AutomatonFault.TheVariants.{Alias, TooDeep}
-use Rattle.omega_acc.specs.formula.Meaning.{acc_meant, acc_sets}
-use Rattle.omega_acc.specs.formula.Reading.{IsAccOf}
-use Rattle.omega_acc.specs.formula.Acceptance.{AccTree}
-use Rattle.omega_acc.specs.formula.Acceptance as acc
-use Rattle.omega_acc.specs.label.Expanding.{Defined, IsExpansion, Meaning, expansion, fault_of_meaning}
-use Rattle.omega_acc.specs.label.Label.{LabelTree, conjunction, constant, disjunction, negation, proposition, propositions}
-use Rattle.omega_acc.specs.Limits.{most_depth}
-use Rattle.omega_acc.specs.formula.Raw.{RawAccTree, raw_acc_depth}
-use Rattle.omega_acc.specs.label.Raw.{RawLabelTree, raw_depth, raw_propositions}
-use Rattle.omega_acc.specs.label.Reading.{IsOf}
-use Rattle.omega_acc.specs.Symbols.{disjunctive}
-use Rattle.omega_acc.specs.Writing.{acc_text, label_text}
-use Rattle.omega_acc.specs.WritingLaws.{AreExpressions, WrittenFormulasAreShallowest, WrittenLabelsAreShallowest, acc_grouped, acc_written, grouped, label_written}
+use Rattle.omega_formula.specs.Meaning.{acc_meant, acc_sets}
+use Rattle.omega_formula.specs.Reading.{IsAccOf}
+use Rattle.omega_formula.specs.Acceptance.{AccTree}
+use Rattle.omega_formula.specs.Acceptance as acc
+use Rattle.omega_label.specs.Expanding.{Defined, IsExpansion, Meaning, expansion, fault_of_meaning}
+use Rattle.omega_label.specs.Label.{LabelTree, conjunction, constant, disjunction, negation, proposition, propositions}
+use Rattle.omega_expression.specs.Limits.{most_depth}
+use Rattle.omega_formula.specs.Raw.{RawAccTree, raw_acc_depth}
+use Rattle.omega_label.specs.Raw.{RawLabelTree, raw_depth, raw_propositions}
+use Rattle.omega_label.specs.Reading.{IsOf}
+use Rattle.omega_expression.specs.Symbols.{disjunctive}
+use Rattle.omega_label.specs.Writing.{label_text}
+use Rattle.omega_formula.specs.Writing.{acc_text}
+use Rattle.omega_label.specs.Writing.{grouped, label_written}
+use Rattle.omega_formula.specs.Writing.{acc_grouped, acc_written}
+use Rattle.omega_acc.specs.WritingLaws.{AreExpressions, WrittenFormulasAreShallowest, WrittenLabelsAreShallowest}
 use Rattle.omega_automaton.specs.Automaton.{sets_of}
 use Rattle.omega_automaton.specs.Items.{Accepted}
 use Rattle.omega_round_trips.proofs.texts.Spelled.{or-left}
@@ -62,7 +65,7 @@ sets-written (acc.disjunction left right) =
 
 -- ---- depths
 
--- where no fault is answered the first test fails
+-- if no fault is answered the first test fails
 not-deep : (deep : Bool) (others : Option AutomatonFault) → cond deep (Some TooDeep) others ≡ None → deep ≡ false
 not-deep false others sound = refl
 not-deep true others sound = cc

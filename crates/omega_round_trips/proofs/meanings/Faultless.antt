@@ -7,14 +7,16 @@ use Rattle.std.proofs.lemmas.Bool.{eqb-true, le-ltb, or_from}
 use Rattle.std.proofs.lemmas.List.Elements.{recursion_from_All}
 use Rattle.omega_text.specs.declared.refusal.automaton.AutomatonFault.{AutomatonFault}
 use Rattle.omega_text.specs.declared.refusal.automaton.AutomatonFault.TheVariants.{ImplicitCount, MixedLabels, Proposition, StateRange, UnknownHeader}
-use Rattle.omega_acc.specs.formula.Meaning.{acc_meant}
-use Rattle.omega_acc.specs.label.Expanding.{Defined, Meaning, entries_of, expansion}
-use Rattle.omega_acc.specs.label.Label.{LabelTree, label_size, propositions}
-use Rattle.omega_acc.specs.Limits.{most_depth, most_size}
-use Rattle.omega_acc.specs.formula.Raw.{raw_acc_depth}
-use Rattle.omega_acc.specs.label.Raw.{RawLabelTree, raw_depth}
-use Rattle.omega_acc.specs.WritingLaws.{WrittenFormulasMean, WrittenLabelsMean, acc_written, label_written}
-use Rattle.omega_acc.specs.declared.formula.name.AccName.{AccName}
+use Rattle.omega_formula.specs.Meaning.{acc_meant}
+use Rattle.omega_label.specs.Expanding.{Defined, Meaning, entries_of, expansion}
+use Rattle.omega_label.specs.Label.{LabelTree, label_size, propositions}
+use Rattle.omega_expression.specs.Limits.{most_depth, most_size}
+use Rattle.omega_formula.specs.Raw.{raw_acc_depth}
+use Rattle.omega_label.specs.Raw.{RawLabelTree, raw_depth}
+use Rattle.omega_label.specs.Writing.{label_written}
+use Rattle.omega_formula.specs.Writing.{acc_written}
+use Rattle.omega_acc.specs.WritingLaws.{WrittenFormulasMean, WrittenLabelsMean}
+use Rattle.omega_formula.specs.declared.name.AccName.{AccName}
 use Rattle.omega_raw.specs.declared.raw_automaton.RawAutomaton.{RawAutomaton}
 use Rattle.omega_raw.specs.declared.raw_edge.RawEdge.{RawEdge}
 use Rattle.omega_raw.specs.declared.raw_state.RawState.{RawState}
@@ -43,7 +45,7 @@ pub record IsFineState (a : Description) (state : State) : Type 0 where
   pub label : IfSome state.label (IsFine a)
   pub edges : AllByRecursion (λ edge. IfSome edge.label (IsFine a)) state.edges
 
--- nothing is found where nothing passes
+-- nothing is found if nothing passes
 none-found : {X : Type 0} (test : X → Bool) (items : List X) → AllByRecursion (λ it. test it ≡ false) items → find test items ≡ None
 none-found test [] all = refl
 none-found test (it ∷ items) all = ap (λ passes. cond passes (Some it) (find test items)) all.0 ∙ none-found test items all.1

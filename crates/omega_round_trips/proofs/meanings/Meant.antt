@@ -6,16 +6,18 @@ use Rattle.std.specs.List.Sorted.{IsStrictlyIncreasing}
 use Rattle.std.proofs.lemmas.Bool.{le-ltb}
 use Rattle.std.proofs.lemmas.List.Elements.{recursion_from_All}
 use Rattle.omega_text.specs.declared.refusal.automaton.AutomatonFault.TheVariants.{Expansion, TooDeep}
-use Rattle.omega_acc.specs.formula.Meaning.{acc_meant}
-use Rattle.omega_acc.specs.formula.Reading.{IsAccOf}
-use Rattle.omega_acc.specs.label.Expanding.{Defined, fault_of_meaning}
-use Rattle.omega_acc.specs.label.Label.{LabelTree, label_size}
-use Rattle.omega_acc.specs.Limits.{most_depth, most_size}
-use Rattle.omega_acc.specs.formula.Raw.{raw_acc_depth}
-use Rattle.omega_acc.specs.label.Raw.{RawLabelTree, raw_depth}
-use Rattle.omega_acc.specs.label.Reading.{IsOf}
-use Rattle.omega_acc.specs.Symbols.{disjunctive}
-use Rattle.omega_acc.specs.WritingLaws.{AreExpressions, WrittenFormulasAreShallowest, WrittenFormulasMean, WrittenLabelsAreShallowest, WrittenLabelsMean, acc_written, label_written}
+use Rattle.omega_formula.specs.Meaning.{acc_meant}
+use Rattle.omega_formula.specs.Reading.{IsAccOf}
+use Rattle.omega_label.specs.Expanding.{Defined, fault_of_meaning}
+use Rattle.omega_label.specs.Label.{LabelTree, label_size}
+use Rattle.omega_expression.specs.Limits.{most_depth, most_size}
+use Rattle.omega_formula.specs.Raw.{raw_acc_depth}
+use Rattle.omega_label.specs.Raw.{RawLabelTree, raw_depth}
+use Rattle.omega_label.specs.Reading.{IsOf}
+use Rattle.omega_expression.specs.Symbols.{disjunctive}
+use Rattle.omega_label.specs.Writing.{label_written}
+use Rattle.omega_formula.specs.Writing.{acc_written}
+use Rattle.omega_acc.specs.WritingLaws.{AreExpressions, WrittenFormulasAreShallowest, WrittenFormulasMean, WrittenLabelsAreShallowest, WrittenLabelsMean}
 use Rattle.omega_raw.specs.declared.raw_automaton.RawAutomaton.{RawAutomaton}
 use Rattle.omega_raw.specs.declared.raw_item.RawItem.{RawItem}
 use Rattle.omega_raw.specs.declared.raw_item.RawItem.TheVariants as item

@@ -38,7 +38,7 @@ one-step : {X : Type 0} (it : Option X) (others : List X) → cond (is_some it) 
 one-step None others = omega arith
 one-step (Some it) others = omega arith
 
--- so many items say such a thing as things are said
+-- as many items say such a thing as things are said
 count-said : {X : Type 0} (says : RawItem → Option X) (items : List RawItem) → count_by (λ item. is_some (says item)) items ≡ length (filter_map says items)
 count-said says [] = refl
 count-said says (it ∷ items) =
@@ -47,7 +47,7 @@ count-said says (it ∷ items) =
     let step = one-step (says it) (filter_map says items) in
     omega (arith, here, rest, step)
 
--- what is said once at most does not stand twice
+-- what is said once at most does not come twice
 pub not-twice : {X : Type 0} (says : RawItem → Option X) (items : List RawItem) → length (filter_map says items) ≤ 1 → stands_twice says items ≡ false
 not-twice says items few =
     let count = count-said says items in
@@ -55,7 +55,7 @@ not-twice says items few =
 
 -- ---- lists of values that are written
 
--- none passes where none does as it is written
+-- none passes if none does as it is written
 pub none-pass : {X Y : Type 0} (test : Y → Bool) (made : X → Y) (Is : X → Type 0) → ((it : X) → Is it → test (made it) ≡ false)
     → (items : List X) → AllByRecursion Is items → list_any test (map made items) ≡ false
 none-pass test made Is fails [] all = refl

@@ -1,7 +1,7 @@
 -- The symbols of an automaton before others are its symbols, and then the others.
 use Rattle.std.proofs.Common.{◌≡◌, true, false, Some, None, List, [], ◌∷◌, ◌++◌, codes, refl, ap, ◌∙◌}
 use Rattle.omega_text.specs.declared.hoa.kind.HoaKind.TheVariants as kind
-use Rattle.omega_acc.specs.declared.formula.name.Parameter.TheVariants as parameter
+use Rattle.omega_formula.specs.declared.name.Parameter.TheVariants as parameter
 use Rattle.omega_raw.specs.Grammar.{conj_row, content_row, each, edge_row, int_row, item_name, item_row, joined_row, label_row, optional_row, parameter_row, sig_row, automaton_symbols, state_row, string_row, value_row, word_row}
 use Rattle.omega_raw.specs.Symbols.{AutomatonSymbol, header, number, sign, text, word}
 use Rattle.omega_raw.specs.declared.header_value.HeaderValue.TheVariants as value

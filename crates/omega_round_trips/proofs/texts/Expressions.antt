@@ -3,12 +3,15 @@ use Rattle.std.proofs.Common.{◌≡◌, ℕ, ◌+◌, List, [], ◌∷◌, ◌+
 use Rattle.omega_text.specs.Lexeme.{Lexeme}
 use Rattle.omega_text.specs.declared.hoa.kind.HoaKind.{HoaKind}
 use Rattle.omega_text.specs.declared.hoa.kind.HoaKind.TheVariants as kind
-use Rattle.omega_acc.specs.formula.Acceptance.{AccTree}
-use Rattle.omega_acc.specs.label.Label.{LabelTree}
-use Rattle.omega_acc.specs.Symbols.{EndsThere, IsNoOperator}
-use Rattle.omega_acc.specs.Writing.{acc_text, label_text}
-use Rattle.omega_acc.specs.WritingLaws.{NumbersFit, SetsFit, StandsApart, acc_written, label_written}
-use Rattle.omega_raw.specs.private.steps.First.{FirstIs}
+use Rattle.omega_formula.specs.Acceptance.{AccTree}
+use Rattle.omega_label.specs.Label.{LabelTree}
+use Rattle.omega_expression.specs.Symbols.{EndsThere, IsNoOperator}
+use Rattle.omega_label.specs.Writing.{label_text}
+use Rattle.omega_formula.specs.Writing.{acc_text}
+use Rattle.omega_label.specs.Writing.{NumbersFit, label_written}
+use Rattle.omega_formula.specs.Writing.{SetsFit, acc_written}
+use Rattle.omega_acc.specs.WritingLaws.{StandsApart}
+use Rattle.omega_raw.specs.First.{FirstIs}
 use Rattle.omega_raw.specs.Symbols.{IsNext, Shows, ReadsSymbols, AutomatonSymbol, Tokens, alias, formula, header, label, number, sign, text, word}
 use Rattle.omega_round_trips.proofs.texts.Spelled.{IsSpelled, Known, drop-first, first-within}
 

@@ -5,13 +5,13 @@ use Rattle.std.specs.List.{AllByRecursion, flat_map}
 use Rattle.std.proofs.lemmas.List.Sums.{AllPass-from_list_all}
 use Rattle.omega_text.specs.Bytes.{is_word_byte}
 use Rattle.omega_text.specs.hoa.Forms.{IsQuotable}
-use Rattle.omega_acc.specs.formula.Acceptance.{AccTree}
-use Rattle.omega_acc.specs.Symbols.{IsNoOperator}
-use Rattle.omega_acc.specs.Writing.{acc_text}
-use Rattle.omega_acc.specs.WritingLaws.{SetsFit, acc_written}
-use Rattle.omega_acc.specs.declared.formula.name.AccName.{AccName}
+use Rattle.omega_formula.specs.Acceptance.{AccTree}
+use Rattle.omega_expression.specs.Symbols.{IsNoOperator}
+use Rattle.omega_formula.specs.Writing.{acc_text}
+use Rattle.omega_formula.specs.Writing.{SetsFit, acc_written}
+use Rattle.omega_formula.specs.declared.name.AccName.{AccName}
 use Rattle.omega_raw.specs.Grammar.{each, item_row}
-use Rattle.omega_raw.specs.private.steps.First.{FirstIs}
+use Rattle.omega_raw.specs.First.{FirstIs}
 use Rattle.omega_raw.specs.Symbols.{AutomatonSymbol}
 use Rattle.omega_raw.specs.declared.raw_item.RawItem.TheVariants as item
 use Rattle.omega_automaton.specs.declared.header.Header.{Header}

@@ -5,11 +5,11 @@ use Rattle.omega_raw.specs.Grammar.{each}
 use Rattle.omega_raw.specs.Symbols.{AutomatonSymbol}
 use Rattle.omega_round_trips.proofs.texts.Spelled.{IsSpelled}
 
--- nothing is asked of the bytes after a line
+-- the bytes after a line may be any
 abbrev pub Any : List ℕ → Type 0
 Any bytes = Unit {0}
 
--- what is asked of the bytes after a list is so of the bytes from its first part on
+-- what is required of the bytes after a list holds of the bytes from its first part on
 pub each-following : {X : Type 0} (part : X → List ℕ) (May : List ℕ → Type 0) → ((it : X) (following : List ℕ) → May following → May (part it ++ following))
     → (items : List X) (following : List ℕ) → May following → May (flat_map part items ++ following)
 each-following part May keeps [] following may = may

@@ -4,11 +4,12 @@ use Rattle.std.specs.Prelude.{IfSome}
 use Rattle.std.specs.List.{AllByRecursion, flat_map}
 use Rattle.omega_text.specs.declared.hoa.kind.HoaKind.TheVariants as kind
 use Rattle.omega_text.specs.hoa.Forms.{IsQuotable}
-use Rattle.omega_acc.specs.label.Label.{LabelTree}
-use Rattle.omega_acc.specs.Writing.{label_text}
-use Rattle.omega_acc.specs.WritingLaws.{NumbersFit, StandsApart, label_written}
-use Rattle.omega_acc.specs.declared.formula.name.Parameter.{Parameter}
-use Rattle.omega_acc.specs.declared.formula.name.Parameter.TheVariants as parameter
+use Rattle.omega_label.specs.Label.{LabelTree}
+use Rattle.omega_label.specs.Writing.{label_text}
+use Rattle.omega_label.specs.Writing.{NumbersFit, label_written}
+use Rattle.omega_acc.specs.WritingLaws.{StandsApart}
+use Rattle.omega_formula.specs.declared.name.Parameter.{Parameter}
+use Rattle.omega_formula.specs.declared.name.Parameter.TheVariants as parameter
 use Rattle.omega_raw.specs.Grammar.{conj_row, each, int_row, joined_row, label_row, optional_row, parameter_row, sig_row, string_row, value_row, word_row}
 use Rattle.omega_raw.specs.Symbols.{AutomatonSymbol, sign}
 use Rattle.omega_raw.specs.declared.header_value.HeaderValue.{HeaderValue}
@@ -21,7 +22,7 @@ use Rattle.omega_round_trips.proofs.texts.Expressions.{label-spelled}
 use Rattle.omega_round_trips.proofs.texts.Lists.{each-following, each-spelled}
 use Rattle.omega_round_trips.proofs.texts.Spelled.{IsSpelled, Known, number-spelled, sign-spelled, space-spelled, string-spelled, truth-spelled, word-spelled}
 
--- ---- what stands apart
+-- ---- what is set apart
 
 pub apart-space : (following : List ℕ) → StandsApart (32 ∷ following)
 apart-space following = record { ends = refl; closes = λ is. omega (arith, is) }
@@ -48,7 +49,7 @@ pub apart-marks : (marks : List ℕ) (following : List ℕ) → StandsApart foll
 apart-marks [] following apart = apart
 apart-marks (first ∷ others) following apart = apart-space _
 
--- a spaced part, wherever it stands
+-- a spaced part, at any place
 apart-spaced : (part following : List ℕ) → StandsApart following → StandsApart (spaced part ++ following)
 apart-spaced part following apart = apart-space _
 

@@ -16,7 +16,7 @@ use Rattle.omega_text.specs.hoa.Format.{hoa_format}
 use Rattle.omega_text.specs.hoa.Forms.{IsForm, IsQuotable}
 use Rattle.omega_text.specs.hoa.Forms as forms
 use Rattle.omega_text.specs.hoa.Laws.{ClosedAreLongest, NumbersAreLongest, NumbersArePlain, WordsAreLongest}
-use Rattle.omega_acc.specs.Writing.{truth_text}
+use Rattle.omega_expression.specs.Writing.{truth_text}
 use Rattle.omega_acc.specs.WritingLaws.{AccTextsAreFormulas, LabelTextsAreLabels, StandsApart, WrittenFormulasMean, WrittenLabelsMean}
 use Rattle.omega_raw.specs.Grammar.{boolean_row}
 use Rattle.omega_raw.specs.Symbols.{ReadsSymbol, ReadsSymbols, AutomatonSymbol, Tokens, header, number, sign, text, without_last, word}
@@ -148,7 +148,7 @@ token-spelled symbol sort value bytes following others spells longest begins spe
       };
 }
 
--- where neither holds the first does not
+-- if neither holds the first does not
 pub or-left : (a b : Bool) → (a || b) ≡ false → a ≡ false
 or-left false b is = refl
 or-left true b is = is

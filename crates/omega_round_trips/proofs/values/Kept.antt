@@ -4,11 +4,12 @@ use Rattle.std.specs.Prelude.{IfSome, slice_get, unwrap_or}
 use Rattle.std.specs.List.{AllByRecursion, AllZip, cons_option, filter_map, flat_map}
 use Rattle.std.proofs.lemmas.List.Elements.{recursion_from_All}
 use Rattle.omega_text.specs.hoa.Forms.{IsQuotable}
-use Rattle.omega_acc.specs.formula.Acceptance.{AccTree}
-use Rattle.omega_acc.specs.formula.Acceptance as acc
-use Rattle.omega_acc.specs.label.Expanding.{Defined}
-use Rattle.omega_acc.specs.label.Label.{LabelTree, conjunction, constant, disjunction, negation, proposition, propositions}
-use Rattle.omega_acc.specs.WritingLaws.{NumbersFit, SetsFit}
+use Rattle.omega_formula.specs.Acceptance.{AccTree}
+use Rattle.omega_formula.specs.Acceptance as acc
+use Rattle.omega_label.specs.Expanding.{Defined}
+use Rattle.omega_label.specs.Label.{LabelTree, conjunction, constant, disjunction, negation, proposition, propositions}
+use Rattle.omega_label.specs.Writing.{NumbersFit}
+use Rattle.omega_formula.specs.Writing.{SetsFit}
 use Rattle.omega_raw.specs.Grammar.{IsRawItem}
 use Rattle.omega_raw.specs.declared.raw_automaton.RawAutomaton.{RawAutomaton}
 use Rattle.omega_raw.specs.declared.raw_item.RawItem.{RawItem}
@@ -45,7 +46,7 @@ cons-kept : {X : Type 0} (Such : X → Type 0) (it : Option X) (others : List X)
 cons-kept Such None others is all = all
 cons-kept Such (Some it) others is all = (is, all)
 
--- what items say is such where each item says such a thing
+-- what items say is such if each item says such a thing
 pub filtered : {X Y : Type 0} (says : X → Option Y) (Is : X → Type 0) (Such : Y → Type 0) → ((it : X) → Is it → IfSome (says it) Such)
     → (items : List X) → AllByRecursion Is items → AllByRecursion Such (filter_map says items)
 filtered says Is Such then [] all = tt

@@ -1,4 +1,4 @@
--- What the symbols of tokens say: numbers that fit, words, strings that can stand between quotes, expressions.
+-- What the symbols of tokens say: numbers that fit, words, strings that can be put between quotes, expressions.
 use Rattle.std.proofs.Common.{◌≡◌, ℕ, List, [], ◌∷◌, ◌++◌, length-append, ap, sym, ◌∙◌, subst, arith}
 use Rattle.std.specs.List.{AllByRecursion}
 use Rattle.std.proofs.lemmas.List.{take_at}
@@ -8,9 +8,9 @@ use Rattle.omega_text.specs.declared.hoa.kind.HoaKind.{HoaKind}
 use Rattle.omega_text.specs.declared.hoa.kind.HoaKind.TheVariants as kind
 use Rattle.omega_text.specs.hoa.Forms.{IsForm, IsQuotable}
 use Rattle.omega_text.specs.hoa.Forms as forms
-use Rattle.omega_acc.specs.formula.Reading.{IsAccOf}
-use Rattle.omega_acc.specs.label.Reading.{IsOf}
-use Rattle.omega_acc.specs.Symbols.{disjunctive}
+use Rattle.omega_formula.specs.Reading.{IsAccOf}
+use Rattle.omega_label.specs.Reading.{IsOf}
+use Rattle.omega_expression.specs.Symbols.{disjunctive}
 use Rattle.omega_raw.specs.Symbols.{IsNext, Shows, ReadsSymbols, AutomatonSymbol, Tokens, alias, formula, header, label, number, sign, text, without_last, word}
 use Rattle.omega_round_trips.specs.Writable.{IsWritableNumber, IsIdentifier}
 

@@ -1,4 +1,4 @@
--- What stands between a command and its answer: cited by private contracts alone.
+-- The steps between a command and its answer: cited by private contracts alone.
 pub mod Beside
 pub mod Kinds
 pub mod Telling

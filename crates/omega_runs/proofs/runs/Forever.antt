@@ -2,7 +2,7 @@
 use Rattle.std.proofs.Common.{◌≡◌, ℕ, zero, suc, ◌≤◌, inl, inr, Bool, true, false, ◌||◌, List, [], ◌∷◌, length, map, sym, ap, refl, ◌∙◌, arith}
 use Rattle.std.specs.List.{list_any}
 use Rattle.std.proofs.lemmas.Bool.{and_parts, or_cases, or_parts, not-true}
-use Rattle.omega_acc.specs.formula.Acceptance.{AccTree, accepts, conjunction, constant, disjunction, fin, inf, occurs}
+use Rattle.omega_formula.specs.Acceptance.{AccTree, accepts, conjunction, constant, disjunction, fin, inf, occurs}
 use Rattle.omega_walk_laws.specs.Marks.{meets}
 use Rattle.omega_runs.specs.Runs.{Satisfies}
 

@@ -1,13 +1,13 @@
--- Segments of an infinite run: where one holds what every `Inf` asks for, and begins late enough for every `Fin`,
--- it is accepted.
+-- Segments of an infinite run. A segment is accepted if it has what every `Inf` needs and begins late enough for every
+-- `Fin`.
 use Rattle.std.proofs.Common.{◌≡◌, ℕ, zero, suc, ◌+◌, ◌<◌, ◌≤◌, inl, inr, Bool, true, false, List, [], ◌∷◌, max, sym, ap, refl, ◌∙◌, arith}
 use Rattle.std.proofs.lemmas.Bool.{and_from, or_left, or_right, or_from, not_from_false, cases_lt}
-use Rattle.omega_acc.specs.formula.Acceptance.{AccTree, accepts, conjunction, constant, disjunction, fin, inf, holds, occurs}
+use Rattle.omega_formula.specs.Acceptance.{AccTree, accepts, conjunction, constant, disjunction, fin, inf, holds, occurs}
 use Rattle.omega_walk_laws.specs.Marks.{meets}
 use Rattle.omega_runs.specs.Runs.{Satisfies}
 
 module _ (marks : ℕ → List ℕ) where
-  -- so many marks from an index on
+  -- `n` marks from an index on
   abbrev pub segment : ℕ → ℕ → List (List ℕ)
   segment i zero = []
   segment i (suc n) = marks i ∷ segment (suc i) n

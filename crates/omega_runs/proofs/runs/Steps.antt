@@ -2,7 +2,7 @@
 use Rattle.std.proofs.Common.{◌≡◌, ℕ, zero, suc, ◌+◌, ◌-◌, ◌<◌, ◌≤◌, true, List, [], ◌∷◌, length, map, max, Some, sym, ap, refl, ◌∙◌, subst, arith, add-one, le_refl, inl, inr}
 use Rattle.std.proofs.lemmas.Bool.{cases_lt}
 use Rattle.std.proofs.lemmas.Option.{slice_get_within}
-use Rattle.omega_acc.specs.formula.Acceptance.{accepts}
+use Rattle.omega_formula.specs.Acceptance.{accepts}
 use Rattle.omega_automaton.specs.Automaton.{BodyEdge, Description, edge_at, edge_count, edges_of}
 use Rattle.omega_runs.proofs.Repeats.{Repeats, repeats}
 use Rattle.omega_runs.specs.Lasso.{IsAcceptingLasso, IsStart, IsStep, Leads, marks_at}
@@ -10,7 +10,7 @@ use Rattle.omega_runs.specs.Runs.{AcceptingRunsHaveLassos, IsAcceptingRun, Lasso
 use Rattle.omega_runs.proofs.runs.Forever.{ever, ever_satisfies}
 use Rattle.omega_runs.proofs.runs.Segments.{enough, segment, segment_accepts, settled}
 
--- the edges of a run, so many from an index on
+-- `n` edges of a run from an index on
 abbrev stretch : (ℕ → ℕ) → ℕ → ℕ → List ℕ
 stretch edges i zero = []
 stretch edges i (suc n) = edges i ∷ stretch edges (suc i) n
@@ -37,7 +37,7 @@ one_source a s t n m u v same first second =
     some_same : (x y : BodyEdge) → Some x ≡ Some y → x ≡ y
     some_same x y e = cc
 
--- so many edges are some
+-- a stretch of at least one edge is not empty
 stretch_longer : (edges : ℕ → ℕ) (i n : ℕ) → 0 < n → 0 < length (stretch edges i n)
 stretch_longer edges i zero some = some
 stretch_longer edges i (suc n) some = omega arith
@@ -46,7 +46,7 @@ module _ (a : Description) (states edges : ℕ → ℕ) (run : IsAcceptingRun a 
   abbrev marks : ℕ → List ℕ
   marks i = marks_at a (edges i)
 
-  -- where the run is cut: each segment holds all that comes for ever, after all that at last comes never
+  -- the indices at which the run is cut: each segment has all that comes for ever, after all that at last comes never
   abbrev cut : ℕ → ℕ
   cut zero = settled marks a.acceptance run.accepted
   cut (suc k) = max (suc (cut k)) (enough marks a.acceptance run.accepted (cut k))

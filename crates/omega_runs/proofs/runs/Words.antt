@@ -1,15 +1,15 @@
 -- The word of a run: at each index, propositions that make the label of the run's edge true, or its valuation.
 use Rattle.std.proofs.Common.{ℕ, Bool, Option, None, Some, refl}
 use Rattle.std.specs.Option.{IfSome}
-use Rattle.omega_acc.specs.label.Label.{LabelTree}
-use Rattle.omega_acc.specs.label.Satisfiable.{IsSatisfiable}
+use Rattle.omega_label.specs.Label.{LabelTree}
+use Rattle.omega_satisfying.specs.Satisfiable.{IsSatisfiable}
 use Rattle.omega_automaton.specs.Automaton.{Description}
 use Rattle.omega_runs.specs.Lasso.{label_of}
 use Rattle.omega_runs.specs.Runs.{IsAcceptingRun}
 use Rattle.omega_runs.specs.Words.{AcceptedWordsHaveLassos, AcceptingRunsHaveWords, Allows, IsAccepted, LassosHaveAcceptedWords, has_bit, index_in}
 use Rattle.omega_runs.proofs.runs.Steps.{accepting_runs_have_lassos, lassos_are_accepting_runs}
 
--- propositions that make a label true that can be true, and the valuation of the edge where there is no label
+-- propositions that make a satisfiable label true, or without a label the valuation of the edge
 pub held_by : (a : Description) (number : ℕ) (label : Option LabelTree) → IfSome label IsSatisfiable → (held : ℕ → Bool) × Allows a number label held
 held_by a number None usable = (has_bit (index_in a.defined number), λ p below. refl)
 held_by a number (Some label) usable = usable

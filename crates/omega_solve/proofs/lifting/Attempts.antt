@@ -7,10 +7,10 @@ use Rattle.std.proofs.lemmas.List.{length-replicate}
 use Rattle.std.proofs.lemmas.List.Concat.{length-flat_map}
 use Rattle.std.proofs.lemmas.List.Elements.{All-nil, All-cons, Contains-get_or}
 use Rattle.std.proofs.lemmas.List.Sums.{count_by-le-length, sum_by-cons, sum_by-le}
-use Rattle.omega_game.specs.declared.player.Player.{Player}
-use Rattle.omega_game.specs.Bound.{product_of}
-use Rattle.omega_game.specs.Game.{Node, IsGame, successor_count, listed_times, no_node, priorities, successors_at}
-use Rattle.omega_game.specs.Limits.{most_successors}
+use Rattle.omega_parity_game.specs.declared.player.Player.{Player}
+use Rattle.omega_parity_game.specs.Bound.{product_of}
+use Rattle.omega_parity_game.specs.Game.{Node, IsGame, successor_count, listed_times, no_node, priorities, successors_at}
+use Rattle.omega_parity_game.specs.Limits.{most_successors}
 use Rattle.omega_lift_laws.specs.Measure.{Measure}
 use Rattle.omega_lift_laws.specs.Run.{IsLiftingRun, zero_table}
 use Rattle.omega_lift_laws.specs.Laws.{PlacesAreLiftedBoundedly}
@@ -46,7 +46,7 @@ sum_by-ones : (xs : List ℕ) → sum_by (λ (x : ℕ). 1) xs ≡ length xs
 sum_by-ones [] = refl
 sum_by-ones (x ∷ xs) = omega (arith, sum_by-cons (λ (x : ℕ). 1) x xs, sum_by-ones xs)
 
--- each number of a list below n stands somewhere below n
+-- each number of a list below n has a place below n
 length_is_times : (n : ℕ) (xs : List ℕ) → All (λ x. x < n) xs → total (λ v. times_in xs v) n ≡ length xs
 length_is_times n xs all =
     total_same (λ v. times_in xs v) (λ v. times_in xs v * 1) n (λ v _. omega arith)

@@ -7,8 +7,8 @@ use Rattle.std.specs.declared.cmp.Ordering.TheVariants.{Greater, Less}
 use Rattle.std.proofs.lemmas.Cmp.{on_total}
 use Rattle.std.proofs.lemmas.Bool.{false≢true}
 use Rattle.std.proofs.lemmas.List.{get_or-map, length-map}
-use Rattle.omega_game.specs.declared.player.Player.{Player}
-use Rattle.omega_game.specs.Game.{Node, IsGame, HasEdge, no_node, owner_at, priorities, priority_at, successors_at}
+use Rattle.omega_parity_game.specs.declared.player.Player.{Player}
+use Rattle.omega_parity_game.specs.Game.{Node, IsGame, HasEdge, no_node, owner_at, priorities, priority_at, successors_at}
 use Rattle.omega_lift_laws.specs.Measure.{Measure, IsAbove, IsAtMost, compare_from, entries_from}
 use Rattle.omega_lift_laws.specs.Allowance.{IsAllowance, IsAllowanceOf, IsLiftValue, measure_at}
 use Rattle.omega_lift_laws.specs.Run.{IsDue}
@@ -70,7 +70,7 @@ order_of : (nodes : List Node) (player : Player) (content : Content) (p u w : �
 order_of nodes player content p u w r table h =
     moved (λ (s : Player) (q : List ℕ). compare_from s q p (measure_at content.measures u) (measure_at content.measures w) ≡ r) nodes player content table h
 
--- where a lift value is at most the allowance towards a successor, and that does not exceed the measure, no lift is due
+-- if a lift value is at most the allowance towards a successor, and that does not exceed the measure, no lift is due
 pub not_due : (nodes : List Node) (player : Player) (content : Content) (v w : ℕ)
     → IsTableOf nodes player content → v < length nodes → w < length content.measures → MeasuresAreOrdered → AllowancesExist
     → ((x y : Measure) → IsLiftValue nodes player content.measures v x → IsAllowanceOf nodes player content.measures v w y → IsAtMost x y)
@@ -195,8 +195,8 @@ below_top None None other some = absurd (false≢true some)
 below_top None (Some ys) other some = absurd (other refl)
 below_top (Some xs) y other some = refl
 
--- where no lift is due at the player's own place that is below top,
--- the first least successor is its first of least allowance
+-- if no lift is due at the player's own place that is below top, the first least successor is its first of least
+-- allowance
 pub first_least : (nodes : List Node) (player : Player) (content : Content) (v w : ℕ)
     → IsGame nodes → IsTableOf nodes player content → length content.measures ≡ length nodes → MeasuresAreOrdered
     → AllowancesExist → AllowancesAreMonotone → AllowancesAreStrict

@@ -1,4 +1,4 @@
--- What follows from what a solver keeps: where no place is pending, and of the numbers of takes and lifts.
+-- What follows from what a solver keeps: if no place is pending, and for the numbers of takes and lifts.
 use Rattle.std.proofs.Common.{ℕ, ◌^◌, ◌+◌, ◌-◌, ◌<◌, ◌≤◌, true, false, Option, Some, None, length, sym, ◌∙◌, arith}
 use Rattle.std.specs.Option.{MatchOption}
 use Rattle.std.proofs.lemmas.Bool.{false≢true}
@@ -11,14 +11,14 @@ use Rattle.omega_solve.specs.private.solving.Progress.{IsSolving}
 use Rattle.omega_solve.proofs.lifting.Attempts.{in_degrees_bounded, in_degrees_fits}
 use Rattle.omega_solve.proofs.schedules.Flags.{pending_inside, waits_none}
 
--- where no place is pending, no lift is due
+-- if no place is pending, no lift is due
 pub finished_idle : (state : SolverState) → IsSolving state → IsIdle state.pending → IsFinished state
 finished_idle state s idle v lt due =
     let waiting = s.due v due in
     let not_waiting = idle v (pending_inside state.pending v waiting) in
     false≢true (same_Some false true (sym not_waiting ∙ waiting))
 
--- what a look tells of the game
+-- what a look shows of the game
 pub looked : (state : SolverState) (look : Option ℕ) → IsSolving state → MatchOption look (IsIdle state.pending) (IsPending state.pending)
     → MatchOption look (IsFinished state) (λ place. place < length state.nodes)
 looked state None s idle = finished_idle state s idle

@@ -25,7 +25,7 @@ first_best_one order wanted xs x o ne at = record {
   first = λ j u lt at_u. absurd (omega arith);
 }
 
--- the first best stays so where the next element does not compare to it as wanted
+-- the first best stays so if the next element does not compare to it as wanted
 pub first_best_same : (order : ℕ → ℕ → Ordering) (wanted : Ordering) (xs : List ℕ) (i x u : ℕ)
     → IsFirstBest order wanted xs i x → slice_get xs i ≡ Some u → order u x ≢ wanted → IsFirstBest order wanted xs (i + 1) x
 first_best_same order wanted xs i x u b at other = record {
@@ -39,7 +39,7 @@ first_best_same order wanted xs i x u b at other = record {
   first = b.first;
 }
 
--- and the next element is the first best where it does
+-- and the next element is the first best if it does
 pub first_best_more : (order : ℕ → ℕ → Ordering) (wanted : Ordering) (xs : List ℕ) (i x u : ℕ)
     → IsTotalOrder order → wanted ≢ Equal
     → IsFirstBest order wanted xs i x → slice_get xs i ≡ Some u → order u x ≡ wanted → IsFirstBest order wanted xs (i + 1) u

@@ -7,9 +7,9 @@ use Rattle.std.proofs.lemmas.List.{get_or-set_other, get_or-set_same, get_or_def
 use Rattle.std.proofs.lemmas.List.Folds.{sum_by-replicate}
 use Rattle.std.proofs.lemmas.List.Sums.{count_by-le-length, sum_by-append, sum_by-cons}
 use Rattle.std.proofs.Math.Nat.{mul-le-mul_left}
-use Rattle.omega_game.specs.declared.player.Player.{Player}
-use Rattle.omega_game.specs.declared.player.Player.TheVariants.{One, Zero}
-use Rattle.omega_game.specs.Game.{Node, HasEdge, owner_at, predecessors_of, priorities, priority_at, successors_at}
+use Rattle.omega_parity_game.specs.declared.player.Player.{Player}
+use Rattle.omega_parity_game.specs.declared.player.Player.TheVariants.{One, Zero}
+use Rattle.omega_parity_game.specs.Game.{Node, HasEdge, owner_at, predecessors_of, priorities, priority_at, successors_at}
 use Rattle.omega_lift_laws.specs.Measure.{Measure, IsAbove}
 use Rattle.omega_lift_laws.specs.Allowance.{IsAllowance, IsAllowanceOf, IsLiftValue, measure_at}
 use Rattle.omega_lift_laws.specs.Run.{IsDue, IsLiftingRun, IsTable, Lifts}
@@ -36,7 +36,7 @@ run_more nodes player old table [] v x same lt lifts =
 run_more nodes player old table (u ∷ us) v x lifted lt lifts =
     (lifted.0, lifted.1, lifted.2, run_more nodes player (set old u lifted.0) table us v x lifted.3 lt lifts)
 
--- a lift value stays one where the measures of the successors are the same
+-- a lift value stays one if the measures of the successors are the same
 value_kept : (nodes : List Node) (player : Player) (table other : List Measure) (u : ℕ) (y : Measure)
     → ((w : ℕ) → HasEdge nodes u w → measure_at other w ≡ measure_at table w)
     → IsLiftValue nodes player other u y → IsLiftValue nodes player table u y
@@ -56,7 +56,7 @@ value_kept nodes player table other u y same value = record {
         → IsAllowanceOf nodes player table u w z → IsAllowanceOf nodes player other u w z
     moved_back w z e h = subst (λ (m : Measure). IsAllowance player (priorities nodes) (priority_at nodes u) m z) (sym e) h
 
--- lifting v changes no measure of a place's successors, if v is none of them
+-- lifting v changes no measure of a place's successors, if v is not one of them
 others_kept : (nodes : List Node) (table : List Measure) (u v : ℕ) (x : Measure) → ¬ HasEdge nodes u v
     → (w : ℕ) → HasEdge nodes u w → measure_at (set table v x) w ≡ measure_at table w
 others_kept nodes table u v x apart w edge =
@@ -95,7 +95,7 @@ not_due_again nodes player table v x apart lt lifts due =
       | inr other ↦ lifts.value.greatest other value.successor due.0 value.listed value.allowance above
     ]
 
--- a place where a lift is due is below top
+-- a place at which a lift is due is below top
 due_below_top : (x y : Measure) → IsAbove x y → IsSome y
 due_below_top None None above = absurd (let e = above in cc)
 due_below_top (Some xs) None above = absurd (let e = above in cc)
@@ -113,7 +113,7 @@ run_nowhere : (nodes : List Node) (player : Player) (old new : List Measure) (v 
     → IsLiftingRun nodes player old (replicate count v) new → old ≡ new
 run_nowhere nodes player old new v count none lifted = subst (λ (n : ℕ). IsLiftingRun nodes player old (replicate n v) new) none lifted
 
--- after lifts of v, and with its predecessors woken, each place where a lift is due is pending
+-- after lifts of v, and with its predecessors woken, each place at which a lift is due is pending
 pub due_pending : (nodes : List Node) (player : Player) (table other : List Measure) (old again new : Pending) (v count : ℕ) (x : Measure)
     → v < length table → Lifts nodes player table v x
     → IsLiftingRun nodes player (set table v x) (replicate count v) other → (0 < count → HasEdge nodes v v)
@@ -148,7 +148,7 @@ due_pending nodes player table other old again new v count x lt lifts more loope
       ]
     ]
 
--- where a lift is due towards w, the allowance towards w exceeds the measure
+-- if a lift is due towards w, the allowance towards w exceeds the measure
 pub due_exceeds : (nodes : List Node) (player : Player) (content : Content) (v w : ℕ) → IsTableOf nodes player content
     → IsDueTowards nodes player content.measures v w → Exceeds content v w
 due_exceeds nodes player content v w table due = record {
@@ -252,7 +252,7 @@ solving_lifted state v w count new content again pending unique s due waiting ro
       below = omega (arith, s.below, wakes.taken, more.taken);
     }
 
--- and so many lifts were made
+-- and this many lifts were made
 pub some_lifted : (state : SolverState) (v w most count : ℕ) (new content : Content) (again pending : Pending)
     → AllowancesAreUnique → IsSolving state → IsDueTowards state.nodes state.player state.table.measures v w
     → Raises state.table v w new → count ≤ most - 1 → 0 < most
@@ -283,7 +283,7 @@ some_lifted state v w most count new content again pending unique s due raises f
   );
 }
 
--- what a solver keeps holds after the take of a place where no lift is due
+-- what a solver keeps holds after the take of a place at which no lift is due
 pub solving_settled : (state : SolverState) (v : ℕ) (pending : Pending) → IsSolving state → IsPending state.pending v
     → ¬ IsDue state.nodes state.player state.table.measures v → pending ≡ with_taken state.pending v
     → IsSolving (record { nodes = state.nodes; player = state.player; table = state.table; pending = pending; lifts = state.lifts; done = state.done })

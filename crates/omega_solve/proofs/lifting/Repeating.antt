@@ -2,8 +2,8 @@
 use Rattle.std.proofs.Common.{inl, inr, ◌≡◌, ℕ, ◌+◌, List, arith, refl, ap, ◌∙◌, replicate, subst}
 use Rattle.std.proofs.lemmas.Bool.{cases_lt}
 use Rattle.std.proofs.lemmas.List.{replicate-append-replicate}
-use Rattle.omega_game.specs.declared.player.Player.{Player}
-use Rattle.omega_game.specs.Game.{Node, HasEdge}
+use Rattle.omega_parity_game.specs.declared.player.Player.{Player}
+use Rattle.omega_parity_game.specs.Game.{Node, HasEdge}
 use Rattle.omega_lift_laws.specs.Run.{IsLiftingRun}
 use Rattle.omega_lift_laws.specs.Laws.{AllowancesAreUnique, RunsKeepTables}
 use Rattle.omega_measure.specs.Table.{Content, Raises}

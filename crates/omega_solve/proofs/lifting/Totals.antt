@@ -91,11 +91,11 @@ total_at f x (suc n) lt = elim (cases_eq x n) [
   | inr ne ↦ let below : x < n = omega arith in omega (arith, total_at f x n below, at_other f x n ne)
 ]
 
--- how often a number stands in a list
+-- how often a number occurs in a list
 abbrev pub times_in : List ℕ → ℕ → ℕ
 times_in xs k = count_by (λ x. x == k) xs
 
--- a sum over a list of numbers below n counts each of them as often as it stands there
+-- a sum over a list of numbers below n counts each of them as often as it occurs there
 pub sum_by-times : (f : ℕ → ℕ) (n : ℕ) (xs : List ℕ) → All (λ x. x < n) xs → sum_by f xs ≡ total (λ k. times_in xs k * f k) n
 sum_by-times f n [] all = sym (total_same (λ k. 0 * f k) (λ k. 0) n (λ k lt. omega arith) ∙ total_zero n)
 sum_by-times f n (x ∷ xs) all =

@@ -4,9 +4,9 @@ use Rattle.std.proofs.lemmas.Bool.{cases_Bool, false≢true}
 use Rattle.std.proofs.lemmas.List.{length-append, length_push, length-map}
 use Rattle.std.proofs.lemmas.List.Sums.{sum_by-cons}
 use Rattle.std.proofs.Math.Nat.{mul-pos}
-use Rattle.omega_game.specs.declared.player.Player.{Player}
-use Rattle.omega_game.specs.Game.{Node, IsGame, priorities}
-use Rattle.omega_game.specs.Bound.{occurrences, bound_of, losing_priorities, product}
+use Rattle.omega_parity_game.specs.declared.player.Player.{Player}
+use Rattle.omega_parity_game.specs.Game.{Node, IsGame, priorities}
+use Rattle.omega_parity_game.specs.Bound.{occurrences, bound_of, losing_priorities, product}
 use Rattle.omega_lift_laws.specs.Measure.{Measure}
 use Rattle.omega_lift_laws.specs.Run.{IsDue, IsLiftingRun, zero_table}
 use Rattle.omega_lift_laws.specs.Laws.{RunsAreBounded}
@@ -97,13 +97,13 @@ pub deals_keep_player : (old new : SolverState) (budgets : List ℕ) → DealsOu
 deals_keep_player old new [] same = ap (λ (s : SolverState). s.player) (sym same)
 deals_keep_player old new (budget ∷ budgets) dealt = deals_keep_player dealt.0 new budgets dealt.2 ∙ dealt.1.same_player
 
--- where they are done, no lift is due
+-- if they are done, no lift is due
 pub deals_finish : (old new : SolverState) (budgets : List ℕ) → (old.done ≡ true → IsFinished old) → DealsOut old budgets new
     → new.done ≡ true → IsFinished new
 deals_finish old new [] before same = subst (λ (s : SolverState). s.done ≡ true → IsFinished s) same before
 deals_finish old new (budget ∷ budgets) before dealt = deals_finish dealt.0 new budgets dealt.1.done dealt.2
 
--- where no lift is due, none is due after a call
+-- if no lift is due, none is due after a call
 none_due : (old new : SolverState) (places : List ℕ) (v : ℕ) → IsFinished old → new.nodes ≡ old.nodes → new.player ≡ old.player
     → IsLiftingRun old.nodes old.player old.table.measures places new.table.measures
     → ¬ IsDue new.nodes new.player new.table.measures v
@@ -172,7 +172,7 @@ bound_some nodes player game =
     let some : 0 < length (priorities nodes) = omega (arith, game.inhabited, length-map nodes (λ (node : Node). node.priority)) in
     mul-pos some (product_some (occurrences (priorities nodes)) (losing_priorities player (priorities nodes)))
 
--- where a lift is due, the lifts so far are below the bound
+-- if a lift is due, the lifts so far are below the bound
 lifts_below : (solver : SolverState) → RunsAreBounded → IsReached solver → HasLiftDue solver
     → solver.lifts < bound_of solver.player (priorities solver.nodes)
 lifts_below solver bounded reached due =

@@ -108,7 +108,7 @@ none_counted (false ∷ flags) idle =
 pub waits_none : (pending : Pending) → IsIdle pending → waits pending ≡ 0
 waits_none pending idle = none_counted pending.flags idle
 
--- what a read of a flag tells
+-- what a read of a flag shows
 pub not_pending : (flags : List Bool) (v : ℕ) (b : Bool) → v < length flags → b ≡ get_or flags v b → b ≡ false → slice_get flags v ≡ Some false
 not_pending flags v b lt read e = slice_get_read flags (length flags) v b refl lt read ∙ ap Some e
 

@@ -20,7 +20,7 @@ map_same f g (x ∷ xs) same =
     let rest : map f xs ≡ map g xs = map_same f g xs (λ k lt. same (suc k) (omega arith)) in
     cc
 
--- where they agree on all but one, one entry is replaced
+-- if they agree on all but one, one entry is replaced
 map_other : (f g : ℕ → Bool) (xs : List ℕ) (i : ℕ) (b : Bool) → i < length xs → f (get_or xs i 0) ≡ b
     → ((k : ℕ) → k < length xs → k ≢ i → f (get_or xs k 0) ≡ g (get_or xs k 0))
     → map f xs ≡ set (map g xs) i b
@@ -34,7 +34,7 @@ map_other f g (x ∷ xs) (suc i) b lt here others =
     map_other f g xs i b (omega arith) here (λ k inside ne. others (suc k) (omega arith) (λ e. ne (omega (arith, e)))) in
     cc
 
--- a function that holds of each element maps a list to so many times yes
+-- a function that holds of each element maps a list to as many times yes
 map_all : (f : ℕ → Bool) (xs : List ℕ) → ((k : ℕ) → k < length xs → f (get_or xs k 0) ≡ true) → map f xs ≡ replicate (length xs) true
 map_all f [] all = refl
 map_all f (x ∷ xs) all =
@@ -86,14 +86,14 @@ position_pending positions places words taken v inverse at =
     let same : slice_index positions v ≡ position = subst (λ (u : ℕ). slice_index positions u ≡ position) at.1.2 back.1 in
     flag_at positions words v inside ∙ (ap (λ (r : ℕ). Some (is_set words r)) same ∙ ap Some at.1.1)
 
--- where no bit is set, no place is pending
+-- if no bit is set, no place is pending
 pub empty_idle : (positions places words : List ℕ) (taken : ℕ) → AreInverse positions places → IsEmpty places words
     → IsIdle (record { flags = flags_of positions words; taken = taken })
 empty_idle positions places words taken inverse empty v lt =
     let inside : v < length positions = omega (arith, length-map positions (is_set words)) in
     flag_at positions words v inside ∙ ap Some (empty (slice_index positions v) (inverse.positioned v inside).0)
 
--- what is found where all positions were looked at
+-- what is found if all positions were looked at
 pub found_pending : (positions places words : List ℕ) (taken : ℕ) (found : Option ℕ) → AreInverse positions places
     → MatchOption found (IsEmpty places words) (IsSomePosition places words)
     → MatchOption found (IsIdle (record { flags = flags_of positions words; taken = taken })) (IsPending (record { flags = flags_of positions words; taken = taken }))

@@ -38,7 +38,7 @@ slot_apart n first j k le in_j in_k ne same = elim (cases_lt j (n - first)) [
   ]
 ]
 
--- the first slot of what is left, where the first one is taken off
+-- the first slot of what is left if the first one is taken off
 next_first : (n first : ℕ) → first ≤ n → 0 < n → slot_of n first 1 ≤ n
 next_first n first le some = elim (cases_lt 1 (n - first)) [
   | inl low ↦ omega (arith, slot_low n first 1 low)

@@ -51,7 +51,7 @@ CutFrom {Kind} format source from = ((lexemes : List (Lexeme Kind)) × (to : ℕ
     ⊎ ((lexemes : List (Lexeme Kind)) × (to : ℕ) × (fault : TextFault) × Cuts format source from lexemes to × format.faults source to fault)
 
 module _ {Kind : Type 0} (format : TextFormat Kind) (exact : GoesOneWay format) where
-  -- where a token follows, a longer text is left than after it
+  -- if a token follows, a longer text is left than after it
   shorter : (left : ℕ) (source : List ℕ) (from : ℕ) (lexeme : Lexeme Kind) → format.follows source from lexeme → length source ≤ from + suc left
       → (lexeme.span.end ≤ length source) × (length source ≤ lexeme.span.end + left)
   shorter left source from lexeme follows all =

@@ -31,7 +31,7 @@ module _ {Kind : Type 0} (format : TextFormat Kind) (source : List ℕ) where
         first.following.cuts first.following.rest second.following.cuts second.following.rest).0 in
         first.split ∙ ap (λ others. token ∷ others) same ∙ sym second.split
 
-    -- where a token follows, it is the first of the rest
+    -- if a token follows, it is the first of the rest
     rest_first : (at : ℕ) (token : Lexeme Kind) (lexemes : List (Lexeme Kind)) → format.follows source at token → token.span.end ≤ length source
         → IsRestOfText format source at lexemes → IsAllLeft format source (Some token) lexemes
     rest_first at token [] follows within rest = absurd (exact.no_token_at_end source at token follows (subst (format.ends source) (sym rest.cuts) rest.rest))
@@ -45,12 +45,12 @@ module _ {Kind : Type 0} (format : TextFormat Kind) (source : List ℕ) where
         } in
         record { are_left = left; only = λ more again. left_once (Some token) (lexeme ∷ others) more left again }
 
-    -- where nothing more follows, the rest is empty
+    -- if nothing more follows, the rest is empty
     rest_none : (at : ℕ) (lexemes : List (Lexeme Kind)) → format.ends source at → IsRestOfText format source at lexemes → IsAllLeft format source None lexemes
     rest_none at [] ends rest = record { are_left = refl; only = λ others again. sym again }
     rest_none at (lexeme ∷ others) ends rest = absurd (exact.no_token_at_end source at lexeme rest.cuts.0 ends)
 
-    -- the same of a token that may have been told
+    -- the same of a token that may have been settled
     pub reported_first : (at : ℕ) (next : Option (Token Kind)) → IfSome next (λ token. format.follows source at (lexeme_of token)) → IfSome next (λ token. IsPartAfter source at token.span)
         → IfSome next (λ token. (lexemes : List (Lexeme Kind)) → IsRestOfText format source at lexemes → IsAllLeft format source (Some (lexeme_of token)) lexemes)
     reported_first at None follows part = tt
@@ -62,12 +62,12 @@ module _ {Kind : Type 0} (format : TextFormat Kind) (source : List ℕ) where
     rest_next at None follows part ends lexemes rest = rest_none at lexemes ends rest
     rest_next at (Some token) follows part ends lexemes rest = rest_first at (lexeme_of token) lexemes follows part.within rest
 
-    -- where the rest can be cut, there is no fault
+    -- if the rest can be cut, there is no fault
     no_fault : (at : ℕ) (lexemes : List (Lexeme Kind)) (fault : TextFault) → format.faults source at fault → IsRestOfText format source at lexemes → ⊥
     no_fault at [] fault faults rest = exact.no_fault_at_end source at fault faults (subst (format.ends source) (sym rest.cuts) rest.rest)
     no_fault at (lexeme ∷ others) fault faults rest = exact.no_token_and_fault source at lexeme fault rest.cuts.0 faults
 
-    -- nor where it is known that it can be
+    -- nor if it is known that it can be
     pub rest_faultless : (at : ℕ) (fault : TextFault) → format.faults source at fault → ∥ ((lexemes : List (Lexeme Kind)) × IsRestOfText format source at lexemes) ∥₁ → ⊥
     rest_faultless at fault faults some = ∥∥₁_elim some (λ one other. absurd one) (λ rest. no_fault at rest.0 fault faults rest.1)
 
@@ -80,11 +80,11 @@ module _ {Kind : Type 0} (format : TextFormat Kind) (source : List ℕ) where
     pub left_is : (lexemes : List (Lexeme Kind)) → IsLeft format source next lexemes → left.lexemes ≡ lexemes
     left_is lexemes is = ∥∥₁_elim left.all_left (lists_set left.lexemes lexemes) (λ all. all.only lexemes is)
 
-    -- also where it is only known that they are
+    -- also if it is only known that they are
     pub left_known : (lexemes : List (Lexeme Kind)) → ∥ IsLeft format source next lexemes ∥₁ → left.lexemes ≡ lexemes
     left_known lexemes some = ∥∥₁_elim some (lists_set left.lexemes lexemes) (λ is. left_is lexemes is)
 
-    -- none is left where none is next
+    -- none is left if none is next
     pub left_none : next ≡ None → left.lexemes ≡ []
     left_none is = ∥∥₁_elim left.all_left (lists_set left.lexemes []) (λ all. subst (λ n. IsLeft format source n left.lexemes) is all.are_left)
 
@@ -94,7 +94,7 @@ module _ {Kind : Type 0} (format : TextFormat Kind) (source : List ℕ) where
         (λ all. let first : IsNextOfLeft format source token left.lexemes = subst (λ n. IsLeft format source n left.lexemes) is all.are_left in
         first.split ∙ ap (λ others. token ∷ others) (sym (ap (drop 1) first.split)))
 
-    -- and stands within the text
+    -- and is within the text
     pub left_within : (token : Lexeme Kind) → next ≡ Some token → token.span.end ≤ length source
     left_within token is = ∥∥₁_elim left.all_left le_prop
         (λ all. let first : IsNextOfLeft format source token left.lexemes = subst (λ n. IsLeft format source n left.lexemes) is all.are_left in first.within)
@@ -110,11 +110,11 @@ module _ {Kind : Type 0} (format : TextFormat Kind) (source : List ℕ) where
     pub place_some : (token : Lexeme Kind) (size : ℕ) → next ≡ Some token → token.span.start ≡ next_place left.lexemes size
     place_some token size is = sym (ap (λ lexemes. next_place lexemes size) (left_some token is))
 
-    -- and where none is next, the length of the text
+    -- and if none is next, the length of the text
     pub place_none : (size : ℕ) → next ≡ None → size ≡ next_place left.lexemes size
     place_none size is = sym (ap (λ lexemes. next_place lexemes size) (left_none is))
 
-  -- the same where the next token is known by its parts
+  -- the same if the next token is known by its parts
   module _ (coded : Coded Kind) (kind : Option Kind) (text : List ℕ) (value : ℕ) (span : Span) (left : Left format source (next_of kind text value span)) where
     next_is : (some : Kind) → kind ≡ Some some → next_of kind text value span ≡ Some (record { kind = some; text = text; value = value; span = span })
     next_is some is = ap (λ (one : Option Kind). next_of one text value span) is

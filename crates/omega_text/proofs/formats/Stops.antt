@@ -18,7 +18,7 @@ module _ {Kind : Type 0} (format : TextFormat Kind) (exact : GoesOneWay format) 
   stop_once source at (Some fault) None first second = absurd (exact.no_fault_at_end source at fault first second)
   stop_once source at (Some one) (Some other) first second = ap Some (exact.one_fault source at one other first second)
 
-  -- where a token follows, a cut does not stop
+  -- if a token follows, a cut does not stop
   follows_goes_on : (source : List ℕ) (at : ℕ) (lexeme : Lexeme Kind) (stop : Option TextFault) → format.follows source at lexeme → Stops format source at stop → ⊥
   follows_goes_on source at lexeme None follows stops = exact.no_token_at_end source at lexeme follows stops
   follows_goes_on source at lexeme (Some fault) follows stops = exact.no_token_and_fault source at lexeme fault follows stops

@@ -23,7 +23,7 @@ record Completes (mode : Mode) : Type 0 where
   some : 0 < length more
   reads : answer (run (Some mode) more) ≡ Some sort
 
--- ends of so many comments, inside others
+-- ends of this many comments, inside others
 ends : ℕ → List ℕ
 ends zero = 42 ∷ 47 ∷ []
 ends (suc around) = 42 ∷ 47 ∷ ends around

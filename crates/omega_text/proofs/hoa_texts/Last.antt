@@ -1,4 +1,4 @@
--- The token that a text ends with, where no byte of its own has settled it.
+-- The token that a text ends with, if no byte of its own has settled it.
 use Rattle.std.proofs.Common.{◌≡◌, ℕ, Bool, true, false, Some, List, refl, ap, ◌∙◌}
 use Rattle.omega_text.specs.declared.hoa.kind.HoaKind.{HoaKind}
 use Rattle.omega_text.specs.declared.hoa.mode.Mode.{Mode}

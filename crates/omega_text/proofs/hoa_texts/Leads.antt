@@ -1,4 +1,4 @@
--- What the first byte of a unit tells is so.
+-- What the first byte of a unit shows is so.
 use Rattle.std.proofs.Common.{◌≡◌, ℕ, ◌==◌, true, false, Option, Some, None, inl, inr, refl, sym, subst, arith}
 use Rattle.std.proofs.lemmas.Bool.Decides.{nat_tests}
 use Rattle.omega_text.specs.Bytes.{is_digit, is_letter, is_white}
@@ -14,7 +14,7 @@ use Rattle.omega_text.specs.private.hoa.scanning.Passing.{IsSingle}
 use Rattle.omega_text.proofs.hoa_texts.Tests.{either}
 use Rattle.omega_text.proofs.hoa_texts.Written.{first_sign, first_white}
 
--- a byte is what it tells
+-- a byte is what it shows
 abbrev pub IsLed : ℕ → Lead → Type 0
 IsLed byte White = is_white byte ≡ true
 IsLed byte (Sign kind) = (first_mode byte ≡ Some (Whole kind)) × (is_digit byte ≡ false) × (is_mark kind ≡ false)
@@ -55,7 +55,7 @@ led byte = either (IsLed byte) (is_white byte) White _ (λ white. white)
     (λ _. either (IsLed byte) (byte == 64) At _ (same_byte byte 64)
     (λ _. led_sign byte no_white no_letter no_digit (sign_kind byte) refl)))))
 
--- a byte that tells so
+-- a byte that shows so
 pub led_as : (byte : ℕ) (found lead : Lead) → found ≡ lead_of byte → found ≡ lead → IsLed byte lead
 led_as byte found lead is same = subst (IsLed byte) same (subst (IsLed byte) (sym is) (led byte))
 

@@ -1,4 +1,4 @@
--- Which units are the longest, and where no unit begins: both from a run that can't go on.
+-- Which units are the longest, and at which places no unit begins: both from a run that can't go on.
 use Rattle.std.proofs.Common.{◌≡◌, ℕ, ◌<◌, ◌⊎◌, inl, inr, ⊎_elim, Option, Some, None, List, [], ◌∷◌, ◌++◌, length, refl, sym, ap, ◌∙◌, subst, arith, ◌==◌}
 use Rattle.omega_text.specs.declared.hoa.kind.HoaKind.{HoaKind}
 use Rattle.omega_text.specs.declared.hoa.kind.HoaKind.TheVariants.{Identifier, HeaderName, AliasName, Int}
@@ -67,7 +67,7 @@ module _ (text rest : List ℕ) (mode : Mode) (is : run (Some Start) text ≡ So
       answer_none more sort (ap (λ state. answer (run state more)) (sym ends) ∙ ap (λ state. answer (run state (byte ∷ more))) (sym is)
       ∙ ap answer (sym (run_append (Some Start) text (byte ∷ more))) ∙ unit_written sort (text ++ byte ∷ more) unit)
 
-  -- and if it is none, no unit begins there
+  -- and if it is no such byte, no unit begins there
   pub stuck_no_unit : 0 < length (text ++ rest) → unit_of mode ≡ None → BeginsNoUnit (text ++ rest)
   stuck_no_unit some unread = record {
     some = some;

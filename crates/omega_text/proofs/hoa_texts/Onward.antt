@@ -16,7 +16,7 @@ use Rattle.omega_text.proofs.hoa_texts.Numbers.{spelled_or_wrong}
 use Rattle.omega_text.proofs.hoa_texts.Read.{unit_read}
 use Rattle.omega_text.proofs.hoa_texts.Runs.{answer}
 
--- bytes up to where a run from a mode can't go on
+-- bytes up to the one at which a run from a mode can't go on
 record Scanned (mode : Mode) (bytes : List ℕ) : Type 0 where
   text : List ℕ
   rest : List ℕ

@@ -51,7 +51,7 @@ unclosed_no_mark End unclosed = absurd (cc)
 unclosed_no_mark Abort unclosed = absurd (cc)
 unclosed_no_mark kind unclosed = refl
 
--- where no unit has been begun, its place is the end of what was read
+-- if no unit has been begun, its place is the end of what was read
 pub fresh_place : (seen : List ℕ) (lexemes : List (Lexeme HoaKind)) (pending : Pending) → pending.mode ≡ Start → IsAt Any seen lexemes pending → pending.start ≡ length seen
 fresh_place seen lexemes pending is at =
     let none = subst (λ mode. IsUnfinishedUnit mode pending.value at.begun) is at.unfinished in
@@ -412,7 +412,7 @@ digit_simple start bytes place digit more single =
     prefix_len_is is_digit rest 1 0 (omega (arith, size, more)) (λ k below. let zeroth : 0 ≡ k = omega arith in subst (λ n. is_digit (get_or rest n 0) ≡ true) zeroth first) (λ _. other) in
     digits_simple start bytes rest place 1 (byte - 48) inside refl digit (sym count) (subst (IsValueOf (byte - 48)) (sym front) (one_digit byte digit)) (omega (arith, worth_small byte digit)) more single
 
--- a quote and what stands after it
+-- a quote and what follows it
 pub string_passes : (start : ℕ) (bytes rest : List ℕ) (place count : ℕ) (after : Pending) → place < length bytes → rest ≡ drop (place + 1) bytes → get_or bytes place 0 ≡ 34 → count ≡ prefix_len is_quoted rest
     → after.mode ≡ Quoted → after.start ≡ start → Passes start bytes place (place + 1 + count) (fresh start) after
 string_passes start bytes rest place count after inside is quote prefix mode begins =
@@ -509,7 +509,7 @@ fault_stops seen lexemes byte fault settles = (
   λ plain. no_fault fault plain.sound,
 )
 
--- what no test tells does not hold
+-- what no test shows does not hold
 pub untold : {P : Type 0} (test : Bool) → (test ≡ true) ↔ P → test ≡ false → P → ⊥
 untold test tells none holds =
     let clash : true ≡ false = sym (tells.1 holds) ∙ none in cc

@@ -40,7 +40,7 @@ module _ (source gap text : List ℕ) (end start : ℕ) (split : drop end source
   pub parts : length source ≡ start + length text
   parts = let size = length-drop end source in let all = ap length split in omega (arith, length-append gap text)
 
-  -- what stands after the gap
+  -- what follows the gap
   pub after_gap : drop start source ≡ text
   after_gap = ap (λ n. drop n source) start_is ∙ sym (drop-drop (length gap) end source) ∙ ap (drop (length gap)) split ∙ drop_at gap text (length gap) refl
 
@@ -78,7 +78,7 @@ placed_follows source seen gap text rest following end token kind value start st
 not_digits : (text : List ℕ) (mode : Mode) → run (Some Start) text ≡ Some mode → Some mode ≢ Some Digits → IsDigits text → ⊥
 not_digits text mode reached other digits = other (sym reached ∙ digits_run text digits)
 
--- the token that a unit is, where it ends
+-- the token that a unit is, at its end
 judged_spells : (mode : Mode) (value start stop : ℕ) (token : PlacedToken) (begun : List ℕ) → run (Some Start) begun ≡ Some mode → IsUnfinishedUnit mode value begun
     → IsTokenIn mode value start stop token → (kind : HoaKind) × (worth : ℕ) × IsPlaced token kind worth start stop × Spells kind worth begun
 judged_spells (Word kind) value start stop token begun reached unfinished is =
@@ -88,7 +88,7 @@ judged_spells Alias value start stop token begun reached unfinished is =
 judged_spells Digits value start stop token begun reached unfinished is = (Int, value, is.1, unfinished.number is.0)
 judged_spells mode value start stop token begun reached unfinished is = absurd is
 
--- the fault of a unit, where it ends
+-- the fault of a unit, at its end
 no_unit_fault : (mode : Mode) (start : ℕ) (fault : TextFault) (begun rest : List ℕ) → run (Some Start) begun ≡ Some mode → IsStuck mode rest → 0 < length (begun ++ rest)
     → unit_of mode ≡ None → fault ≡ Lex start → IsFaultOf (begun ++ rest) start fault
 no_unit_fault mode start fault begun rest reached stuck some unread is =
@@ -343,7 +343,7 @@ settled_as P source lexemes settled first second fault first_is second_is fault_
     (subst (λ t. P fault (lexemes ++ (lexemes_in source t ++ lexemes_in source settled.second))) (sym first_is)
     (subst (λ t. P fault (lexemes ++ (lexemes_in source first ++ lexemes_in source t))) (sym second_is) holds))
 
--- where a text ends, its cut and its fault
+-- at the end of a text, its cut and its fault
 module _ (seen : List ℕ) (lexemes : List (Lexeme HoaKind)) (pending : Pending) (at : IsAt Any seen lexemes pending) where
   cuts_here : Cuts hoa_format seen 0 lexemes at.end
   cuts_here = subst (λ source. Cuts hoa_format source 0 lexemes at.end) (append-nil seen) (at.cuts [] tt)

@@ -1,4 +1,4 @@
--- Units that a first byte and a run of bytes after it tell.
+-- Units that a first byte and a run of bytes after it show.
 use Rattle.std.proofs.Common.{◌≡◌, ℕ, suc, ◌+◌, ◌-◌, ◌<◌, ◌≤◌, Bool, true, false, Some, List, [], ◌∷◌, length, get_or, take, drop, refl, sym, ap, ◌∙◌, subst, arith, add-zero, length-drop, length-take-le}
 use Rattle.std.proofs.lemmas.List.{get_or-drop, get_or-take, take_more}
 use Rattle.std.proofs.lemmas.List.Sums.{prefix_len-le-length, prefix_len_is, prefix_len_passes, prefix_len_stops}
@@ -102,7 +102,7 @@ pub few_digits_unit : (bytes : List ℕ) (count value : ℕ) → 0 < length byte
 few_digits_unit bytes count value some digit is worth small plain =
     first_read bytes count Digits (digits_scanned bytes some digit count is) (Some Int) value refl (few_spells bytes count value some digit is worth small plain)
 
--- the same where it stands at a place, and a byte after it ends it
+-- the same at a place, if a byte after it ends it
 pub few_digits_simple : (start : ℕ) (bytes rest : List ℕ) (place count value : ℕ) → place < length bytes → rest ≡ drop place bytes → is_digit (get_or bytes place 0) ≡ true → count ≡ prefix_len is_digit rest
     → value ≡ digits_value 10 (take count rest) → value ≤ most_number → (get_or rest 0 0 ≡ 48 → count ≤ 1) → count < length rest → IsSingle (get_or bytes (place + count) 0) → IsSimple start bytes place (Ended (place + count + 1))
 few_digits_simple start bytes rest place count value inside is digit prefix worth small plain ended single =

@@ -70,7 +70,7 @@ digits_read (byte ∷ rest) sort is = ⊎_elim
     (λ (stops, none). absurd (answer_none rest sort none))
     (chosen (λ state. answer (run state rest) ≡ Some sort) (is_digit byte) _ _ is)
 
--- numbers that are not equal, one of which is at most the other
+-- numbers that are not equal, the first at most the other
 apart : (one most : ℕ) → (one == most) ≡ false → one ≤ most → one < most
 apart one most fails within = grind (arith, nat_tests)
 
@@ -78,7 +78,7 @@ apart one most fails within = grind (arith, nat_tests)
 pub differs : (byte value : ℕ) → (byte == value) ≡ false → byte ≢ value
 differs byte value fails is = grind (arith, nat_tests)
 
--- after a quote: what may stand between two quotes, and a quote
+-- after a quote: what may come between two quotes, and a quote
 abbrev StringRest : List ℕ → Option HoaKind → Type 0
 StringRest rest sort = (inside : List ℕ) × (rest ≡ inside ++ 34 ∷ []) × IsQuotable inside × (sort ≡ Some String)
 
@@ -103,7 +103,7 @@ quoted_read (byte ∷ next ∷ rest) sort is = ⊎_elim
     (chosen (λ mode. answer (run (Some mode) (next ∷ rest)) ≡ Some sort) (byte == 92) _ _ more))
     (chosen (λ mode. answer (run (Some mode) (next ∷ rest)) ≡ Some sort) (byte == 34) _ _ is)
 
--- a mark of which so many bytes were read: the others
+-- a mark that is partly read: the other bytes
 mark_read : (kind : HoaKind) (count : ℕ) (rest : List ℕ) (sort : Option HoaKind) → count < length (spelling kind)
     → answer (run (Some (Mark kind count)) rest) ≡ Some sort → (rest ≡ drop count (spelling kind)) × (sort ≡ Some kind)
 mark_read kind count [] sort inside is = absurd (cc)

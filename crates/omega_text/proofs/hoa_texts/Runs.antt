@@ -19,6 +19,6 @@ abbrev pub answer : Option Mode → Option (Option HoaKind)
 answer None = None
 answer (Some mode) = unit_of mode
 
--- where no unit goes on, none is read
+-- if no unit goes on, none is read
 pub answer_none : (bytes : List ℕ) (sort : Option HoaKind) → answer (run None bytes) ≡ Some sort → ⊥
 answer_none bytes sort is = let none = ap answer (run_none bytes) in cc

@@ -36,7 +36,7 @@ pub stuck_before : (mode : Mode) (rest : List ℕ) → (0 < length rest → next
 stuck_before mode [] ends = tt
 stuck_before mode (byte ∷ rest) ends = ends (omega arith)
 
--- the same after so many bytes
+-- the same after a number of bytes
 pub stuck_at : (mode : Mode) (bytes : List ℕ) (count : ℕ) → (count < length bytes → next_mode mode (get_or bytes count 0) ≡ None) → IsStuck mode (drop count bytes)
 stuck_at mode bytes count ends = stuck_before mode (drop count bytes) (λ more.
     let size = length-drop count bytes in

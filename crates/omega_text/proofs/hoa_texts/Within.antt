@@ -10,12 +10,12 @@ use Rattle.omega_text.specs.Bytes.{is_digit, is_letter, is_white, is_word_byte}
 use Rattle.omega_text.proofs.hoa_texts.Runs.{run_none}
 use Rattle.omega_text.proofs.hoa_texts.Tests.{either}
 
--- within bounds, where a unit may have been left
+-- within bounds, if a unit may have been left
 abbrev Stays : ℕ → Option Mode → Type 0
 Stays bytes None = Unit {0}
 Stays bytes (Some mode) = IsWithin bytes mode
 
--- of numbers one of which is at most the other, and not equal to it
+-- for numbers that are not equal, the first at most the other
 apart : (one most : ℕ) → (one == most) ≡ false → one ≤ most → one < most
 apart one most fails within = grind (arith, nat_tests)
 
@@ -58,7 +58,7 @@ next_within bytes (Mark kind count) byte within = either (Stays (bytes + 1)) (by
 next_within bytes (Whole kind) byte within = tt
 next_within bytes Blank byte within = tt
 
--- the same where a unit goes on
+-- the same if a unit goes on
 pub next_stays : (bytes : ℕ) (mode : Mode) (byte : ℕ) (next : Mode) → IsWithin bytes mode → next_mode mode byte ≡ Some next → IsWithin (bytes + 1) next
 next_stays bytes mode byte next within is = subst (Stays (bytes + 1)) is (next_within bytes mode byte within)
 

@@ -42,7 +42,7 @@ first_digit byte digit = pass (is_white byte) _ _ (digit_black byte digit) ∙ p
 pub first_white : (byte : ℕ) → is_white byte ≡ true → first_mode byte ≡ Some Blank
 first_white byte white = choose (is_white byte) _ _ white
 
--- a byte that is a sign is none of four others
+-- a byte that is a sign is not one of four others
 sign_apart : (byte value : ℕ) (kind : HoaKind) → sign_kind value ≡ None → sign_kind byte ≡ Some kind → (byte == value) ≡ false
 sign_apart byte value kind none sign = no_test byte value (λ same. let found = sym (ap sign_kind same) ∙ sign in let other = none in cc)
 
@@ -58,7 +58,7 @@ more_word [] all = refl
 more_word (byte ∷ rest) all = ap (λ state. run state rest) (choose (is_word_byte byte) _ _ (All-head (λ b. is_word_byte b ≡ true) byte rest all))
     ∙ more_word rest (All-tail (λ b. is_word_byte b ≡ true) byte rest all)
 
--- the kind of a word, which only its first byte and its length tell
+-- the kind of a word, which only its first byte and its length show
 abbrev pub word_kind : ℕ → List ℕ → HoaKind
 word_kind byte [] = letter_kind byte
 word_kind byte (next ∷ rest) = Identifier
@@ -97,7 +97,7 @@ digits_run [] digits = absurd (omega (arith, digits.0))
 digits_run (byte ∷ rest) digits = ap (λ state. run state rest) (first_digit byte (All-head (λ b. is_digit b ≡ true) byte rest digits.1))
     ∙ more_digits rest (All-tail (λ b. is_digit b ≡ true) byte rest digits.1)
 
--- what stands between quotes, and a quote
+-- what comes between quotes, and a quote
 pub quoted_run : (inside : List ℕ) → IsQuotable inside → run (Some Quoted) (inside ++ 34 ∷ []) ≡ Some (Whole String)
 quoted_run _ empty = refl
 quoted_run _ (plain byte rest no_quote no_backslash following) =
@@ -115,7 +115,7 @@ star_same around byte no_slash = ⊎_elim
 slashed_same : (around byte : ℕ) → byte ≢ 42 → slashed_mode around byte ≡ comment_mode around byte
 slashed_same around byte no_star = pass (byte == 42) _ _ (no_test byte 42 no_star) ∙ sym (pass (byte == 42) _ _ (no_test byte 42 no_star))
 
--- there is more where comments are still to be closed
+-- there is more if comments are still to be closed
 closes_some : (depth : ℕ) (rest : List ℕ) → Closes depth rest → 0 < depth → 0 < length rest
 closes_some _ _ closed deep = absurd (omega arith)
 closes_some _ _ (close depth rest following) deep = omega arith

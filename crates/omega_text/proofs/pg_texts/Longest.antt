@@ -137,7 +137,7 @@ longest_word bytes some letter =
       word,
     )
 
--- a sign is the longest form where it stands
+-- a sign is the longest form at its place
 pub longest_sign : (bytes : List ℕ) → 0 < length bytes → (head bytes ≡ 59) ⊎ (head bytes ≡ 44) → IsLongest bytes 1
 longest_sign [] some sign = absurd (omega arith)
 longest_sign (byte ∷ rest) some sign = record {

@@ -118,7 +118,7 @@ value_no_less text i inside = omega (arith, digits_value_more 10 text i inside)
 pub worth_small : (byte : ℕ) → is_digit byte ≡ true → byte - 48 ≤ 9
 worth_small byte digit = grind (arith, nat_tests)
 
--- where one digit stands, it is all that is counted
+-- if one digit follows, it is all that is counted
 pub one_counted : (bytes : List ℕ) → is_digit (get_or bytes 0 0) ≡ true → 1 < length bytes → is_digit (get_or bytes 1 0) ≡ false → prefix_len is_digit bytes ≡ 1
 one_counted bytes digit long other =
     prefix_len_is is_digit bytes 1 0 (omega arith) (λ k below. let first : 0 ≡ k = omega arith in subst (λ at. is_digit (get_or bytes at 0) ≡ true) first digit) (λ inside. other)

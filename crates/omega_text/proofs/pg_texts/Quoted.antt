@@ -8,7 +8,7 @@ use Rattle.omega_text.specs.pg.Forms.{IsLongest, IsQuoted, quoted, is_name_byte}
 use Rattle.omega_text.proofs.pg_texts.Classes.{both_ways}
 use Rattle.omega_text.proofs.pg_texts.Longest.{form_head, head, head-take, quoted_form}
 
--- the bytes of a name that is a front of bytes stand after the first of them, and then a quote
+-- the bytes of a name that is a front of bytes come after the first of them, and then a quote
 pub record NamedFront (rest name : List ℕ) : Type 0 where
   pub room : length name < length rest
   pub same : (i : ℕ) → i < length name → get_or rest i 0 ≡ get_or name i 0
@@ -37,7 +37,7 @@ quoted_front rest count inside quote =
     subst (λ n. take n (34 ∷ rest) ≡ quoted (take count rest)) (sym sum)
     (ap (λ text. 34 ∷ text) (take_more rest count 0 inside ∙ ap (λ b. take count rest ++ b ∷ []) quote))
 
--- such a name is the longest form where it stands
+-- such a name is the longest form at its place
 pub longest_quoted : (rest : List ℕ) → prefix_len is_name_byte rest < length rest → get_or rest (prefix_len is_name_byte rest) 0 ≡ 34 → IsLongest (34 ∷ rest) (1 + prefix_len is_name_byte rest + 1) × IsQuoted (take (1 + prefix_len is_name_byte rest + 1) (34 ∷ rest))
 longest_quoted rest inside quote =
     let count = prefix_len is_name_byte rest in
@@ -73,7 +73,7 @@ no_quoted rest unclosed count form =
     let ends = prefix_len_is is_name_byte rest (length name.0) 0 (omega (arith, front.room)) (λ k below. ap is_name_byte (front.same k below) ∙ name.2 k 0 below) (λ _. ap is_name_byte front.closed) in
     unclosed (omega (arith, front.room)) (ap (λ n. get_or rest n 0) ends ∙ front.closed)
 
--- the same of bytes of which the first is a quote
+-- the same of bytes that begin with a quote
 module _ (bytes : List ℕ) (some : 0 < length bytes) (quote : head bytes ≡ 34) where
   split : bytes ≡ 34 ∷ drop 1 bytes
   split = at_drop_more (λ text. text) bytes 0 0 some ∙ ap (λ b. b ∷ drop 1 bytes) quote

@@ -68,7 +68,7 @@ name_longest text rest (name, is, all) =
     subst (λ t. IsLongest (t ++ rest) (length t)) (sym is)
     (subst (IsLongest (34 ∷ following)) whole (longest_quoted following (omega arith) quote).0)
 
--- where white space and then the longest form stand, which spells a token
+-- after white space comes the longest form, which spells a token
 module _ (source gap text rest : List ℕ) (from : ℕ) (kind : PgKind) (value : ℕ) (is : drop from source ≡ gap ++ (text ++ rest)) (inside : from ≤ length source) where
   -- how long the parts are
   sizes : length source ≡ from + length gap + length text + length rest
@@ -76,7 +76,7 @@ module _ (source gap text rest : List ℕ) (from : ℕ) (kind : PgKind) (value :
       let all = ap length is in
       omega (arith, length-drop from source, length-append gap (text ++ rest), length-append text rest)
 
-  -- what stands after the white space
+  -- what follows the white space
   after_gap : drop (from + length gap) source ≡ text ++ rest
   after_gap = sym (drop-drop (length gap) from source) ∙ ap (drop (length gap)) is ∙ drop_at gap (text ++ rest) (length gap) refl
 

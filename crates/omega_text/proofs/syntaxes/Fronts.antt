@@ -1,4 +1,4 @@
--- Fronts of a list of tokens, and where a grammar rules them out.
+-- Fronts of a list of tokens, and at which places a grammar rules them out.
 use Rattle.std.proofs.Common.{◌≡◌, ℕ, ◌⊎◌, inl, inr, List, [], ◌∷◌, ◌++◌, map, refl, ap, sym, ◌∙◌, subst, append_assoc}
 use Rattle.std.proofs.lemmas.List.{map-append}
 use Rattle.omega_text.specs.Lexeme.{Lexeme}
@@ -56,7 +56,7 @@ module _ {Kind Symbol Raw : Type 0} (syntax : Syntax Kind Symbol Raw) where
       begins_front (front ++ token ∷ []) on.0
       (subst (λ list. TokensBegin syntax list) (on.1 ∙ sym (append_assoc front (token ∷ []) on.0)) begins)
 
-  -- the first wrong token stands at one place
+  -- the first wrong token is at one place
   pub wrong_one : (lexemes : List (Lexeme Kind)) (place other : ℕ) → IsWrongAt (TokensBegin syntax) lexemes place → IsWrongAt (TokensBegin syntax) lexemes other → place ≡ other
   wrong_one lexemes place other a b =
       elim (cases_split a.front b.front a.wrong b.wrong a.rest b.rest (sym a.split ∙ b.split)) as (λ _. place ≡ other) [

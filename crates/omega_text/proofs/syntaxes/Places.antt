@@ -31,7 +31,7 @@ module _ {Kind : Type 0} (format : TextFormat Kind) (exact : GoesOneWay format) 
   within source from to (one ∷ front) rest token cuts = within source one.span.end to front rest token cuts.1
 
 module _ {Kind Symbol Raw : Type 0} (syntax : Syntax Kind Symbol Raw) (exact : GoesOneWay syntax.format) where
-  -- a text begins through a token exactly if it stands before the first wrong one
+  -- a text begins through a token exactly if it comes before the first wrong one
   first_wrong : (source : List ℕ) (to place : ℕ) (front rest : List (Lexeme Kind)) (token : Lexeme Kind)
       → Cuts syntax.format source 0 (front ++ token ∷ rest) to → IsWrongAt (TokensBegin syntax) (front ++ token ∷ rest) place
       → TokensBegin syntax (front ++ token ∷ []) ↔ (token.span.start < place)
@@ -64,7 +64,7 @@ module _ {Kind Symbol Raw : Type 0} (syntax : Syntax Kind Symbol Raw) (exact : G
         ]
       ]
 
-  -- and exactly if it stands before the place of a syntax fault
+  -- and exactly if it comes before the place of a syntax fault
   pub faults_first : SyntaxFaultsAreFirst syntax
   faults_first source place front rest token fault cut =
       elim (misplaced_in syntax exact source (front ++ token ∷ rest) place cut fault.1)

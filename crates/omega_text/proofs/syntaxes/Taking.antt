@@ -70,7 +70,7 @@ module _ {Kind : Type 0} (format : TextFormat Kind) (taken : List (Lexeme Kind) 
           };
         }
 
--- a fault of tokens where the next is looked for
+-- a fault of tokens at the place at which the next is looked for
 pub fault_here : {Kind : Type 0} (format : TextFormat Kind) (source : List ℕ) (place : ℕ) (fault : TextFault) → format.faults source place fault → IsFaultFrom format source place fault
 fault_here format source place fault faults = record { lexemes = []; end = place; cuts = refl; fault_there = faults }
 

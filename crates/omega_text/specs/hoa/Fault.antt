@@ -1,4 +1,4 @@
--- Where a Hanoi text can't be cut.
+-- At which places a Hanoi text can't be cut.
 use Rattle.std.specs.Prelude.{◌≡◌, ℕ, ◌+◌, ◌<◌, Option, List, ◌++◌, length, drop}
 use Rattle.omega_text.specs.declared.hoa.kind.HoaKind.{HoaKind}
 use Rattle.omega_text.specs.declared.hoa.kind.HoaKind.TheVariants.{Int}

@@ -1,4 +1,4 @@
--- Where a game text can't be cut.
+-- At which places a game text can't be cut.
 use Rattle.std.specs.Prelude.{◌≡◌, ℕ, ◌<◌, false, ◌⊎◌, List, length, take, drop, slice_index}
 use Rattle.omega_text.specs.Bytes.{is_white}
 use Rattle.omega_text.specs.pg.Cut.{IsGap}

@@ -52,8 +52,8 @@ pub trait ByteTokenizer {
         ensures end { result ≤ length bytes.now }
         ensures reads { (seen : List ℕ) (lexemes : List (Lexeme HoaKind)) → read self.old seen lexemes
             → HasPassed (read self.new) seen lexemes (take (result - from) (drop from bytes.now)) }
-        ensures stops { result < length bytes.now → (seen : List ℕ) (lexemes : List (Lexeme HoaKind)) → read self.new seen lexemes
-            → StopsBefore seen lexemes (slice_index bytes.now result) }
+        ensures stops { result < length bytes.now → (seen : List ℕ) (lexemes : List (Lexeme HoaKind))
+            → read self.new seen lexemes → StopsBefore seen lexemes (slice_index bytes.now result) }
         ensures sound { fault self.new ≡ fault self.old };
 
     /// Returns what is settled if the text ends here: at most one token, and none that its own last byte settles.
@@ -66,5 +66,6 @@ pub trait ByteTokenizer {
 
     /// States that what was settled so far is settled however the text goes on. An implementation proves this law.
     fn read_is_settled(&self)
-        ensures { (seen : List ℕ) (lexemes : List (Lexeme HoaKind)) → read self.now seen lexemes → IsSettled (fault self.now) seen lexemes };
+        ensures { (seen : List ℕ) (lexemes : List (Lexeme HoaKind))
+            → read self.now seen lexemes → IsSettled (fault self.now) seen lexemes };
 }

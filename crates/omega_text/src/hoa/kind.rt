@@ -17,7 +17,7 @@ pub enum HoaKind {
     False,
     /// A number, from 0 to `MOST_NUMBER`.
     Int,
-    /// Bytes between double quotes, where a backslash takes the next byte with it.
+    /// Bytes between double quotes; a backslash takes the next byte with it.
     String,
     /// The mark `--BODY--`.
     Body,

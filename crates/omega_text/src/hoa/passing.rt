@@ -31,7 +31,8 @@ pub(super) fn pass_bytes(
     requires within { from ≤ length bytes.now }
     requires way { IsOnWayFor (length bytes.now - from) pending start }
     ensures passes { Passes start bytes.now from result.1 pending result.0 }
-    ensures stops { result.1 < length bytes.now → IsStop (start + (result.1 - from)) (slice_index bytes.now result.1) result.0 }
+    ensures stops { result.1 < length bytes.now
+        → IsStop (start + (result.1 - from)) (slice_index bytes.now result.1) result.0 }
 {
     let mut reached = pending;
     let mut place = from;

@@ -16,7 +16,7 @@ use crate::token::Span;
 /// The value of digits that are no number, which is above every number.
 pub(super) const NO_NUMBER: u64 = MOST_NUMBER as u64 + 1;
 
-/// The unit that is being read: how far, where it begins, and the value of its digits.
+/// The unit that is being read: how far, its beginning, and the value of its digits.
 #[derive(Clone, Copy, Debug, PartialEq, Eq)]
 pub(crate) struct Pending {
     pub(crate) mode: KeptMode,
@@ -74,7 +74,7 @@ impl Pending {
         }
     }
 
-    /// Returns the token that the unit is if it ends at `end`. If it is none, returns [TextFault::Lex] or
+    /// Returns the token that the unit is if it ends at `end`. If it is no token, returns [TextFault::Lex] or
     /// [TextFault::Number] at its beginning.
     #[inline(always)]
     pub(crate) fn judge(self, end: usize) -> Result<PlacedToken, TextFault>
@@ -120,7 +120,8 @@ fn first_value(byte: u8) -> u64
 /// Returns the value of digits followed by `byte`, if `value` is theirs. With a needless zero the digits are no number.
 #[inline(always)]
 fn more_value(value: u64, byte: u8) -> u64
-    ensures { (text : List ℕ) → IsDigits text → is_digit byte ≡ true → IsValueOf value text → IsValueOf result (text ++ byte ∷ []) }
+    ensures { (text : List ℕ) → IsDigits text → is_digit byte ≡ true
+        → IsValueOf value text → IsValueOf result (text ++ byte ∷ []) }
 {
     if value == 0 {
         NO_NUMBER

@@ -111,7 +111,8 @@ pub(super) fn read_byte(pending: Pending, place: usize, byte: u8) -> (Pending, S
 #[inline(always)]
 fn end_unit(pending: Pending, place: usize, byte: u8) -> (Pending, Settled)
     requires { place < 2 ^ 64 - 1 }
-    ensures { (seen : List ℕ) (lexemes : List (Lexeme HoaKind)) → place ≡ length seen → IsAt Any seen lexemes pending → next_mode pending.mode byte ≡ None
+    ensures { (seen : List ℕ) (lexemes : List (Lexeme HoaKind)) → place ≡ length seen
+        → IsAt Any seen lexemes pending → next_mode pending.mode byte ≡ None
         → IsKept result.1.fault (seen ++ byte ∷ []) (lexemes ++ settled_lexemes (seen ++ byte ∷ []) result.1) result.0 }
 {
     let fresh = Pending::new(place);
@@ -132,8 +133,8 @@ fn end_unit(pending: Pending, place: usize, byte: u8) -> (Pending, Settled)
 
 /// Returns what is settled if the text ends at `place`.
 fn end_of_text(pending: Pending, place: usize) -> Settled
-    ensures finishes { (seen : List ℕ) (lexemes : List (Lexeme HoaKind)) → place ≡ length seen → IsAt Any seen lexemes pending
-        → IsCutUpToFault result.fault seen (lexemes ++ settled_lexemes seen result) }
+    ensures finishes { (seen : List ℕ) (lexemes : List (Lexeme HoaKind)) → place ≡ length seen
+        → IsAt Any seen lexemes pending → IsCutUpToFault result.fault seen (lexemes ++ settled_lexemes seen result) }
     ensures second { result.second ≡ None }
     ensures unclosed { (seen : List ℕ) (lexemes : List (Lexeme HoaKind)) → IsAt Any seen lexemes pending
         → IfSome result.first (λ token. is_closed token.kind ≡ false) }

@@ -26,7 +26,7 @@ pub enum AutomatonFault {
     /// 26: propositions are miscounted, repeated, out of range or over 1,024.
     #[error("propositions are miscounted, repeated, out of range or over 1024")]
     Proposition,
-    /// 27: an alias is undefined where it is used, or defined twice.
+    /// 27: an alias is used and undefined, or defined twice.
     #[error("an alias is undefined where it is used, or defined twice")]
     Alias,
     /// 28: a state is defined twice.

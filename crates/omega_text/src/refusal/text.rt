@@ -2,7 +2,7 @@ ghost use Rattle.std.specs.Prelude.{◌≡◌};
 
 use thiserror::Error;
 
-/// Why bytes are no text of a format, with the place of the byte, from 0, where the fault is.
+/// Why bytes are no text of a format, with the place of the faulty byte, from 0.
 #[derive(Clone, Copy, Debug, PartialEq, Eq, Error)]
 pub enum TextFault {
     /// 1: the bytes at `at` begin no token, or a string or comment that begins there has no end.

@@ -1,7 +1,7 @@
 -- an operator on the formulas of its parts
 use Rattle.std.proofs.Common.{◌≡◌, rules, ◌∙◌}
-use Rattle.omega_acc.specs.formula.Acceptance.{conjunction, disjunction}
-use Rattle.omega_acc.specs.formula.Shape.{acc_tree_of_shape}
+use Rattle.omega_formula.specs.Acceptance.{conjunction, disjunction}
+use Rattle.omega_formula.specs.Shape.{acc_tree_of_shape}
 use Rattle.omega_accepting_walk.specs.private.Formulas.{tree_at}
 use Rattle.omega_accepting_walk.proofs.Placing.{IfOk-after, made_of}
 use Rattle.omega_accepting_walk.proofs.flattening.+add_formula.Goals as goal

@@ -3,13 +3,13 @@ use Rattle.std.proofs.Common.{◌≡◌, ◌<◌, false, length, subst, ◌∙�
 use Rattle.std.proofs.lemmas.List.{get_or_default}
 use Rattle.omega_walk_laws.specs.Marks.{meets}
 use Rattle.omega_walk_laws.proofs.Passing.{unmet}
-use Rattle.omega_components.specs.Graph.{marked}
 use Rattle.omega_accepting_walk.specs.Rows.{row_at}
+use Rattle.omega_accepting_walk.specs.private.Search.{graph_of}
 use Rattle.omega_accepting_walk.proofs.meeting.meeting.Goals as goal
 
 pub returns-clause-none : goal.returns-clause-none
 returns-clause-none c =
-    unmet (marked c.args.search.now.graph.now (row_at c.args.search.now.marks.now)) c.args.negated c.args.set c.args.edges.now
+    unmet (graph_of c.args.search.now) c.args.negated c.args.set c.args.edges.now
     (λ number has.
     let below : has.0 < length c.args.edges.now = has.1 in
     subst (λ edge. meets c.args.negated c.args.set (row_at c.args.search.now.marks.now edge) ≡ false)

@@ -1,6 +1,6 @@
--- the sets of the marks before are told
+-- the sets of the marks before are in the table
 use Rattle.std.proofs.Common.{◌≡◌, ◌<◌, ◌||◌, ℕ, false, length, take, get_or}
-use Rattle.omega_acc.specs.formula.Acceptance.{holds}
+use Rattle.omega_formula.specs.Acceptance.{holds}
 use Rattle.omega_accepting_walk.proofs.set_table.add_marks.Given as goal
 
 abbrev pub invariant-loop-mark : goal.invariant-loop-mark

@@ -1,7 +1,7 @@
 -- one stop more, and at the end a closed walk
 use Rattle.std.proofs.Common.{◌≡◌, ◌<◌, ◌+◌, length, Contains, sym, subst, arith}
-use Rattle.omega_components.specs.Graph.{marked}
 use Rattle.omega_accepting_walk.specs.Rows.{row_at}
+use Rattle.omega_accepting_walk.specs.private.Search.{graph_of}
 use Rattle.omega_accepting_walk.proofs.Tours.{IsTour, next_among, tour_closes, tour_more, tour_passes}
 use Rattle.omega_accepting_walk.proofs.touring.tour.Goals as goal
 
@@ -14,17 +14,17 @@ pub loop-at-preserved : goal.loop-at-preserved
 loop-at-preserved c =
     let below : c.loop-at.at < length c.args.stops.now = omega arith in
     let way = c.in_ok-add_way.ensures.way in
-    tour_more (marked c.args.search.now.graph.now (row_at c.args.search.now.marks.now)) c.args.edges.now c.args.stops.now c.loop-at.at c.next_stop-next.result c.loop-at.walk.items way.0 c.add_way.new.walk.items below
+    tour_more (graph_of c.args.search.now) c.args.edges.now c.args.stops.now c.loop-at.at c.next_stop-next.result c.loop-at.walk.items way.0 c.add_way.new.walk.items below
     (c.requires.among c.loop-at.at 0 below) c.next_stop-next.ensures way.1 (way.2 (row_at c.args.search.now.marks.now)) c.loop-at.invariant
 
 pub returns-clause-closed : goal.returns-clause-closed
 returns-clause-closed c =
     let all : c.loop-at.at ≡ length c.args.stops.now = omega arith in
-    tour_closes (marked c.args.search.now.graph.now (row_at c.args.search.now.marks.now)) c.args.edges.now c.args.stops.now c.loop-at.walk.items c.requires.some
-    (subst (λ at. IsTour (marked c.args.search.now.graph.now (row_at c.args.search.now.marks.now)) c.args.edges.now c.args.stops.now at c.loop-at.walk.items) all c.loop-at.invariant)
+    tour_closes (graph_of c.args.search.now) c.args.edges.now c.args.stops.now c.loop-at.walk.items c.requires.some
+    (subst (λ at. IsTour (graph_of c.args.search.now) c.args.edges.now c.args.stops.now at c.loop-at.walk.items) all c.loop-at.invariant)
 
 pub returns-clause-passes : goal.returns-clause-passes
 returns-clause-passes c =
     let all : c.loop-at.at ≡ length c.args.stops.now = omega arith in
-    tour_passes (marked c.args.search.now.graph.now (row_at c.args.search.now.marks.now)) c.args.edges.now c.args.stops.now c.loop-at.walk.items
-    (subst (λ at. IsTour (marked c.args.search.now.graph.now (row_at c.args.search.now.marks.now)) c.args.edges.now c.args.stops.now at c.loop-at.walk.items) all c.loop-at.invariant)
+    tour_passes (graph_of c.args.search.now) c.args.edges.now c.args.stops.now c.loop-at.walk.items
+    (subst (λ at. IsTour (graph_of c.args.search.now) c.args.edges.now c.args.stops.now at c.loop-at.walk.items) all c.loop-at.invariant)

@@ -1,9 +1,9 @@
 -- `built`: the specifications have one game, and no fault within the limits.
 use Rattle.std.proofs.Common.{◌≡◌, ◌≤◌, List, length, None, ap, ◌∙◌, subst, arith}
 use Rattle.std.proofs.lemmas.Result.{IfErr-weaker, IfOk-weaker}
-use Rattle.omega_game.specs.declared.node_spec.NodeSpec.{NodeSpec}
-use Rattle.omega_game.specs.Building.{IsGameOf, game_fault_of}
-use Rattle.omega_game.specs.Limits.{most_nodes, most_successors}
+use Rattle.omega_parity_game.specs.declared.node_spec.NodeSpec.{NodeSpec}
+use Rattle.omega_parity_game.specs.Building.{IsGameOf, game_fault_of}
+use Rattle.omega_parity_game.specs.Limits.{most_nodes, most_successors}
 use Rattle.omega_arrays.specs.Arrays.{node_count, nodes_in}
 use Rattle.omega_arrays.specs.private.Specified.{specs_below}
 use Rattle.omega_arrays.proofs.Built.{count_is, game_of_specs, limits_of_shape, only_memory}

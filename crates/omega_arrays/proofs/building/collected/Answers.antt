@@ -1,7 +1,7 @@
 -- `collected`: the specifications of one node more.
 use Rattle.std.proofs.Common.{◌++◌, ◌∷◌, [], List, sym, ap, ◌∙◌, arith}
 use Rattle.std.proofs.lemmas.List.FromFn.{map-range_with_len_more}
-use Rattle.omega_game.specs.declared.node_spec.NodeSpec.{NodeSpec}
+use Rattle.omega_parity_game.specs.declared.node_spec.NodeSpec.{NodeSpec}
 use Rattle.omega_arrays.specs.private.Specified.{spec_of}
 use Rattle.omega_arrays.proofs.building.collected.Goals as goal
 

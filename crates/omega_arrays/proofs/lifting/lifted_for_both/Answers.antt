@@ -1,6 +1,6 @@
 -- `lifted_for_both`: what was found for both players is a right solution, and what was refused is a fault of the game.
 use Rattle.std.proofs.Common.{None, ap, ◌∙◌, rules}
-use Rattle.omega_game.specs.declared.player.Player.TheVariants.{One, Zero}
+use Rattle.omega_parity_game.specs.declared.player.Player.TheVariants.{One, Zero}
 use Rattle.omega_game_answers.specs.declared.solve.asked.Asked.TheVariants.{Both}
 use Rattle.omega_game_answers.specs.private.steps.SolveGameRefusal.{IsSolveGameRefusal}
 use Rattle.omega_game_answers.specs.solve.Winners.{winners_of}

@@ -1,4 +1,4 @@
--- Where nothing is found no fault applies.
+-- If nothing is found no fault applies.
 use Rattle.omega_automaton.proofs.FaultLemmas.{no_fault_passes}
 use Rattle.omega_automaton.specs.Faults.{applies}
 use Rattle.omega_automaton.proofs.laws.no_fault_is_none.Goals as goal

@@ -1,4 +1,4 @@
--- `body_with`: a definition that is wrong, the fault that is left, and what is made where there is none.
+-- `body_with`: a definition that is wrong, the fault that is left, and what is made without a fault.
 use Rattle.std.proofs.lemmas.Result.{err_from_is_err_and}
 use Rattle.omega_automaton.proofs.DraftLemmas.{body_means, draft_accepts, draft_last, draft_sound, last-meaningless, unnoted-meaningless}
 use Rattle.omega_automaton.proofs.making.body_with.Goals as goal

@@ -2,10 +2,10 @@
 -- gathered, and the value made of it.
 use Rattle.std.specs.Prelude.{◌≡◌, ℕ, List, [], Option, None, MatchOption, nat_lt, unwrap_or}
 use Rattle.std.specs.List.{list_any}
-use Rattle.omega_acc.specs.formula.Acceptance.{AccTree}
-use Rattle.omega_acc.specs.formula.Meaning.{fault_of_acc}
-use Rattle.omega_acc.specs.Limits.{most_depth}
-use Rattle.omega_acc.specs.formula.Raw.{RawAccTree, raw_acc_depth}
+use Rattle.omega_formula.specs.Acceptance.{AccTree}
+use Rattle.omega_formula.specs.Meaning.{fault_of_acc}
+use Rattle.omega_expression.specs.Limits.{most_depth}
+use Rattle.omega_formula.specs.Raw.{RawAccTree, raw_acc_depth}
 use Rattle.omega_raw.specs.declared.raw_automaton.RawAutomaton.{RawAutomaton}
 use Rattle.omega_automaton.specs.Automaton.{Description}
 use Rattle.omega_automaton.specs.Faults.{definitions_of, automaton_fault_of, passes, set_count, state_count}

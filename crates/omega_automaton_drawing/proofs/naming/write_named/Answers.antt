@@ -1,6 +1,6 @@
 -- `write_named`: the text of the label, with names.
 use Rattle.std.proofs.Common.{None, ◌++◌, ap, ◌∙◌}
-use Rattle.omega_acc.specs.Writing.{label_text}
+use Rattle.omega_label.specs.Writing.{label_text}
 use Rattle.omega_automaton_drawing.specs.private.layout.Naming.{with_names}
 use Rattle.omega_automaton_drawing.proofs.Named.{label_named}
 use Rattle.omega_automaton_drawing.proofs.naming.write_named.Goals as goal

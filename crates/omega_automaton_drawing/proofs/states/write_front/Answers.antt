@@ -1,6 +1,6 @@
 -- `write_front`: its parts are the front.
 use Rattle.std.proofs.Common.{◌++◌, ap, codes, ◌∙◌}
-use Rattle.omega_acc.specs.Writing.{acc_text}
+use Rattle.omega_formula.specs.Writing.{acc_text}
 use Rattle.omega_dot.specs.Labels.{name_label_line}
 use Rattle.omega_automaton_drawing.proofs.Lines.{following}
 use Rattle.omega_automaton_drawing.proofs.states.write_front.Goals as goal

@@ -8,12 +8,12 @@ use Rattle.omega_automaton_drawing.specs.declared.role.Role.TheVariants.{Plain}
 abbrev pub role_at : List Role → ℕ → Role
 role_at roles number = slice_index_or roles number Plain
 
--- a table has the roles of another, but for these numbers, which have this role
+-- a table has the roles of another, except for these numbers, which have this role
 abbrev pub AreMarked : List ℕ → Role → List Role → List Role → Type 0
 AreMarked numbers role before after =
     (number : ℕ) → number < length before → role_at after number ≡ role_among numbers role (role_at before number) number
 
--- a table has an entry for each of so many edges: its role in the lasso
+-- a table has an entry for each of `edges` edges: its role in the lasso
 pub record AreRoles (stem cycle : List ℕ) (edges : ℕ) (roles : List Role) : Type 0 where
   pub entries : length roles ≡ edges
   pub each : (number : ℕ) → number < edges → role_at roles number ≡ role_of stem cycle number

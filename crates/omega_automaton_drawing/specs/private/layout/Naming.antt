@@ -4,7 +4,8 @@ use Rattle.omega_automaton.specs.Limits.{most_propositions}
 use Rattle.omega_text.specs.Bytes.{is_digit}
 use Rattle.omega_automaton_drawing.specs.Names.{drawn_name, name_at}
 
--- the number whose digits have been passed, if there are any, with a digit more; it stops at the limit of propositions
+-- the number whose digits have been passed, if there are any, with one digit more; it is at most the limit of
+-- propositions
 abbrev pub with_digit : Option ℕ → ℕ → ℕ
 with_digit number byte = min (unwrap_or number 0 * 10 + (byte - 48)) most_propositions
 
@@ -17,7 +18,7 @@ pending_name names (Some number) = drawn_name (name_at names number)
 abbrev pub sign_text : ℕ → List ℕ
 sign_text byte = if byte == 38 then codes " & " else if byte == 124 then codes " | " else byte ∷ []
 
--- what is written of the bytes that are left
+-- the text that is written of the bytes that are left
 abbrev pub with_names : List (List ℕ) → Option ℕ → List ℕ → List ℕ
 with_names names number [] = pending_name names number
 with_names names number (byte ∷ bytes) =

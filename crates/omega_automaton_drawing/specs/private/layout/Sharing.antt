@@ -1,4 +1,4 @@
--- Which edges of a state share arrows, in a table.
+-- A table of the edges of a state that share arrows.
 use Rattle.std.specs.Prelude.{◌≡◌, ℕ, ◌+◌, ◌<◌, Option, Some, None, List, drop, length, map, slice_index_or}
 use Rattle.std.specs.BTreeMap.{get}
 use Rattle.std.specs.List.{position_from}

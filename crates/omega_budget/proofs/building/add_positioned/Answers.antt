@@ -1,7 +1,7 @@
 -- The node with a position is specified with its successors' positions.
 use Rattle.std.proofs.Common.{◌<◌, ◌≤◌, ◌∙◌, ◌++◌, ◌∷◌, [], ap, arith, get_or, length, subst, sym, ℕ}
-use Rattle.omega_game.specs.declared.node_spec.NodeSpec.{NodeSpec}
-use Rattle.omega_game.specs.Building.{with_last, with_successor}
+use Rattle.omega_parity_game.specs.declared.node_spec.NodeSpec.{NodeSpec}
+use Rattle.omega_parity_game.specs.Building.{with_last, with_successor}
 use Rattle.omega_text.specs.Limits.{most_number}
 use Rattle.omega_budget.proofs.Nodes.{first_positioned, listed_below, position_is_number, positioned_more, some_listed}
 use Rattle.omega_budget.proofs.building.add_positioned.Goals as goal

@@ -1,7 +1,7 @@
 -- The game that is built is the game with each node at its position.
 use Rattle.std.proofs.Common.{◌≡◌, ◌∙◌, ◌++◌, ◌∷◌, [], IfErr, IfOk, List, ap, arith, length, subst, sym}
-use Rattle.omega_game.specs.declared.node_spec.NodeSpec.{NodeSpec}
-use Rattle.omega_game.specs.Building.{IsBuildRefusal, IsGameOf}
+use Rattle.omega_parity_game.specs.declared.node_spec.NodeSpec.{NodeSpec}
+use Rattle.omega_parity_game.specs.Building.{IsBuildRefusal, IsGameOf}
 use Rattle.omega_budget.specs.private.steps.Building.{spec_of, specs_below}
 use Rattle.omega_budget.proofs.Nodes.{built_reordered, memory_reordered, some_specs, specs_more}
 use Rattle.omega_budget.proofs.building.reordered_game.Goals as goal

@@ -1,4 +1,4 @@
--- Budgets dealt out in the reordered game are dealt out in the original game, of which the headline holds.
+-- Budgets dealt out in the reordered game are dealt out in the original game, and the headline holds of that.
 use Rattle.omega_budget.proofs.Dealing.{by_place}
 use Rattle.omega_budget.proofs.laws.headline_by_place.Goals as goal
 

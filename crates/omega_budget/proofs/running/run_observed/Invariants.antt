@@ -1,4 +1,4 @@
--- The whole slices so far, each of which left a lift due and was reported.
+-- The whole slices so far: each left a lift due and was reported.
 use Rattle.std.proofs.Common.{◌≡◌, ◌<◌, ◌≤◌, ◌-◌, ◌*◌, ℕ}
 use Rattle.omega_solve.specs.Solver.{HasLiftDue}
 use Rattle.omega_budget.specs.Observing.{ReportsEach}

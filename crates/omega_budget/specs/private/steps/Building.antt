@@ -1,8 +1,8 @@
 -- How the reordered game is built.
 use Rattle.std.specs.Prelude.{ℕ, List, None, map, slice_index}
 use Rattle.std.specs.List.{range_with_len}
-use Rattle.omega_game.specs.declared.node_spec.NodeSpec.{NodeSpec}
-use Rattle.omega_game.specs.Game.{Node, owner_at, priority_at, successors_at}
+use Rattle.omega_parity_game.specs.declared.node_spec.NodeSpec.{NodeSpec}
+use Rattle.omega_parity_game.specs.Game.{Node, owner_at, priority_at, successors_at}
 
 -- the specification of the node with a position: the position is its identifier, and it has no name
 abbrev pub spec_of : List Node → List ℕ → List ℕ → ℕ → NodeSpec

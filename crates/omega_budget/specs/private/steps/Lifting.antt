@@ -1,8 +1,8 @@
 -- The state of a solver that was new and has run within a budget.
 use Rattle.std.specs.Prelude.{◌≡◌, ◌≤◌, List, ℕ, true}
-use Rattle.omega_game.specs.declared.player.Player.{Player}
-use Rattle.omega_game.specs.Bound.{bound_of}
-use Rattle.omega_game.specs.Game.{Node, priorities}
+use Rattle.omega_parity_game.specs.declared.player.Player.{Player}
+use Rattle.omega_parity_game.specs.Bound.{bound_of}
+use Rattle.omega_parity_game.specs.Game.{Node, priorities}
 use Rattle.omega_solve.specs.declared.outcome.Outcome.{Outcome}
 use Rattle.omega_solve.specs.declared.outcome.Outcome.TheVariants.{Done, Spent}
 use Rattle.omega_solve.specs.Solver.{SolverState, HasLiftDue, IsFinished, IsReached}

@@ -4,8 +4,8 @@ use Rattle.omega_text.specs.Cases.{never, or_memory, or_task}
 use Rattle.omega_text.specs.declared.refusal.Refusal.{Refusal}
 use Rattle.omega_text.specs.declared.refusal.task.TaskFault.{TaskFault}
 use Rattle.omega_text.specs.declared.refusal.task.TaskFault.TheVariants.{Budget}
-use Rattle.omega_game.specs.declared.player.Player.{Player}
-use Rattle.omega_game.specs.Game.{Node}
+use Rattle.omega_parity_game.specs.declared.player.Player.{Player}
+use Rattle.omega_parity_game.specs.Game.{Node}
 use Rattle.omega_budget.specs.Within.{GoesOnAfter}
 
 -- the budget is used up: a lifting run of exactly its entries leaves a lift due

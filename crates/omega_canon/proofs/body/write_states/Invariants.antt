@@ -1,4 +1,4 @@
--- `write_states`: what stands before this item is written.
+-- `write_states`: the items before this one are written.
 use Rattle.std.proofs.Common.{◌≡◌, ◌++◌, take}
 use Rattle.std.specs.List.{flat_map}
 use Rattle.omega_canon.specs.BodyText.{state_text}

@@ -1,4 +1,4 @@
--- `write_parameters`: what stands before this item is written.
+-- `write_parameters`: the items before this one are written.
 use Rattle.std.proofs.Common.{◌≡◌, ◌++◌, take}
 use Rattle.std.specs.List.{flat_map}
 use Rattle.omega_canon.specs.HeaderText.{parameter_part}

@@ -1,4 +1,4 @@
--- `write_numbers_after`: what stands before this item is written.
+-- `write_numbers_after`: the items before this one are written.
 use Rattle.std.proofs.Common.{◌≡◌, ◌∷◌, ◌++◌, [], take}
 use Rattle.omega_canon.specs.Parts.{numbers_after}
 use Rattle.omega_canon.proofs.parts.write_numbers_after.Given as goal

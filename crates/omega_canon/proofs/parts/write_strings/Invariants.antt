@@ -1,4 +1,4 @@
--- `write_strings`: what stands before this item is written.
+-- `write_strings`: the items before this one are written.
 use Rattle.std.proofs.Common.{◌≡◌, ◌++◌, take}
 use Rattle.omega_canon.specs.Parts.{strings}
 use Rattle.omega_canon.proofs.parts.write_strings.Given as goal

@@ -1,4 +1,4 @@
--- `write_words`: what stands before this item is written.
+-- `write_words`: the items before this one are written.
 use Rattle.std.proofs.Common.{◌≡◌, ◌++◌, take}
 use Rattle.omega_canon.specs.Parts.{words}
 use Rattle.omega_canon.proofs.parts.write_words.Given as goal

@@ -1,4 +1,4 @@
--- `number_in`: the kind of the error tells the reason.
+-- `number_in`: the kind of the error gives the reason.
 use Rattle.std.proofs.Common.{◌≡◌, rules, subst, sym}
 use Rattle.std.specs.List.{list_all}
 use Rattle.std.specs.Str.Parse.{error_kind}

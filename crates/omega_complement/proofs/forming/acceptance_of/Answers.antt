@@ -1,9 +1,9 @@
 -- there is room for one operator more
 use Rattle.std.proofs.Common.{◌<◌, codes, false, ap, ap₂, sym, subst, ◌∙◌}
 use Rattle.std.proofs.lemmas.Result.{IfErr-weaker, IfOk-weaker}
-use Rattle.omega_acc.specs.WritingLaws.{acc_written}
-use Rattle.omega_acc.specs.Limits.{most_depth}
-use Rattle.omega_acc.specs.formula.Raw.{atom, disjunction, raw_acc_depth}
+use Rattle.omega_formula.specs.Writing.{acc_written}
+use Rattle.omega_expression.specs.Limits.{most_depth}
+use Rattle.omega_formula.specs.Raw.{atom, disjunction, raw_acc_depth}
 use Rattle.omega_complement.specs.Dual.{dual}
 use Rattle.omega_complement.specs.Written.{complement_acceptance}
 use Rattle.omega_complement.proofs.Depths.{atom_joins, with_atom}
@@ -11,8 +11,8 @@ use Rattle.omega_complement.proofs.LimitTests.{fits}
 use Rattle.omega_edge_labels.proofs.Refusals.{not_deeper}
 use Rattle.omega_complement.proofs.forming.acceptance_of.Goals as goal
 
-pub returns-clause-err : goal.returns-clause-err
-returns-clause-err c =
+pub returns-clause-memory : goal.returns-clause-memory
+returns-clause-memory c =
     IfErr-weaker c.or.result _ _
     (not_deeper _ (atom_joins _ _ (ap raw_acc_depth c.in_ok-atom.ensures.ok)
     (subst (λ n. n < most_depth) (sym (ap raw_acc_depth c.requires.dual)) (fits c.args.automaton.now c.requires.limits).depth)))

@@ -4,7 +4,7 @@ use Rattle.std.specs.List.{All}
 use Rattle.std.proofs.lemmas.List.Elements.{All-push}
 use Rattle.std.proofs.lemmas.Option.{slice_get_read}
 use Rattle.std.proofs.lemmas.Result.{err_from_is_err_and}
-use Rattle.omega_acc.specs.label.Shape.{FitsALabel, label_tree_of_shape}
+use Rattle.omega_label.specs.Shape.{FitsALabel, label_tree_of_shape}
 use Rattle.omega_complement.specs.Labels.{is_full, labels_of}
 use Rattle.omega_complement.proofs.Faults.{unfit_refused}
 use Rattle.omega_complement.proofs.Rows.{each_grown, each_there}

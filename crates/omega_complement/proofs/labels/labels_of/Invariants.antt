@@ -1,7 +1,7 @@
 -- the labels so far
 use Rattle.std.proofs.Common.{◌≡◌, take}
 use Rattle.std.specs.List.{All}
-use Rattle.omega_acc.specs.label.Shape.{FitsALabel}
+use Rattle.omega_label.specs.Shape.{FitsALabel}
 use Rattle.omega_complement.specs.Labels.{each_by_index}
 use Rattle.omega_edge_labels.specs.Labels.{label_at}
 use Rattle.omega_complement.proofs.labels.labels_of.Given as goal

@@ -1,7 +1,7 @@
 -- the last test, where the others fail
 use Rattle.std.proofs.Common.{nat_le, ap, ◌∙◌, arith}
-use Rattle.omega_acc.specs.Limits.{most_depth}
-use Rattle.omega_acc.specs.formula.Raw.{raw_acc_depth}
+use Rattle.omega_expression.specs.Limits.{most_depth}
+use Rattle.omega_formula.specs.Raw.{raw_acc_depth}
 use Rattle.omega_complement.proofs.LimitTests.{by_depth}
 use Rattle.omega_complement.proofs.limits.exceeds_limits.Goals as goal
 

@@ -2,9 +2,9 @@
 use Rattle.std.proofs.Common.{◌≡◌, ◌-◌, ◌/◌, List, length, take, drop, subst, sym, refl, arith}
 use Rattle.std.proofs.lemmas.List.{length-drop}
 use Rattle.std.proofs.lemmas.Result.{IfOk-weaker}
-use Rattle.omega_acc.specs.label.Label.{LabelTree, disjunction}
-use Rattle.omega_acc.specs.label.Shape.{label_tree_of_shape}
-use Rattle.omega_acc.specs.declared.label.shape.LabelShape.{LabelShape}
+use Rattle.omega_label.specs.Label.{LabelTree, disjunction}
+use Rattle.omega_label.specs.Shape.{label_tree_of_shape}
+use Rattle.omega_label.specs.declared.shape.LabelShape.{LabelShape}
 use Rattle.omega_complement.specs.Letters.{IsAnyOf}
 use Rattle.omega_complement.proofs.Judged.{any_of_halves, any_of_one}
 use Rattle.omega_complement.proofs.Rows.{take_all}

@@ -1,7 +1,7 @@
 -- a state with an edge for each valuation is not judged
 use Rattle.std.proofs.Common.{List, subst, sym, ◌∙◌, true≢false}
 use Rattle.std.proofs.lemmas.Result.{on_ok_weaker}
-use Rattle.omega_acc.specs.label.Label.{LabelTree}
+use Rattle.omega_label.specs.Label.{LabelTree}
 use Rattle.omega_complement.specs.Letters.{HasClash, LacksLetter}
 use Rattle.omega_complement.specs.Labels.{is_full}
 use Rattle.omega_complement.proofs.Full.{full_apart, full_lacks_none}

@@ -4,11 +4,11 @@ use Rattle.std.specs.List.{All}
 use Rattle.std.proofs.lemmas.List.{take_more}
 use Rattle.std.proofs.lemmas.List.Elements.{All-contains, All-push}
 use Rattle.std.proofs.lemmas.Option.{slice_get_read}
-use Rattle.omega_acc.specs.label.Label.{LabelTree}
-use Rattle.omega_acc.specs.label.Shape.{FitsALabel}
+use Rattle.omega_label.specs.Label.{LabelTree}
+use Rattle.omega_label.specs.Shape.{FitsALabel}
 use Rattle.omega_automaton.specs.declared.edge.Edge.{Edge}
 use Rattle.omega_complement.specs.Labels.{each_by_index, is_full}
-use Rattle.omega_complement.specs.Written.{turned_edge}
+use Rattle.omega_complement.specs.Written.{turned_edge, turned_with}
 use Rattle.omega_complement.proofs.Faults.{unwritten_refused}
 use Rattle.omega_complement.proofs.Rows.{each_grown, each_length, each_read, take_all}
 use Rattle.omega_edge_labels.specs.Fitting.{FitsAText}
@@ -19,25 +19,22 @@ use Rattle.omega_complement.proofs.turning.turned_edges.Goals as goal
 pub edge-edge-requires : goal.edge-edge-requires
 edge-edge-requires c = omega (arith, c.loop-at-test.true, ap length c.requires.labels, each_length (label_at c.args.count c.args.state.now) 0 c.args.state.now.edges)
 
-pub turned_edge-requires-clause-label : goal.turned_edge-requires-clause-label
-turned_edge-requires-clause-label c =
-    let long : length c.args.labels.now ≡ length c.args.state.now.edges =
-    ap length c.requires.labels ∙ each_length (label_at c.args.count c.args.state.now) 0 c.args.state.now.edges in
-    each_read (label_at c.args.count c.args.state.now) c.args.state.now.edges c.args.labels.now c.loop-at.at c.index-labels-at.result c.edge-edge.result c.requires.labels c.loop-at-test.true
-    c.index-labels-at.is (omega (arith, c.loop-at-test.true, long)) c.edge-edge.ensures
-
-pub turned_edge-requires-clause-fits : goal.turned_edge-requires-clause-fits
-turned_edge-requires-clause-fits c =
+pub turned_edge-requires : goal.turned_edge-requires
+turned_edge-requires c =
     All-contains FitsALabel c.args.labels.now c.index-labels-at.result c.requires.fits (c.loop-at.at, c.loop-at-test.true, sym c.index-labels-at.is)
 
 pub loop-at-preserved : goal.loop-at-preserved
 loop-at-preserved c =
     let long : length c.args.labels.now ≡ length c.args.state.now.edges =
     ap length c.requires.labels ∙ each_length (label_at c.args.count c.args.state.now) 0 c.args.state.now.edges in
+    let label : c.index-labels-at.result ≡ label_at c.args.count c.args.state.now c.loop-at.at c.edge-edge.result =
+    each_read (label_at c.args.count c.args.state.now) c.args.state.now.edges c.args.labels.now c.loop-at.at c.index-labels-at.result c.edge-edge.result c.requires.labels c.loop-at-test.true
+    c.index-labels-at.is (omega (arith, c.loop-at-test.true, long)) c.edge-edge.ensures in
     record {
       edges = c.in_ok-push.ensures.ok
           ∙ each_grown (turned_edge c.args.count c.args.state.now) c.args.state.now.edges c.loop-at.at c.edge-edge.result c.loop-at.edges c.in_ok-turned.turned
-          (omega (arith, c.loop-at-test.true, long)) c.edge-edge.ensures c.loop-at.invariant.edges c.in_ok-turned.ensures.edge;
+          (omega (arith, c.loop-at-test.true, long)) c.edge-edge.ensures c.loop-at.invariant.edges
+          (c.in_ok-turned.ensures.edge ∙ ap (λ (l : LabelTree). turned_with l c.args.state.now c.edge-edge.result) label);
       written = subst (All FitsAText) (sym (take_more c.args.labels.now c.loop-at.at c.index-labels-at.result c.loop-at-test.true
           ∙ ap (λ (l : LabelTree). take c.loop-at.at c.args.labels.now ++ l ∷ []) (sym c.index-labels-at.is)))
           (All-push FitsAText (take c.loop-at.at c.args.labels.now) c.index-labels-at.result c.loop-at.invariant.written c.in_ok-turned.ensures.written);

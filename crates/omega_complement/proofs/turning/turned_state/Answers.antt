@@ -1,8 +1,8 @@
 -- the labels that are judged and those that are written fit
 use Rattle.std.proofs.Common.{◌≡◌, List, subst, ◌∙◌}
 use Rattle.std.specs.List.{All}
-use Rattle.omega_acc.specs.label.Label.{LabelTree}
-use Rattle.omega_acc.specs.label.Shape.{FitsALabel}
+use Rattle.omega_label.specs.Label.{LabelTree}
+use Rattle.omega_label.specs.Shape.{FitsALabel}
 use Rattle.omega_complement.specs.Judged.{IsJudgedLabel}
 use Rattle.omega_complement.specs.Labels.{is_full, labels_of}
 use Rattle.omega_complement.specs.Letters.{IsRestLabel, LacksLetter}

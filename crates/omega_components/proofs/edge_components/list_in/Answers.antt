@@ -5,7 +5,7 @@ use Rattle.omega_components.specs.private.Lists.{list_at}
 use Rattle.omega_components.proofs.JoinedLists.{start_within}
 use Rattle.omega_components.proofs.edge_components.list_in.Goals as goal
 
--- where the list starts, by either default
+-- the start of the list, by either default
 start_is : (c : goal.After-end_in-end) → get_or c.args.starts.now c.args.index 0 ≡ get_or c.args.starts.now c.args.index (length c.args.items.now)
 start_is c = get_or_default c.args.starts.now c.args.index 0 (length c.args.items.now) c.requires.within
 

@@ -1,4 +1,4 @@
--- What holds in the loop of `entered`: a state that is told is entered by one of the edges so far.
+-- What holds in the loop of `entered`: a flagged state is entered by one of the edges so far.
 use Rattle.omega_components.specs.private.Judging.{AreEntered}
 use Rattle.omega_components.proofs.entering.entered.Given as goal
 

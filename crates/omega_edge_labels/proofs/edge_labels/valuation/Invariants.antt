@@ -1,6 +1,6 @@
 -- the label of the valuation over the propositions so far
 use Rattle.std.proofs.Common.{◌≡◌}
-use Rattle.omega_acc.specs.label.Shape.{label_tree_of_shape}
+use Rattle.omega_label.specs.Shape.{label_tree_of_shape}
 use Rattle.omega_edge_labels.specs.Labels.{valuation_label}
 use Rattle.omega_edge_labels.proofs.edge_labels.valuation.Given as goal
 

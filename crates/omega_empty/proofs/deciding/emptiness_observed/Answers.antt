@@ -1,5 +1,4 @@
--- `emptiness_observed`: what is told is told of the run in the emptiness game,
--- and after it there is want of memory alone.
+-- `emptiness_observed`: the reports are of the run in the emptiness game, and after it only memory can refuse.
 use Rattle.std.proofs.Common.{◌≡◌, None, Some}
 use Rattle.std.proofs.lemmas.Result.{IfErr-weaker}
 use Rattle.omega_empty.proofs.walking.Refused.{on_ok, passed_on, ungiven_refused, unsolved_refused}

@@ -1,4 +1,4 @@
--- the edges from where the loop starts are a lasso
+-- the edges from the start of the loop on are a lasso's cycle
 use Rattle.omega_empty.proofs.walking.Verdicts.{loop_state_is_right}
 use Rattle.omega_empty.proofs.deciding.lasso_from.Goals as goal
 

@@ -1,4 +1,4 @@
--- where no start is won, no lasso accepts
+-- if no start is won, no lasso accepts
 use Rattle.omega_empty.proofs.walking.Verdicts.{none_accepts}
 use Rattle.omega_empty.proofs.deciding.verdict_of.Goals as goal
 

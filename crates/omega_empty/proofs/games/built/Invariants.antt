@@ -4,4 +4,4 @@ use Rattle.omega_empty.specs.EmptinessGame.{nodes_at}
 use Rattle.omega_empty.proofs.games.built.Given as goal
 
 abbrev pub invariant-loop-counter : goal.invariant-loop-counter
-invariant-loop-counter l = l.builder ≡ flat_map (nodes_at l.judged.kind l.judged.automaton.now l.judged.usable.items) (range_with_len 0 l.counter)
+invariant-loop-counter l = l.builder ≡ flat_map (nodes_at l.judged.kind l.judged.automaton l.judged.usable) (range_with_len 0 l.counter)

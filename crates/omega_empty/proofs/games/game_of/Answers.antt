@@ -4,8 +4,8 @@ use Rattle.omega_automaton.specs.Branching.{has_universal_branching}
 use Rattle.omega_empty.proofs.making.Plain.{few_identifiers, small_kind}
 use Rattle.omega_empty.proofs.games.game_of.Goals as goal
 
-pub built-requires : goal.built-requires
-built-requires c =
+pub invariant_of-judged : goal.invariant_of-judged
+invariant_of-judged c =
     let plain : has_universal_branching c.args.automaton.now ≡ false = cc in
     record {
       automaton = c.keeps_limits.ensures;

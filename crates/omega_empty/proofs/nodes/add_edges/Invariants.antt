@@ -6,5 +6,5 @@ use Rattle.omega_empty.proofs.nodes.add_edges.Given as goal
 
 abbrev pub invariant-loop-state : goal.invariant-loop-state
 invariant-loop-state l =
-    (l.number ≡ length (flat_map edges_from (take l.state-index l.judged.automaton.now.defined)))
-    × (l.builder ≡ l.initial.builder ++ edge_nodes l.judged.kind l.judged.automaton.now l.judged.usable.items l.counter 0 (flat_map edges_from (take l.state-index l.judged.automaton.now.defined)))
+    (l.number ≡ length (flat_map edges_from (take l.state-index l.judged.automaton.defined)))
+    × (l.builder ≡ l.initial.builder ++ edge_nodes l.judged.kind l.judged.automaton l.judged.usable l.counter 0 (flat_map edges_from (take l.state-index l.judged.automaton.defined)))

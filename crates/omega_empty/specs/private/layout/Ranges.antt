@@ -1,15 +1,15 @@
--- Where the edges of a state stand among all edges: the numbers from a first up to an end.
+-- The edges of a state among all edges: the numbers from a first up to an end.
 use Rattle.std.specs.Prelude.{◌≡◌, ℕ, ◌-◌, ◌<◌, ◌≤◌, Bool, List, length, filter, slice_index_or}
 use Rattle.std.specs.List.{range_with_len}
 use Rattle.omega_automaton.specs.Automaton.{BodyEdge, Description, edges_of}
 use Rattle.omega_empty.specs.EmptinessGame.{is_usable, leaving}
 use Rattle.omega_empty.specs.declared.edge_ranges.EdgeRange.{EdgeRange}
 
--- no numbers
+-- the range without numbers
 abbrev pub no_range : EdgeRange
 no_range = record { first = 0; end = 0 }
 
--- the usable ones of the numbers of a range
+-- the numbers of the usable ones among the edges of a range
 abbrev pub usable_in : List Bool → EdgeRange → List ℕ
 usable_in usable range = filter (is_usable usable) (range_with_len range.first (range.end - range.first))
 

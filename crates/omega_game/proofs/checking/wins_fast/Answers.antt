@@ -2,11 +2,12 @@
 -- where the fast search is confirmed.
 use Rattle.std.proofs.Common.{List, Bool, Option, sym, ◌∙◌, subst, arith}
 use Rattle.std.specs.Prelude.{IfSome}
+use Rattle.omega_parity_game.specs.Reaching.{AreReached}
+use Rattle.omega_parity_game.proofs.walks.Marking.{priorities_low}
 use Rattle.omega_game.specs.declared.checking.decision.Decision.{Decision}
 use Rattle.omega_game.specs.private.checking.Decision.{IsRightDecision}
-use Rattle.omega_game.specs.private.checking.Reaching.{AreReached}
-use Rattle.omega_game.proofs.walks.Marking.{reached_closed}
-use Rattle.omega_game.proofs.walks.Recurrence.{choices_of_strategy, priorities_low, wins_if_none, none_if_wins}
+use Rattle.omega_game.proofs.walks.Closing.{reached_closed}
+use Rattle.omega_game.proofs.walks.Recurrence.{choices_of_strategy, wins_if_none, none_if_wins}
 use Rattle.omega_game.proofs.walks.Deciding.{none_where_won, won_where_none}
 use Rattle.omega_game.proofs.checking.wins_fast.Goals as goal
 

@@ -1,11 +1,12 @@
 -- `lasso_against`: a lasso that shows why choices that are a strategy of the player do not win, none where they do.
 use Rattle.std.proofs.Common.{List, Bool, ℕ, refl, sym, subst, arith}
+use Rattle.omega_parity_game.specs.Reaching.{AreReached}
+use Rattle.omega_parity_game.proofs.walks.Marking.{priorities_low}
 use Rattle.omega_game.specs.declared.checking.decision.Decision.{Decision}
 use Rattle.omega_game.specs.private.checking.Decision.{IsLosingPlace, IsRightDecision}
-use Rattle.omega_game.specs.private.checking.Reaching.{AreReached}
 use Rattle.omega_game.specs.private.refuting.Ways.{IsCycle, LeadsTo}
-use Rattle.omega_game.proofs.walks.Marking.{reached_closed}
-use Rattle.omega_game.proofs.walks.Recurrence.{choices_of_strategy, priorities_low, wins_if_none, none_if_wins}
+use Rattle.omega_game.proofs.walks.Closing.{reached_closed}
+use Rattle.omega_game.proofs.walks.Recurrence.{choices_of_strategy, wins_if_none, none_if_wins}
 use Rattle.omega_game.proofs.walks.Deciding.{lost_place}
 use Rattle.omega_game.proofs.walks.Lassos.{lasso_loses}
 use Rattle.omega_game.proofs.refuting.lasso_against.Goals as goal

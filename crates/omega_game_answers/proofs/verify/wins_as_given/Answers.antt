@@ -1,4 +1,4 @@
--- `wins_as_given`: player 0's choices decide where they don't win, and else player 1's.
+-- `wins_as_given`: player 0's choices decide if they don't win, and else player 1's.
 use Rattle.std.proofs.lemmas.Result.{IfOk-weaker}
 use Rattle.omega_game_answers.proofs.Verifying.{one-decides, zero-decides}
 use Rattle.omega_game_answers.proofs.verify.wins_as_given.Goals as goal

@@ -1,6 +1,6 @@
 -- `wins_given`: winning from the places given to a player is winning from the nodes given to that player.
 use Rattle.std.proofs.lemmas.Result.{IfOk-weaker}
-use Rattle.omega_game.proofs.solutions.Given.{given-wins, given-within}
+use Rattle.omega_parity_game.proofs.solutions.Given.{given-wins, given-within}
 use Rattle.omega_game_answers.proofs.verify.wins_given.Goals as goal
 
 pub check_strategy-requires-clause-places : goal.check_strategy-requires-clause-places

@@ -3,8 +3,8 @@ use Rattle.std.specs.Prelude.{◌≡◌, Bool, List, Option, None, Some, ℕ}
 use Rattle.omega_text.specs.declared.refusal.Refusal.{Refusal}
 use Rattle.omega_text.specs.declared.refusal.Refusal.TheVariants.{Task}
 use Rattle.omega_text.specs.declared.refusal.task.TaskFault.TheVariants.{UnknownNode}
-use Rattle.omega_game.specs.Game.{Node}
-use Rattle.omega_game.specs.declared.solution.Solution.{Solution}
+use Rattle.omega_parity_game.specs.Game.{Node}
+use Rattle.omega_parity_game.specs.declared.solution.Solution.{Solution}
 use Rattle.omega_game_drawing.specs.GameDrawing.{IsSolutionDrawing}
 use Rattle.omega_game_drawing.specs.declared.extent.Extent.{Extent}
 use Rattle.omega_pg.specs.solution.Refusing.{IsSolutionRefusal}
@@ -17,14 +17,17 @@ abbrev pub IsUnknownFrom : List Node → Option ℕ → Refusal → Type 0
 IsUnknownFrom game None refusal = ⊥
 IsUnknownFrom game (Some identifier) refusal = (refusal ≡ Task UnknownNode) × IsUnknownIdentifier game identifier
 
--- the text stands for a solution of the game, and the drawing of the extent of the game with it is written
-pub record IsSolutionDrawn (game : List Node) (extent : Extent) (text : List ℕ) (legend : Bool) (output : List ℕ) : Type 0 where
+-- the text is that of a solution of the game, and the drawing of the extent of the game with it is written
+pub record IsSolutionDrawn (game : List Node) (extent : Extent) (text : List ℕ) (legend : Bool) (output : List ℕ)
+    : Type 0 where
   pub solution : Solution
   pub read : IsSolutionText game text solution
   pub drawn : IsSolutionDrawing game extent solution legend output
 
--- the same of the extent that an identifier and a depth give
-pub record IsSolvedDrawn (game : List Node) (from depth : Option ℕ) (text : List ℕ) (legend : Bool) (output : List ℕ) : Type 0 where
+-- the text is that of a solution of the game, and the drawing of the extent that an identifier and a depth give is
+-- written with it
+pub record IsSolvedDrawn (game : List Node) (from depth : Option ℕ) (text : List ℕ) (legend : Bool) (output : List ℕ)
+    : Type 0 where
   pub extent : Extent
   pub asked : IsExtent game from depth extent
   pub drawn : IsSolutionDrawn game extent text legend output

@@ -2,7 +2,7 @@
 use Rattle.std.specs.Prelude.{List, Option, ℕ}
 use Rattle.omega_text.specs.Cases.{never, or_memory, or_task}
 use Rattle.omega_text.specs.declared.refusal.Refusal.{Refusal}
-use Rattle.omega_game.specs.Game.{Node}
+use Rattle.omega_parity_game.specs.Game.{Node}
 use Rattle.omega_game_answers.specs.declared.solve.asked.Asked.{Asked}
 use Rattle.omega_game_answers.specs.solve.Refusing.{IsSolveFault}
 

@@ -1,6 +1,6 @@
--- `draw_game`: what stands for a node more, and at the end for all nodes.
+-- `draw_game`: the text of one node more, and at the end of all nodes.
 use Rattle.std.proofs.Common.{◌≡◌, ◌++◌, Bool, List, None, arith, codes, subst}
-use Rattle.omega_game.specs.Game.{no_node, node_at}
+use Rattle.omega_parity_game.specs.Game.{no_node, node_at}
 use Rattle.omega_game_drawing.specs.Nodes.{node_text_if_drawn}
 use Rattle.omega_dot.proofs.Rows.{first_row_more, rows_end}
 use Rattle.omega_game_drawing.proofs.game_drawing.draw_game.Goals as goal

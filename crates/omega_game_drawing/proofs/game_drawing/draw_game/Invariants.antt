@@ -1,4 +1,4 @@
--- `draw_game`: what stands for the nodes before this place is written.
+-- `draw_game`: the texts of the nodes before this place are written.
 use Rattle.std.proofs.Common.{◌≡◌, ◌++◌, None, take, codes}
 use Rattle.omega_game_drawing.specs.Nodes.{node_text_if_drawn}
 use Rattle.omega_dot.specs.Numbered.{numbered}

@@ -1,7 +1,7 @@
--- `draw_solution`: what stands for a node more, and at the end for all nodes, and the legend.
+-- `draw_solution`: the text of one node more, and at the end of all nodes, and the legend.
 use Rattle.std.proofs.Common.{◌≡◌, ◌++◌, Bool, List, Some, arith, codes, ap, ◌∙◌, append_assoc, subst}
-use Rattle.omega_game.specs.Game.{no_node, node_at}
-use Rattle.omega_game.specs.Solution.{winner_at}
+use Rattle.omega_parity_game.specs.Game.{no_node, node_at}
+use Rattle.omega_parity_game.specs.Solution.{winner_at}
 use Rattle.omega_game_drawing.specs.GameDrawing.{choice_in, legend_part}
 use Rattle.omega_game_drawing.specs.Nodes.{node_text_if_drawn}
 use Rattle.omega_dot.proofs.Rows.{first_row_more, rows_end}

@@ -1,6 +1,6 @@
--- `draw_solution`: what stands for the nodes before this place is written.
+-- `draw_solution`: the texts of the nodes before this place are written.
 use Rattle.std.proofs.Common.{◌≡◌, ◌++◌, Some, take, codes}
-use Rattle.omega_game.specs.Solution.{winner_at}
+use Rattle.omega_parity_game.specs.Solution.{winner_at}
 use Rattle.omega_game_drawing.specs.GameDrawing.{choice_in}
 use Rattle.omega_game_drawing.specs.Nodes.{node_text_if_drawn}
 use Rattle.omega_dot.specs.Numbered.{numbered}

@@ -1,4 +1,4 @@
--- `write_winner_label`: the number of the player stands between two texts.
+-- `write_winner_label`: the number of the player is between two texts.
 use Rattle.std.proofs.Common.{◌∙◌}
 use Rattle.omega_game_drawing.proofs.Texts.{number_between}
 use Rattle.omega_game_drawing.proofs.legend.write_winner_label.Goals as goal

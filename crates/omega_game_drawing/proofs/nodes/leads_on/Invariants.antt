@@ -1,7 +1,7 @@
 -- `leads_on`: the nodes before this one are drawn.
 use Rattle.std.proofs.Common.{◌≡◌, false, not, take}
 use Rattle.std.specs.List.{list_any}
-use Rattle.omega_game.specs.Game.{node_at}
+use Rattle.omega_parity_game.specs.Game.{node_at}
 use Rattle.omega_game_drawing.specs.Extent.{is_drawn}
 use Rattle.omega_game_drawing.proofs.nodes.leads_on.Given as goal
 

@@ -1,4 +1,4 @@
--- `write_dots`: the number of the node stands between two texts.
+-- `write_dots`: the number of the node is between two texts.
 use Rattle.std.proofs.Common.{◌∙◌}
 use Rattle.omega_game_drawing.proofs.Texts.{number_between}
 use Rattle.omega_game_drawing.proofs.nodes.write_dots.Goals as goal

@@ -1,6 +1,6 @@
 -- `write_edges`: the successors of a node are places, and an edge more is written.
 use Rattle.std.proofs.Common.{ℕ, List, ◌++◌, length, get_or, ap, ◌∙◌, arith}
-use Rattle.omega_game.specs.Game.{node_at}
+use Rattle.omega_parity_game.specs.Game.{node_at}
 use Rattle.omega_game_drawing.specs.Nodes.{edge_to}
 use Rattle.omega_game_drawing.proofs.Places.{successor_is_place}
 use Rattle.omega_dot.proofs.Rows.{text_more}

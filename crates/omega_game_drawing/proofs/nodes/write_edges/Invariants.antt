@@ -1,7 +1,7 @@
 -- `write_edges`: the edges before this one are written.
 use Rattle.std.proofs.Common.{◌≡◌, ◌++◌, take}
 use Rattle.std.specs.List.{flat_map}
-use Rattle.omega_game.specs.Game.{node_at}
+use Rattle.omega_parity_game.specs.Game.{node_at}
 use Rattle.omega_game_drawing.specs.Nodes.{edge_to}
 use Rattle.omega_game_drawing.proofs.nodes.write_edges.Given as goal
 

@@ -9,7 +9,7 @@ use Rattle.omega_help.specs.declared.options.Value.TheVariants as value
 use Rattle.omega_help.specs.declared.program.Subcommand.{Subcommand}
 use Rattle.omega_help.specs.declared.program.Subcommand.TheVariants as subcommand
 
--- the option of this name, by what stands after the name
+-- the option of this name, by what follows the name
 abbrev pub rule_by : Value → Text → Rule
 rule_by value.None name = flag name
 rule_by (value.Letter letter) name = lettered letter name

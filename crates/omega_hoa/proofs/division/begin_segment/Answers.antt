@@ -1,4 +1,4 @@
--- `HOA:` begins a segment where none is open, and no other token does.
+-- `HOA:` begins a segment if none is open, and no other token does.
 use Rattle.std.proofs.Common.{◌∙◌, sym, inr, refl, arith, true, false, ◌≡◌}
 use Rattle.omega_hoa.proofs.Results.{nothing_more}
 use Rattle.omega_hoa.proofs.Taking.{begun, next_place, next_text, next_within, stray}

@@ -65,7 +65,7 @@ returns-in-Some-clause-refused c = λ seen lexemes items next.
     (then_more _ _ _ items _ (λ all. IsDivided seen (front ++ lexemes_in seen c.args.settled.second) all begins inside) first second)
     (λ all divided. fault_next c.args.bytes.now c.args.first c.args.division c.args.settled seen lexemes items next all begins inside c.in-Some.fault c.in-Some.is divided))
 
--- where a fault is settled the tokens are not taken
+-- if a fault is settled the tokens are not taken
 pub returns-in-Some-clause-taken : goal.returns-in-Some-clause-taken
 returns-in-Some-clause-taken c = tt
 

@@ -1,4 +1,4 @@
--- The tokens so far have this outline, up to where the next is looked for.
+-- The tokens so far have this outline, up to the place of the next.
 use Rattle.std.proofs.Common.{◌-◌, ◌≤◌, length}
 use Rattle.omega_hoa.specs.private.outlines.Outline.{HasOutlineTo}
 use Rattle.omega_hoa.proofs.outline.outline_of.Given as goal

@@ -1,4 +1,4 @@
--- The tokens that are read are those of the bytes, and a fault of syntax stands at one of them.
+-- The tokens that are read are those of the bytes, and a fault of syntax is at one of them.
 use Rattle.std.proofs.Common.{◌≡◌, ◌+◌, map, subst, arith}
 use Rattle.omega_text.specs.declared.hoa.kind.HoaKind.TheVariants.{End}
 use Rattle.omega_hoa.specs.Segment.{IsStartOf}

@@ -1,5 +1,5 @@
 -- Where the bytes of a stream end.
-use Rattle.std.specs.Prelude.{◌≡◌, ℕ, Bool, false, None, List, ◌++◌, IfSome}
+use Rattle.std.specs.Prelude.{◌≡◌, ℕ, Bool, true, false, None, List, ◌++◌, length, IfSome}
 use Rattle.omega_text.specs.Cut.{IsCut}
 use Rattle.omega_text.specs.Lexeme.{Lexeme}
 use Rattle.omega_text.specs.hoa.Format.{hoa_format}
@@ -29,10 +29,20 @@ pub record IsLast (settled : Settled) : Type 0 where
   pub second : settled.second ≡ None
   pub unclosed : IfSome settled.first (λ token. is_closed token.kind ≡ false)
 
--- the text is a stream if it ends so
+-- a text that ends so is a stream
 abbrev pub EndsWhole : Settled → Bool → Type 0
-EndsWhole settled inside = (seen : List ℕ) (lexemes : List (Lexeme HoaKind)) (items : List Item) (begins : ℕ) → IsAtEnd settled inside seen lexemes items begins → IsWholeStream seen items
+EndsWhole settled inside =
+    (seen : List ℕ) (lexemes : List (Lexeme HoaKind)) (items : List Item) (begins : ℕ)
+    → IsAtEnd settled inside seen lexemes items begins → IsWholeStream seen items
 
--- the text is refused if it ends so
+-- a text that ends so is refused
 abbrev pub EndsRefused : Settled → Bool → Refusal → Type 0
-EndsRefused settled inside refusal = (seen : List ℕ) (lexemes : List (Lexeme HoaKind)) (items : List Item) (begins : ℕ) → IsAtEnd settled inside seen lexemes items begins → IsStreamFault seen items refusal
+EndsRefused settled inside refusal =
+    (seen : List ℕ) (lexemes : List (Lexeme HoaKind)) (items : List Item) (begins : ℕ)
+    → IsAtEnd settled inside seen lexemes items begins → IsStreamFault seen items refusal
+
+-- a text of `count` bytes that ends so inside a segment is refused
+abbrev pub EndsOpen : Settled → ℕ → Refusal → Type 0
+EndsOpen settled count refusal =
+    (seen : List ℕ) (lexemes : List (Lexeme HoaKind)) (items : List Item) (begins : ℕ)
+    → count ≡ length seen → IsAtEnd settled true seen lexemes items begins → IsStreamFault seen items refusal

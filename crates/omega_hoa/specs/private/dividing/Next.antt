@@ -1,18 +1,18 @@
 -- The next tokens of a stream, and the bytes that they are read from.
-use Rattle.std.specs.Prelude.{◌≡◌, ℕ, ◌+◌, ◌≤◌, ◌⊎◌, Option, None, List, ◌++◌, length, take, drop}
+use Rattle.std.specs.Prelude.{◌≡◌, ℕ, ◌+◌, ◌≤◌, ◌⊎◌, Option, None, Some, List, [], ◌∷◌, ◌++◌, length, take, drop}
 use Rattle.omega_text.specs.Cut.{Cuts}
 use Rattle.omega_text.specs.Lexeme.{Lexeme}
 use Rattle.omega_text.specs.Limits.{most_text}
 use Rattle.omega_text.specs.hoa.Format.{hoa_format}
-use Rattle.omega_text.specs.hoa.Pieces.{IsSettled, lexemes_in, settled_lexemes}
-use Rattle.omega_text.specs.private.hoa.scanning.Reading.{HasRead}
+use Rattle.omega_text.specs.hoa.Pieces.{IsSettled, lexeme_in, lexemes_in, settled_lexemes}
+use Rattle.omega_text.specs.contracts.hoa.tokenizer.HoaTokenizerByteTokenizer.TheImpl.{ghosts as hoa_tokenizer}
 use Rattle.omega_text.specs.declared.hoa.kind.HoaKind.{HoaKind}
 use Rattle.omega_text.specs.declared.hoa.placed.PlacedToken.{PlacedToken}
 use Rattle.omega_text.specs.declared.hoa.placed.Settled.{Settled}
 use Rattle.omega_text.specs.declared.refusal.Refusal.{Refusal}
 use Rattle.omega_text.specs.declared.refusal.Refusal.TheVariants.{Memory}
 use Rattle.omega_hoa.specs.Feeding.{Appends, IsDivided, IsRefusedThen}
-use Rattle.omega_hoa.specs.Stream.{IsStreamFault}
+use Rattle.omega_hoa.specs.Stream.{IsItemOf, IsStreamFault}
 use Rattle.omega_hoa.specs.declared.division.Division.{Division}
 use Rattle.omega_hoa.specs.declared.item.Item.{Item}
 use Rattle.omega_hoa.specs.declared.progress.ReadProgress.{ReadProgress}
@@ -32,7 +32,9 @@ pub record IsNextDivision (bytes : List ℕ) (first : ℕ) (division : Division)
 
 -- some token is the next
 abbrev pub IsNextSome : List ℕ → ℕ → Division → Option PlacedToken → Type 0
-IsNextSome bytes first division token = (seen : List ℕ) × (lexemes : List (Lexeme HoaKind)) × (items : List Item) × IsNextDivision bytes first division token seen lexemes items
+IsNextSome bytes first division token =
+    (seen : List ℕ) × (lexemes : List (Lexeme HoaKind)) × (items : List Item)
+    × IsNextDivision bytes first division token seen lexemes items
 
 -- a text is refused however it goes on, or memory is
 abbrev pub IsRefusedNow : List ℕ → List Item → Refusal → Type 0
@@ -44,13 +46,24 @@ Extends {X} old new = (added : List X) × (new ≡ old ++ added)
 
 -- the token was taken, and the item of a segment that it ends appended
 abbrev pub IsTakenAs : List ℕ → ℕ → Division → Option PlacedToken → (old new : List Item) → Division → Type 0
-IsTakenAs bytes first division token old new after = (seen : List ℕ) (lexemes : List (Lexeme HoaKind)) (items : List Item) → IsNextDivision bytes first division token seen lexemes items
+IsTakenAs bytes first division token old new after =
+    (seen : List ℕ) (lexemes : List (Lexeme HoaKind)) (items : List Item)
+    → IsNextDivision bytes first division token seen lexemes items
     → Appends old new items (λ all. IsDivided seen (lexemes ++ lexemes_in seen token) all after.begins after.inside)
 
 -- the token refuses the text
 abbrev pub IsRefusedAt : List ℕ → ℕ → Division → Option PlacedToken → Refusal → Type 0
-IsRefusedAt bytes first division token refusal = (seen : List ℕ) (lexemes : List (Lexeme HoaKind)) (items : List Item) → IsNextDivision bytes first division token seen lexemes items
+IsRefusedAt bytes first division token refusal =
+    (seen : List ℕ) (lexemes : List (Lexeme HoaKind)) (items : List Item)
+    → IsNextDivision bytes first division token seen lexemes items
     → IsRefusedNow seen items refusal
+
+-- the item is that of a segment that the token ends
+abbrev pub IsItemAt : List ℕ → ℕ → Division → PlacedToken → Item → Type 0
+IsItemAt bytes first division token item =
+    (seen : List ℕ) (lexemes : List (Lexeme HoaKind)) (items : List Item)
+    → (next : IsNextDivision bytes first division (Some token) seen lexemes items)
+    → IsItemOf (next.divided.rest ++ lexeme_in seen token ∷ []) item
 
 -- neither a token nor a fault was settled
 pub record IsNothing (settled : Settled) : Type 0 where
@@ -67,38 +80,53 @@ pub record IsNextSettled (bytes : List ℕ) (first : ℕ) (division : Division) 
 
 -- a byte settles some tokens
 abbrev pub IsNextSettledSome : List ℕ → ℕ → Division → Settled → Type 0
-IsNextSettledSome bytes first division settled = (seen : List ℕ) × (lexemes : List (Lexeme HoaKind)) × (items : List Item) × IsNextSettled bytes first division settled seen lexemes items
+IsNextSettledSome bytes first division settled =
+    (seen : List ℕ) × (lexemes : List (Lexeme HoaKind)) × (items : List Item)
+    × IsNextSettled bytes first division settled seen lexemes items
 
 -- they were taken, and the items of segments that they end appended
 abbrev pub AreTakenAs : List ℕ → ℕ → Division → Settled → (old new : List Item) → Division → Type 0
-AreTakenAs bytes first division settled old new after = (seen : List ℕ) (lexemes : List (Lexeme HoaKind)) (items : List Item) → IsNextSettled bytes first division settled seen lexemes items
+AreTakenAs bytes first division settled old new after =
+    (seen : List ℕ) (lexemes : List (Lexeme HoaKind)) (items : List Item)
+    → IsNextSettled bytes first division settled seen lexemes items
     → Appends old new items (λ all. IsDivided seen (lexemes ++ settled_lexemes seen settled) all after.begins after.inside)
 
 -- they refuse the text
 abbrev pub AreRefusedAt : List ℕ → ℕ → Division → Settled → (old new : List Item) → Refusal → Type 0
-AreRefusedAt bytes first division settled old new refusal = (seen : List ℕ) (lexemes : List (Lexeme HoaKind)) (items : List Item) → IsNextSettled bytes first division settled seen lexemes items
+AreRefusedAt bytes first division settled old new refusal =
+    (seen : List ℕ) (lexemes : List (Lexeme HoaKind)) (items : List Item)
+    → IsNextSettled bytes first division settled seen lexemes items
     → IsRefusedThen seen old new items refusal
 
 -- the bytes were read up to a place, after bytes before them, and no fault of tokens is settled
 pub record IsProgress (bytes : List ℕ) (first place : ℕ) (progress : ReadProgress) (prior : List ℕ) (items : List Item) : Type 0 where
   pub there : first ≡ length prior
   pub lexemes : List (Lexeme HoaKind)
-  pub read : HasRead (prior ++ take place bytes) lexemes progress.tokenizer
-  pub sound : progress.tokenizer.fault ≡ None
+  pub read : hoa_tokenizer.read progress.tokenizer (prior ++ take place bytes) lexemes
+  pub sound : hoa_tokenizer.fault progress.tokenizer ≡ None
   pub divided : IsDivided (prior ++ take place bytes) lexemes items progress.division.begins progress.division.inside
   pub from : first ≤ progress.division.begins
   pub short : first + length bytes ≤ most_text
 
 -- bytes were read up to a place
 abbrev pub IsProgressSome : List ℕ → ℕ → ℕ → ReadProgress → Type 0
-IsProgressSome bytes first place progress = (prior : List ℕ) × (items : List Item) × IsProgress bytes first place progress prior items
+IsProgressSome bytes first place progress =
+    (prior : List ℕ) × (items : List Item) × IsProgress bytes first place progress prior items
 
 -- the bytes from a place up to another were read, and the items of their segments appended
 abbrev pub IsReadAs : List ℕ → ℕ → (from to : ℕ) → ReadProgress → (old new : List Item) → ReadProgress → Type 0
-IsReadAs bytes first from to progress old new after = (prior : List ℕ) (items : List Item) → IsProgress bytes first from progress prior items
+IsReadAs bytes first from to progress old new after =
+    (prior : List ℕ) (items : List Item) → IsProgress bytes first from progress prior items
     → Appends old new items (IsProgress bytes first to after prior)
+
+-- what was read up to a place was read on up to another, without a change of the items
+abbrev pub IsPassedTo : List ℕ → (first from to : ℕ) → ReadProgress → ReadProgress → Type 0
+IsPassedTo bytes first from to progress after =
+    (prior : List ℕ) (items : List Item) → IsProgress bytes first from progress prior items
+    → IsProgress bytes first to after prior items
 
 -- the bytes from a place on refuse the text
 abbrev pub IsRefusedFrom : List ℕ → (first from : ℕ) → ReadProgress → (old new : List Item) → Refusal → Type 0
-IsRefusedFrom bytes first from progress old new refusal = (prior : List ℕ) (items : List Item) → IsProgress bytes first from progress prior items
+IsRefusedFrom bytes first from progress old new refusal =
+    (prior : List ℕ) (items : List Item) → IsProgress bytes first from progress prior items
     → IsRefusedThen (prior ++ bytes) old new items refusal

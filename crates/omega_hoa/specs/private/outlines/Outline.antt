@@ -54,6 +54,11 @@ IsOutline lexemes (Aborted at) = BeginsAborted lexemes at
 IsOutline lexemes (Whole end) = IsWhole lexemes end
 IsOutline lexemes (Followed end next) = IsFollowed lexemes end next
 
+-- whatever tokens the first outline is of, the second is of those and one more
+abbrev pub GoesOnWith : TextOutline → Lexeme HoaKind → TextOutline → Type 0
+GoesOnWith old lexeme new =
+    (lexemes : List (Lexeme HoaKind)) → IsOutline lexemes old → IsOutline (lexemes ++ lexeme ∷ []) new
+
 -- the tokens of a text, and what they are
 pub record HasOutline (source : List ℕ) (outline : TextOutline) : Type 0 where
   pub lexemes : List (Lexeme HoaKind)

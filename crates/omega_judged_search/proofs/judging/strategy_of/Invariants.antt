@@ -1,8 +1,8 @@
--- The choices made so far stand exactly where the player owns and is given the place.
+-- The choices made so far are exactly at the places that the player owns and is given.
 use Rattle.std.proofs.Common.{◌≡◌, ◌<◌, ◌↔◌, ℕ, IsSome, slice_index_or, vec_len}
-use Rattle.omega_game.specs.declared.player.Player.TheVariants.{Zero}
-use Rattle.omega_game.specs.Game.{owner_at}
-use Rattle.omega_game.specs.Winning.{choice_at}
+use Rattle.omega_parity_game.specs.declared.player.Player.TheVariants.{Zero}
+use Rattle.omega_parity_game.specs.Game.{owner_at}
+use Rattle.omega_parity_game.specs.Winning.{choice_at}
 use Rattle.omega_judged_search.proofs.judging.strategy_of.Given as goal
 
 abbrev pub invariant-loop-place : goal.invariant-loop-place

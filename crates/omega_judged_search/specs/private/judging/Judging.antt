@@ -1,11 +1,11 @@
 -- The winners and choices that are judged, as lists by place.
 use Rattle.std.specs.Prelude.{◌≡◌, ◌↔◌, ℕ, ◌<◌, Option, List, length, IsSome, slice_index_or}
-use Rattle.omega_game.specs.declared.player.Player.{Player}
-use Rattle.omega_game.specs.declared.player.Player.TheVariants.{One, Zero}
-use Rattle.omega_game.specs.declared.solution.Solution.{Solution}
-use Rattle.omega_game.specs.Game.{Node, owner_at}
-use Rattle.omega_game.specs.Solution.{WinsAsGiven}
-use Rattle.omega_game.specs.Winning.{IsStrategy, choice_at}
+use Rattle.omega_parity_game.specs.declared.player.Player.{Player}
+use Rattle.omega_parity_game.specs.declared.player.Player.TheVariants.{One, Zero}
+use Rattle.omega_parity_game.specs.declared.solution.Solution.{Solution}
+use Rattle.omega_parity_game.specs.Game.{Node, owner_at}
+use Rattle.omega_parity_game.specs.Solution.{WinsAsGiven}
+use Rattle.omega_parity_game.specs.Winning.{IsStrategy, choice_at}
 
 -- there is an entry for each node, and a choice exactly if the player is the owner and the winner
 pub record ChoosesWhereWon (nodes : List Node) (player : Player) (winners : List Player) (choices : List (Option ℕ)) : Type 0 where

@@ -2,8 +2,8 @@
 use Rattle.std.proofs.Common.{◌≡◌, ℕ, List, length, map, nat_eq, sym, ap, ◌∙◌}
 use Rattle.std.proofs.lemmas.List.{length-map}
 use Rattle.indexmap.specs.IndexMap.{get}
-use Rattle.omega_acc.specs.formula.Acceptance.{AccTree, accepts}
-use Rattle.omega_acc.specs.formula.Shape.{acc_tree_of_shape}
+use Rattle.omega_formula.specs.Acceptance.{AccTree, accepts}
+use Rattle.omega_formula.specs.Shape.{acc_tree_of_shape}
 use Rattle.omega_runs.specs.Lasso.{marks_at}
 use Rattle.omega_lasso_judge.specs.private.Runs.{holds_by}
 use Rattle.omega_lasso_judge.proofs.Marking.{holds_are}

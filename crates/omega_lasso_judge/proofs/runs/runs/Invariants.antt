@@ -1,4 +1,4 @@
--- how far the marks of the edges before go on
+-- the runs of the marks of the edges before
 use Rattle.std.proofs.Common.{map, nat_eq, take}
 use Rattle.indexmap.specs.IndexMap.{get}
 use Rattle.omega_runs.specs.Lasso.{marks_at}

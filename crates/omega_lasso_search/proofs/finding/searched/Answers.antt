@@ -1,4 +1,4 @@
--- all that was made is a search
+-- the parts that were made are a search
 use Rattle.std.proofs.Common.{List, ℕ, sym, subst, ◌∙◌}
 use Rattle.omega_lasso_search.specs.private.Numbering.{AreNumbered}
 use Rattle.omega_lasso_search.proofs.finding.searched.Goals as goal

@@ -1,4 +1,4 @@
--- the edges of the graph stand for the ends before
+-- the edges of the graph have the ends before
 use Rattle.std.proofs.Common.{◌≡◌, ◌+◌, ◌*◌, length, map, nat_eq, take, All}
 use Rattle.std.specs.List.{IsDistinct}
 use Rattle.omega_lasso_search.specs.private.Numbering.{Grows, IsNamed, ends_in}

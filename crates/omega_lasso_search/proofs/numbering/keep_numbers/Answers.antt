@@ -1,4 +1,4 @@
--- each number stands for itself
+-- each number is its own name
 use Rattle.omega_lasso_search.proofs.Kept.{kept_numbers}
 use Rattle.omega_lasso_search.proofs.numbering.keep_numbers.Goals as goal
 

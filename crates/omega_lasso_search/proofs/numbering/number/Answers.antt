@@ -1,4 +1,4 @@
--- the key is put in last, or stands there
+-- the key is inserted last, or was there already
 use Rattle.std.proofs.Common.{sym, ◌∙◌, eqb-true, nat_eq}
 use Rattle.std.proofs.lemmas.Option.{get_or_from_slice_get, slice_get_within}
 use Rattle.omega_lasso_search.proofs.Names.{grows_insert}

@@ -1,4 +1,4 @@
--- the names are those that were met
+-- the names are the states that were met
 use Rattle.std.proofs.Common.{◌≡◌, ◌<◌, ℕ, List, length, ap, ◌∙◌, arith}
 use Rattle.std.proofs.lemmas.List.Elements.{All-weaker}
 use Rattle.omega_lasso_search.proofs.Names.{all_below, apart, length_grown, names_kept}

@@ -1,4 +1,4 @@
--- the numbers stand for the first states of the lists before
+-- the numbers represent the first states of the lists before
 use Rattle.std.proofs.Common.{◌≡◌, ◌<◌, length, map, nat_eq, take, All}
 use Rattle.std.specs.List.{IsDistinct}
 use Rattle.omega_lasso_search.specs.private.Numbering.{Grows, first_of, name_in}

@@ -1,4 +1,4 @@
--- What holds in the loop of `shared_end`: both lists end alike with so many numbers.
+-- What holds in the loop of `shared_end`: the last `shared` numbers of both lists are the same.
 use Rattle.std.proofs.Common.{◌-◌, ◌≡◌, ◌≤◌, drop, length}
 use Rattle.omega_lasso_search.proofs.turning.shared_end.Given as goal
 

@@ -1,4 +1,4 @@
--- What stem and cycle share is the front of the new cycle.
+-- The common suffix of stem and cycle begins the new cycle.
 use Rattle.std.proofs.Common.{◌≡◌, ℕ, ◌-◌, List, ◌++◌, drop, length, take, sym, ap, ◌∙◌, subst}
 use Rattle.std.proofs.lemmas.List.{length-drop, take-append-drop}
 use Rattle.std.proofs.Math.Seq.{take-length}

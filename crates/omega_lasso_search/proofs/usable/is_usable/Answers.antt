@@ -1,8 +1,8 @@
 -- without a label of the state, the edge's own decides
 use Rattle.std.proofs.Common.{◌↔◌, IfOk, IfSome, IsTrue, None, Option, subst, sym}
 use Rattle.std.specs.Option.{option_or}
-use Rattle.omega_acc.specs.label.Label.{LabelTree}
-use Rattle.omega_acc.specs.label.Satisfiable.{IsSatisfiable}
+use Rattle.omega_label.specs.Label.{LabelTree}
+use Rattle.omega_satisfying.specs.Satisfiable.{IsSatisfiable}
 use Rattle.omega_lasso_search.proofs.usable.is_usable.Goals as goal
 
 pub returns-in-None-clause-judged : goal.returns-in-None-clause-judged

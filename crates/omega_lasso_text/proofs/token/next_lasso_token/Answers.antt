@@ -1,4 +1,4 @@
--- `next_lasso_token`: a number of a game text; one of the two words where a game text begins no token; or a fault.
+-- `next_lasso_token`: a number of a game text; one of the two words if a game text begins no token; or a fault.
 use Rattle.std.proofs.Common.{sym, subst}
 use Rattle.omega_text.specs.Lexeme.{lexeme_of}
 use Rattle.omega_text.specs.pg.Fault.{HasFaultFrom as HasPgFaultFrom}

@@ -2,7 +2,7 @@
 use Rattle.std.specs.Prelude.{◌≡◌, ◌≢◌, ℕ, ◌+◌, ◌*◌, ◌<◌, ◌≤◌, Bool, true, Some, None, List, Option, length, map, take, drop, option_map, slice_index, slice_index_or, if◌then◌else◌}
 use Rattle.std.specs.List.{range_with_len}
 use Rattle.std.specs.declared.cmp.Ordering.{Ordering}
-use Rattle.omega_game.specs.declared.player.Player.{Player}
+use Rattle.omega_parity_game.specs.declared.player.Player.{Player}
 use Rattle.omega_lift_laws.specs.Least.{cleared_after, raised}
 use Rattle.omega_lift_laws.specs.Measure.{Measure, IsMeasure, compare}
 use Rattle.omega_measure.specs.private.layout.Shape.{width_of}

@@ -1,14 +1,14 @@
 use Rattle.std.proofs.Common.{◌≡◌, ◌≤◌, ◌-◌, ℕ, suc, ap, sym, ◌∙◌, max, arith}
-use Rattle.omega_acc.specs.Limits.{most_depth}
-use Rattle.omega_acc.specs.WritingLaws.{acc_written}
-use Rattle.omega_acc.specs.formula.Kind.{buchi_formula}
-use Rattle.omega_acc.specs.formula.Raw.{raw_acc_depth}
+use Rattle.omega_expression.specs.Limits.{most_depth}
+use Rattle.omega_formula.specs.Writing.{acc_written}
+use Rattle.omega_formula.specs.Kind.{buchi_formula}
+use Rattle.omega_formula.specs.Raw.{raw_acc_depth}
 use Rattle.omega_product.proofs.BuchiKinds.{buchi_depth}
 use Rattle.omega_edge_labels.proofs.Refusals.{not_deeper, passed_on}
 use Rattle.omega_product.proofs.acceptance.buchi_formula.Goals as goal
 
-pub returns-in_err-formula-2-clause-err : goal.returns-in_err-formula-2-clause-err
-returns-in_err-formula-2-clause-err c =
+pub returns-in_err-formula-2-clause-memory : goal.returns-in_err-formula-2-clause-memory
+returns-in_err-formula-2-clause-memory c =
     let atom : raw_acc_depth c.in_ok-atom.atom ≡ 1 = ap raw_acc_depth c.in_ok-atom.ensures.ok in
     let count : suc (c.loop-set.set - 1) ≡ c.loop-set.set = omega arith in
     let depth : raw_acc_depth c.loop-set.formula ≡ raw_acc_depth (acc_written (buchi_formula (suc (c.loop-set.set - 1)))) =

@@ -1,7 +1,7 @@
 -- the formula of the sets so far
 use Rattle.std.proofs.Common.{◌≡◌}
-use Rattle.omega_acc.specs.WritingLaws.{acc_written}
-use Rattle.omega_acc.specs.formula.Kind.{buchi_formula}
+use Rattle.omega_formula.specs.Writing.{acc_written}
+use Rattle.omega_formula.specs.Kind.{buchi_formula}
 use Rattle.omega_product.proofs.acceptance.buchi_formula.Given as goal
 
 abbrev pub invariant-loop-set : goal.invariant-loop-set

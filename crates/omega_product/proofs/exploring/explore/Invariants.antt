@@ -4,7 +4,7 @@ use Rattle.omega_product.proofs.Reaching.{IsUnderWay}
 use Rattle.omega_product.proofs.exploring.explore.Given as goal
 
 abbrev pub invariant-loop-at : goal.invariant-loop-at
-invariant-loop-at l = IsUnderWay l.one l.other l.found.keys l.at
+invariant-loop-at l = IsUnderWay l.operands.one.now l.operands.other.now l.found.keys l.at
 
 abbrev pub decreases-loop-at : goal.decreases-loop-at
 decreases-loop-at l = 1048578 - l.at

@@ -2,7 +2,7 @@ use Rattle.std.proofs.Common.{◌≡◌, ap, subst, ◌∙◌}
 use Rattle.omega_automaton.specs.Meaning.{IsMeaningless, Means}
 use Rattle.omega_text.specs.declared.refusal.Refusal.TheVariants.{Automaton}
 use Rattle.omega_raw.specs.declared.raw_automaton.RawAutomaton.{RawAutomaton}
-use Rattle.omega_acc.specs.formula.Raw.{RawAccTree}
+use Rattle.omega_formula.specs.Raw.{RawAccTree}
 use Rattle.omega_product.specs.Refusing.{broken_limit}
 use Rattle.omega_product.specs.Written.{raw_product}
 use Rattle.omega_product.proofs.Meaning.{product_meant, product_within}

@@ -1,17 +1,11 @@
 use Rattle.std.proofs.Common.{◌≡◌, ◌+◌, ◌<◌, ◌≤◌, List, length, map, sym, ap, ap₂, subst, ◌∙◌, arith}
 use Rattle.std.specs.Prelude.{sum_by}
 use Rattle.std.proofs.lemmas.List.{length-map}
-use Rattle.omega_acc.specs.WritingLaws.{acc_written}
-use Rattle.omega_acc.specs.Limits.{most_depth}
-use Rattle.omega_acc.specs.formula.Acceptance.{conjunction}
-use Rattle.omega_acc.specs.formula.Raw.{raw_acc_depth}
 use Rattle.omega_raw.specs.declared.raw_automaton.RawAutomaton.{RawAutomaton}
 use Rattle.omega_raw.specs.declared.raw_state.RawState.{RawState}
 use Rattle.omega_text.specs.Limits.{most_number}
-use Rattle.omega_product.specs.Acceptance.{moved_after}
 use Rattle.omega_edge_labels.specs.Limits.{most_edges}
-use Rattle.omega_product.specs.Pairs.{first_standing, second_standing}
-use Rattle.omega_product.specs.Refusing.{HasUnfitLabel, IsJoinFault, deep_acceptance, many_sets, unfit_first, unfit_second}
+use Rattle.omega_product.specs.Refusing.{HasDeepAcceptance, HasUnfitFirst, HasUnfitSecond, IsJoinFault, deep_acceptance, many_sets, unfit_first, unfit_second}
 use Rattle.omega_product.specs.Written.{raw_of, raw_state_of}
 use Rattle.omega_product.proofs.Formulas.{items_are}
 use Rattle.omega_product.proofs.Refused.{large_join}
@@ -26,19 +20,18 @@ returns-in_err-sets-clause-refused c =
 pub returns-in_err-firsts-clause-refused : goal.returns-in_err-firsts-clause-refused
 returns-in_err-firsts-clause-refused c =
     passed_on c.from_residual-in_err-firsts.result _ _ c.from_residual-in_err-firsts.ensures.1
-    (large_join c.args.one.now c.args.other.now (HasUnfitLabel (first_standing c.args.one.now c.args.other.now) c.args.one.now.defined) unfit_first _ c.in_err-firsts.ensures.err)
+    (large_join c.args.one.now c.args.other.now (HasUnfitFirst c.args.one.now c.args.other.now) unfit_first _ c.in_err-firsts.ensures.err)
 
 pub returns-in_err-seconds-clause-refused : goal.returns-in_err-seconds-clause-refused
 returns-in_err-seconds-clause-refused c =
     passed_on c.from_residual-in_err-seconds.result _ _ c.from_residual-in_err-seconds.ensures.1
-    (large_join c.args.one.now c.args.other.now (HasUnfitLabel (second_standing c.args.one.now c.args.other.now) c.args.other.now.defined) unfit_second _ c.in_err-seconds.ensures.err)
+    (large_join c.args.one.now c.args.other.now (HasUnfitSecond c.args.one.now c.args.other.now) unfit_second _ c.in_err-seconds.ensures.err)
 
 pub returns-in_err-acceptance-clause-refused : goal.returns-in_err-acceptance-clause-refused
 returns-in_err-acceptance-clause-refused c =
     passed_on c.from_residual-in_err-acceptance.result _ _ c.from_residual-in_err-acceptance.ensures.1
     (large_join c.args.one.now c.args.other.now
-    (most_depth < raw_acc_depth (acc_written (conjunction c.args.one.now.acceptance (moved_after c.args.one.now.sets c.args.other.now.acceptance))))
-    deep_acceptance _ c.in_err-acceptance.ensures.err)
+    (HasDeepAcceptance c.args.one.now c.args.other.now) deep_acceptance _ c.in_err-acceptance.ensures.err)
 
 pub returns-clause-written : goal.returns-clause-written
 returns-clause-written c =
@@ -68,9 +61,9 @@ returns-clause-edges c =
 pub returns-in_err-items-clause-refused : goal.returns-in_err-items-clause-refused
 returns-in_err-items-clause-refused c =
     passed_on c.from_residual-in_err-items.result _ _ c.from_residual-in_err-items.ensures.1
-    (memory_task (IsJoinFault c.args.one.now c.args.other.now) _ c.in_err-items.ensures.err)
+    (memory_task (IsJoinFault c.args.one.now c.args.other.now) _ c.in_err-items.ensures.memory)
 
 pub returns-in_err-raw-clause-refused : goal.returns-in_err-raw-clause-refused
 returns-in_err-raw-clause-refused c =
     passed_on c.from_residual-in_err-raw.result _ _ c.from_residual-in_err-raw.ensures.1
-    (memory_task (IsJoinFault c.args.one.now c.args.other.now) _ c.in_err-raw.ensures.err)
+    (memory_task (IsJoinFault c.args.one.now c.args.other.now) _ c.in_err-raw.ensures.memory)

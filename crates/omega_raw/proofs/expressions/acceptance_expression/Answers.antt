@@ -1,5 +1,5 @@
 -- The formula that is read is the one that was written.
-use Rattle.omega_acc.specs.formula.Reading.{ReadsAcc}
+use Rattle.omega_formula.specs.Reading.{ReadsAcc}
 use Rattle.omega_raw.proofs.SpellingLemmas.{expression_found}
 use Rattle.omega_raw.proofs.expressions.acceptance_expression.Goals as goal
 

@@ -1,5 +1,5 @@
 -- The label that is read is the one that was written.
-use Rattle.omega_acc.specs.label.Reading.{Reads}
+use Rattle.omega_label.specs.Reading.{Reads}
 use Rattle.omega_raw.proofs.SpellingLemmas.{expression_found}
 use Rattle.omega_raw.proofs.expressions.label_expression.Goals as goal
 

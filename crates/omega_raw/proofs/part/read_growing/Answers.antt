@@ -1,4 +1,4 @@
--- One part more is read, or none stands there any more.
+-- One part more is read, or none follows any more.
 use Rattle.std.proofs.Common.{rules, true, []}
 use Rattle.std.proofs.Common.{◌≡◌, refl, sym, subst, ◌∙◌}
 use Rattle.std.specs.List.{AllByRecursion}

@@ -1,4 +1,4 @@
--- One edge more is read, or none stands there any more.
+-- One edge more is read, or none follows any more.
 use Rattle.std.proofs.Common.{◌≡◌, ◌∙◌, rules, true, [], refl, sym, subst}
 use Rattle.omega_text.specs.Cases.{IsMemory}
 use Rattle.omega_raw.proofs.PartLemmas.{IsPart, IsReadTo, read_all, read_failed, read_more, read_none}

@@ -1,4 +1,4 @@
--- Edges were read up to where the next is looked for, and the text stays.
+-- Edges were read up to the place at which the next is looked for, and the text stays.
 use Rattle.std.proofs.Common.{◌≡◌, length}
 use Rattle.omega_raw.proofs.PartLemmas.{IsReadTo}
 use Rattle.omega_raw.specs.private.steps.Reading.{EndsList}

@@ -1,6 +1,6 @@
--- The automaton that is read is one that was written, and where none was none is read.
+-- The automaton that is read is one that was written, and if none was written none is read.
 use Rattle.std.proofs.Common.{refl, sym, subst, ◌∷◌, []}
-use Rattle.omega_acc.specs.Symbols.{IsUnread}
+use Rattle.omega_expression.specs.Symbols.{IsUnread}
 use Rattle.omega_raw.proofs.RowLemmas.{error_is, raw_same, read_refused}
 use Rattle.omega_raw.specs.Grammar.{ReadsNoAutomaton, each, item_row, state_row}
 use Rattle.omega_raw.specs.Symbols.{sign, word}

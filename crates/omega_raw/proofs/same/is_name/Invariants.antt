@@ -1,4 +1,4 @@
--- What is left of both is the same where they are.
+-- What is left of both is the same if they are.
 use Rattle.std.proofs.Common.{◌≡◌, length}
 use Rattle.std.specs.Str.{bytes_eq}
 use Rattle.omega_raw.proofs.same.is_name.Given as goal

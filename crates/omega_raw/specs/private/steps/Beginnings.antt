@@ -1,17 +1,17 @@
 -- That rows begin by the kinds by which they are known: the laws of `Part`, which its impls take from `specs` alone.
 use Rattle.std.specs.Prelude.{◌≡◌, ℕ, true, false, List, [], ◌∷◌, Option, Some, None, refl}
-use Rattle.omega_acc.specs.declared.formula.name.Parameter.{Parameter}
-use Rattle.omega_acc.specs.declared.formula.name.Parameter.TheVariants as parameter
+use Rattle.omega_formula.specs.declared.name.Parameter.{Parameter}
+use Rattle.omega_formula.specs.declared.name.Parameter.TheVariants as parameter
 use Rattle.omega_raw.specs.Grammar.{IsConj, IsRawEdge, IsRawItem, IsRawState, conj_row, edge_row, item_row, label_row, optional_row, parameter_row, sig_row, state_row, value_row}
 use Rattle.omega_raw.specs.private.steps.Parts.{EndsEdge, EndsItem, EndsState, is_edge, is_header, is_parameter, is_value}
 use Rattle.omega_raw.specs.private.steps.Reading.{IsAny}
 use Rattle.omega_raw.specs.Symbols.{AutomatonSymbol}
-use Rattle.omega_raw.specs.private.steps.First.{FirstIs}
+use Rattle.omega_raw.specs.First.{FirstIs}
 use Rattle.omega_raw.specs.declared.header_value.HeaderValue.{HeaderValue}
 use Rattle.omega_raw.specs.declared.raw_edge.RawEdge.{RawEdge}
 use Rattle.omega_raw.specs.declared.raw_item.RawItem.{RawItem}
 use Rattle.omega_raw.specs.declared.raw_state.RawState.{RawState}
-use Rattle.omega_acc.specs.label.Raw.{RawLabelTree}
+use Rattle.omega_label.specs.Raw.{RawLabelTree}
 use Rattle.omega_text.specs.declared.hoa.kind.HoaKind.{HoaKind}
 use Rattle.omega_text.specs.declared.hoa.kind.HoaKind.TheVariants as kind
 use Rattle.omega_raw.specs.declared.header_value.HeaderValue.TheVariants as value

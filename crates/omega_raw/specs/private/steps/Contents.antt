@@ -5,7 +5,7 @@ use Rattle.omega_raw.specs.private.steps.Rows.{item_header}
 use Rattle.omega_raw.specs.private.steps.Parts.{EndsItem}
 use Rattle.omega_raw.specs.private.steps.Reading.{Found, Given}
 use Rattle.omega_raw.specs.Symbols.{ReadsSymbols, AutomatonSymbol, Tokens}
-use Rattle.omega_raw.specs.private.steps.First.{FirstIs}
+use Rattle.omega_raw.specs.First.{FirstIs}
 use Rattle.omega_raw.specs.declared.header.name.HeaderKind.{HeaderKind}
 use Rattle.omega_raw.specs.declared.header.name.HeaderKind.TheVariants as named
 use Rattle.omega_raw.specs.declared.raw_item.RawItem.{RawItem}

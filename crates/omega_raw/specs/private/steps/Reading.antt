@@ -1,7 +1,7 @@
 -- What a call reads of tokens: it finds what they are written as, if the tokens that follow do not go on with it.
 use Rattle.std.specs.Prelude.{◌≡◌, Bool, false, List, [], ◌∷◌, Result, Ok, Err, IfOk}
 use Rattle.omega_text.specs.Cases.{IsMemory}
-use Rattle.omega_acc.specs.Symbols.{IsUnread}
+use Rattle.omega_expression.specs.Symbols.{IsUnread}
 use Rattle.omega_text.specs.declared.hoa.kind.HoaKind.{HoaKind}
 use Rattle.omega_text.specs.declared.refusal.Refusal.{Refusal}
 use Rattle.omega_raw.specs.Symbols.{ReadsSymbols, AutomatonSymbol, Tokens}

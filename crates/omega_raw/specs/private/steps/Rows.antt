@@ -1,7 +1,7 @@
 -- Rows of expressions, and the header that an item is.
 use Rattle.std.specs.Prelude.{List, ◌∷◌}
-use Rattle.omega_acc.specs.formula.Raw.{RawAccTree}
-use Rattle.omega_acc.specs.label.Raw.{RawLabelTree}
+use Rattle.omega_formula.specs.Raw.{RawAccTree}
+use Rattle.omega_label.specs.Raw.{RawLabelTree}
 use Rattle.omega_raw.specs.Symbols.{AutomatonSymbol, formula, label}
 use Rattle.omega_raw.specs.declared.header.name.HeaderKind.{HeaderKind}
 use Rattle.omega_raw.specs.declared.header.name.HeaderKind.TheVariants as named

@@ -1,4 +1,4 @@
--- strategies are carried over between the places of the part and the nodes that stand there
+-- strategies are carried over between the places of the part and the nodes that are there
 use Rattle.omega_region_laws.proofs.Parts.{regions_of_part}
 use Rattle.omega_region_laws.proofs.regions.regions_of_parts.Goals as goal
 

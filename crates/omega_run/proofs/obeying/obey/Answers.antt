@@ -1,4 +1,4 @@
--- `obey`: a refusal in place of a line is told on standard error.
+-- `obey`: a refusal in place of a line is written to standard error.
 use Rattle.std.proofs.Common.{rules}
 use Rattle.omega_run.proofs.obeying.obey.Goals as goal
 

@@ -1,4 +1,4 @@
--- `with_input`: the text of a file stands in the place of the input.
+-- `with_input`: the text of a file takes the place of the input.
 use Rattle.omega_run.proofs.obeying.with_input.Goals as goal
 
 pub returns-in-File : goal.returns-in-File

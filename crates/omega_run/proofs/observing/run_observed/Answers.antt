@@ -1,5 +1,5 @@
--- `run_observed`: what standard error was told of the runs is a text of lines, and the answer counts what these tell
--- of.
+-- `run_observed`: what standard error took of the runs is a text of lines, and the answer counts the lifts that they
+-- report.
 use Rattle.std.proofs.Common.{max}
 use Rattle.omega_run.proofs.Counted.{outcome_lines}
 use Rattle.omega_run.proofs.Performing.{performs}

@@ -1,4 +1,4 @@
--- `report`: a refusal for whose line there is no memory is told as want of memory.
+-- `report`: if there is no memory for the line of a refusal, the line for want of memory is written.
 use Rattle.std.proofs.Common.{◌≡◌, inr, rules}
 use Rattle.omega_text.specs.declared.refusal.Refusal.TheVariants.{Memory}
 use Rattle.omega_run.proofs.Telling.{memory-line}

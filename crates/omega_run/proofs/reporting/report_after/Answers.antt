@@ -1,4 +1,4 @@
--- `report_after`: where no write of the lines failed the refusal is told after them, and else nothing.
+-- `report_after`: if no write of the lines failed, the line of the refusal is written after them, and else nothing.
 use Rattle.std.proofs.Common.{◌∙◌, arith, refl}
 use Rattle.omega_run.proofs.Performing.{reports_any, reports_as}
 use Rattle.omega_run.proofs.reporting.report_after.Goals as goal

@@ -1,4 +1,4 @@
--- `report_lines`: where there is no memory for the lines, that is told.
+-- `report_lines`: if there is no memory for the lines, the line for that is written.
 use Rattle.std.proofs.Common.{◌≡◌, rules}
 use Rattle.omega_text.specs.declared.refusal.Refusal.TheVariants.{Memory}
 use Rattle.omega_run.proofs.Telling.{memory-line}

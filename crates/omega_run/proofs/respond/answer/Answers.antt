@@ -1,4 +1,4 @@
--- `answer`: where nothing is lifted nothing is told, and else what the answer to the text that was read tells.
+-- `answer`: if nothing is lifted nothing is reported, and else what the answer to the text that was read reports.
 use Rattle.omega_io.specs.Failures.{IsTransferRefusal}
 use Rattle.omega_budget.proofs.Observed.{none_observed, spares, observed_alike}
 use Rattle.omega_run.proofs.Counted.{stream_counted, text_counted}

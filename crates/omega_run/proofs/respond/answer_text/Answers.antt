@@ -1,5 +1,5 @@
--- `answer_text`: a command that solves or decides tells of runs in games of the text, and no other tells of any;
--- what `solve` answers for one player counts the lifts of its run.
+-- `answer_text`: a command that solves or decides reports runs in games of the text, and no other reports any; what
+-- `solve` answers for one player counts the lifts of its run.
 use Rattle.std.proofs.Common.{refl}
 use Rattle.std.proofs.lemmas.Result.{IfOk-weaker}
 use Rattle.omega_budget.proofs.Observed.{observed_as}

@@ -1,4 +1,4 @@
--- `run_command`: nothing is written before the answer is there, and what is told is told of making it.
+-- `run_command`: nothing is written before the answer is there, and what is reported is reported while it is made.
 use Rattle.std.proofs.Common.{◌≡◌, rules}
 use Rattle.omega_text.specs.declared.refusal.Refusal.TheVariants.{Io}
 use Rattle.omega_budget.proofs.Observed.{spares, observed_alike, observed_refused}

@@ -1,4 +1,4 @@
--- `observe`: what is told of the outcome is told after the lines of progress.
+-- `observe`: the line of the outcome is written after the lines of progress.
 use Rattle.omega_run.proofs.Performing.{reports_as}
 use Rattle.omega_run.proofs.ProgressLines.{reported_at_last}
 use Rattle.omega_run.proofs.task.observe.Goals as goal

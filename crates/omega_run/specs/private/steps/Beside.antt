@@ -4,7 +4,7 @@ use Rattle.omega_text.specs.declared.refusal.Refusal.{Refusal}
 use Rattle.omega_io.specs.declared.refused.Refused.{Refused}
 use Rattle.omega_io.specs.declared.refused.Which.{Which}
 
--- the same outcome, where it is left open which text a refusal is about
+-- the same outcome, but not which text a refusal is about
 abbrev pub plain : {T : Type 0} → Result T Refused → Result T Refusal
 plain (Ok value) = Ok value
 plain (Err refused) = Err refused.refusal

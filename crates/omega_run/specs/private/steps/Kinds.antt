@@ -1,4 +1,4 @@
--- Which command is of which kind: of a stream, or of one text.
+-- The kind of a command: it reads a stream, or one text.
 use Rattle.omega_command.specs.declared.command.Command.{Command}
 use Rattle.omega_command.specs.declared.command.Command.TheVariants as command
 use Rattle.omega_command.specs.declared.command.Format.TheVariants.{Hoa, Pg}

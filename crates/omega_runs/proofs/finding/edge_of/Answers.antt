@@ -19,7 +19,7 @@ state_at-state-requires c =
 pub returns-clause-index : goal.returns-clause-index
 returns-clause-index c = (placed_there c.args.automaton.now c.args.places.now c.args.number _ c.requires (there (goal.at.returns-clause-index c).After-defined)).index_is
 
--- the state that was read stands at the place
+-- the state that was read is at the place
 read : (c : After-state_at-state) → c.state_at-state.result.now ≡ get_or c.args.automaton.now.defined (get_or c.args.places.now c.args.number (record { state = 0; index = 0 })).state c.state_at-state.result.now
 read c =
     c.state_at-state.ensures

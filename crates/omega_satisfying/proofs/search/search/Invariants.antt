@@ -1,12 +1,12 @@
--- In some open branch a valuation leads to the end exactly if it does from the start; each branch that waits is under
--- what is assumed.
+-- In some open branch a valuation leads to the end exactly if it does from the start. Each pending branch goes on under
+-- assumptions that are made now.
 use Rattle.std.proofs.Common.{◌≡◌, ℕ, Bool}
-use Rattle.omega_satisfying.specs.private.Branching.{AreWaiting, branches_lead}
+use Rattle.omega_satisfying.specs.private.Branching.{ArePending, branches_lead}
 use Rattle.omega_satisfying.specs.private.Leading.{leads}
 use Rattle.omega_satisfying.proofs.search.search.Given as goal
 
 abbrev pub invariant-loop-visit : goal.invariant-loop-visit
 invariant-loop-visit l = record {
   leading : (held : ℕ → Bool) → branches_lead held (leads held l.steps) l.branches (leads held l.steps l.place) ≡ leads held l.steps l.start;
-  waiting : AreWaiting l.branches;
+  pending : ArePending l.branches;
 }

@@ -1,4 +1,4 @@
--- What stands at a place leads on by what it is, and from no other place there is a way on.
+-- The step at a place leads on by what it is, and from no other place there is a way on.
 use Rattle.omega_satisfying.proofs.Leading.{nowhere, stands-at}
 use Rattle.omega_satisfying.proofs.steps.step_at.Goals as goal
 

@@ -1,4 +1,4 @@
--- One lift, where it is due and the schedule takes the place again.
+-- One lift, if it is due and the schedule takes the place again.
 use Rattle.std.proofs.Common.{arith}
 use Rattle.omega_solve.proofs.lifting.Due.{table_entries}
 use Rattle.omega_solve.proofs.lifting.Lifting.{due_exceeds}

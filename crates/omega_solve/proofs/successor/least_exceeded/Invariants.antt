@@ -1,7 +1,7 @@
 -- The allowances towards the successors so far exceed the measure, and the first of least measure among them.
 use Rattle.std.proofs.Common.{ℕ, ◌<◌, slice_index}
 use Rattle.std.specs.declared.cmp.Ordering.TheVariants.{Less}
-use Rattle.omega_game.specs.Game.{priority_at}
+use Rattle.omega_parity_game.specs.Game.{priority_at}
 use Rattle.omega_measure.specs.Table.{Exceeds}
 use Rattle.omega_solve.specs.private.solving.Successor.{IsFirstBest, order_from}
 use Rattle.omega_solve.proofs.successor.least_exceeded.Given as goal

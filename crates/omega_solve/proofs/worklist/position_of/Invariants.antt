@@ -1,4 +1,4 @@
--- The place does not stand in the queue so far.
+-- The place is not in the queue so far.
 use Rattle.std.proofs.Common.{◌≢◌, ℕ, ◌-◌, ◌<◌}
 use Rattle.omega_solve.specs.private.schedules.Worklist.{queued}
 use Rattle.omega_solve.proofs.worklist.position_of.Given as goal

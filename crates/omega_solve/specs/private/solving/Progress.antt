@@ -1,6 +1,6 @@
 -- The facts that a solver keeps from its start on.
 use Rattle.std.specs.Prelude.{◌≡◌, ℕ, ◌+◌, ◌<◌, ◌≤◌, Bool, true, Option, List, length, sum_by}
-use Rattle.omega_game.specs.Game.{Node, IsGame, IsWithinLimits, predecessors_of, priorities}
+use Rattle.omega_parity_game.specs.Game.{Node, IsGame, IsWithinLimits, predecessors_of, priorities}
 use Rattle.omega_lift_laws.specs.Answer.{AreChoices, won_in}
 use Rattle.omega_lift_laws.specs.Run.{IsDue, IsLiftingRun, zero_table}
 use Rattle.omega_solve.specs.Limits.{most_lifts}
@@ -13,9 +13,9 @@ use Rattle.omega_solve.specs.private.solving.Successor.{IsTableOf}
 abbrev pub in_degree : List Node → ℕ → ℕ
 in_degree nodes v = length (predecessors_of nodes v)
 
--- the invariant of a solver: a lifting run led to its table, and each place where a lift is due is pending. Takes and
--- pending places together are as many as the places, and at most one more for each edge into a place with each of its
--- lifts
+-- the invariant of a solver: a lifting run led to its table, and each place at which a lift is due is pending. Takes
+-- and pending places together are as many as the places, and at most one more for each edge into a place with each of
+-- its lifts
 pub record IsSolving (state : SolverState) : Type 0 where
   pub game : IsGame state.nodes
   pub limits : IsWithinLimits state.nodes

@@ -1,7 +1,7 @@
 -- Lifting a place that leads to itself again and again.
 use Rattle.std.specs.Prelude.{◌≡◌, ℕ, ◌+◌, ◌<◌, List, replicate}
-use Rattle.omega_game.specs.declared.player.Player.{Player}
-use Rattle.omega_game.specs.Game.{Node, HasEdge}
+use Rattle.omega_parity_game.specs.declared.player.Player.{Player}
+use Rattle.omega_parity_game.specs.Game.{Node, HasEdge}
 use Rattle.omega_lift_laws.specs.Run.{IsLiftingRun}
 use Rattle.omega_measure.specs.Table.{Content}
 use Rattle.omega_solve.specs.Schedule.{Pending}

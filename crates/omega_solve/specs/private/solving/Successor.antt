@@ -2,8 +2,8 @@
 use Rattle.std.specs.Prelude.{◌≡◌, ◌≢◌, ℕ, ◌<◌, Option, Some, None, IsSome, List, length, slice_get}
 use Rattle.std.specs.declared.cmp.Ordering.{Ordering}
 use Rattle.std.specs.declared.cmp.Ordering.TheVariants.{Less}
-use Rattle.omega_game.specs.declared.player.Player.{Player}
-use Rattle.omega_game.specs.Game.{Node, HasEdge, owner_at, priorities, priority_at, successors_at}
+use Rattle.omega_parity_game.specs.declared.player.Player.{Player}
+use Rattle.omega_parity_game.specs.Game.{Node, HasEdge, owner_at, priorities, priority_at, successors_at}
 use Rattle.omega_lift_laws.specs.Measure.{Measure, compare_from}
 use Rattle.omega_lift_laws.specs.Allowance.{IsAllowanceOf, measure_at}
 use Rattle.omega_lift_laws.specs.Answer.{IsFirstLeast}

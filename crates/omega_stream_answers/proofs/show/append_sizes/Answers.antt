@@ -1,6 +1,6 @@
--- `append_sizes`: its parts stand one after the other.
+-- `append_sizes`: its parts are written one after the other.
 use Rattle.std.proofs.Common.{◌++◌, ap, codes, length, ◌∙◌}
-use Rattle.omega_acc.specs.Writing.{acc_text}
+use Rattle.omega_formula.specs.Writing.{acc_text}
 use Rattle.omega_canon.proofs.Lines.{following}
 use Rattle.omega_stream_answers.specs.Show.{count_text}
 use Rattle.omega_stream_answers.proofs.show.append_sizes.Goals as goal

@@ -1,4 +1,4 @@
--- The text was cut from the first place up to where the next token is looked for.
+-- The text was cut from the first place up to the place at which the next token is looked for.
 use Rattle.std.proofs.Common.{◌-◌, ◌≤◌, length}
 use Rattle.omega_text.proofs.formats.Cutting.{IsCutTo}
 use Rattle.omega_text.proofs.checking.check_from.Given as goal

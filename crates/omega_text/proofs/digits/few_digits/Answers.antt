@@ -1,4 +1,4 @@
--- One digit more, and the first byte that is none.
+-- One digit more, and the first byte that is no digit.
 use Rattle.std.proofs.Common.{◌≡◌, true, get_or, inl, inr, refl, subst, sym, ◌∙◌, arith}
 use Rattle.std.proofs.lemmas.Bool.{cases_order}
 use Rattle.std.proofs.lemmas.List.Sums.{prefix_len_is}

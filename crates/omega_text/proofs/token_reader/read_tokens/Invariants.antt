@@ -1,4 +1,4 @@
--- The text was read up to where the next token is looked for, and its tokens were taken.
+-- The text was read up to the place at which the next token is looked for, and its tokens were taken.
 use Rattle.std.proofs.Common.{◌≤◌, ◌-◌, length}
 use Rattle.omega_text.specs.private.reader.Taking.{IsReadTo}
 use Rattle.omega_text.proofs.token_reader.read_tokens.Given as goal

@@ -1,4 +1,4 @@
--- The tokens so far are a cut up to where the next is looked for.
+-- The tokens so far are a cut up to the place at which the next is looked for.
 use Rattle.std.proofs.Common.{◌-◌, ◌≤◌, length, map}
 use Rattle.omega_text.specs.Cut.{Cuts}
 use Rattle.omega_text.specs.Lexeme.{lexeme_of}

@@ -1,4 +1,4 @@
--- the formula holds of the walk, whose marks are among those of all edges, and asks nothing of `Fin`
+-- the walk's marks are among those of all edges, and the formula has no `Fin`
 use Rattle.std.proofs.Common.{[], sym, ◌∙◌}
 use Rattle.std.proofs.lemmas.Bool.{false≢true}
 use Rattle.omega_walk_laws.specs.Walks.{marks_on}

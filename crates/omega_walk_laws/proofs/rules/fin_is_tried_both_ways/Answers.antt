@@ -1,7 +1,7 @@
 -- on a walk the set occurs or not, and the formula is positive in the atom
 use Rattle.std.proofs.Common.{true, false, inl, inr, refl, sym, ◌∙◌}
 use Rattle.std.proofs.lemmas.Bool.{cases_Bool, false≢true}
-use Rattle.omega_acc.specs.formula.Acceptance.{occurs}
+use Rattle.omega_formula.specs.Acceptance.{occurs}
 use Rattle.omega_walk_laws.specs.Walks.{marks_on}
 use Rattle.omega_walk_laws.proofs.Assuming.{assumed_if_holds, holds_if_assumed}
 use Rattle.omega_walk_laws.proofs.Forbidding.{avoided, avoiding, avoids}

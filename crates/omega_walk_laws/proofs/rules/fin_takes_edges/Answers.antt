@@ -1,7 +1,7 @@
 -- the walk has no edge that the atom forbids, and a walk without them satisfies it
 use Rattle.std.proofs.Common.{not}
 use Rattle.std.proofs.lemmas.Bool.{and_from, and_parts, not-true, not_from_false}
-use Rattle.omega_acc.specs.formula.Acceptance.{accepts, occurs}
+use Rattle.omega_formula.specs.Acceptance.{accepts, occurs}
 use Rattle.omega_walk_laws.specs.Walks.{marks_on}
 use Rattle.omega_walk_laws.proofs.Forbidding.{avoided, avoiding, avoids}
 use Rattle.omega_walk_laws.proofs.rules.fin_takes_edges.Goals as goal

@@ -1,4 +1,4 @@
--- `wrong_entry`: arrays without a wrong entry stand for a game.
+-- `wrong_entry`: arrays without a wrong entry encode a game.
 use Rattle.std.proofs.Common.{sym, ◌∙◌}
 use Rattle.omega_arrays.proofs.Shapes.{shape_of}
 use Rattle.omega_arrays.proofs.arrays.Arrays.wrong_entry.Goals as goal

@@ -1,7 +1,7 @@
 -- What holds in the loop of `any_wrong`: no acceptance so far has a wrong atom.
 use Rattle.std.proofs.Common.{◌≡◌, false, is_none, take}
 use Rattle.std.specs.List.{list_any}
-use Rattle.omega_acc.specs.formula.Meaning.{acc_meant}
+use Rattle.omega_formula.specs.Meaning.{acc_meant}
 use Rattle.omega_raw.specs.declared.raw_item.RawItem.{RawItem}
 use Rattle.omega_automaton.specs.Faults.{passes}
 use Rattle.omega_automaton.specs.Items.{acceptance_in}

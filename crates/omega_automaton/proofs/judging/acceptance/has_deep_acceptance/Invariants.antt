@@ -1,8 +1,8 @@
 -- What holds in the loop of `has_deep_acceptance`: no acceptance so far is too deep.
 use Rattle.std.proofs.Common.{◌≡◌, false, nat_lt, take}
 use Rattle.std.specs.List.{list_any}
-use Rattle.omega_acc.specs.Limits.{most_depth}
-use Rattle.omega_acc.specs.formula.Raw.{raw_acc_depth}
+use Rattle.omega_expression.specs.Limits.{most_depth}
+use Rattle.omega_formula.specs.Raw.{raw_acc_depth}
 use Rattle.omega_raw.specs.declared.raw_item.RawItem.{RawItem}
 use Rattle.omega_automaton.specs.Faults.{passes}
 use Rattle.omega_automaton.specs.Items.{acceptance_in}

@@ -1,7 +1,7 @@
 -- `findings_of_edges`: one more edge.
 use Rattle.std.proofs.Common.{Option, subst, arith}
-use Rattle.omega_acc.specs.label.Expanding.{expansion}
-use Rattle.omega_acc.specs.label.Raw.{RawLabelTree}
+use Rattle.omega_label.specs.Expanding.{expansion}
+use Rattle.omega_label.specs.Raw.{RawLabelTree}
 use Rattle.omega_raw.specs.declared.raw_edge.RawEdge.{RawEdge}
 use Rattle.omega_automaton.specs.Faults.{passes, size_under}
 use Rattle.omega_automaton.specs.private.layout.Findings.{AreFound}

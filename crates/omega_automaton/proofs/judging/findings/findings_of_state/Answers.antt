@@ -1,8 +1,8 @@
 -- `findings_of_state`: of its own label and of its edges.
 use Rattle.std.proofs.Common.{Option, subst, sum_by}
 use Rattle.std.specs.List.{list_any}
-use Rattle.omega_acc.specs.label.Expanding.{expansion}
-use Rattle.omega_acc.specs.label.Raw.{RawLabelTree}
+use Rattle.omega_label.specs.Expanding.{expansion}
+use Rattle.omega_label.specs.Raw.{RawLabelTree}
 use Rattle.omega_raw.specs.declared.raw_edge.RawEdge.{RawEdge}
 use Rattle.omega_automaton.specs.Faults.{passes, size_under}
 use Rattle.omega_automaton.specs.private.layout.Findings.{AreFound}

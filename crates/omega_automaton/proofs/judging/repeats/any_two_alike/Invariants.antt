@@ -1,4 +1,4 @@
--- What holds in the loop of `any_two_alike`: two of the names are alike where two of those that are left are.
+-- What holds in the loop of `any_two_alike`: two of the names are alike if two of those that are left are.
 use Rattle.std.proofs.Common.{◌≡◌, length}
 use Rattle.std.specs.Str.{bytes_eq}
 use Rattle.omega_automaton.specs.Automaton.{has_repeat}

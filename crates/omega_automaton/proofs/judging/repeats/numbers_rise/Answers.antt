@@ -1,4 +1,4 @@
--- `numbers_rise`: a number that is not below the bound is none of those before it.
+-- `numbers_rise`: a number that is not below the bound is not one of those before it.
 use Rattle.std.proofs.Common.{◌≡◌, ◌+◌, ◌<◌, ℕ, List, map, length, get_or, ap, sym, ◌∙◌, arith}
 use Rattle.std.proofs.lemmas.List.{get_or-map, length-map}
 use Rattle.omega_raw.specs.declared.raw_state.RawState.{RawState}

@@ -1,4 +1,4 @@
--- `sees_name_twice`: a name that is seen already stands twice.
+-- `sees_name_twice`: a name that is seen already occurs twice.
 use Rattle.std.proofs.Common.{◌≡◌, ℕ, List, true, false, Bor, ◌∙◌, rules}
 use Rattle.std.specs.Str.{bytes_eq}
 use Rattle.omega_automaton.proofs.Repeats.{seen_once, seen_twice}

@@ -1,4 +1,4 @@
--- `sees_number_twice`: a number that is seen already stands twice.
+-- `sees_number_twice`: a number that is seen already occurs twice.
 use Rattle.std.proofs.Common.{◌≡◌, ◌<◌, ℕ, List, true, false, nat_eq, map, length, get_or, ap, sym, ◌∙◌, rules}
 use Rattle.std.proofs.lemmas.List.{get_or-map, length-map}
 use Rattle.omega_raw.specs.declared.raw_state.RawState.{RawState}

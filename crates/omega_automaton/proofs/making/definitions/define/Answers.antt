@@ -1,4 +1,4 @@
--- `define`: what the body asked for, and what `add` says.
+-- `define`: what the body requires, and what `add` says.
 use Rattle.std.proofs.Common.{refl, sym, ◌∙◌}
 use Rattle.std.proofs.lemmas.Result.{err_from_is_err_and}
 use Rattle.omega_automaton.proofs.AliasNames.{undefinable_by_name, unnamed_by_place}

@@ -1,4 +1,4 @@
--- What holds in the loop of `put_all`: the words so far stand after the others.
+-- What holds in the loop of `put_all`: the words so far come after the others.
 use Rattle.std.proofs.Common.{◌≡◌, ◌++◌}
 use Rattle.omega_automaton.proofs.making.gathered.put_all.Given as goal
 

@@ -1,6 +1,6 @@
 -- `edges_of`: edges in short mean themselves.
 use Rattle.std.proofs.Common.{◌≡◌, map, sym, ap, ◌∙◌}
-use Rattle.omega_raw.specs.private.layout.Edges.{edges_in, lengthened}
+use Rattle.omega_raw.specs.Edges.{edges_in, lengthened}
 use Rattle.omega_automaton.proofs.ShortLemmas.{shorts_meant}
 use Rattle.omega_automaton.proofs.making.states.edges_of.Goals as goal
 

@@ -1,7 +1,7 @@
 -- What is found at positions, said by place, is an exact answer.
 use Rattle.std.proofs.Common.{◌≡◌, ◌∙◌, IfSome, List, None, get_or, length, subst, sym, ℕ, ◌<◌}
-use Rattle.omega_game.specs.Game.{Node}
-use Rattle.omega_game.specs.Winning.{IsStrategy}
+use Rattle.omega_parity_game.specs.Game.{Node}
+use Rattle.omega_parity_game.specs.Winning.{IsStrategy}
 use Rattle.omega_lift_laws.specs.Answer.{won_in}
 use Rattle.omega_budget.specs.Reordering.{IsReordering, measures_by_place}
 use Rattle.omega_budget.specs.private.steps.Reordering.{choices_by_place}

@@ -1,6 +1,6 @@
 -- A solver that is done found an exact answer within the budget, by place.
 use Rattle.std.proofs.Common.{◌∙◌, IfOk, List, ap, refl, subst}
-use Rattle.omega_game.specs.Game.{Node}
+use Rattle.omega_parity_game.specs.Game.{Node}
 use Rattle.omega_solve.specs.declared.outcome.Outcome.TheVariants.{Done, Spent}
 use Rattle.omega_budget.specs.Reordering.{state_by_place}
 use Rattle.omega_budget.specs.private.steps.Lifting.{HasLifted}

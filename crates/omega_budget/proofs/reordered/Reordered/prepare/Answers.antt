@@ -1,6 +1,6 @@
 -- Tables of the reordered game are as wide.
 use Rattle.std.proofs.Common.{◌∙◌, IfErr, List, ap, subst, sym}
-use Rattle.omega_game.specs.Game.{Node, priorities}
+use Rattle.omega_parity_game.specs.Game.{Node, priorities}
 use Rattle.omega_measure.specs.Table.{IsPrepareRefusal, is_too_wide}
 use Rattle.omega_budget.proofs.Games.{refusals_same, widths_same}
 use Rattle.omega_budget.proofs.reordered.Reordered.prepare.Goals as goal

@@ -1,6 +1,6 @@
--- Where the table fits, the game is solved by the run.
+-- If the table fits, the game is solved by the run.
 use Rattle.std.proofs.Common.{refl, rules, true}
-use Rattle.omega_game.specs.Game.{priorities}
+use Rattle.omega_parity_game.specs.Game.{priorities}
 use Rattle.omega_budget.specs.Within.{IsSolvingRefusal}
 use Rattle.omega_budget.proofs.Within.{comes_before, refused_where_wide, refused_within, reported_nothing, reported_solving}
 use Rattle.omega_budget.proofs.reordered.Reordered.solve.Goals as goal

@@ -1,4 +1,4 @@
--- `Search::begin`: meets the states where the search begins.
+-- `Search::begin`: meets the states with which the search begins.
 use Rattle.std.proofs.Common.{◌≡◌, ◌<◌, length, get_or, IsTrue, refl, sym, subst, arith}
 use Rattle.std.proofs.lemmas.List.Elements.{Contains-get_or}
 use Rattle.omega_components.specs.declared.met.Met.{Met}

@@ -14,7 +14,7 @@ read : (kept met : List Met) (at : ℕ) (x : Met) → kept ≡ met → at < leng
 read kept met at x same below is =
     is ∙ ap (λ (ms : List Met). get_or ms at x) same ∙ get_or_default met at x (record { state = 0; edge = 0; origin = 0 }) below
 
--- where it was met from stands before it
+-- the state that it was met from comes before it
 stands_before : (edges : ℕ) (met : List Met) (at : ℕ) → LeadBack edges met → at < length met → 0 < (met_at met at).edge → (met_at met at).origin < length met
 stands_before edges met at back below some = elim (back at below) [ inl none ↦ absurd (omega arith) | inr before ↦ let earlier = before.1 in omega arith ]
 

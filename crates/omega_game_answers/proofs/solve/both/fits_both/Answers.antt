@@ -1,7 +1,7 @@
 -- A game that is too wide for neither player is too wide for none.
 use Rattle.std.proofs.Common.{refl}
 use Rattle.std.proofs.lemmas.Result.{IfErr-weaker}
-use Rattle.omega_game.specs.declared.player.Player.TheVariants.{One}
+use Rattle.omega_parity_game.specs.declared.player.Player.TheVariants.{One}
 use Rattle.omega_game_answers.proofs.Solutions.{by_player}
 use Rattle.omega_game_answers.proofs.solve.both.fits_both.Goals as goal
 

@@ -1,8 +1,8 @@
--- `explained`: where player 0's choices lose that is explained, and else where player 1's do.
+-- `explained`: if player 0's choices lose that is explained, or else if player 1's do.
 use Rattle.std.proofs.Common.{Option, subst}
 use Rattle.std.specs.Prelude.{IfSome}
 use Rattle.omega_game.specs.declared.lasso.Lasso.{Lasso}
-use Rattle.omega_game.specs.declared.player.Player.TheVariants.{Zero}
+use Rattle.omega_parity_game.specs.declared.player.Player.TheVariants.{Zero}
 use Rattle.omega_game_answers.specs.Verify.{LosesGiven}
 use Rattle.omega_game_answers.proofs.Explaining.{zero-explained}
 use Rattle.omega_game_answers.proofs.verify.explaining.explained.Goals as goal

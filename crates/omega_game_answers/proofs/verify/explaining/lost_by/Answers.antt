@@ -1,5 +1,5 @@
 -- `lost_by`: a lasso against the player's choices begins at a node given to the player.
-use Rattle.omega_game.proofs.solutions.Given.{given-wins, given-within}
+use Rattle.omega_parity_game.proofs.solutions.Given.{given-wins, given-within}
 use Rattle.omega_game_answers.proofs.Explaining.{cycle-inside, found-none, found-some, loses-given, stem-inside}
 use Rattle.omega_game_answers.proofs.verify.explaining.lost_by.Goals as goal
 

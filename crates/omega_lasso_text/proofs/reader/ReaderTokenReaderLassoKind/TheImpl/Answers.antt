@@ -1,5 +1,5 @@
--- `Reader` as a reader of tokens: what it takes begins a lasso text, what it refuses does not, and where it ends is a
--- text.
+-- `Reader` as a reader of tokens: what it takes begins a lasso text, and what it refuses does not; it is complete
+-- exactly at the end of a text.
 use Rattle.omega_text.specs.Lexeme.{lexeme_of}
 use Rattle.omega_lasso_text.proofs.Steps.{judged_end, taken_on_all}
 use Rattle.omega_lasso_text.proofs.reader.ReaderTokenReaderLassoKind.TheImpl.Goals as goal

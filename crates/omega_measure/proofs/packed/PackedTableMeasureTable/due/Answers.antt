@@ -1,4 +1,4 @@
--- A measure is short exactly where the allowance exceeds it.
+-- A measure is short exactly if the allowance exceeds it.
 use Rattle.std.proofs.Common.{length, get_or, ap, sym, subst, ◌∙◌, arith}
 use Rattle.omega_measure.specs.private.layout.Field.{IsInside, front_order}
 use Rattle.omega_measure.specs.private.layout.Rows.{row_of}

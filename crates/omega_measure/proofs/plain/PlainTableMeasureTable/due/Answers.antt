@@ -1,4 +1,4 @@
--- A measure is short exactly where the allowance exceeds it.
+-- A measure is short exactly if the allowance exceeds it.
 use Rattle.std.proofs.Common.{true, length, get_or, ap, ◌∙◌, arith}
 use Rattle.std.proofs.lemmas.List.{get_or_default}
 use Rattle.omega_measure.proofs.PlainCalls.{compare_is, due_iff, in_table}

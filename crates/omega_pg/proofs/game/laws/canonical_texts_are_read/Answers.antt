@@ -1,4 +1,4 @@
--- The canonical text of a game stands for it.
+-- The canonical text of a game describes it.
 use Rattle.omega_pg.proofs.games.RoundTrip.{canonical_read}
 use Rattle.omega_pg.proofs.game.laws.canonical_texts_are_read.Goals as goal
 

@@ -1,4 +1,4 @@
--- A text that stands for a game has no refusal.
+-- A text that describes a game has no refusal.
 use Rattle.omega_pg.proofs.games.Texts.{games_apart}
 use Rattle.omega_pg.proofs.game.laws.games_are_not_refused.Goals as goal
 

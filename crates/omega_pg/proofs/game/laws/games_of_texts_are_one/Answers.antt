@@ -1,4 +1,4 @@
--- A text stands for at most one game.
+-- A text describes at most one game.
 use Rattle.omega_pg.proofs.games.Texts.{games_one}
 use Rattle.omega_pg.proofs.game.laws.games_of_texts_are_one.Goals as goal
 

@@ -1,4 +1,4 @@
--- A text stands for a game or has a refusal.
+-- A text describes a game or has a refusal.
 use Rattle.omega_pg.proofs.games.Decided.{texts_decided}
 use Rattle.omega_pg.proofs.game.laws.texts_are_read_or_refused.Goals as goal
 

@@ -1,4 +1,4 @@
--- The reasons of refusal 53 apply exactly if no solution is written so.
+-- There is a reason for `BadSolution` exactly if no solution is written so.
 use Rattle.omega_pg.proofs.solutions.Apart.{reasons_exact}
 use Rattle.omega_pg.proofs.solution.laws.reasons_are_exact.Goals as goal
 

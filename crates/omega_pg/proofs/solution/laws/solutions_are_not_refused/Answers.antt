@@ -1,4 +1,4 @@
--- A text that stands for a solution has no refusal.
+-- A text that describes a solution has no refusal.
 use Rattle.omega_pg.proofs.solutions.Apart.{solutions_apart}
 use Rattle.omega_pg.proofs.solution.laws.solutions_are_not_refused.Goals as goal
 

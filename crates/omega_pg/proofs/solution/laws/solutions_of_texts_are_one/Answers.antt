@@ -1,4 +1,4 @@
--- A text stands for at most one solution of a game.
+-- A text describes at most one solution of a game.
 use Rattle.omega_pg.proofs.solutions.Apart.{solutions_one}
 use Rattle.omega_pg.proofs.solution.laws.solutions_of_texts_are_one.Goals as goal
 

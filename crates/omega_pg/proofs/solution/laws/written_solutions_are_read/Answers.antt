@@ -1,4 +1,4 @@
--- The written form of a solution stands for it.
+-- The written form of a solution describes it.
 use Rattle.omega_pg.proofs.solutions.RoundTrip.{solution_written}
 use Rattle.omega_pg.proofs.solution.laws.written_solutions_are_read.Goals as goal
 

@@ -1,23 +1,24 @@
--- The grammar of game texts as an automaton over symbols, which keeps what it has read.
+-- The grammar of game texts as an automaton over symbols, whose states keep what was read.
 use Rattle.std.specs.Prelude.{◌≡◌, ℕ, ◌<◌, ◌≤◌, ◌==◌, ◌||◌, Bool, true, false, Option, Some, None, List, [], ◌∷◌, ◌++◌, length, nat_lt, option_map, if◌then◌else◌}
-use Rattle.omega_game.specs.Building.{with_last, with_name, with_successor}
+use Rattle.omega_parity_game.specs.Building.{with_last, with_name, with_successor}
 use Rattle.omega_text.specs.Limits.{most_number}
-use Rattle.omega_game.specs.declared.node_spec.NodeSpec.{NodeSpec}
-use Rattle.omega_game.specs.declared.player.Player.{Player}
-use Rattle.omega_game.specs.declared.player.Player.TheVariants.{One, Zero}
+use Rattle.omega_parity_game.specs.declared.node_spec.NodeSpec.{NodeSpec}
+use Rattle.omega_parity_game.specs.declared.player.Player.{Player}
+use Rattle.omega_parity_game.specs.declared.player.Player.TheVariants.{One, Zero}
 use Rattle.omega_pg.specs.private.reader.Run.{run_by}
 use Rattle.omega_pg.specs.Symbols.{PgSymbol, comma, name, number, parity, paritysol, semicolon}
 use Rattle.omega_pg.specs.declared.game.stage.Stage.{Stage}
 use Rattle.omega_pg.specs.declared.game.stage.Stage.TheVariants.{Comma, Ended, Headed, Identifier, Listed, Named, Number, Owner, Priority, Start, Word}
 
--- what was read so far: where it stands, the header's number, the specifications, and whether one is above that number
+-- what was read so far: the stage, the header's number, the specifications, and whether an identifier is above that
+-- number
 pub record GameReaderState : Type 0 where
   pub stage : Stage
   pub header : Option ℕ
   pub specs : List NodeSpec
   pub header_too_small : Bool
 
--- nothing was read
+-- the state before the first symbol
 abbrev pub initial : GameReaderState
 initial = record { stage = Start; header = None; specs = []; header_too_small = false }
 
@@ -25,7 +26,7 @@ initial = record { stage = Start; header = None; specs = []; header_too_small = 
 abbrev pub to_stage : Stage → GameReaderState → GameReaderState
 to_stage stage state = record state { stage = stage }
 
--- the player that a number stands for
+-- the player that has a number, if there is one
 abbrev pub player_of : ℕ → Option Player
 player_of n = if n == 0 then Some Zero else (if n == 1 then Some One else None)
 
@@ -47,11 +48,15 @@ with_node spec state = record {
   header_too_small = state.header_too_small || is_above state.header spec.id;
 }
 
--- the state with the last specification changed
+-- the state with its last specification changed
 abbrev pub with_change : Stage → (NodeSpec → NodeSpec) → GameReaderState → GameReaderState
 with_change stage change state = record state { stage = stage; specs = with_last change state.specs }
 
--- what a number makes of the state
+-- the state after the number of an owner, if a player has it
+abbrev pub after_owner : GameReaderState → ℕ → ℕ → ℕ → Option GameReaderState
+after_owner state id priority n = option_map (λ owner. to_stage (Owner id priority owner) state) (player_of n)
+
+-- the state after a number
 abbrev pub after_number : Stage → GameReaderState → ℕ → Option GameReaderState
 after_number Start state n = Some (to_stage (Identifier n) state)
 after_number Word state n = Some (to_stage (Number n) state)
@@ -59,35 +64,35 @@ after_number (Number header) state n = None
 after_number Headed state n = Some (to_stage (Identifier n) state)
 after_number Ended state n = Some (to_stage (Identifier n) state)
 after_number (Identifier id) state n = Some (to_stage (Priority id n) state)
-after_number (Priority id priority) state n = option_map (λ owner. to_stage (Owner id priority owner) state) (player_of n)
+after_number (Priority id priority) state n = after_owner state id priority n
 after_number (Owner id priority owner) state n = Some (with_node (begun id priority owner n) state)
 after_number Listed state n = None
 after_number Comma state n = Some (with_change Listed (with_successor n) state)
 after_number Named state n = None
 
--- what the word `parity` makes of the state
+-- the state after the word `parity`
 abbrev pub after_word : Stage → GameReaderState → Option GameReaderState
 after_word Start state = Some (to_stage Word state)
 after_word _ state = None
 
--- what a semicolon makes of the state
+-- the state after a semicolon
 abbrev pub after_semicolon : Stage → GameReaderState → Option GameReaderState
 after_semicolon (Number n) state = Some (record state { stage = Headed; header = Some n })
 after_semicolon Listed state = Some (to_stage Ended state)
 after_semicolon Named state = Some (to_stage Ended state)
 after_semicolon _ state = None
 
--- what a comma makes of the state
+-- the state after a comma
 abbrev pub after_comma : Stage → GameReaderState → Option GameReaderState
 after_comma Listed state = Some (to_stage Comma state)
 after_comma _ state = None
 
--- what a name makes of the state
+-- the state after a name
 abbrev pub after_name : Stage → GameReaderState → List ℕ → Option GameReaderState
 after_name Listed state bytes = Some (with_change Named (with_name bytes) state)
 after_name _ state bytes = None
 
--- what a symbol makes of the state, or none where no text goes on so
+-- the state after a symbol, or none if no text of the grammar goes on with it
 abbrev pub step : GameReaderState → PgSymbol → Option GameReaderState
 step state (number n) = after_number state.stage state n
 step state parity = after_word state.stage state
@@ -96,11 +101,11 @@ step state semicolon = after_semicolon state.stage state
 step state comma = after_comma state.stage state
 step state (name bytes) = after_name state.stage state bytes
 
--- what symbols make of the state
+-- the state after symbols
 abbrev pub run : GameReaderState → List PgSymbol → Option GameReaderState
 run = run_by step
 
--- what a reader may rely on: numbers that are kept are within the limit, and an open specification is there
+-- at a stage the numbers that it keeps are within the limit, and an open specification is there
 abbrev pub IsReadyAt : Stage → List NodeSpec → Type 0
 IsReadyAt Start specs = Unit {0}
 IsReadyAt Word specs = Unit {0}
@@ -114,15 +119,15 @@ IsReadyAt Listed specs = 0 < length specs
 IsReadyAt Comma specs = 0 < length specs
 IsReadyAt Named specs = 0 < length specs
 
--- a reader may rely on what the state's stage and specifications say
+-- this holds of the stage and the specifications of a state
 abbrev pub IsReady : GameReaderState → Type 0
 IsReady state = IsReadyAt state.stage state.specs
 
--- the symbols lead from nothing to a state that a reader may rely on
+-- the symbols lead from the first state to this one, which is ready
 abbrev pub IsReachedBy : List PgSymbol → GameReaderState → Type 0
 IsReachedBy symbols state = (run initial symbols ≡ Some state) × IsReady state
 
--- a call took a symbol or refused it: the new state is the next, or there is no next
+-- a call took a symbol, and its new state is the next one; or it refused it, and there is no next one
 abbrev pub Takes : Bool → Option GameReaderState → GameReaderState → Type 0
 Takes true next new = (next ≡ Some new) × IsReady new
 Takes false next new = next ≡ None

@@ -1,7 +1,7 @@
 -- A reader as the state of the automaton.
 use Rattle.omega_pg.specs.private.game.reader.Automaton.{GameReaderState}
-use Rattle.omega_pg.specs.declared.game.reader.Reader.{Reader}
+use Rattle.omega_pg.specs.declared.game.reader.Reader.TheInside.{Inside}
 
 -- the state that a reader keeps
-abbrev pub game_reader_state : Reader → GameReaderState
-game_reader_state reader = record { stage = reader.stage; header = reader.header; specs = reader.builder; header_too_small = reader.header_too_small }
+abbrev pub game_reader_state : Inside → GameReaderState
+game_reader_state reader = record { stage = reader.stage; header = reader.header; specs = reader.specs; header_too_small = reader.header_too_small }

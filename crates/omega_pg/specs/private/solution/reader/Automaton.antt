@@ -1,20 +1,20 @@
--- The grammar of solution texts as an automaton over symbols, which keeps what it has read.
+-- The grammar of solution texts as an automaton over symbols, whose states keep what was read.
 use Rattle.std.specs.Prelude.{ℕ, Option, Some, None, List, [], ◌∷◌, ◌++◌, option_map}
-use Rattle.omega_game.specs.declared.player.Player.{Player}
+use Rattle.omega_parity_game.specs.declared.player.Player.{Player}
 use Rattle.omega_pg.specs.private.game.reader.Automaton.{player_of}
-use Rattle.omega_pg.specs.solution.Grammar.{SolutionLine}
+use Rattle.omega_pg.specs.solution.Grammar.{SolutionLine, line_for}
 use Rattle.omega_pg.specs.private.reader.Run.{run_by}
 use Rattle.omega_pg.specs.Symbols.{PgSymbol, comma, name, number, parity, paritysol, semicolon}
 use Rattle.omega_pg.specs.declared.solution.stage.Stage.{Stage}
 use Rattle.omega_pg.specs.declared.solution.stage.Stage.TheVariants.{Chosen, Ended, Identifier, Number, Start, Winner, Word}
 
--- what was read so far: where it stands, the header's number and the lines
+-- what was read so far: the stage, the header's number and the lines
 pub record SolutionReaderState : Type 0 where
   pub stage : Stage
   pub greatest : ℕ
   pub lines : List SolutionLine
 
--- nothing was read
+-- the state before the first symbol
 abbrev pub initial : SolutionReaderState
 initial = record { stage = Start; greatest = 0; lines = [] }
 
@@ -27,10 +27,10 @@ abbrev pub with_line : ℕ → Player → Option ℕ → SolutionReaderState →
 with_line id winner successor state = record {
   stage = Ended;
   greatest = state.greatest;
-  lines = state.lines ++ record { identifier = id; winner = winner; successor = successor } ∷ [];
+  lines = state.lines ++ line_for id winner successor ∷ [];
 }
 
--- where a number leads
+-- the stage after a number, if a text goes on so
 abbrev pub stage_after_number : Stage → ℕ → Option Stage
 stage_after_number Start n = None
 stage_after_number Word n = Some (Number n)
@@ -40,27 +40,27 @@ stage_after_number (Identifier id) n = option_map (λ winner. Winner id winner) 
 stage_after_number (Winner id winner) n = Some (Chosen id winner n)
 stage_after_number (Chosen id winner successor) n = None
 
--- where the word `paritysol` leads
+-- the stage after the word `paritysol`, if a text goes on so
 abbrev pub stage_after_word : Stage → Option Stage
 stage_after_word Start = Some Word
 stage_after_word _ = None
 
--- what a number makes of the state
+-- the state after a number
 abbrev pub after_number : Stage → SolutionReaderState → ℕ → Option SolutionReaderState
 after_number stage state n = option_map (λ next. to_stage next state) (stage_after_number stage n)
 
--- what the word `paritysol` makes of the state
+-- the state after the word `paritysol`
 abbrev pub after_word : Stage → SolutionReaderState → Option SolutionReaderState
 after_word stage state = option_map (λ next. to_stage next state) (stage_after_word stage)
 
--- what a semicolon makes of the state
+-- the state after a semicolon
 abbrev pub after_semicolon : Stage → SolutionReaderState → Option SolutionReaderState
 after_semicolon (Number greatest) state = Some (record { stage = Ended; greatest = greatest; lines = state.lines })
 after_semicolon (Winner id winner) state = Some (with_line id winner None state)
 after_semicolon (Chosen id winner successor) state = Some (with_line id winner (Some successor) state)
 after_semicolon _ state = None
 
--- what a symbol makes of the state, or none where no text goes on so
+-- the state after a symbol, or none if no text of the grammar goes on with it
 abbrev pub step : SolutionReaderState → PgSymbol → Option SolutionReaderState
 step state (number n) = after_number state.stage state n
 step state parity = None
@@ -69,6 +69,6 @@ step state semicolon = after_semicolon state.stage state
 step state comma = None
 step state (name bytes) = None
 
--- what symbols make of the state
+-- the state after symbols
 abbrev pub run : SolutionReaderState → List PgSymbol → Option SolutionReaderState
 run = run_by step

@@ -1,16 +1,17 @@
 -- What lines say of a game, and how they are judged one by one.
-use Rattle.std.specs.Prelude.{◌≡◌, ◌≢◌, ◌↔◌, ℕ, ◌<◌, ◌≤◌, ◌⊎◌, Bool, true, false, Option, None, IfSome, IsSome, List, length, option_map, slice_index_or, Result, Ok, Err}
-use Rattle.omega_game.specs.Game.{HasEdge, Node, owner_at, identifier_at}
-use Rattle.omega_game.specs.declared.player.Player.{Player}
-use Rattle.omega_game.specs.declared.player.Player.TheVariants.{One, Zero}
+use Rattle.std.specs.Prelude.{◌≡◌, ◌≢◌, ◌↔◌, ℕ, ◌<◌, ◌≤◌, ◌⊎◌, Bool, true, false, Option, None, IfSome, IsSome, List, [], ◌∷◌, ◌++◌, length, option_map, slice_index_or, Result, Ok, Err}
+use Rattle.omega_parity_game.specs.Game.{HasEdge, Node, owner_at, identifier_at}
+use Rattle.omega_parity_game.specs.declared.player.Player.{Player}
+use Rattle.omega_parity_game.specs.declared.player.Player.TheVariants.{One, Zero}
 use Rattle.omega_pg.specs.solution.BadSolution.{IsNoSolution, IsWrongSuccessor}
 use Rattle.omega_text.specs.declared.refusal.Refusal.{Refusal}
 use Rattle.omega_text.specs.declared.refusal.Refusal.TheVariants.{Task}
 use Rattle.omega_text.specs.declared.refusal.task.TaskFault.TheVariants.{BadSolution}
 use Rattle.omega_pg.specs.solution.Grammar.{SolutionLine, RawSolution, no_line}
-use Rattle.omega_game.specs.Solution.{IsSolution}
+use Rattle.omega_parity_game.specs.Solution.{IsSolution}
 use Rattle.omega_pg.specs.solution.Text.{raw_solution}
-use Rattle.omega_game.specs.declared.solution.Solution.{Solution}
+use Rattle.omega_parity_game.specs.declared.solution.Solution.{Solution}
+use Rattle.omega_pg.specs.declared.solution.lines.Lines.{Lines}
 
 -- a line says this choice of the node at a place
 pub record Says (nodes : List Node) (v : ℕ) (line : SolutionLine) (choice : Option ℕ) : Type 0 where
@@ -20,7 +21,7 @@ pub record Says (nodes : List Node) (v : ℕ) (line : SolutionLine) (choice : Op
   pub chosen : IsSome choice ↔ (owner_at nodes v ≡ line.winner)
   pub listed : IfSome choice (HasEdge nodes v)
 
--- a line is not that of the node at a place: there is none, or the identifier is another, or the successor is wrong
+-- a line is not that of the node at a place: no such node, or another identifier, or a wrong successor
 abbrev pub IsWrongLine : List Node → ℕ → SolutionLine → Type 0
 IsWrongLine nodes v line =
     (length nodes ≤ v) ⊎ ((line.identifier ≢ identifier_at nodes v) ⊎ IsWrongSuccessor nodes v line.winner line.successor)
@@ -58,7 +59,16 @@ abbrev pub AreJudged : List Node → List SolutionLine → Bool → List Player 
 AreJudged nodes lines true winners zero one = AreSaid nodes lines winners zero one
 AreJudged nodes lines false winners zero one = HasWrongLine nodes lines
 
--- what lines after a header come to: the solution that is so written, or 53 where there is none
+-- the lines so far are judged, by what is kept of them
+abbrev pub KeepsLines : List Node → List SolutionLine → Lines → Type 0
+KeepsLines nodes lines kept = AreJudged nodes lines kept.good kept.winners.items kept.zero.items kept.one.items
+
+-- one line more is judged
+abbrev pub AddsLine : List Node → SolutionLine → (old new : Lines) → Type 0
+AddsLine nodes line old new =
+    (lines : List SolutionLine) → KeepsLines nodes lines old → KeepsLines nodes (lines ++ line ∷ []) new
+
+-- the outcome of the lines after a header: the solution that is written so, or `BadSolution` if no solution is
 abbrev pub IsOutcome : List Node → RawSolution → Result Solution Refusal → Type 0
 IsOutcome nodes raw (Ok solution) = IsSolution nodes solution × (raw ≡ raw_solution nodes solution)
 IsOutcome nodes raw (Err refusal) =

@@ -1,6 +1,6 @@
--- A literal fails or holds under what is assumed, or it is tried, and what else there is waits.
+-- A literal fails or holds under the assumptions, or it is tried, and the other branch is pending.
 use Rattle.std.proofs.Common.{◌&&◌, ◌||◌, Bool, reverse, ap, sym, ◌∙◌}
-use Rattle.omega_satisfying.specs.private.Waiting.{fits, waits_for}
+use Rattle.omega_satisfying.specs.private.Pending.{fits, pending_lead}
 use Rattle.omega_satisfying.proofs.Branching.{as-another, as-same, fails-now, holds-now, whole-now}
 use Rattle.omega_satisfying.proofs.branches.Branches.take.Goals as goal
 
@@ -13,16 +13,16 @@ returns-in-Some-clause-ok c held onward whole =
 pub returns-in-Some-2-clause-ok : goal.returns-in-Some-2-clause-ok
 returns-in-Some-2-clause-ok c held onward whole =
     let branches = c.args.self.now in
-    ap (λ (now : Bool). (fits held branches.assumed.entries && now) || waits_for held onward branches.assumed.entries (reverse branches.later.items))
+    ap (λ (now : Bool). (fits held branches.assumed.entries && now) || pending_lead held onward branches.assumed.entries (reverse branches.later.items))
     (whole-now (onward c.args.literal.next) (onward c.args.literal.otherwise) (whole c.if-literal.true))
     ∙ holds-now held onward branches.assumed.entries (reverse branches.later.items) c.args.literal.proposition c.args.literal.sign c.in-Some.value
     c.args.literal.next c.args.literal.otherwise (sym c.value_of.ensures ∙ c.in-Some.is)
     (as-same c.args.literal.sign c.in-Some.value c.if-value-literal.false)
 
-pub returns-in_ok-put_off-in-Some-3-clause-ok : goal.returns-in_ok-put_off-in-Some-3-clause-ok
-returns-in_ok-put_off-in-Some-3-clause-ok c held onward whole =
+pub returns-in_ok-defer-in-Some-3-clause-ok : goal.returns-in_ok-defer-in-Some-3-clause-ok
+returns-in_ok-defer-in-Some-3-clause-ok c held onward whole =
     let branches = c.args.self.now in
-    c.in_ok-put_off-in-Some-3.ensures.leading held onward (onward c.args.literal.next)
+    c.in_ok-defer-in-Some-3.ensures.leading held onward (onward c.args.literal.next)
     ∙ holds-now held onward branches.assumed.entries (reverse branches.later.items) c.args.literal.proposition c.args.literal.sign c.in-Some.value
     c.args.literal.next c.args.literal.otherwise (sym c.value_of.ensures ∙ c.in-Some.is)
     (as-same c.args.literal.sign c.in-Some.value c.if-value-literal.false)

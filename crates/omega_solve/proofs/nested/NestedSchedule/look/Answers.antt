@@ -1,4 +1,4 @@
--- What is found where all positions were looked at.
+-- What is found if all positions were looked at.
 use Rattle.std.proofs.Common.{List, ℕ, subst}
 use Rattle.std.specs.Option.{MatchOption}
 use Rattle.omega_solve.specs.Schedule.{IsIdle, IsPending, Pending}

@@ -1,6 +1,6 @@
 -- A new solver keeps what a solver keeps.
 use Rattle.std.proofs.Common.{◌≡◌, ◌∙◌, false, ap, length, refl, subst, sym}
-use Rattle.omega_game.specs.Game.{priorities}
+use Rattle.omega_parity_game.specs.Game.{priorities}
 use Rattle.omega_measure.specs.Table.{Content, zero_content}
 use Rattle.omega_solve.specs.Schedule.{Pending, all_pending}
 use Rattle.omega_solve.specs.Solver.{SolverState, start_of, solver_state}

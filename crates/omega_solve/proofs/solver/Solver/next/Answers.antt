@@ -1,4 +1,4 @@
--- Where no place is pending, no lift is due.
+-- If no place is pending, no lift is due.
 use Rattle.std.proofs.Common.{◌<◌, length, subst}
 use Rattle.std.specs.Option.{MatchOption}
 use Rattle.omega_solve.specs.Solver.{SolverState}

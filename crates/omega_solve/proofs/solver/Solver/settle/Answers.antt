@@ -1,4 +1,4 @@
--- A take of a place where no lift is due keeps what a solver keeps.
+-- A take of a place at which no lift is due keeps what a solver keeps.
 use Rattle.std.proofs.Common.{◌∙◌, ap, subst, sym}
 use Rattle.omega_solve.specs.Solver.{SolverState}
 use Rattle.omega_lift_laws.specs.Run.{IsDue}

@@ -1,4 +1,4 @@
--- A sweep stands at a pending place after an add.
+-- A sweep is at a pending place after an add.
 use Rattle.std.proofs.Common.{◌<◌, arith, inl, inr, length, subst, sym}
 use Rattle.std.proofs.lemmas.Bool.{cases_lt}
 use Rattle.omega_solve.specs.Schedule.{Pending}

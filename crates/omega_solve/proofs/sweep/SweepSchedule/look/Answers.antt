@@ -1,4 +1,4 @@
--- A sweep stands at a pending place if there is one.
+-- A sweep is at a pending place if there is one.
 use Rattle.std.proofs.Common.{arith, subst}
 use Rattle.omega_solve.specs.Schedule.{IsIdle, Pending}
 use Rattle.omega_solve.proofs.schedules.Flags.{idle_none}

@@ -1,4 +1,4 @@
--- A new sweep stands at place 0.
+-- A new sweep is at place 0.
 use Rattle.std.proofs.Common.{arith}
 use Rattle.omega_solve.proofs.schedules.Sweeping.{sweep_start}
 use Rattle.omega_solve.proofs.sweep.SweepSchedule.prepare.Goals as goal

@@ -1,4 +1,4 @@
--- A sweep stands at a pending place after a take.
+-- A sweep is at a pending place after a take.
 use Rattle.std.proofs.Common.{arith, subst, sym}
 use Rattle.omega_solve.specs.Schedule.{IsPending, Pending, with_taken}
 use Rattle.omega_solve.proofs.schedules.Flags.{pending_taken, waits_none, waits_taken}

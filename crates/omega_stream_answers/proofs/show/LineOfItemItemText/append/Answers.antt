@@ -1,4 +1,4 @@
--- `append` of a line: its parts stand one after the other.
+-- `append` of a line: its parts are written one after the other.
 use Rattle.std.proofs.Common.{◌++◌, codes}
 use Rattle.std.specs.Prelude.{decimal}
 use Rattle.omega_canon.proofs.Lines.{following}

@@ -1,4 +1,4 @@
--- The table is what each of the 256 bytes tells, by computing.
+-- The table is what each of the 256 bytes shows, by computing.
 use Rattle.std.proofs.Common.{◌≡◌, ℕ, ◌<◌, map, get_or, refl, ap, ◌∙◌, arith}
 use Rattle.std.proofs.lemmas.List.FromFn.{get_or-map-range_with_len}
 use Rattle.std.specs.List.{range_with_len}

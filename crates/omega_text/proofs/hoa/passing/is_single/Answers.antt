@@ -1,4 +1,4 @@
--- By what the byte tells.
+-- By what the byte shows.
 use Rattle.omega_text.specs.declared.hoa.lead.Lead.TheVariants.{White, Sign}
 use Rattle.omega_text.proofs.hoa_texts.Leads.{led_as, sign_single, white_single}
 use Rattle.omega_text.proofs.hoa.passing.is_single.Goals as goal

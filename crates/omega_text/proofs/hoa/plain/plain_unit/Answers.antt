@@ -1,4 +1,4 @@
--- By what the first byte tells.
+-- By what the first byte shows.
 use Rattle.std.proofs.Common.{get_or}
 use Rattle.omega_text.specs.declared.hoa.lead.Lead.TheVariants.{Sign, Digit, Letter, Quote, At}
 use Rattle.omega_text.proofs.hoa_texts.Leads.{led_as}

@@ -1,4 +1,4 @@
--- After the white bytes stands the token.
+-- The token comes after the white bytes.
 use Rattle.std.proofs.Common.{take, sym, ◌∙◌, subst, Some}
 use Rattle.omega_text.specs.Lexeme.{lexeme_at}
 use Rattle.omega_text.specs.hoa.Cut.{Follows}

@@ -1,4 +1,4 @@
--- After the gap stands the number.
+-- The number comes after the gap.
 use Rattle.omega_text.proofs.pg_texts.Tokens.{form_after}
 use Rattle.omega_text.proofs.pg.token.next_pg_number.Goals as goal
 

@@ -1,4 +1,4 @@
--- After the gap stands the token.
+-- The token comes after the gap.
 use Rattle.omega_text.proofs.pg_texts.Tokens.{form_after}
 use Rattle.omega_text.proofs.pg.token.next_pg_token.Goals as goal
 

@@ -8,7 +8,7 @@ loop-successor-preserved c =
     let so_far = c.loop-successor.invariant in
     record {
       leads = leads_on _ _ _ _ _ _ _ so_far.leads
-          (successor_leads _ _ _ (game_reader_state c.loop-successor.self) c.add_successor.new.self _ so_far.listed so_far.leads.ready
+          (successor_leads _ _ _ (game_reader_state c.loop-successor.self-inside) c.add_successor.new.self _ so_far.listed so_far.leads.ready
           c.in_ok-add_successor.ensures.ok c.in-Some.ensures.piece);
       listed = so_far.listed;
     }

@@ -7,8 +7,8 @@ use Rattle.omega_pg.proofs.game.reader.Reader.take_successors.Given as goal
 
 abbrev pub invariant-loop-successor : goal.invariant-loop-successor
 invariant-loop-successor l = record {
-  leads : LeadsOn l.source l.from l.at (game_reader_state l.fn.self) (game_reader_state l.self);
-  listed : l.self.stage ≡ Listed;
+  leads : LeadsOn l.source l.from l.at l.fn.self (game_reader_state l.self-inside);
+  listed : l.self-inside.stage ≡ Listed;
 }
 
 abbrev pub decreases-loop-successor : goal.decreases-loop-successor

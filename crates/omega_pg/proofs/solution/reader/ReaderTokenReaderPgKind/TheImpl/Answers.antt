@@ -1,5 +1,5 @@
 -- `Reader` as a reader of tokens: what it takes begins a solution text, what it refuses does not,
--- and where it ends is a text.
+-- and at its end there is a text.
 use Rattle.omega_text.specs.Lexeme.{lexeme_of}
 use Rattle.omega_pg.proofs.solutions.Steps.{judged_end, taken_on_all}
 use Rattle.omega_pg.proofs.solution.reader.ReaderTokenReaderPgKind.TheImpl.Goals as goal

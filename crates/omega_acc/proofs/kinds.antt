@@ -1,0 +1,3 @@
+-- Lemmas on acceptance kinds and priorities.
+pub mod BuchiLemmas
+pub mod KindLemmas

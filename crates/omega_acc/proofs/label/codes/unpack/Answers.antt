@@ -1,7 +1,0 @@
--- The bytes are unpacked one by one.
-use Rattle.std.proofs.Common.{rules}
-use Rattle.omega_acc.proofs.labels.CodeLemmas.{unpacked_more}
-use Rattle.omega_acc.proofs.label.codes.unpack.Goals as goal
-
-pub loop-at-preserved : goal.loop-at-preserved
-loop-at-preserved c = search (rules, unpacked_more)

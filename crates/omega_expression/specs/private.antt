@@ -1,0 +1,2 @@
+-- What only private contracts cite: how what is pending lies in memory.
+pub mod Pending

@@ -1,0 +1,14 @@
+-- Lemmas on acceptance formulas: building, meaning, kinds, comparing, and their texts.
+pub mod AccLemmas
+pub mod AtomLemmas
+pub mod BelowLemmas
+pub mod ChainLemmas
+pub mod Equality
+pub mod Parities
+pub mod PlainLemmas
+pub mod PriorityLemmas
+pub mod RawLemmas
+pub mod ReadingLemmas
+pub mod ReadingUniqueness
+pub mod TextLemmas
+pub mod Unread

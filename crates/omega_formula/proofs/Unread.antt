@@ -1,0 +1,246 @@
+-- Where no acceptance formula is read.
+use Rattle.std.proofs.Common.{◌≡◌, ℕ, suc, true, false, List, [], ◌∷◌, ◌++◌, map, ap, refl, sym, ◌∙◌, subst}
+use Rattle.std.proofs.lemmas.List.{map-append}
+use Rattle.omega_formula.specs.Reading.{ReadsAcc, ReadsNoAcc, formula_symbols}
+use Rattle.omega_formula.specs.Raw.{RawAccTree, atom, conjunction, constant, disjunction, group}
+use Rattle.omega_expression.specs.Symbols.{EndsThere, IsNoOperator, ExpressionSymbol, disjunctive, seen_as, sign, expression_symbol_of, word}
+use Rattle.omega_expression.specs.declared.pending.Pending.{Pending}
+use Rattle.omega_expression.specs.declared.pending.Pending.TheVariants.{Open}
+use Rattle.omega_formula.specs.declared.raw.RawAccNode.{RawAccNode}
+use Rattle.omega_formula.specs.private.layout.Building.{Before, Has, Wants, anded, before_pending, before_symbols, opened, ored, start}
+use Rattle.omega_formula.specs.private.layout.States.{IsStuck, IsThrough, NameState, barred, ended, entered, failed, go, had, named, numbered, run, wanted}
+use Rattle.omega_expression.specs.Passing.{NextIsNot, Passed}
+use Rattle.omega_formula.proofs.ReadingLemmas.{has_is_free}
+use Rattle.omega_expression.proofs.PassingLemmas.{GoOnNone, GoesOnNone, go_on_others}
+use Rattle.omega_expression.proofs.PendingLemmas.{IsFree, IsParenthesis, free_open, top}
+use Rattle.omega_text.specs.Lexeme.{Lexeme}
+use Rattle.omega_text.specs.declared.hoa.kind.HoaKind.{HoaKind}
+use Rattle.omega_text.specs.declared.hoa.kind.HoaKind.TheVariants as kind
+
+run-append : (state : NameState) (symbols more : List ExpressionSymbol) → run state (symbols ++ more) ≡ run (run state symbols) more
+run-append state [] more = refl
+run-append state (symbol ∷ symbols) more = run-append (go state symbol) symbols more
+
+run-failed : (symbols : List ExpressionSymbol) → run failed symbols ≡ failed
+run-failed [] = refl
+run-failed (symbol ∷ symbols) = run-failed symbols
+
+run-ended : (symbols : List ExpressionSymbol) → run ended symbols ≡ ended
+run-ended [] = refl
+run-ended (symbol ∷ symbols) = run-ended symbols
+
+-- a formula is gone through as an atom is
+run-formula : (count : ℕ) (tree : RawAccTree) → run (wanted count) (formula_symbols tree) ≡ had count
+run-formula count (constant true) = refl
+run-formula count (constant false) = refl
+run-formula count (atom name true set) = refl
+run-formula count (atom name false set) = refl
+run-formula count (conjunction left right) =
+    run-append (wanted count) (formula_symbols left) (sign kind.And ∷ formula_symbols right)
+    ∙ (ap (λ state. run state (sign kind.And ∷ formula_symbols right)) (run-formula count left) ∙ run-formula count right)
+run-formula count (disjunction left right) =
+    run-append (wanted count) (formula_symbols left) (sign kind.Or ∷ formula_symbols right)
+    ∙ (ap (λ state. run state (sign kind.Or ∷ formula_symbols right)) (run-formula count left) ∙ run-formula count right)
+run-formula count (group part) =
+    run-append (wanted (suc count)) (formula_symbols part) (sign kind.CloseParenthesis ∷ [])
+    ∙ ap (λ state. run state (sign kind.CloseParenthesis ∷ [])) (run-formula (suc count) part)
+
+-- how many parentheses are open
+abbrev opens : Before → ℕ
+opens start = 0
+opens (opened before) = suc (opens before)
+opens (anded before left) = opens before
+opens (ored before left) = opens before
+
+run-before : (before : Before) → run (wanted 0) (before_symbols before) ≡ wanted (opens before)
+run-before start = refl
+run-before (opened before) =
+    run-append (wanted 0) (before_symbols before) (sign kind.OpenParenthesis ∷ [])
+    ∙ ap (λ state. run state (sign kind.OpenParenthesis ∷ [])) (run-before before)
+run-before (anded before left) =
+    run-append (wanted 0) (before_symbols before) (formula_symbols left ++ sign kind.And ∷ [])
+    ∙ (ap (λ state. run state (formula_symbols left ++ sign kind.And ∷ [])) (run-before before)
+    ∙ (run-append (wanted (opens before)) (formula_symbols left) (sign kind.And ∷ [])
+    ∙ ap (λ state. run state (sign kind.And ∷ [])) (run-formula (opens before) left)))
+run-before (ored before left) =
+    run-append (wanted 0) (before_symbols before) (formula_symbols left ++ sign kind.Or ∷ [])
+    ∙ (ap (λ state. run state (formula_symbols left ++ sign kind.Or ∷ [])) (run-before before)
+    ∙ (run-append (wanted (opens before)) (formula_symbols left) (sign kind.Or ∷ [])
+    ∙ ap (λ state. run state (sign kind.Or ∷ [])) (run-formula (opens before) left)))
+
+-- what was passed has been gone through
+run-passed : (whole left : List (Lexeme HoaKind)) (symbols : List ExpressionSymbol) → Passed whole symbols left
+    → run (wanted 0) (map expression_symbol_of whole) ≡ run (run (wanted 0) symbols) (map expression_symbol_of left)
+run-passed whole left symbols passed =
+    ap (λ all. run (wanted 0) (map expression_symbol_of all)) passed.split
+    ∙ (ap (run (wanted 0)) (map-append expression_symbol_of passed.front left)
+    ∙ (run-append (wanted 0) (map expression_symbol_of passed.front) (map expression_symbol_of left)
+    ∙ ap (λ front. run (run (wanted 0) front) (map expression_symbol_of left)) passed.spells))
+
+ended-kind : (sort : HoaKind) (value : ℕ) (text : List ℕ) → IsNoOperator sort → go (had 0) (seen_as sort value text) ≡ ended
+ended-kind kind.And value text none = absurd none
+ended-kind kind.Or value text none = absurd none
+ended-kind other value text none = refl
+
+through-rest : (rest : List (Lexeme HoaKind)) → EndsThere rest → IsThrough (run (had 0) (map expression_symbol_of rest))
+through-rest [] ends = tt
+through-rest (lexeme ∷ rest) ends =
+    subst IsThrough (sym (ap (λ state. run state (map expression_symbol_of rest)) (ended-kind lexeme.kind lexeme.value lexeme.text ends) ∙ run-ended (map expression_symbol_of rest))) tt
+
+through-reads : (tokens : List (Lexeme HoaKind)) (tree : RawAccTree) (rest : List (Lexeme HoaKind)) → ReadsAcc tokens tree rest
+    → IsThrough (run (wanted 0) (map expression_symbol_of tokens))
+through-reads tokens tree rest reads =
+    subst IsThrough
+    (sym (run-passed tokens rest (formula_symbols tree) (record { front = reads.front; split = reads.split; spells = reads.spells }) ∙ ap (λ state. run state (map expression_symbol_of rest)) (run-formula 0 tree)))
+    (through-rest rest reads.ends)
+
+-- no part begins with a token of this kind
+abbrev pub BeginsNone : HoaKind → Type 0
+BeginsNone kind.Identifier = ⊥
+BeginsNone kind.True = ⊥
+BeginsNone kind.False = ⊥
+BeginsNone kind.OpenParenthesis = ⊥
+BeginsNone other = Unit {0}
+
+failed-kind : (sort : HoaKind) (count value : ℕ) (text : List ℕ) → BeginsNone sort → go (wanted count) (seen_as sort value text) ≡ failed
+failed-kind kind.Identifier count value text none = absurd none
+failed-kind kind.True count value text none = absurd none
+failed-kind kind.False count value text none = absurd none
+failed-kind kind.OpenParenthesis count value text none = absurd none
+failed-kind other count value text none = refl
+
+stuck-kind : (sort : HoaKind) (count value : ℕ) (text : List ℕ) → GoesOnNone sort → go (had (suc count)) (seen_as sort value text) ≡ failed
+stuck-kind kind.And count value text none = absurd none
+stuck-kind kind.Or count value text none = absurd none
+stuck-kind kind.CloseParenthesis count value text none = absurd none
+stuck-kind other count value text none = refl
+
+-- the tokens begin with no part
+abbrev pub BeginNone : List (Lexeme HoaKind) → Type 0
+BeginNone [] = Unit {0}
+BeginNone (lexeme ∷ rest) = BeginsNone lexeme.kind
+
+not-through-wanted : (left : List (Lexeme HoaKind)) (count : ℕ) → BeginNone left → IsThrough (run (wanted count) (map expression_symbol_of left)) → ⊥
+not-through-wanted [] count none through = through
+not-through-wanted (lexeme ∷ rest) count none through =
+    subst IsThrough (ap (λ state. run state (map expression_symbol_of rest)) (failed-kind lexeme.kind count lexeme.value lexeme.text none) ∙ run-failed (map expression_symbol_of rest)) through
+
+not-through-had : (left : List (Lexeme HoaKind)) (count : ℕ) → GoOnNone left → IsThrough (run (had (suc count)) (map expression_symbol_of left)) → ⊥
+not-through-had [] count none through = through
+not-through-had (lexeme ∷ rest) count none through =
+    subst IsThrough (ap (λ state. run state (map expression_symbol_of rest)) (stuck-kind lexeme.kind count lexeme.value lexeme.text none) ∙ run-failed (map expression_symbol_of rest)) through
+
+-- where a part is wanted and none begins, nothing is read
+pub none_wanted : (whole left : List (Lexeme HoaKind)) (nodes : List RawAccNode) (names : List ℕ) (pending : List Pending)
+    → Wants whole left nodes names pending → BeginNone left → ReadsNoAcc whole
+none_wanted whole left nodes names pending wants none tree rest reads =
+    not-through-wanted left (opens wants.before) none
+    (subst IsThrough (run-passed whole left (before_symbols wants.before) wants.passed ∙ ap (λ state. run state (map expression_symbol_of left)) (run-before wants.before)) (through-reads whole tree rest reads))
+
+unclosed_before : (before : Before) (whole left : List (Lexeme HoaKind)) (rest : List Pending) (part : RawAccTree)
+    → Open ∷ rest ≡ before_pending before → Passed whole (before_symbols before ++ formula_symbols part) left → GoOnNone left → ReadsNoAcc whole
+unclosed_before start whole left rest part pends passed none tree following reads = absurd (subst (λ p. IsParenthesis (top p)) pends tt)
+unclosed_before (anded before other) whole left rest part pends passed none tree following reads = absurd (subst (λ p. IsParenthesis (top p)) pends tt)
+unclosed_before (ored before other) whole left rest part pends passed none tree following reads = absurd (subst (λ p. IsParenthesis (top p)) pends tt)
+unclosed_before (opened before) whole left rest part pends passed none tree following reads =
+    not-through-had left (opens before) none
+    (subst IsThrough
+    (run-passed whole left (before_symbols (opened before) ++ formula_symbols part) passed
+    ∙ ap (λ state. run state (map expression_symbol_of left))
+    (run-append (wanted 0) (before_symbols (opened before)) (formula_symbols part)
+    ∙ (ap (λ state. run state (formula_symbols part)) (run-before (opened before)) ∙ run-formula (suc (opens before)) part)))
+    (through-reads whole tree following reads))
+
+-- where a parenthesis is open and neither an operator nor `)` follows, nothing is read
+pub none_closed : (whole left : List (Lexeme HoaKind)) (depth : ℕ) (nodes : List RawAccNode) (names : List ℕ) (rest : List Pending)
+    → Has disjunctive whole left depth nodes names (Open ∷ rest) → GoOnNone left → ReadsNoAcc whole
+none_closed whole left depth nodes names rest has none =
+    unclosed_before has.before whole left rest has.part has.pends has.passed none
+
+-- a kind that begins no part
+pub begins_others : (sort : HoaKind) → (sort ≡ kind.Identifier → ⊥) → (sort ≡ kind.True → ⊥) → (sort ≡ kind.False → ⊥) → (sort ≡ kind.OpenParenthesis → ⊥) → BeginsNone sort
+begins_others kind.Identifier a b c d = a refl
+begins_others kind.True a b c d = b refl
+begins_others kind.False a b c d = c refl
+begins_others kind.OpenParenthesis a b c d = d refl
+begins_others other a b c d = tt
+
+-- a parenthesis waits, and nothing that goes on follows
+pub unclosed_none : (whole old same left : List (Lexeme HoaKind)) (depth : ℕ) (nodes : List RawAccNode) (names : List ℕ) (pending : List Pending) (first : Pending) (rest : List Pending)
+    → same ≡ old → NextIsNot kind.And old → left ≡ same → NextIsNot kind.Or same → NextIsNot kind.CloseParenthesis left → pending ≡ first ∷ rest
+    → Has disjunctive whole old depth nodes names pending → ReadsNoAcc whole
+unclosed_none whole old same left depth nodes names pending first rest stays not_and rests not_or not_close waits has =
+    let free = subst IsFree waits (has_is_free whole old depth nodes names pending has) in
+    none_closed whole old depth nodes names rest
+    (subst (Has disjunctive whole old depth nodes names) (waits ∙ ap (λ p. p ∷ rest) (free_open first rest free)) has)
+    (go_on_others old not_and (subst (NextIsNot kind.Or) stays not_or) (subst (NextIsNot kind.CloseParenthesis) (rests ∙ stays) not_close))
+
+-- where the name of an atom is passed and no set in parentheses follows, nothing is read
+pub none_named : (whole old left : List (Lexeme HoaKind)) (lexeme : Lexeme HoaKind) (text : List ℕ) (nodes : List RawAccNode) (names : List ℕ) (pending : List Pending)
+    → Wants whole old nodes names pending → old ≡ lexeme ∷ left → expression_symbol_of lexeme ≡ word text → IsStuck named left → ReadsNoAcc whole
+none_named whole old left lexeme text nodes names pending wants next is stuck tree rest reads =
+    stuck (opens wants.before)
+    (subst IsThrough
+    (run-passed whole old (before_symbols wants.before) wants.passed
+    ∙ (ap (λ state. run state (map expression_symbol_of old)) (run-before wants.before)
+    ∙ (ap (λ tokens. run (wanted (opens wants.before)) (map expression_symbol_of tokens)) next
+    ∙ ap (λ symbol. run (go (wanted (opens wants.before)) symbol) (map expression_symbol_of left)) is)))
+    (through-reads whole tree rest reads))
+
+-- no part of an atom follows
+stuck-named : (sort : HoaKind) (count value : ℕ) (text : List ℕ) → (sort ≡ kind.OpenParenthesis → ⊥) → go (named count) (seen_as sort value text) ≡ failed
+stuck-named kind.OpenParenthesis count value text not = absurd (not refl)
+stuck-named other count value text not = refl
+
+stuck-entered : (sort : HoaKind) (count value : ℕ) (text : List ℕ) → (sort ≡ kind.Not → ⊥) → (sort ≡ kind.Int → ⊥) → go (entered count) (seen_as sort value text) ≡ failed
+stuck-entered kind.Not count value text not_bar not_number = absurd (not_bar refl)
+stuck-entered kind.Int count value text not_bar not_number = absurd (not_number refl)
+stuck-entered other count value text not_bar not_number = refl
+
+stuck-barred : (sort : HoaKind) (count value : ℕ) (text : List ℕ) → (sort ≡ kind.Int → ⊥) → go (barred count) (seen_as sort value text) ≡ failed
+stuck-barred kind.Int count value text not = absurd (not refl)
+stuck-barred other count value text not = refl
+
+stuck-numbered : (sort : HoaKind) (count value : ℕ) (text : List ℕ) → (sort ≡ kind.CloseParenthesis → ⊥) → go (numbered count) (seen_as sort value text) ≡ failed
+stuck-numbered kind.CloseParenthesis count value text not = absurd (not refl)
+stuck-numbered other count value text not = refl
+
+-- what fails at once is stuck
+failed-stuck : (state : NameState) (rest : List (Lexeme HoaKind)) (lexeme : Lexeme HoaKind) → go state (expression_symbol_of lexeme) ≡ failed
+    → IsThrough (run state (map expression_symbol_of (lexeme ∷ rest))) → ⊥
+failed-stuck state rest lexeme fails through =
+    subst IsThrough (ap (λ next. run next (map expression_symbol_of rest)) fails ∙ run-failed (map expression_symbol_of rest)) through
+
+-- no `(` follows
+pub IsStuck-named : (left : List (Lexeme HoaKind)) → NextIsNot kind.OpenParenthesis left → IsStuck named left
+IsStuck-named [] not count through = through
+IsStuck-named (lexeme ∷ rest) not count through =
+    failed-stuck (named count) rest lexeme (stuck-named lexeme.kind count lexeme.value lexeme.text not) through
+
+-- neither `!` nor a set follows
+pub IsStuck-entered : (left : List (Lexeme HoaKind)) → NextIsNot kind.Not left → NextIsNot kind.Int left → IsStuck entered left
+IsStuck-entered [] not_bar not_number count through = through
+IsStuck-entered (lexeme ∷ rest) not_bar not_number count through =
+    failed-stuck (entered count) rest lexeme (stuck-entered lexeme.kind count lexeme.value lexeme.text not_bar not_number) through
+
+-- no set follows
+pub IsStuck-barred : (left : List (Lexeme HoaKind)) → NextIsNot kind.Int left → IsStuck barred left
+IsStuck-barred [] not count through = through
+IsStuck-barred (lexeme ∷ rest) not count through =
+    failed-stuck (barred count) rest lexeme (stuck-barred lexeme.kind count lexeme.value lexeme.text not) through
+
+-- no `)` follows
+pub IsStuck-numbered : (left : List (Lexeme HoaKind)) → NextIsNot kind.CloseParenthesis left → IsStuck numbered left
+IsStuck-numbered [] not count through = through
+IsStuck-numbered (lexeme ∷ rest) not count through =
+    failed-stuck (numbered count) rest lexeme (stuck-numbered lexeme.kind count lexeme.value lexeme.text not) through
+
+-- what is stuck after a token is stuck before it
+pub IsStuck-following : (old new : List (Lexeme HoaKind)) (lexeme : Lexeme HoaKind) (symbol : ExpressionSymbol) (before following : ℕ → NameState)
+    → old ≡ lexeme ∷ new → expression_symbol_of lexeme ≡ symbol → ((count : ℕ) → go (before count) symbol ≡ following count) → IsStuck following new → IsStuck before old
+IsStuck-following old new lexeme symbol before following next is goes stuck count through =
+    stuck count
+    (subst IsThrough
+    (ap (λ tokens. run (before count) (map expression_symbol_of tokens)) next
+    ∙ (ap (λ one. run (go (before count) one) (map expression_symbol_of new)) is ∙ ap (λ state. run state (map expression_symbol_of new)) (goes count)))
+    through)

@@ -1,0 +1,11 @@
+-- How acceptance formulas lie in memory, and how they are built.
+pub mod Acceptance
+pub mod Building
+pub mod Chain
+pub mod Fields
+pub mod Joining
+pub mod Plain
+pub mod Raw
+pub mod RawFields
+pub mod States
+pub mod Texts

@@ -1,0 +1,22 @@
+//! Laws of all acceptance formulas. Each function does nothing and states one law.
+
+ghost use Rattle.std.specs.Prelude.{◌≡◌};
+ghost use Rattle.std.specs.Bool.{Decides};
+ghost use Rattle.omega_formula.specs.Acceptance.{AccTree};
+ghost use Rattle.omega_formula.specs.Raw.{RawAccTree};
+ghost use Rattle.omega_formula.specs.Reading.{FormulasAreOne};
+
+use crate::formula::Acc;
+use crate::raw::RawAcc;
+
+/// States that at most one acceptance formula is read from any tokens, and that at most one rest is left.
+pub fn formulas_are_one()
+    ensures { FormulasAreOne }
+{}
+
+/// States that `==` of two acceptance formulas, with their meaning or as they are written, decides whether they are the
+/// same tree.
+pub fn equal_formulas_are_equal_trees()
+    ensures formulas { (one other : AccTree) → Decides (⟦<Acc as PartialEq>⟧.eq one other) (one ≡ other) }
+    ensures raw_formulas { (one other : RawAccTree) → Decides (⟦<RawAcc as PartialEq>⟧.eq one other) (one ≡ other) }
+{}

@@ -1,0 +1,30 @@
+//! Acceptance formulas of omega-automata: read, with their meaning, taken apart and written; acceptance kinds and
+//! priorities.
+//!
+//! docs/formats.md says when each `Refusal` comes.
+#![tactic(auto)]
+
+mod formula;
+mod kind;
+mod laws;
+mod name;
+mod plain;
+mod priorities;
+mod raw;
+mod reading;
+mod recognition;
+mod shape;
+mod shapes;
+mod unfinished;
+mod writing;
+
+pub use formula::Acc;
+pub use kind::{AccKind, Order, Parity, ParityKind};
+pub use laws::{equal_formulas_are_equal_trees, formulas_are_one};
+pub use name::{AccName, Parameter};
+pub use priorities::priority;
+pub use raw::RawAcc;
+pub use reading::{read_acc, read_raw_acc};
+pub use recognition::{acceptance_kind, parity_of};
+pub use shape::AccShape;
+pub use writing::write_acc;

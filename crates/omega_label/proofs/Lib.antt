@@ -1,0 +1,19 @@
+-- Lemmas on labels: building, aliases, expanding, comparing, and their texts.
+pub mod AliasLemmas
+pub mod BareLemmas
+pub mod BelowLemmas
+pub mod CodeLemmas
+pub mod EmitLemmas
+pub mod EntryLemmas
+pub mod Equality
+pub mod ExpansionLemmas
+pub mod ExtentLemmas
+pub mod KeptLemmas
+pub mod LabelLemmas
+pub mod PutLemmas
+pub mod RawLemmas
+pub mod ReadingLemmas
+pub mod ReadingUniqueness
+pub mod ReplacedAtLemmas
+pub mod ShapeLemmas
+pub mod TextLemmas

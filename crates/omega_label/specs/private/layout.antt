@@ -1,0 +1,13 @@
+-- How labels lie in memory, and how they are built.
+pub mod Aliases
+pub mod Bare
+pub mod Building
+pub mod Codes
+pub mod Compact
+pub mod Emitting
+pub mod Extents
+pub mod Joining
+pub mod Label
+pub mod Propositions
+pub mod Raw
+pub mod Texts

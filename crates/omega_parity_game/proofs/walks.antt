@@ -1,0 +1,3 @@
+-- Strategies' choices, and searches along the edges that they leave possible.
+pub mod Choosing
+pub mod Marking

@@ -1,0 +1,4 @@
+-- What only private contracts cite.
+pub mod Entering
+pub mod layout
+pub mod priorities

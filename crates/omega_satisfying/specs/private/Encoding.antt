@@ -1,0 +1,36 @@
+-- How a label is encoded as steps of a search.
+use Rattle.std.specs.Prelude.{◌≡◌, ℕ, ◌<◌, ◌==◌, Bool, true, false, ◌&&◌, ◌||◌, List, length}
+use Rattle.omega_label.specs.Label.{LabelTree, truth}
+use Rattle.omega_satisfying.specs.declared.steps.Step.{Step}
+use Rattle.omega_satisfying.specs.declared.encoding.Exits.{Exits}
+use Rattle.omega_satisfying.specs.private.Leading.{is_as, leads}
+
+-- the exits of the right one of two parts, for a conjunction or for a disjunction
+abbrev pub right_exits : Bool → Exits → Exits
+right_exits true exits = record { after = exits.after; otherwise = 0; whole = true }
+right_exits false exits = exits
+
+-- the exits of the left one of two parts, if the right one is encoded at a place
+abbrev pub left_exits : Bool → Exits → ℕ → Exits
+left_exits true exits right = record { after = right; otherwise = exits.otherwise; whole = exits.otherwise == 0 }
+left_exits false exits right = record { after = exits.after; otherwise = right; whole = exits.whole }
+
+-- whether a valuation leads to the end by a part that holds or not, if `onward` says from which places it does
+abbrev pub leads_past : (ℕ → Bool) → Exits → Bool → Bool
+leads_past onward exits holds = (holds && onward exits.after) || onward exits.otherwise
+
+-- the exits are places among steps, and whole only if each valuation that leads to the end from the other place also
+-- does after the part
+pub record AreExits (steps : List Step) (exits : Exits) : Type 0 where
+  pub after_there : exits.after < length steps
+  pub otherwise_there : exits.otherwise < length steps
+  pub whole_is :
+      exits.whole ≡ true → (held : ℕ → Bool)
+      → leads held steps exits.otherwise ≡ true → leads held steps exits.after ≡ true
+
+-- the new steps encode a label, or its negation if it is not wanted: from a place among them a valuation leads to the
+-- end exactly if it does by the label and the exits among the old steps
+pub record IsEncoded (old new : List Step) (tree : LabelTree) (wanted : Bool) (exits : Exits) (place : ℕ) : Type 0 where
+  pub there : place < length new
+  pub leading :
+      (held : ℕ → Bool) → leads held new place ≡ leads_past (leads held old) exits (is_as wanted (truth held tree))

@@ -1,0 +1,100 @@
+//! Whether a label can be true, judged under all valuations of the propositions that it mentions.
+
+ghost use Rattle.std.specs.Prelude.{◌≡◌, ◌≤◌, ◌-◌, ◌^◌, ◌↔◌, [], length, IfErr, IfOk, IsTrue};
+ghost use Rattle.omega_expression.specs.Limits.{most_mentioned};
+ghost use Rattle.omega_satisfying.specs.Satisfiable.{IsJudged, IsOverMentioned, IsSatisfiable, mentioned};
+ghost use Rattle.omega_satisfying.specs.private.Words.{peak, top_word, word_among, words_after};
+
+use crate::mentioned::Mentioned;
+use crate::words::Words;
+use omega_label::{Label, LabelNode, MOST_IN_PLACE, ROOM};
+use omega_text::{Refusal, TaskFault};
+
+/// Whether some set of propositions makes `label` true. Refused with [TaskFault::TooManyPropositions] exactly if the
+/// label mentions over 12.
+///
+/// Takes no memory. At most 64 passes over the label, one for each 64 sets of the propositions mentioned.
+pub fn satisfiable(label: &Label) -> Result<bool, Refusal>
+    ensures ok { IfOk result (λ possible. IsJudged label.now possible) }
+    ensures err { IfErr result (IsOverMentioned label.now) }
+{
+    let mut room = ROOM;
+    let nodes = label.nodes(&mut room);
+    let mut found = Mentioned::new();
+    for node in nodes {
+        if let LabelNode::Proposition(number) = node {
+            if !found.add(*number) {
+                return Err(Refusal::Task(TaskFault::TooManyPropositions));
+            }
+        }
+    }
+    Ok(is_true_somewhere(label, &found))
+}
+
+/// Whether `label` is true under some valuation of the propositions mentioned.
+fn is_true_somewhere(label: &Label, found: &Mentioned) -> bool
+    requires { found.now ≡ mentioned label.now }
+    ensures judged { IsTrue result ↔ IsSatisfiable label.now }
+    ensures within { length (mentioned label.now) ≤ most_mentioned }
+{
+    let mut room = ROOM;
+    let nodes = label.nodes(&mut room);
+    for block in 0..blocks(found.len()) {
+        if word_of(nodes, found, block) != 0 {
+            return true;
+        }
+    }
+    false
+}
+
+/// Returns the number of blocks of 64 valuations of `count` propositions.
+fn blocks(count: usize) -> u64
+    requires { count ≤ most_mentioned }
+    ensures { result ≡ 2 ^ (count - 6) }
+{
+    1 << count.saturating_sub(6)
+}
+
+/// Returns the word of `nodes` in postfix order under the valuations of `block`.
+fn word_of(nodes: &[LabelNode], found: &Mentioned, block: u64) -> u64
+    requires { peak 0 nodes.now ≤ 256 }
+    ensures { result ≡ top_word (words_after (word_among block 0 found.now) [] nodes.now) }
+{
+    // Few nodes need little room, and no more is made ready for them.
+    if nodes.len() <= MOST_IN_PLACE {
+        word_within::<21>(nodes, found, block)
+    } else {
+        word_within::<256>(nodes, found, block)
+    }
+}
+
+/// Returns the word of `nodes` as `word_of` does, if at most `MOST` words are on the stack at once.
+fn word_within<const MOST: usize>(nodes: &[LabelNode], found: &Mentioned, block: u64) -> u64
+    requires room { MOST ≤ 256 }
+    requires enough { peak 0 nodes.now ≤ MOST }
+    ensures { result ≡ top_word (words_after (word_among block 0 found.now) [] nodes.now) }
+{
+    let mut words = Words::<MOST>::new();
+    for node in nodes {
+        match node {
+            LabelNode::Constant(value) => words.push(if *value { u64::MAX } else { 0 }),
+            LabelNode::Proposition(number) => words.push(found.word(block, *number)),
+            LabelNode::Not => {
+                let part = words.pop();
+                words.push(part ^ u64::MAX);
+            }
+            LabelNode::And => {
+                let right = words.pop();
+                let left = words.pop();
+                words.push(left & right);
+            }
+            LabelNode::Or => {
+                let right = words.pop();
+                let left = words.pop();
+                words.push(left | right);
+            }
+            LabelNode::Alias(_) | LabelNode::Group => {}
+        }
+    }
+    words.pop()
+}
