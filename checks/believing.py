@@ -45,6 +45,9 @@ COMMANDS = {
     "draw --format hoa": ("Draw Hoa", "DrawLasso"),
 }
 
+# The exports of the library for C, each with its file.
+EXPORTS = {"omega_solve": "solving", "omega_verify": "verifying", "omega_bound": "bounding", "omega_run": "running"}
+
 # The forms of the lines that begin at the left edge, beside comments: what is used, by names or by a short name of its
 # module; what a library hands on, and its parts; a declaration; a case of a definition, which begins with its name; and
 # the end of a record. All other lines are indented and belong to the definition above them.
@@ -74,9 +77,10 @@ part of the next.
 
 """
 
-BEHIND = """The last row but one is the contract of `read_words`, by which the words of the command line say what is to
-be done. The last is that of `obey`, which is all that the program does once its words are read: it contains every
-subcommand, the exit statuses, the lines of refusals, progress, and streams that fail.
+BEHIND = """The row of `read_words` is its contract, by which the words of the command line say what is to be done. The row
+of `obey` is all that the program does once its words are read: it contains every subcommand, the exit statuses, the
+lines of refusals, progress, and streams that fail. The last four rows are the contracts of what the library for C
+exports; that of `omega_run` is about the whole program.
 
 **How to read one.** Each section below lists the files of `crates/CRATE/specs/` in an order in which nothing is cited
 before it was read, and how many lines of each file are needed. `checks/believing.py check --format pg` prints just
@@ -94,7 +98,12 @@ leads from each promise to its clause.
   (`IsLineAsked`), for the subcommands and options of `crates/omega_help/specs/Program.antt`;
 - the texts of help and of faults of the command line, which are tested;
 - `main`, which hands `read_words` the words that the program was started with, and `obey` the machine's streams and
-  files. Of these the toolchain says nothing; that they are the right ones is tested.
+  files. Of these the toolchain says nothing; that they are the right ones is tested;
+- for the library, what `include/omega.h` asks of its callers: each pointer leads to as many entries as the length
+  beside it says, what a call writes overlaps nothing else, and nobody writes what a call reads while it runs. No proof
+  sees the caller;
+- `python/omega.py`, which turns Python's values into such arrays and back. It is not proved; `checks/run libomega` and
+  `checks/run python` test it.
 
 """
 
@@ -338,7 +347,7 @@ def clause_words(path: str, function: str) -> Definition:
             if line.startswith("ghost use ") and not USE.match(line):
                 raise NotUnderstood(path, number, line)
             names.take(line)
-            begins = begins or number * bool(re.match(rf"pub fn {function}\b", line))
+            begins = begins or number * bool(re.match(rf'pub (extern "C" )?fn {function}\b', line))
             if begins and line.startswith("{"):
                 return Definition("", function, begins, [], lines, names)
             if begins:
@@ -366,6 +375,9 @@ def promises(sources: Sources) -> Iterator[tuple[str, list[Believed]]]:
     yield "the words of the command line, `read_words`", sources.reached(sources.cited(read_words))
     obey = clause_words("crates/omega_run/src/obeying.rt", "obey")
     yield "the whole program, `obey`", sources.reached(sources.cited(obey))
+    for export, file in EXPORTS.items():
+        clauses = clause_words(f"crates/omega/src/{file}.rt", export)
+        yield f"`{export}` of the library", sources.reached(sources.cited(clauses))
 
 
 def types_in(believed: list[Believed]) -> list[str]:
