@@ -22,7 +22,7 @@ pub use omega_formula::{
     write_acc,
 };
 pub use omega_label::{
-    Aliases, Label, LabelShape, RawLabel, equal_labels_are_equal_trees, expand, expand_in_place,
-    expanded_size, labels_are_one, read_label, read_raw_label, write_label,
+    Aliases, Extent, Label, LabelShape, RawLabel, equal_labels_are_equal_trees, expand,
+    expand_in_place, expanded_size, labels_are_one, read_label, read_raw_label, write_label,
 };
 pub use omega_satisfying::satisfiable;

@@ -1,5 +1,5 @@
 -- Labels and acceptances without a fault that applies.
-use Rattle.std.proofs.Common.{◌≡◌, ℕ, ◌<◌, Bool, true, false, cond, not, ◌||◌, ◌&&◌, List, [], ◌∷◌, Option, Some, None, MatchOption, option_map, nat_lt, is_none, is_some, length, get_or, refl, ap, sym, ◌∙◌}
+use Rattle.std.proofs.Common.{◌≡◌, ℕ, ◌<◌, Bool, true, false, cond, not, ◌||◌, List, [], ◌∷◌, Option, Some, None, MatchOption, option_map, nat_lt, is_none, is_some, length, get_or, refl, ap, sym, ◌∙◌}
 use Rattle.std.specs.List.{cons_option, filter_map, list_any, slice_get}
 use Rattle.std.proofs.lemmas.Bool.{false≢true}
 use Rattle.std.proofs.lemmas.List.Folds.{list_any_at}
@@ -77,7 +77,7 @@ sound_meaning : (meaning : Option Meaning) → is_none meaning ≡ false → is_
 sound_meaning None one two three = absurd (false≢true (sym one))
 sound_meaning (Some known) one two three = by_tests (nat_lt most_depth known.depth) (nat_lt most_size (label_size known.tree)) two three
   where
-    by_tests : (deep large : Bool) → deep ≡ false → (not deep && large) ≡ false → is_some (cond deep (Some TooDeep) (cond large (Some Expansion) None)) ≡ false
+    by_tests : (deep large : Bool) → deep ≡ false → large ≡ false → is_some (cond deep (Some TooDeep) (cond large (Some Expansion) None)) ≡ false
     by_tests true large h k = absurd (false≢true (sym h))
     by_tests false true h k = absurd (false≢true (sym k))
     by_tests false false h k = refl
@@ -104,7 +104,7 @@ faultless_meaning None sound = absurd (false≢true (sym sound))
 faultless_meaning (Some known) sound = by_tests (nat_lt most_depth known.depth) (nat_lt most_size (label_size known.tree)) sound
   where
     by_tests : (deep large : Bool) → is_some (cond deep (Some TooDeep) (cond large (Some Expansion) None)) ≡ false
-        → (false ≡ false) × (deep ≡ false) × ((not deep && large) ≡ false)
+        → (false ≡ false) × (deep ≡ false) × (large ≡ false)
     by_tests true large h = absurd (false≢true (sym h))
     by_tests false true h = absurd (false≢true (sym h))
     by_tests false false h = (refl, refl, refl)

@@ -5,7 +5,7 @@ use Rattle.std.specs.List.{flat_map, list_any}
 use Rattle.std.specs.List.Sorted.{IsStrictlyIncreasing}
 use Rattle.std.specs.Str.{bytes_eq}
 use Rattle.omega_formula.specs.Acceptance.{AccTree, acc_depth, conjunction, constant, disjunction, fin, inf}
-use Rattle.omega_label.specs.Label.{LabelTree, label_size, propositions}
+use Rattle.omega_label.specs.Label.{LabelTree, label_depth, label_size, propositions}
 use Rattle.omega_expression.specs.Limits.{most_depth, most_size}
 use Rattle.omega_formula.specs.declared.name.AccName.{AccName}
 use Rattle.omega_automaton.specs.Limits.{most_propositions, most_total_size}
@@ -80,9 +80,10 @@ pub record AreMarks (a : Description) (marks : List ℕ) : Type 0 where
   pub rising : IsStrictlyIncreasing marks
   pub below : AreBelow a.sets marks
 
--- a label of an automaton: its propositions are below their count, and its tree nodes within the limit
+-- a label of an automaton: its propositions are below their count, and its depth and tree nodes within the limits
 pub record IsLabel (a : Description) (label : LabelTree) : Type 0 where
   pub below : AreBelow (length a.propositions) (propositions label)
+  pub shallow : label_depth label ≤ most_depth
   pub small : label_size label ≤ most_size
 
 -- states of an automaton that a start or an edge lists: at least one, all below the count of states

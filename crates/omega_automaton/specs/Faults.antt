@@ -195,9 +195,9 @@ has_wrong_atom raw = list_any (λ item. passes (λ accepted. is_none (acc_meant 
 abbrev pub is_deep : Option Meaning → Bool
 is_deep meaning = passes (λ known. nat_lt most_depth known.depth) meaning
 
--- whether what a label means is too large, and not too deep besides
+-- whether what a label means is too large; what means nothing is not
 abbrev pub is_large : Option Meaning → Bool
-is_large meaning = passes (λ known. not (nat_lt most_depth known.depth) && nat_lt most_size (label_size known.tree)) meaning
+is_large meaning = passes (λ known. nat_lt most_size (label_size known.tree)) meaning
 
 -- 32: whether an acceptance, an alias or a label is over 256 deep, its aliases replaced
 unfoldable pub has_deep_expression : RawAutomaton → Bool
@@ -220,7 +220,7 @@ label_total definitions state =
     size_under definitions state.label + sum_by (λ edge. size_under definitions edge.label) state.edges
 
 -- 33: whether an alias or a label, its aliases replaced, has over 65,536 tree nodes, or all labels together over
--- 16,777,216; of what is also too deep 32 speaks
+-- 16,777,216
 unfoldable pub has_large_expression : RawAutomaton → Bool
 has_large_expression raw =
     some_meaning is_large raw

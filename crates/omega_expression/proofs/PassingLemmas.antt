@@ -1,14 +1,11 @@
 -- Tokens passed one after another, and what follows them.
 use Rattle.std.proofs.Common.{◌≡◌, List, [], ◌∷◌, ◌++◌, map, ap, append_assoc, refl, sym, ◌∙◌, subst, Result, Ok, Err, IfErr, IsErrAnd}
 use Rattle.std.proofs.lemmas.List.{map-append}
-use Rattle.omega_expression.specs.Symbols.{EndsThere, IsNoOperator, IsUnread, ExpressionSymbol, expression_symbol_of}
+use Rattle.omega_expression.specs.Symbols.{EndsThere, IsNoOperator, ExpressionSymbol, expression_symbol_of}
 use Rattle.omega_expression.specs.Passing.{NextIsNot, Passed}
 use Rattle.omega_text.specs.Lexeme.{Lexeme}
 use Rattle.omega_text.specs.declared.hoa.kind.HoaKind.{HoaKind}
 use Rattle.omega_text.specs.declared.hoa.kind.HoaKind.TheVariants as kind
-use Rattle.omega_text.specs.declared.refusal.Refusal.{Refusal}
-use Rattle.omega_text.specs.declared.refusal.Refusal.TheVariants as refusals
-use Rattle.omega_text.specs.declared.refusal.text.TextFault.TheVariants as faults
 
 -- a token more is passed
 passed_more : (whole : List (Lexeme HoaKind)) (symbols : List ExpressionSymbol) (lexeme : Lexeme HoaKind) (left : List (Lexeme HoaKind)) (more : List ExpressionSymbol)
@@ -91,16 +88,6 @@ ends_others other not_and not_or = tt
 pub end_others : (left : List (Lexeme HoaKind)) → NextIsNot kind.And left → NextIsNot kind.Or left → EndsThere left
 end_others [] a b = tt
 end_others (lexeme ∷ rest) a b = ends_others lexeme.kind a b
-
--- a refusal of reading where nothing is read follows from where something else is not
-pub unread_where : (none more : Type 0) (refusal : Refusal) → (none → more) → IsUnread none refusal → IsUnread more refusal
-unread_where none more (refusals.Text (faults.Syntax at)) follows is = follows is
-unread_where none more (refusals.Text other) follows is = is
-unread_where none more (refusals.Game fault) follows is = is
-unread_where none more (refusals.Automaton fault) follows is = is
-unread_where none more (refusals.Task fault) follows is = is
-unread_where none more refusals.Memory follows is = is
-unread_where none more refusals.Io follows is = is
 
 -- what holds of an error follows from what else holds of it
 pub error_then : {A E : Type 0} (result : Result A E) (said wanted_of : E → Type 0) → IsErrAnd result said → ((error : E) → said error → wanted_of error) → IfErr result wanted_of

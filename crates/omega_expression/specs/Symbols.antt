@@ -1,13 +1,9 @@
 -- What a grammar of the Hanoi format sees of a token, and what the expressions of labels and of acceptance formulas
 -- have in common (HOA v1).
 use Rattle.std.specs.Prelude.{ℕ, Bool, true, false, List, [], ◌∷◌}
-use Rattle.omega_text.specs.Cases.{never, or_memory, or_text}
 use Rattle.omega_text.specs.Lexeme.{Lexeme}
 use Rattle.omega_text.specs.declared.hoa.kind.HoaKind.{HoaKind}
 use Rattle.omega_text.specs.declared.hoa.kind.HoaKind.TheVariants as kind
-use Rattle.omega_text.specs.declared.refusal.Refusal.{Refusal}
-use Rattle.omega_text.specs.declared.refusal.text.TextFault.{TextFault}
-use Rattle.omega_text.specs.declared.refusal.text.TextFault.TheVariants.{Syntax}
 
 -- What a grammar sees of a token. Of a number this is its value. Of an alias name (with its `@`), an identifier, a
 -- header name (with its colon) and a string (with its quotes) it is the bytes. Of the others it is the kind.
@@ -65,12 +61,3 @@ IsNoOperator other = Unit {0}
 abbrev pub EndsThere : List (Lexeme HoaKind) → Type 0
 EndsThere [] = Unit {0}
 EndsThere (lexeme ∷ rest) = IsNoOperator lexeme.kind
-
--- the fault of a syntax, if this holds
-abbrev pub IsSyntax : Type 0 → TextFault → Type 0
-IsSyntax holds (Syntax at) = holds
-IsSyntax holds fault = ⊥
-
--- the refusals of reading, if nothing is read
-abbrev pub IsUnread : Type 0 → Refusal → Type 0
-IsUnread none = or_text (IsSyntax none) (or_memory never)

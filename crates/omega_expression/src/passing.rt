@@ -1,8 +1,7 @@
 //! Tokens passed one by one.
 
 ghost use Rattle.std.specs.Prelude.{◌≡◌, IfErr, IfOk, MatchBool, MatchOption, OnOk};
-ghost use Rattle.omega_expression.specs.Symbols.{IsUnread};
-ghost use Rattle.omega_expression.specs.Passing.{NextIsNot, PassesNumber, PassesOne};
+ghost use Rattle.omega_expression.specs.Passing.{IsMissing, NextIsNot, PassesNumber, PassesOne};
 ghost use Rattle.omega_text.specs.declared.hoa.kind.HoaKind.TheVariants as kinds;
 
 use omega_text::{HoaKind, Refusal, TextFault, TokenSource};
@@ -26,10 +25,10 @@ pub fn is_passed<'a, S: TokenSource<'a, HoaKind>>(source: &mut S, kind: HoaKind)
     }
 }
 
-/// Passes a token of `kind`. Refused with [TextFault::Syntax] if the next token is of another kind.
+/// Passes a token of `kind`. Refused with [TextFault::Syntax] at the place of the next token if it is of another kind.
 pub fn pass<'a, S: TokenSource<'a, HoaKind>>(source: &mut S, kind: HoaKind) -> Result<(), Refusal>
     ensures ok { OnOk result (PassesOne kind (S.left source.old) (S.left source.new)) }
-    ensures err { IfErr result (IsUnread (NextIsNot kind (S.left source.old))) }
+    ensures err { IfErr result (IsMissing kind (S.left source.old) (S.length source.old)) }
     ensures length { S.length source.new ≡ S.length source.old }
 {
     if is_passed(source, kind) {
@@ -57,10 +56,10 @@ pub fn passed_number<'a, S: TokenSource<'a, HoaKind>>(source: &mut S) -> Option<
     }
 }
 
-/// Passes a number. Refused with [TextFault::Syntax] if the next token is no number.
+/// Passes a number. Refused with [TextFault::Syntax] at the place of the next token if it is no number.
 pub fn number<'a, S: TokenSource<'a, HoaKind>>(source: &mut S) -> Result<u32, Refusal>
     ensures ok { IfOk result (λ value. PassesNumber value (S.left source.old) (S.left source.new)) }
-    ensures err { IfErr result (IsUnread (NextIsNot kinds.Int (S.left source.old))) }
+    ensures err { IfErr result (IsMissing kinds.Int (S.left source.old) (S.length source.old)) }
     ensures length { S.length source.new ≡ S.length source.old }
 {
     let at = source.place();

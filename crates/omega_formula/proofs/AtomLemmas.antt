@@ -3,47 +3,71 @@ use Rattle.std.proofs.Common.{◌≡◌, ℕ, ◌<◌, Bool, true, false, List, 
 use Rattle.std.proofs.lemmas.List.{length-append, length-map}
 use Rattle.omega_expression.specs.Symbols.{ExpressionSymbol, number, seen_as, sign, expression_symbol_of}
 use Rattle.omega_formula.specs.private.layout.States.{IsStuck, PassesSet, barred, entered, named, numbered}
-use Rattle.omega_expression.specs.Passing.{NextIsNot, Passed, PassesNumber, PassesOne}
-use Rattle.omega_formula.proofs.Unread.{IsStuck-barred, IsStuck-following, IsStuck-entered, IsStuck-numbered}
+use Rattle.omega_expression.specs.Passing.{IsMissing, NextIsNot, Passed, PassesNumber, PassesOne}
+use Rattle.omega_formula.proofs.Unread.{IsStuck-barred, IsStuck-entered, IsStuck-named, IsStuck-numbered, unread_following}
 use Rattle.omega_expression.proofs.PassingLemmas.{passed_then}
+use Rattle.omega_expression.proofs.UnreadLemmas.{not_through, through_next, unread_missing}
+use Rattle.omega_expression.specs.Unread.{IsUnread}
+use Rattle.omega_text.specs.Cursor.{next_place}
 use Rattle.omega_text.specs.Lexeme.{Lexeme}
 use Rattle.omega_text.specs.declared.hoa.kind.HoaKind.{HoaKind}
 use Rattle.omega_text.specs.declared.hoa.kind.HoaKind.TheVariants as kind
+use Rattle.omega_text.specs.declared.refusal.Refusal.{Refusal}
 
 -- a `!` is passed or not
 abbrev IsBarred : Bool → (one two : List (Lexeme HoaKind)) → Type 0
 IsBarred negated one two = MatchBool negated (PassesOne kind.Not one two) (two ≡ one)
 
-after_entered : (old one : List (Lexeme HoaKind)) → PassesOne kind.OpenParenthesis old one → IsStuck entered one → IsStuck named old
-after_entered old one passes =
-    IsStuck-following old one passes.lexeme (sign kind.OpenParenthesis) named entered passes.next
+unread_entered : (old one : List (Lexeme HoaKind)) (length : ℕ) (refusal : Refusal) → PassesOne kind.OpenParenthesis old one
+    → IsUnread (IsStuck entered) one length refusal → IsUnread (IsStuck named) old length refusal
+unread_entered old one length refusal passes =
+    unread_following old one passes.lexeme (sign kind.OpenParenthesis) named entered length refusal passes.next
     (ap (λ k. seen_as k passes.lexeme.value passes.lexeme.text) passes.is) (λ count. refl)
 
+unread_barred : (one two : List (Lexeme HoaKind)) (length : ℕ) (refusal : Refusal) → PassesOne kind.Not one two
+    → IsUnread (IsStuck barred) two length refusal → IsUnread (IsStuck entered) one length refusal
+unread_barred one two length refusal bar =
+    unread_following one two bar.lexeme (sign kind.Not) entered barred length refusal bar.next
+    (ap (λ k. seen_as k bar.lexeme.value bar.lexeme.text) bar.is) (λ count. refl)
+
+-- neither `!` nor a set follows `(`
+neither_unread : (one : List (Lexeme HoaKind)) (length : ℕ) (refusal : Refusal) → NextIsNot kind.Not one → IsMissing kind.Int one length refusal
+    → IsUnread (IsStuck entered) one length refusal
+neither_unread one length refusal other missing =
+    subst (IsUnread (IsStuck entered) one length) (sym missing.is)
+    (through_next (IsStuck entered) one [] one length (next_place one length) refl refl
+    (λ others agree. IsStuck-entered others (not_through kind.Not one others agree other) (not_through kind.Int one others agree missing.missing)))
+
+-- no `(` follows the name of an atom
+pub unentered_unread : (old : List (Lexeme HoaKind)) (length : ℕ) (refusal : Refusal) → IsMissing kind.OpenParenthesis old length refusal → IsUnread (IsStuck named) old length refusal
+unentered_unread old length refusal missing = unread_missing (IsStuck named) kind.OpenParenthesis old length refusal IsStuck-named missing
+
 -- neither `!` nor a set follows `(`, or no set follows `!`
-pub IsStuck-unset : (old one two : List (Lexeme HoaKind)) (negated : Bool)
+pub unset_unread : (old one two : List (Lexeme HoaKind)) (negated : Bool) (length : ℕ) (refusal : Refusal)
     → PassesOne kind.OpenParenthesis old one → IsBarred negated one two → MatchBool negated (Unit {0}) (NextIsNot kind.Not one)
-    → NextIsNot kind.Int two → IsStuck named old
-IsStuck-unset old one two true passes bar other not =
-    after_entered old one passes
-    (IsStuck-following one two bar.lexeme (sign kind.Not) entered barred bar.next
-    (ap (λ k. seen_as k bar.lexeme.value bar.lexeme.text) bar.is) (λ count. refl) (IsStuck-barred two not))
-IsStuck-unset old one two false passes bar other not =
-    after_entered old one passes (IsStuck-entered one other (subst (NextIsNot kind.Int) bar not))
+    → IsMissing kind.Int two length refusal → IsUnread (IsStuck named) old length refusal
+unset_unread old one two true length refusal passes bar other missing =
+    unread_entered old one length refusal passes
+    (unread_barred one two length refusal bar (unread_missing (IsStuck barred) kind.Int two length refusal IsStuck-barred missing))
+unset_unread old one two false length refusal passes bar other missing =
+    unread_entered old one length refusal passes
+    (neither_unread one length refusal other (subst (λ tokens. IsMissing kind.Int tokens length refusal) bar missing))
 
 -- no `)` follows the set
-pub IsStuck-unclosed : (old one two three : List (Lexeme HoaKind)) (negated : Bool) (set : ℕ)
+pub unclosed_unread : (old one two three : List (Lexeme HoaKind)) (negated : Bool) (set length : ℕ) (refusal : Refusal)
     → PassesOne kind.OpenParenthesis old one → IsBarred negated one two → PassesNumber set two three
-    → NextIsNot kind.CloseParenthesis three → IsStuck named old
-IsStuck-unclosed old one two three true set passes bar counts not =
-    after_entered old one passes
-    (IsStuck-following one two bar.lexeme (sign kind.Not) entered barred bar.next
-    (ap (λ k. seen_as k bar.lexeme.value bar.lexeme.text) bar.is) (λ count. refl)
-    (IsStuck-following two three counts.lexeme (number counts.lexeme.value) barred numbered counts.next
-    (ap (λ k. seen_as k counts.lexeme.value counts.lexeme.text) counts.is) (λ count. refl) (IsStuck-numbered three not)))
-IsStuck-unclosed old one two three false set passes bar counts not =
-    after_entered old one passes
-    (IsStuck-following one three counts.lexeme (number counts.lexeme.value) entered numbered (sym bar ∙ counts.next)
-    (ap (λ k. seen_as k counts.lexeme.value counts.lexeme.text) counts.is) (λ count. refl) (IsStuck-numbered three not))
+    → IsMissing kind.CloseParenthesis three length refusal → IsUnread (IsStuck named) old length refusal
+unclosed_unread old one two three true set length refusal passes bar counts missing =
+    unread_entered old one length refusal passes
+    (unread_barred one two length refusal bar
+    (unread_following two three counts.lexeme (number counts.lexeme.value) barred numbered length refusal counts.next
+    (ap (λ k. seen_as k counts.lexeme.value counts.lexeme.text) counts.is) (λ count. refl)
+    (unread_missing (IsStuck numbered) kind.CloseParenthesis three length refusal IsStuck-numbered missing)))
+unclosed_unread old one two three false set length refusal passes bar counts missing =
+    unread_entered old one length refusal passes
+    (unread_following one three counts.lexeme (number counts.lexeme.value) entered numbered length refusal (sym bar ∙ counts.next)
+    (ap (λ k. seen_as k counts.lexeme.value counts.lexeme.text) counts.is) (λ count. refl)
+    (unread_missing (IsStuck numbered) kind.CloseParenthesis three length refusal IsStuck-numbered missing))
 
 -- a sign is passed
 sign_passed : (old new : List (Lexeme HoaKind)) (lexeme : Lexeme HoaKind) (symbol : ExpressionSymbol)

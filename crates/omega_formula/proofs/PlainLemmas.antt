@@ -3,10 +3,8 @@ use Rattle.std.proofs.Common.{◌≡◌, ℕ, ◌+◌, ◌≤◌, Bool, true, fa
 use Rattle.std.specs.Str.{bytes_eq}
 use Rattle.std.proofs.lemmas.Bool.{le-ltb, lt-ltb}
 use Rattle.std.proofs.Math.Seq.{drop-append_seam, take-append_seam}
-use Rattle.omega_formula.specs.Meaning.{IsMeant, IsUnmeant, IsUnreadAcc, ReadsFaulty, acc_meant, both_meant, fault_of_acc, fault_of_meant}
-use Rattle.omega_formula.specs.Reading.{ReadsAcc}
+use Rattle.omega_formula.specs.Meaning.{IsMeant, IsUnmeant, acc_meant, both_meant, fault_of_acc, fault_of_meant}
 use Rattle.omega_expression.specs.Limits.{most_depth, past_depth}
-use Rattle.omega_expression.specs.Symbols.{IsUnread}
 use Rattle.omega_formula.specs.Acceptance.{AccTree, acc_depth}
 use Rattle.omega_formula.specs.Acceptance as acc
 use Rattle.omega_expression.specs.Depth.{counted}
@@ -22,11 +20,8 @@ use Rattle.omega_formula.specs.declared.raw.RawAccNode.{RawAccNode}
 use Rattle.omega_formula.specs.declared.raw.RawAccNode.TheVariants.{And, Group, Or}
 use Rattle.omega_formula.proofs.AccLemmas.{IsAcc-of, acc_tree-is}
 use Rattle.omega_text.specs.Cases.{never, or_automaton, or_memory}
-use Rattle.omega_text.specs.Lexeme.{Lexeme}
-use Rattle.omega_text.specs.declared.hoa.kind.HoaKind.{HoaKind}
 use Rattle.omega_text.specs.declared.refusal.Refusal.{Refusal}
 use Rattle.omega_text.specs.declared.refusal.Refusal.TheVariants as refusals
-use Rattle.omega_text.specs.declared.refusal.automaton.AutomatonFault.{AutomatonFault}
 use Rattle.omega_text.specs.declared.refusal.automaton.AutomatonFault.TheVariants.{AcceptanceAtom, TooDeep}
 
 -- the nodes of a meaning, where there is one
@@ -201,22 +196,3 @@ IsMeant-plain raw nodes is shallow =
       sound = ap (λ meant. fault_of_meant meant (raw_acc_depth raw)) plain.is ∙ ap (λ b. cond b (Some TooDeep) None) le;
       means = plain.is ∙ ap Some (sym (acc_tree-is plain.tree nodes plain.flat));
     }
-
--- a formula that is read and has a fault
-pub faulty-unread : (old new : List (Lexeme HoaKind)) (none : Type 0) (raw : RawAccTree) (refusal : Refusal)
-    → ReadsAcc old raw new → IsUnmeant raw refusal → IsUnreadAcc none (λ fault. ReadsFaulty old fault new) refusal
-faulty-unread old new none raw (refusals.Automaton fault) reads is = record { raw = raw; reads = reads; faulty = is }
-faulty-unread old new none raw (refusals.Text fault) reads is = absurd is
-faulty-unread old new none raw (refusals.Game fault) reads is = is
-faulty-unread old new none raw (refusals.Task fault) reads is = is
-faulty-unread old new none raw refusals.Memory reads is = is
-faulty-unread old new none raw refusals.Io reads is = is
-
--- where nothing is read
-pub none-unread : (none : Type 0) (faulty : AutomatonFault → Type 0) (refusal : Refusal) → IsUnread none refusal → IsUnreadAcc none faulty refusal
-none-unread none faulty (refusals.Automaton fault) is = absurd is
-none-unread none faulty (refusals.Text fault) is = is
-none-unread none faulty (refusals.Game fault) is = is
-none-unread none faulty (refusals.Task fault) is = is
-none-unread none faulty refusals.Memory is = is
-none-unread none faulty refusals.Io is = is

@@ -13,9 +13,13 @@ use Rattle.omega_expression.specs.Passing.{NextIsNot, Passed}
 use Rattle.omega_formula.proofs.ReadingLemmas.{has_is_free}
 use Rattle.omega_expression.proofs.PassingLemmas.{GoOnNone, GoesOnNone, go_on_others}
 use Rattle.omega_expression.proofs.PendingLemmas.{IsFree, IsParenthesis, free_open, top}
+use Rattle.omega_expression.proofs.UnreadLemmas.{through_next, unread_after}
+use Rattle.omega_expression.specs.Unread.{AgreeThroughNext, IsUnread, IsUnreadThrough}
+use Rattle.omega_text.specs.Cursor.{next_place}
 use Rattle.omega_text.specs.Lexeme.{Lexeme}
 use Rattle.omega_text.specs.declared.hoa.kind.HoaKind.{HoaKind}
 use Rattle.omega_text.specs.declared.hoa.kind.HoaKind.TheVariants as kind
+use Rattle.omega_text.specs.declared.refusal.Refusal.{Refusal}
 
 run-append : (state : NameState) (symbols more : List ExpressionSymbol) → run state (symbols ++ more) ≡ run (run state symbols) more
 run-append state [] more = refl
@@ -130,12 +134,36 @@ not-through-had [] count none through = through
 not-through-had (lexeme ∷ rest) count none through =
     subst IsThrough (ap (λ state. run state (map expression_symbol_of rest)) (stuck-kind lexeme.kind count lexeme.value lexeme.text none) ∙ run-failed (map expression_symbol_of rest)) through
 
--- where a part is wanted and none begins, nothing is read
-pub none_wanted : (whole left : List (Lexeme HoaKind)) (nodes : List RawAccNode) (names : List ℕ) (pending : List Pending)
-    → Wants whole left nodes names pending → BeginNone left → ReadsNoAcc whole
-none_wanted whole left nodes names pending wants none tree rest reads =
-    not-through-wanted left (opens wants.before) none
+-- where a part is wanted and none can be gone through, nothing is read
+stuck_wanted : (whole left : List (Lexeme HoaKind)) (nodes : List RawAccNode) (names : List ℕ) (pending : List Pending)
+    → Wants whole left nodes names pending → IsStuck wanted left → ReadsNoAcc whole
+stuck_wanted whole left nodes names pending wants stuck tree rest reads =
+    stuck (opens wants.before)
     (subst IsThrough (run-passed whole left (before_symbols wants.before) wants.passed ∙ ap (λ state. run state (map expression_symbol_of left)) (run-before wants.before)) (through-reads whole tree rest reads))
+
+-- a part is wanted as well before other tokens
+wants_before : (whole left others : List (Lexeme HoaKind)) (nodes : List RawAccNode) (names : List ℕ) (pending : List Pending)
+    → (wants : Wants whole left nodes names pending) → Wants (wants.passed.front ++ others) others nodes names pending
+wants_before whole left others nodes names pending wants = record {
+  before = wants.before;
+  sound = wants.sound;
+  flat = wants.flat;
+  named = wants.named;
+  pends = wants.pends;
+  passed = record { front = wants.passed.front; split = refl; spells = wants.passed.spells };
+}
+
+begin_through : (left others : List (Lexeme HoaKind)) → AgreeThroughNext left others → BeginNone left → BeginNone others
+begin_through [] others agree none = subst BeginNone (sym agree) tt
+begin_through (lexeme ∷ rest) others agree none = subst BeginNone (sym agree.1) none
+
+-- where a part is wanted and none begins, nothing is read through the next token
+pub none_wanted : (whole left : List (Lexeme HoaKind)) (nodes : List RawAccNode) (names : List ℕ) (pending : List Pending) (length place : ℕ)
+    → place ≡ next_place left length → Wants whole left nodes names pending → BeginNone left → IsUnreadThrough ReadsNoAcc whole length place
+none_wanted whole left nodes names pending length place there wants none =
+    through_next ReadsNoAcc whole wants.passed.front left length place wants.passed.split there
+    (λ others agree. stuck_wanted (wants.passed.front ++ others) others nodes names pending (wants_before whole left others nodes names pending wants)
+    (λ count. not-through-wanted others count (begin_through left others agree none)))
 
 unclosed_before : (before : Before) (whole left : List (Lexeme HoaKind)) (rest : List Pending) (part : RawAccTree)
     → Open ∷ rest ≡ before_pending before → Passed whole (before_symbols before ++ formula_symbols part) left → GoOnNone left → ReadsNoAcc whole
@@ -151,11 +179,17 @@ unclosed_before (opened before) whole left rest part pends passed none tree foll
     ∙ (ap (λ state. run state (formula_symbols part)) (run-before (opened before)) ∙ run-formula (suc (opens before)) part)))
     (through-reads whole tree following reads))
 
--- where a parenthesis is open and neither an operator nor `)` follows, nothing is read
-pub none_closed : (whole left : List (Lexeme HoaKind)) (depth : ℕ) (nodes : List RawAccNode) (names : List ℕ) (rest : List Pending)
-    → Has disjunctive whole left depth nodes names (Open ∷ rest) → GoOnNone left → ReadsNoAcc whole
-none_closed whole left depth nodes names rest has none =
-    unclosed_before has.before whole left rest has.part has.pends has.passed none
+go_through : (left others : List (Lexeme HoaKind)) → AgreeThroughNext left others → GoOnNone left → GoOnNone others
+go_through [] others agree none = subst GoOnNone (sym agree) tt
+go_through (lexeme ∷ rest) others agree none = subst GoOnNone (sym agree.1) none
+
+-- where a parenthesis is open and neither an operator nor `)` follows, nothing is read through the next token
+none_closed : (whole left : List (Lexeme HoaKind)) (depth : ℕ) (nodes : List RawAccNode) (names : List ℕ) (rest : List Pending) (length place : ℕ)
+    → place ≡ next_place left length → Has disjunctive whole left depth nodes names (Open ∷ rest) → GoOnNone left → IsUnreadThrough ReadsNoAcc whole length place
+none_closed whole left depth nodes names rest length place there has none =
+    through_next ReadsNoAcc whole has.passed.front left length place has.passed.split there
+    (λ others agree. unclosed_before has.before (has.passed.front ++ others) others rest has.part has.pends
+    (record { front = has.passed.front; split = refl; spells = has.passed.spells }) (go_through left others agree none))
 
 -- a kind that begins no part
 pub begins_others : (sort : HoaKind) → (sort ≡ kind.Identifier → ⊥) → (sort ≡ kind.True → ⊥) → (sort ≡ kind.False → ⊥) → (sort ≡ kind.OpenParenthesis → ⊥) → BeginsNone sort
@@ -166,26 +200,15 @@ begins_others kind.OpenParenthesis a b c d = d refl
 begins_others other a b c d = tt
 
 -- a parenthesis waits, and nothing that goes on follows
-pub unclosed_none : (whole old same left : List (Lexeme HoaKind)) (depth : ℕ) (nodes : List RawAccNode) (names : List ℕ) (pending : List Pending) (first : Pending) (rest : List Pending)
-    → same ≡ old → NextIsNot kind.And old → left ≡ same → NextIsNot kind.Or same → NextIsNot kind.CloseParenthesis left → pending ≡ first ∷ rest
-    → Has disjunctive whole old depth nodes names pending → ReadsNoAcc whole
-unclosed_none whole old same left depth nodes names pending first rest stays not_and rests not_or not_close waits has =
+pub unclosed_none : (whole old same left final : List (Lexeme HoaKind)) (depth : ℕ) (nodes : List RawAccNode) (names : List ℕ) (pending : List Pending) (first : Pending) (rest : List Pending) (length long place : ℕ)
+    → same ≡ old → NextIsNot kind.And old → left ≡ same → NextIsNot kind.Or same → final ≡ left → NextIsNot kind.CloseParenthesis left → pending ≡ first ∷ rest
+    → long ≡ length → place ≡ next_place final long → Has disjunctive whole old depth nodes names pending → IsUnreadThrough ReadsNoAcc whole length place
+unclosed_none whole old same left final depth nodes names pending first rest length long place stays not_and rests not_or ends not_close waits text there has =
     let free = subst IsFree waits (has_is_free whole old depth nodes names pending has) in
-    none_closed whole old depth nodes names rest
+    none_closed whole old depth nodes names rest length place
+    (there ∙ (ap (λ tokens. next_place tokens long) (ends ∙ (rests ∙ stays)) ∙ ap (λ l. next_place old l) text))
     (subst (Has disjunctive whole old depth nodes names) (waits ∙ ap (λ p. p ∷ rest) (free_open first rest free)) has)
     (go_on_others old not_and (subst (NextIsNot kind.Or) stays not_or) (subst (NextIsNot kind.CloseParenthesis) (rests ∙ stays) not_close))
-
--- where the name of an atom is passed and no set in parentheses follows, nothing is read
-pub none_named : (whole old left : List (Lexeme HoaKind)) (lexeme : Lexeme HoaKind) (text : List ℕ) (nodes : List RawAccNode) (names : List ℕ) (pending : List Pending)
-    → Wants whole old nodes names pending → old ≡ lexeme ∷ left → expression_symbol_of lexeme ≡ word text → IsStuck named left → ReadsNoAcc whole
-none_named whole old left lexeme text nodes names pending wants next is stuck tree rest reads =
-    stuck (opens wants.before)
-    (subst IsThrough
-    (run-passed whole old (before_symbols wants.before) wants.passed
-    ∙ (ap (λ state. run state (map expression_symbol_of old)) (run-before wants.before)
-    ∙ (ap (λ tokens. run (wanted (opens wants.before)) (map expression_symbol_of tokens)) next
-    ∙ ap (λ symbol. run (go (wanted (opens wants.before)) symbol) (map expression_symbol_of left)) is)))
-    (through-reads whole tree rest reads))
 
 -- no part of an atom follows
 stuck-named : (sort : HoaKind) (count value : ℕ) (text : List ℕ) → (sort ≡ kind.OpenParenthesis → ⊥) → go (named count) (seen_as sort value text) ≡ failed
@@ -236,11 +259,25 @@ IsStuck-numbered (lexeme ∷ rest) not count through =
     failed-stuck (numbered count) rest lexeme (stuck-numbered lexeme.kind count lexeme.value lexeme.text not) through
 
 -- what is stuck after a token is stuck before it
-pub IsStuck-following : (old new : List (Lexeme HoaKind)) (lexeme : Lexeme HoaKind) (symbol : ExpressionSymbol) (before following : ℕ → NameState)
-    → old ≡ lexeme ∷ new → expression_symbol_of lexeme ≡ symbol → ((count : ℕ) → go (before count) symbol ≡ following count) → IsStuck following new → IsStuck before old
-IsStuck-following old new lexeme symbol before following next is goes stuck count through =
+IsStuck-following : (lexeme : Lexeme HoaKind) (others : List (Lexeme HoaKind)) (symbol : ExpressionSymbol) (before following : ℕ → NameState)
+    → expression_symbol_of lexeme ≡ symbol → ((count : ℕ) → go (before count) symbol ≡ following count) → IsStuck following others → IsStuck before (lexeme ∷ others)
+IsStuck-following lexeme others symbol before following is goes stuck count through =
     stuck count
-    (subst IsThrough
-    (ap (λ tokens. run (before count) (map expression_symbol_of tokens)) next
-    ∙ (ap (λ one. run (go (before count) one) (map expression_symbol_of new)) is ∙ ap (λ state. run state (map expression_symbol_of new)) (goes count)))
-    through)
+    (subst IsThrough (ap (λ one. run (go (before count) one) (map expression_symbol_of others)) is ∙ ap (λ state. run state (map expression_symbol_of others)) (goes count)) through)
+
+-- and through the same place
+pub unread_following : (old new : List (Lexeme HoaKind)) (lexeme : Lexeme HoaKind) (symbol : ExpressionSymbol) (before following : ℕ → NameState) (length : ℕ) (refusal : Refusal)
+    → old ≡ lexeme ∷ new → expression_symbol_of lexeme ≡ symbol → ((count : ℕ) → go (before count) symbol ≡ following count)
+    → IsUnread (IsStuck following) new length refusal → IsUnread (IsStuck before) old length refusal
+unread_following old new lexeme symbol before following length refusal next is goes unread =
+    unread_after (IsStuck before) (IsStuck following) old (lexeme ∷ []) new length refusal next
+    (λ others. IsStuck-following lexeme others symbol before following is goes) unread
+
+-- where the name of an atom is passed and no set in parentheses follows, nothing is read
+pub unread_named : (whole old left : List (Lexeme HoaKind)) (lexeme : Lexeme HoaKind) (text : List ℕ) (nodes : List RawAccNode) (names : List ℕ) (pending : List Pending) (length : ℕ) (refusal : Refusal)
+    → Wants whole old nodes names pending → old ≡ lexeme ∷ left → expression_symbol_of lexeme ≡ word text
+    → IsUnread (IsStuck named) left length refusal → IsUnread ReadsNoAcc whole length refusal
+unread_named whole old left lexeme text nodes names pending length refusal wants next is unread =
+    unread_after ReadsNoAcc (IsStuck wanted) whole wants.passed.front old length refusal wants.passed.split
+    (λ others. stuck_wanted (wants.passed.front ++ others) others nodes names pending (wants_before whole old others nodes names pending wants))
+    (unread_following old left lexeme (word text) wanted named length refusal next is (λ count. refl) unread)

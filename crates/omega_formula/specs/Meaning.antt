@@ -4,10 +4,10 @@ use Rattle.std.specs.Prelude.{◌≡◌, ℕ, Bool, nat_lt, if◌then◌else◌,
 use Rattle.std.specs.Str.{bytes_eq}
 use Rattle.omega_formula.specs.Acceptance.{AccTree}
 use Rattle.omega_formula.specs.Acceptance as acc
-use Rattle.omega_formula.specs.Reading.{ReadsAcc}
+use Rattle.omega_formula.specs.Reading.{ReadsAcc, ReadsNoAcc}
 use Rattle.omega_expression.specs.Limits.{most_depth}
 use Rattle.omega_formula.specs.Raw.{RawAccTree, atom, conjunction, constant, disjunction, group, raw_acc_depth}
-use Rattle.omega_expression.specs.Symbols.{IsSyntax}
+use Rattle.omega_expression.specs.Unread.{IsSyntax}
 use Rattle.omega_text.specs.Cases.{never, or_automaton, or_memory, or_text}
 use Rattle.omega_text.specs.Lexeme.{Lexeme}
 use Rattle.omega_text.specs.declared.hoa.kind.HoaKind.{HoaKind}
@@ -74,6 +74,7 @@ pub record ReadsFaulty (tokens : List (Lexeme HoaKind)) (fault : AutomatonFault)
   pub reads : ReadsAcc tokens raw rest
   pub faulty : fault_of_acc raw ≡ Some fault
 
--- the refusals of reading a formula, if there is none, and if there is one with a fault
-abbrev pub IsUnreadAcc : Type 0 → (AutomatonFault → Type 0) → Refusal → Type 0
-IsUnreadAcc none faulty = or_text (IsSyntax none) (or_automaton faulty (or_memory never))
+-- the refusals of reading a formula of tokens, after which the rest is left: there is none, or one with a fault
+abbrev pub IsUnreadAcc : (tokens rest : List (Lexeme HoaKind)) → ℕ → Refusal → Type 0
+IsUnreadAcc tokens rest length =
+    or_text (IsSyntax ReadsNoAcc tokens length) (or_automaton (λ fault. ReadsFaulty tokens fault rest) (or_memory never))

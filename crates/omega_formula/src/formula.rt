@@ -111,6 +111,14 @@ impl Acc {
         })
     }
 
+    /// States what each formula keeps: it is at most 256 deep. Does nothing: it hands on the type's invariant.
+    pub fn keeps_limits(&self)
+        ensures { acc_depth self.now ≤ most_depth }
+    {
+        // A field is read, since only then a proof knows the invariant.
+        let _depth = self.depth;
+    }
+
     /// Returns its depth, at most 256.
     pub fn depth(&self) -> u32
         ensures depth { result ≡ acc_depth self.now }

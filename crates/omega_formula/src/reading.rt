@@ -1,9 +1,10 @@
 //! Acceptance formulas read from tokens.
 
 ghost use Rattle.std.specs.Prelude.{◌≡◌, ◌<◌, List, length, IfErr, IfOk, MatchBool, OnOk};
-ghost use Rattle.omega_formula.specs.Meaning.{IsUnreadAcc, ReadsFaulty, ReadsMeant};
+ghost use Rattle.omega_formula.specs.Meaning.{IsUnreadAcc, ReadsMeant};
 ghost use Rattle.omega_formula.specs.Reading.{ReadsAcc, ReadsNoAcc};
-ghost use Rattle.omega_expression.specs.Symbols.{IsUnread, conjunctive, unary};
+ghost use Rattle.omega_expression.specs.Symbols.{conjunctive, unary};
+ghost use Rattle.omega_expression.specs.Unread.{IsUnread};
 ghost use Rattle.omega_formula.specs.private.layout.Building.{HasIn, IsWhole, WantsIn};
 ghost use Rattle.omega_formula.specs.private.layout.States.{IsStuck, PassesSet, named};
 ghost use Rattle.omega_text.specs.Lexeme.{Lexeme};
@@ -17,14 +18,17 @@ use omega_text::{HoaKind, Refusal, TextFault, TokenSource};
 use std::alloc::Global;
 
 /// Reads an acceptance formula as it is written (HOA v1, acceptance): the one prefix of the tokens that is a formula
-/// and has neither `&` nor `|` after it. Refused with [TextFault::Syntax] if there is none. Linear time, without
-/// recursion.
+/// and has neither `&` nor `|` after it. Linear time, without recursion.
+///
+/// Refused with [TextFault::Syntax] if there is none, at the first token with which no formula goes on, else at the
+/// length of the text. It is proved that no formula begins with the tokens through that place; that it is the first
+/// such place is tested.
 pub fn read_raw_acc<'a, S: TokenSource<'a, HoaKind>>(
     alloc: Global,
     source: &mut S,
 ) -> Result<RawAcc, Refusal>
     ensures ok { IfOk result (λ formula. ReadsAcc (S.left source.old) formula (S.left source.new)) }
-    ensures err { IfErr result (IsUnread (ReadsNoAcc (S.left source.old))) }
+    ensures err { IfErr result (IsUnread ReadsNoAcc (S.left source.old) (S.length source.old)) }
     ensures length { S.length source.new ≡ S.length source.old }
 {
     let mut unfinished = UnfinishedAcc::new(alloc);
@@ -35,7 +39,7 @@ pub fn read_raw_acc<'a, S: TokenSource<'a, HoaKind>>(
 
 /// Reads an acceptance formula as `read_raw_acc` does, and returns its meaning.
 ///
-/// Refused with [TextFault::Syntax] if there is none, else with [AutomatonFault::AcceptanceAtom] if an atom is neither
+/// Refused with [TextFault::Syntax] as there, else with [AutomatonFault::AcceptanceAtom] if an atom is neither
 /// `Fin` nor `Inf`, else with [AutomatonFault::TooDeep] if it is over 256 deep. After the last two only the tokens
 /// after it are left.
 pub fn read_acc<'a, S: TokenSource<'a, HoaKind>>(
@@ -43,8 +47,7 @@ pub fn read_acc<'a, S: TokenSource<'a, HoaKind>>(
     source: &mut S,
 ) -> Result<Acc, Refusal>
     ensures ok { IfOk result (λ formula. ReadsMeant (S.left source.old) formula (S.left source.new)) }
-    ensures err { IfErr result (IsUnreadAcc (ReadsNoAcc (S.left source.old)) (λ fault.
-        ReadsFaulty (S.left source.old) fault (S.left source.new))) }
+    ensures err { IfErr result (IsUnreadAcc (S.left source.old) (S.left source.new) (S.length source.old)) }
     ensures length { S.length source.new ≡ S.length source.old }
 {
     let raw = read_raw_acc(alloc, source)?;
@@ -59,7 +62,7 @@ fn operand<'a, S: TokenSource<'a, HoaKind>>(
     ensures ok { OnOk result ((whole : List (Lexeme Kind)) → WantsIn whole (S.left source.old) unfinished.old →
         HasIn conjunctive whole (S.left source.new) unfinished.new) }
     ensures err { IfErr result (λ refusal. (whole : List (Lexeme Kind)) →
-        WantsIn whole (S.left source.old) unfinished.old → IsUnread (ReadsNoAcc whole) refusal) }
+        WantsIn whole (S.left source.old) unfinished.old → IsUnread ReadsNoAcc whole (S.length source.old) refusal) }
     ensures less { OnOk result (length (S.left source.new) < length (S.left source.old)) }
     ensures length { S.length source.new ≡ S.length source.old }
 {
@@ -76,7 +79,7 @@ fn read_prefix<'a, S: TokenSource<'a, HoaKind>>(
         → MatchBool more (WantsIn whole (S.left source.new) unfinished.new)
         (HasIn unary whole (S.left source.new) unfinished.new)) }
     ensures err { IfErr result (λ refusal. (whole : List (Lexeme Kind)) →
-        WantsIn whole (S.left source.old) unfinished.old → IsUnread (ReadsNoAcc whole) refusal) }
+        WantsIn whole (S.left source.old) unfinished.old → IsUnread ReadsNoAcc whole (S.length source.old) refusal) }
     ensures less { OnOk result (length (S.left source.new) < length (S.left source.old)) }
     ensures length { S.length source.new ≡ S.length source.old }
 {
@@ -115,7 +118,8 @@ fn read_infix<'a, S: TokenSource<'a, HoaKind>>(
         → MatchBool more (HasIn conjunctive whole (S.left source.new) unfinished.new)
         (IsWhole whole (S.left source.new) unfinished.new)) }
     ensures err { IfErr result (λ refusal. (whole : List (Lexeme Kind)) →
-        HasIn conjunctive whole (S.left source.old) unfinished.old → IsUnread (ReadsNoAcc whole) refusal) }
+        HasIn conjunctive whole (S.left source.old) unfinished.old
+        → IsUnread ReadsNoAcc whole (S.length source.old) refusal) }
     ensures less { IfOk result (λ more. MatchBool more (length (S.left source.new) < length (S.left source.old))
         (Unit {0})) }
     ensures length { S.length source.new ≡ S.length source.old }
@@ -147,7 +151,7 @@ fn read_infix<'a, S: TokenSource<'a, HoaKind>>(
 /// Passes the set of an atom in parentheses. Returns whether `!` precedes it, and the set.
 fn set<'a, S: TokenSource<'a, HoaKind>>(source: &mut S) -> Result<(bool, u32), Refusal>
     ensures ok { IfOk result (λ set. PassesSet set.0 set.1 (S.left source.old) (S.left source.new)) }
-    ensures err { IfErr result (IsUnread (IsStuck named (S.left source.old))) }
+    ensures err { IfErr result (IsUnread (IsStuck named) (S.left source.old) (S.length source.old)) }
     ensures less { OnOk result (length (S.left source.new) < length (S.left source.old)) }
     ensures length { S.length source.new ≡ S.length source.old }
 {

@@ -10,21 +10,14 @@ use Rattle.omega_text.specs.declared.hoa.kind.HoaKind.{HoaKind}
 use Rattle.omega_text.specs.hoa.Cut.{Follows, IsGap, IsLongest}
 use Rattle.omega_text.specs.hoa.Cut.IsGap.{nothing}
 use Rattle.omega_text.specs.hoa.Format.{hoa_format}
+use Rattle.omega_text.proofs.formats.Cutting.{cuts_forward, cuts_split}
 
 module _ {Kind : Type 0} (format : TextFormat Kind) where
-  -- a cut of tokens one after the other is that of the first, and of the others from where it ends
-  pub cuts_split : (source : List ℕ) (from to : ℕ) (front back : List (Lexeme Kind)) → Cuts format source from (front ++ back) to
-      → (middle : ℕ) × Cuts format source from front middle × Cuts format source middle back to
-  cuts_split source from to [] back cuts = (from, refl, cuts)
-  cuts_split source from to (lexeme ∷ front) back cuts =
-      let parts = cuts_split source lexeme.span.end to front back cuts.1 in
-      (parts.0, (cuts.0, parts.1), parts.2)
-
   -- the tokens before the last, and the last, which follows them
   pub cuts_last : (source : List ℕ) (from to : ℕ) (front : List (Lexeme Kind)) (last : Lexeme Kind) → Cuts format source from (front ++ last ∷ []) to
       → (middle : ℕ) × Cuts format source from front middle × format.follows source middle last × (last.span.end ≡ to)
   cuts_last source from to front last cuts =
-      let parts = cuts_split source from to front (last ∷ []) cuts in
+      let parts = cuts_split format source from to front (last ∷ []) cuts in
       (parts.0, parts.1, parts.2.0, parts.2.1)
 
   -- a cut goes on with a token that follows it
@@ -32,21 +25,6 @@ module _ {Kind : Type 0} (format : TextFormat Kind) where
       → Cuts format source from (front ++ last ∷ []) last.span.end
   cuts_push source from at [] last is follows = (subst (λ n. format.follows source n last) (sym is) follows, refl)
   cuts_push source from at (lexeme ∷ front) last cuts follows = (cuts.0, cuts_push source lexeme.span.end at front last cuts.1 follows)
-
-  -- a cut ends at one place
-  pub cuts_end : (source : List ℕ) (from one other : ℕ) (lexemes : List (Lexeme Kind)) → Cuts format source from lexemes one → Cuts format source from lexemes other → one ≡ other
-  cuts_end source from one other [] here there = sym here ∙ there
-  cuts_end source from one other (lexeme ∷ lexemes) here there = cuts_end source lexeme.span.end one other lexemes here.1 there.1
-
-module _ {Kind : Type 0} (format : TextFormat Kind) (exact : GoesOneWay format) where
-  -- a cut ends where it begins or after it, within the text
-  pub cuts_forward : (source : List ℕ) (from to : ℕ) (lexemes : List (Lexeme Kind)) → from ≤ length source → Cuts format source from lexemes to
-      → (from ≤ to) × (to ≤ length source)
-  cuts_forward source from to [] within cuts = (omega (arith, cuts), omega (arith, cuts))
-  cuts_forward source from to (lexeme ∷ lexemes) within cuts =
-      let part = exact.following source from lexeme cuts.0 in
-      let rest = cuts_forward source lexeme.span.end to lexemes part.within cuts.1 in
-      (omega (arith, part.forward, part.nonempty, rest.0), rest.1)
 
 -- a token's bytes are at its place
 pub token_text : (source : List ℕ) (from : ℕ) (lexeme : Lexeme HoaKind) → Follows source from lexeme
@@ -125,32 +103,3 @@ part_cut exact source base to lexemes inside cuts =
         within = omega (arith, long);
       };
     }
-
--- what is the same from a place on is so from each place after it
-pub same_further : (one other : List ℕ) (from to : ℕ) → from ≤ to → drop from one ≡ drop from other → drop to one ≡ drop to other
-same_further one other from to further same =
-    let place : from + (to - from) ≡ to = omega arith in
-    sym (drop-drop (to - from) from one ∙ ap (λ n. drop n one) place) ∙ ap (drop (to - from)) same ∙ drop-drop (to - from) from other ∙ ap (λ n. drop n other) place
-
--- a token follows by the bytes from a place on
-same_follows : (one other : List ℕ) (from : ℕ) (lexeme : Lexeme HoaKind) → drop from one ≡ drop from other → Follows one from lexeme → Follows other from lexeme
-same_follows one other from lexeme same follows = record {
-  gap = follows.gap;
-  rest = follows.rest;
-  split = sym same ∙ follows.split;
-  passed = follows.passed;
-  spells = follows.spells;
-  longest = follows.longest;
-  start = follows.start;
-  end = follows.end;
-}
-
--- and so do tokens one after the other
-pub same_cuts : GoesOneWay hoa_format → (one other : List ℕ) (from to : ℕ) (lexemes : List (Lexeme HoaKind)) → drop from one ≡ drop from other
-    → Cuts hoa_format one from lexemes to → Cuts hoa_format other from lexemes to
-same_cuts exact one other from to [] same cuts = cuts
-same_cuts exact one other from to (lexeme ∷ lexemes) same cuts =
-    let place = exact.following one from lexeme cuts.0 in (
-      same_follows one other from lexeme same cuts.0,
-      same_cuts exact one other lexeme.span.end to lexemes (same_further one other from lexeme.span.end (omega (arith, place.forward, place.nonempty)) same) cuts.1,
-    )

@@ -17,9 +17,9 @@ use Rattle.omega_hoa.specs.Feeding.{IsDivided}
 use Rattle.omega_hoa.specs.Stream.{IsOpen, IsStream, IsStreamFault, is_end}
 use Rattle.omega_hoa.specs.private.dividing.Ending.{IsAtEnd, IsLast, IsWholeStream}
 use Rattle.omega_hoa.specs.declared.item.Item.{Item}
-use Rattle.omega_hoa.proofs.Cutting.{cuts_split}
 use Rattle.omega_hoa.proofs.Dividing.{open_push}
 use Rattle.omega_hoa.proofs.Settling.{fault_after}
+use Rattle.omega_text.proofs.formats.Cutting.{cuts_split}
 
 -- the tokens of a text up to its fault or its end
 finished_cuts : (fault : Option TextFault) (seen : List ℕ) (lexemes : List (Lexeme HoaKind)) → IsCutUpToFault fault seen lexemes → (end : ℕ) × Cuts hoa_format seen 0 lexemes end

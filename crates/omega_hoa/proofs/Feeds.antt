@@ -1,16 +1,14 @@
 -- A piece of a stream, after the bytes before.
 use Rattle.std.proofs.Common.{◌≡◌, ℕ, ◌+◌, ◌-◌, ◌≤◌, ◌<◌, Bool, false, Option, None, Some, List, [], ◌++◌, length, take, drop, refl, sym, ap, subst, ◌∙◌, inl, inr, arith, append_assoc, append-nil, length-append, length-drop}
-use Rattle.std.proofs.lemmas.List.{drop-append-le, drop-drop, drop_at, length-take-le, take-append-drop, take_all, take_at}
+use Rattle.std.proofs.lemmas.List.{drop-drop, drop_at, length-take-le, take-append-drop, take_all, take_at}
 use Rattle.std.specs.Prelude.{◌≢◌, Result, Ok, Err, IfErr, MatchOption, OnOk}
 use Rattle.std.specs.Result.{result_err}
-use Rattle.omega_text.specs.Cut.{Cuts}
 use Rattle.omega_text.specs.Format.{GoesOneWay}
 use Rattle.omega_text.specs.Lexeme.{Lexeme}
 use Rattle.omega_text.specs.Limits.{most_text}
 use Rattle.omega_text.specs.hoa.Format.{hoa_format}
-use Rattle.omega_text.specs.hoa.Pieces.{Settles}
+use Rattle.omega_text.specs.hoa.Pieces.{DiffersBefore}
 use Rattle.omega_text.specs.contracts.hoa.tokenizer.HoaTokenizerByteTokenizer.TheImpl.{ghosts as hoa_tokenizer}
-use Rattle.omega_text.specs.private.hoa.scanning.Reading.{Any, HasRead, IsAt, IsKept}
 use Rattle.omega_text.specs.declared.hoa.tokenizer.HoaTokenizer.{HoaTokenizer}
 use Rattle.omega_text.specs.declared.hoa.kind.HoaKind.{HoaKind}
 use Rattle.omega_text.specs.declared.refusal.Refusal.{Refusal}
@@ -24,10 +22,9 @@ use Rattle.omega_hoa.specs.private.dividing.Fed.{HasReadTaken, IsFedSome, IsRefu
 use Rattle.omega_hoa.specs.private.dividing.Next.{Extends, IsProgress}
 use Rattle.omega_hoa.specs.declared.item.Item.{Item}
 use Rattle.omega_hoa.specs.declared.progress.ReadProgress.{ReadProgress}
-use Rattle.omega_hoa.proofs.Cutting.{cuts_end, cuts_forward, cuts_split, same_cuts, same_further}
 use Rattle.omega_hoa.proofs.Results.{holds_after}
-use Rattle.omega_text.proofs.formats.Cutting.{cuts_join}
-use Rattle.omega_text.proofs.hoa_texts.Pieces.{kept_settled}
+use Rattle.omega_text.proofs.formats.Cutting.{cuts_forward}
+use Rattle.omega_text.proofs.hoa_texts.Differing.{read_differing, read_settled}
 
 -- if nothing was refused, the bytes were taken
 pub taken_of : (seen : List ℕ) (items : List Item) (kept : Kept) → kept.refused ≡ None → IsFed seen items kept → IsTaken seen items kept
@@ -114,63 +111,25 @@ divided_within exact seen lexemes items begins inside divided =
     let within = cuts_forward hoa_format exact (seen ++ []) 0 begins divided.front (omega arith) (divided.cuts []) in
     omega (arith, within.1, ap length (append-nil seen))
 
--- what a tokenizer has read without a fault
-kept_sound : (seen : List ℕ) (lexemes : List (Lexeme HoaKind)) (tokenizer : HoaTokenizer) → HasRead seen lexemes tokenizer → tokenizer.fault ≡ None → IsAt Any seen lexemes tokenizer.pending
-kept_sound seen lexemes tokenizer read sound = subst (λ fault. IsKept fault seen lexemes tokenizer.pending) sound read.kept
-
 -- a tokenizer that has read one text has read each other that differs from it in whole segments alone
-module _ (exact : GoesOneWay hoa_format) (seen : List ℕ) (items : List Item) (kept : Kept) (tokenizer : HoaTokenizer) (taken : IsTaken seen items kept) (known : HasReadTaken kept tokenizer) where
-  at : IsAt Any known.seen known.lexemes tokenizer.pending
-  at = kept_sound known.seen known.lexemes tokenizer known.read known.sound
-
+module _ (seen : List ℕ) (items : List Item) (kept : Kept) (tokenizer : HoaTokenizer) (taken : IsTaken seen items kept) (known : HasReadTaken kept tokenizer) where
   -- the tokens that are settled
   pub known_lexemes : List (Lexeme HoaKind)
   known_lexemes = taken.divided.front ++ known.divided.rest
 
-  same_after : drop kept.begins known.seen ≡ drop kept.begins seen
-  same_after = sym known.taken.bytes ∙ taken.bytes
-
-  begins_inside : (kept.begins ≤ length known.seen) × (kept.begins ≤ length seen)
-  begins_inside = (omega (arith, known.taken.total), omega (arith, taken.total))
-
-  same_with : (rest : List ℕ) → drop kept.begins (known.seen ++ rest) ≡ drop kept.begins (seen ++ rest)
-  same_with rest = drop-append-le kept.begins known.seen rest begins_inside.0 ∙ ap (λ bytes. bytes ++ rest) same_after
-      ∙ sym (drop-append-le kept.begins seen rest begins_inside.1)
-
-  -- those after the whole segments are in both
-  known_following : (rest : List ℕ) → Cuts hoa_format (known.seen ++ rest) kept.begins known.divided.rest at.end
-  known_following rest =
-      let all = subst (λ ls. Cuts hoa_format (known.seen ++ rest) 0 ls at.end) known.divided.split (at.cuts rest tt) in
-      let parts = cuts_split hoa_format (known.seen ++ rest) 0 at.end known.divided.front known.divided.rest all in
-      subst (λ n. Cuts hoa_format (known.seen ++ rest) n known.divided.rest at.end)
-      (cuts_end hoa_format (known.seen ++ rest) 0 parts.0 kept.begins known.divided.front parts.1 (known.divided.cuts rest)) parts.2
-
-  further : kept.begins ≤ at.end
-  further =
-      let within : kept.begins ≤ length (known.seen ++ []) = omega (arith, begins_inside.0, ap length (append-nil known.seen)) in
-      (cuts_forward hoa_format exact (known.seen ++ []) kept.begins at.end known.divided.rest within (known_following [])).0
-
-  cuts_known : (rest : List ℕ) → Any rest → Cuts hoa_format (seen ++ rest) 0 known_lexemes at.end
-  unfolding known_lexemes
-  cuts_known rest any = cuts_join hoa_format (seen ++ rest) 0 kept.begins at.end taken.divided.front known.divided.rest (taken.divided.cuts rest)
-      (same_cuts exact (known.seen ++ rest) (seen ++ rest) kept.begins at.end known.divided.rest (same_with rest) (known_following rest))
-
-  pub known_read : HasRead seen known_lexemes tokenizer
-  known_read = record {
-    place = omega (arith, known.read.place, known.taken.total, taken.total);
-    kept = subst (λ fault. IsKept fault seen known_lexemes tokenizer.pending) (sym known.sound) (record {
-      end = at.end;
-      gap = at.gap;
-      begun = at.begun;
-      cuts = cuts_known;
-      split = sym (same_further known.seen seen kept.begins at.end further same_after) ∙ at.split;
-      within = omega (arith, at.within, known.taken.total, taken.total);
-      passed = at.passed;
-      start = at.start;
-      reached = at.reached;
-      unfinished = at.unfinished;
-    });
+  differs : DiffersBefore kept.begins known.seen known.divided.front seen taken.divided.front
+  differs = record {
+    within = omega (arith, known.taken.total);
+    long = omega (arith, known.taken.total, taken.total);
+    same = sym known.taken.bytes ∙ taken.bytes;
+    cuts = known.divided.cuts;
+    other_cuts = taken.divided.cuts;
   }
+
+  pub known_read : hoa_tokenizer.read tokenizer seen known_lexemes
+  unfolding known_lexemes
+  known_read = read_differing kept.begins known.seen seen known.divided.front taken.divided.front known.divided.rest tokenizer known.sound differs
+      (subst (hoa_tokenizer.read tokenizer known.seen) known.divided.split known.read)
 
   -- and are divided as the text is
   pub known_divided : IsDivided seen known_lexemes items kept.begins kept.inside
@@ -198,23 +157,18 @@ module _ (seen : List ℕ) (items : List Item) (kept : Kept) (piece all : List �
   with_piece = ap (λ bytes. take kept.begins seen ++ bytes) is ∙ sym (append_assoc (take kept.begins seen) kept.bytes piece) ∙ ap (λ bytes. bytes ++ piece) before
 
   -- how far they were read
-  pub progress_before : GoesOneWay hoa_format → (tokenizer : HoaTokenizer) → HasReadTaken kept tokenizer → kept.begins + length kept.bytes + length piece ≤ most_text
+  pub progress_before : (tokenizer : HoaTokenizer) → HasReadTaken kept tokenizer → kept.begins + length kept.bytes + length piece ≤ most_text
       → IsProgress all kept.begins held (record { tokenizer = tokenizer; division = record { begins = kept.begins; inside = kept.inside } }) (take kept.begins seen) items
-  progress_before exact tokenizer known fits = record {
+  progress_before tokenizer known fits = record {
     there = sym (length-take-le kept.begins seen (omega (arith, taken.total)));
-    lexemes = known_lexemes exact seen items kept tokenizer taken known;
-    read = subst (λ bytes. hoa_tokenizer.read tokenizer bytes (known_lexemes exact seen items kept tokenizer taken known)) (sym read_before) (known_read exact seen items kept tokenizer taken known);
+    lexemes = known_lexemes seen items kept tokenizer taken known;
+    read = subst (λ bytes. hoa_tokenizer.read tokenizer bytes (known_lexemes seen items kept tokenizer taken known)) (sym read_before) (known_read seen items kept tokenizer taken known);
     sound = known.sound;
-    divided = subst (λ bytes. IsDivided bytes (known_lexemes exact seen items kept tokenizer taken known) items kept.begins kept.inside) (sym read_before)
-        (known_divided exact seen items kept tokenizer taken known);
+    divided = subst (λ bytes. IsDivided bytes (known_lexemes seen items kept tokenizer taken known) items kept.begins kept.inside) (sym read_before)
+        (known_divided seen items kept tokenizer taken known);
     from = omega arith;
     short = omega (arith, fits, ap length is, length-append kept.bytes piece);
   }
-
--- what a tokenizer has read without a fault is settled
-pub read_settled : (seen : List ℕ) (lexemes : List (Lexeme HoaKind)) (tokenizer : HoaTokenizer) → hoa_tokenizer.read tokenizer seen lexemes → hoa_tokenizer.fault tokenizer ≡ None → Settles seen lexemes
-read_settled seen lexemes tokenizer read sound =
-    kept_settled None seen lexemes tokenizer.pending (kept_sound seen lexemes tokenizer read sound)
 
 -- before the first byte
 module _ (bytes : List ℕ) (tokenizer : HoaTokenizer) (empty : bytes ≡ []) (read : hoa_tokenizer.read tokenizer [] []) (sound : hoa_tokenizer.fault tokenizer ≡ None) where

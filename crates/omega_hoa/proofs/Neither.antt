@@ -20,9 +20,9 @@ use Rattle.omega_hoa.specs.Segment.{IsAutomatonOf, IsSegmentFault}
 use Rattle.omega_hoa.specs.Stream.{IsOpen, IsSegment, IsStream, IsStreamFault, IsStreamRefusal, IsStreamText, NoneEnds, Opens, is_end}
 use Rattle.omega_hoa.specs.declared.item.Item.{Item}
 use Rattle.omega_hoa.specs.declared.item.Item.TheVariants.{Automaton as AutomatonItem, Aborted}
-use Rattle.omega_hoa.proofs.Cutting.{cuts_split}
 use Rattle.omega_hoa.proofs.Dividing.{ended, stream_push}
-use Rattle.omega_hoa.proofs.Places.{first_start}
+use Rattle.omega_hoa.proofs.Places.{segment_refused}
+use Rattle.omega_text.proofs.formats.Cutting.{cuts_split}
 
 -- a mark that ends a segment, and the tokens before and after it
 record Marked (lexemes : List (Lexeme HoaKind)) : Type 0 where
@@ -72,14 +72,12 @@ module _ (first : Lexeme HoaKind) (rest : List (Lexeme HoaKind)) (opens : Opens 
 -- a segment that is no automaton and has no fault is none
 module _ (there : MeaningsAreThere) (lexemes : List (Lexeme HoaKind)) (whole : IsSegment End lexemes) where
   judged : ((automaton : Description) → IsAutomatonOf lexemes automaton → ⊥) → ((refusal : Refusal) → IsSegmentFault lexemes refusal → ⊥) → ⊥
-  judged no_automaton no_fault = let start = first_start End lexemes whole in no_fault (Text (Syntax start.0)) (
-    λ raw written.
-        (elim (automaton_fault_of raw) as (λ said. automaton_fault_of raw ≡ said → ⊥) [
-          | None ↦ λ none. let means = there raw none in no_automaton means.0 (record { raw = raw; written = written; means = means.1 })
-          | Some fault ↦ λ has. no_fault (AutomatonRefusal fault) (record { raw = raw; written = written; has = has })
-        ]) refl,
-    start.1,
-  )
+  judged no_automaton no_fault = no_fault (Text (Syntax whole.last.span.start)) (segment_refused lexemes whole
+      (λ raw written.
+      (elim (automaton_fault_of raw) as (λ said. automaton_fault_of raw ≡ said → ⊥) [
+        | None ↦ λ none. let means = there raw none in no_automaton means.0 (record { raw = raw; written = written; means = means.1 })
+        | Some fault ↦ λ has. no_fault (AutomatonRefusal fault) (record { raw = raw; written = written; has = has })
+      ]) refl))
 
 -- a text within the limit is that of an automaton or refused
 module _ (there : MeaningsAreThere) (source : List ℕ) (short : length source ≤ most_text)
@@ -90,22 +88,20 @@ module _ (there : MeaningsAreThere) (source : List ℕ) (short : length source �
 
     -- a segment that others follow
     followed : (segment more : List (Lexeme HoaKind)) (next : Lexeme HoaKind) → IsSegment End segment → lexemes ≡ segment ++ next ∷ more → ⊥
-    followed segment more next whole split = let start = first_start End segment whole in tokens_refused (Text (Syntax start.0)) (inr (record {
+    followed segment more next whole split = tokens_refused (Text (Syntax whole.last.span.start)) (inr (record {
       segment = segment;
       rest = next ∷ more;
       split = split;
       whole = whole;
       refused = inl (
-        (
-          λ raw written. tokens_refused (Text (Syntax next.span.start)) (inr (record {
-            segment = segment;
-            rest = next ∷ more;
-            split = split;
-            whole = whole;
-            refused = inr ((raw, written), (next, more, refl, refl));
-          })),
-          start.1,
-        ),
+        segment_refused segment whole
+            (λ raw written. tokens_refused (Text (Syntax next.span.start)) (inr (record {
+              segment = segment;
+              rest = next ∷ more;
+              split = split;
+              whole = whole;
+              refused = inr ((raw, written), (next, more, refl, refl));
+            }))),
         inl refl,
       );
     }))

@@ -317,7 +317,7 @@ module _ (readings : Readings) (exact : GoesOneWay hoa_format) (source : List �
   flipped : (one other : Refusal) → AreAlike source one other → AreAlike source other one
   flipped one other both = elim both [
     | inl same ↦ inl (sym same)
-    | inr (front, segment, end, cuts, are) ↦ inr (front, segment, end, cuts, record { whole = are.whole; unread = are.unread; first = are.second; second = are.first })
+    | inr (front, segment, end, cuts, are) ↦ inr (front, segment, end, cuts, record { whole = are.whole; first = are.second; second = are.first })
   ]
 
   -- a text is refused in one way, after the same items

@@ -16,12 +16,13 @@ use Rattle.omega_text.specs.declared.refusal.text.TextFault.TheVariants.{Syntax,
 use Rattle.omega_automaton.specs.Automaton.{Description}
 use Rattle.omega_hoa.specs.Alone.{AreRefused, HasNoSegmentAt, IsAutomatonRefusal, IsAutomatonText, IsSegmentRefused}
 use Rattle.omega_hoa.specs.Laws.{AreAlike, AreOfSegment}
+use Rattle.omega_hoa.proofs.Places.{through_none}
 use Rattle.omega_hoa.specs.Segment.{IsAutomatonOf, IsNoRaw, IsRawOf, IsSegmentFault}
 use Rattle.omega_hoa.specs.Stream.{IsOpen, IsSegment, Opens, is_end}
-use Rattle.omega_hoa.proofs.Cutting.{cuts_split}
 use Rattle.omega_hoa.proofs.FirstEnds.{first_end, never_ended, open_is_no_segment, open_unended, segment_opens, segment_split, segments_one}
 use Rattle.omega_hoa.proofs.OneStream.{segment_is_some}
 use Rattle.omega_hoa.proofs.Readings.{Readings}
+use Rattle.omega_text.proofs.formats.Cutting.{cuts_split}
 
 -- tokens that begin with a segment ended by `--END--` are not without one
 has_segment : (count at : ℕ) (lexemes segment rest : List (Lexeme HoaKind)) → HasNoSegmentAt count lexemes at → IsSegment End segment → lexemes ≡ segment ++ rest → ⊥
@@ -67,7 +68,8 @@ no_three Expansion is = cc
 
 -- tokens of a segment that are refused with `Syntax` are those of no automaton
 three_unread : (segment : List (Lexeme HoaKind)) (refusal : Refusal) → number_of refusal ≡ 3 → IsSegmentFault segment refusal → IsNoRaw segment
-three_unread segment (Text said) is fault = fault.0
+three_unread segment (Text (Syntax at)) is fault = through_none segment at fault
+three_unread segment (Text said) is fault = absurd fault
 three_unread segment (AutomatonRefusal said) is fault = absurd (no_three said is)
 three_unread segment refusal is fault = absurd fault
 

@@ -17,14 +17,15 @@ use Rattle.omega_text.specs.declared.refusal.text.TextFault.TheVariants.{Syntax}
 use Rattle.omega_hoa.specs.Alone.{AreRefused, HasNoSegmentAt, IsAutomatonRefusal, IsAutomatonText, IsInGrammar}
 use Rattle.omega_raw.specs.declared.raw_automaton.RawAutomaton.{RawAutomaton}
 use Rattle.omega_automaton.specs.Automaton.{Description}
-use Rattle.omega_hoa.specs.Segment.{IsAutomatonOf, IsRawOf, IsSegmentFault, IsStartOf}
+use Rattle.omega_hoa.specs.Segment.{IsAutomatonOf, IsRawOf, IsSegmentFault, IsUnwrittenThrough}
 use Rattle.omega_hoa.specs.private.Places.{IsPartUnread, counted_from}
 use Rattle.omega_hoa.proofs.Places.{unread_here}
 use Rattle.omega_hoa.specs.Stream.{IsOpen, IsSegment}
 use Rattle.omega_hoa.specs.private.outlines.Outline.{BeginsAborted, BeginsStray, HasFollowed, HasOutline, HasWhole, IsWhole}
 use Rattle.omega_hoa.specs.declared.outline.TextOutline.TheVariants.{Empty, Stray, Open, Aborted}
-use Rattle.omega_hoa.proofs.Cutting.{cuts_forward, cuts_last, cuts_split, moved, part_cut}
+use Rattle.omega_hoa.proofs.Cutting.{cuts_last, moved, part_cut}
 use Rattle.omega_hoa.proofs.Written.{automaton_same, raw_same, same_moved}
+use Rattle.omega_text.proofs.formats.Cutting.{cuts_forward, cuts_split}
 
 -- a fact of the value that a call answers, from another
 pub ok_says : {A E : Type 0} (result : Result A E) (Says Wanted : A → Type 0) → ((value : A) → Says value → Wanted value) → IfOk result Says → IfOk result Wanted
@@ -119,7 +120,7 @@ whole_refused source end refusal has short fault = tokens_refused source has.lex
 
 -- the refusal of a segment that others follow, by its syntax
 pub own_refused : (source : List ℕ) (end at : ℕ) (refusal : Refusal) → (has : HasFollowed source end at) → length source ≤ most_text
-    → ((place : ℕ) → IsStartOf (map (counted_from 0) (map (moved 0) has.is.front)) place → IsStartOf has.is.front place) → IsPartUnread 0 (map (moved 0) has.is.front) refusal → or_memory (IsAutomatonRefusal source) refusal
+    → ((place : ℕ) → IsUnwrittenThrough (map (counted_from 0) (map (moved 0) has.is.front)) place → IsUnwrittenThrough has.is.front place) → IsPartUnread 0 (map (moved 0) has.is.front) refusal → or_memory (IsAutomatonRefusal source) refusal
 own_refused source end at Memory has short back unread = tt
 own_refused source end at (Text (Syntax place)) has short back unread = tokens_refused source has.lexemes (Text (Syntax place)) short has.cut (inr (record {
   segment = has.is.front;
@@ -128,7 +129,7 @@ own_refused source end at (Text (Syntax place)) has short back unread = tokens_r
   whole = segment_of has.is.front end has.is.whole;
   refused = inl (unread_here 0 has.is.front back (Text (Syntax place)) unread, inl refl);
 }))
-own_refused source end at (Text fault) has short back unread = absurd unread.1
+own_refused source end at (Text fault) has short back unread = absurd unread
 own_refused source end at refusal has short back unread = absurd unread
 
 -- and by what follows it

@@ -13,6 +13,7 @@ use Rattle.omega_automaton.specs.Automaton.{Description}
 use Rattle.omega_automaton.specs.Faults.{automaton_fault_of}
 use Rattle.omega_automaton.specs.Laws.{MeaningsAreOne}
 use Rattle.omega_automaton.specs.Meaning.{Means}
+use Rattle.omega_hoa.proofs.Places.{through_none}
 use Rattle.omega_hoa.specs.Laws.{AreOfSegment}
 use Rattle.omega_hoa.specs.Segment.{HasMeaningFault, IsAutomatonOf, IsRawOf, IsSegmentFault}
 use Rattle.omega_hoa.specs.Stream.{IsSegment}
@@ -34,20 +35,20 @@ module _ (raws_one : RawsAreOne) (lexemes : List (Lexeme HoaKind)) where
       cc
 
   pub fault_one : (one other : Refusal) → IsSegmentFault lexemes one → IsSegmentFault lexemes other → (one ≡ other) ⊎ (IsSegment End lexemes → AreOfSegment lexemes one other)
-  fault_one (Text (Syntax at)) (Text (Syntax place)) here there = inr (λ whole. record { whole = whole; unread = here.0; first = here.1; second = there.1 })
-  fault_one (Text (Syntax at)) (AutomatonRefusal fault) here there = absurd (here.0 there.raw there.written)
-  fault_one (AutomatonRefusal fault) (Text (Syntax at)) here there = absurd (there.0 here.raw here.written)
+  fault_one (Text (Syntax at)) (Text (Syntax place)) here there = inr (λ whole. record { whole = whole; first = here; second = there })
+  fault_one (Text (Syntax at)) (AutomatonRefusal fault) here there = absurd (through_none lexemes at here there.raw there.written)
+  fault_one (AutomatonRefusal fault) (Text (Syntax at)) here there = absurd (through_none lexemes at there here.raw here.written)
   fault_one (AutomatonRefusal fault) (AutomatonRefusal other) here there = inl (ap (λ said. AutomatonRefusal said) (meaning_fault_one fault other here there))
-  fault_one (Text (Lex at)) other here there = absurd here.1
-  fault_one (Text (Number at)) other here there = absurd here.1
-  fault_one (Text TooLong) other here there = absurd here.1
+  fault_one (Text (Lex at)) other here there = absurd here
+  fault_one (Text (Number at)) other here there = absurd here
+  fault_one (Text TooLong) other here there = absurd here
   fault_one (Game fault) other here there = absurd here
   fault_one (Task fault) other here there = absurd here
   fault_one Memory other here there = absurd here
   fault_one Io other here there = absurd here
-  fault_one one (Text (Lex at)) here there = absurd there.1
-  fault_one one (Text (Number at)) here there = absurd there.1
-  fault_one one (Text TooLong) here there = absurd there.1
+  fault_one one (Text (Lex at)) here there = absurd there
+  fault_one one (Text (Number at)) here there = absurd there
+  fault_one one (Text TooLong) here there = absurd there
   fault_one one (Game fault) here there = absurd there
   fault_one one (Task fault) here there = absurd there
   fault_one one Memory here there = absurd there
@@ -55,7 +56,8 @@ module _ (raws_one : RawsAreOne) (lexemes : List (Lexeme HoaKind)) where
 
   -- not both an automaton and a fault
   pub automaton_has_no_fault : (automaton : Description) (refusal : Refusal) → IsAutomatonOf lexemes automaton → IsSegmentFault lexemes refusal → ⊥
-  automaton_has_no_fault automaton (Text said) is fault = fault.0 is.raw is.written
+  automaton_has_no_fault automaton (Text (Syntax at)) is fault = through_none lexemes at fault is.raw is.written
+  automaton_has_no_fault automaton (Text said) is fault = absurd fault
   automaton_has_no_fault automaton (AutomatonRefusal said) is fault =
       let same : None ≡ Some said = sym is.means.faultless ∙ ap automaton_fault_of (raw_one is.raw fault.raw is.written fault.written) ∙ fault.has in
       cc

@@ -21,7 +21,7 @@ use Rattle.omega_hoa.specs.private.dividing.Next.{IsNextDivision, IsNextSettled,
 use Rattle.omega_hoa.specs.declared.division.Division.{Division}
 use Rattle.omega_hoa.specs.declared.item.Item.{Item}
 use Rattle.omega_hoa.specs.declared.progress.ReadProgress.{ReadProgress}
-use Rattle.omega_hoa.proofs.Cutting.{cuts_split}
+use Rattle.omega_text.proofs.formats.Cutting.{cuts_split}
 
 -- a fault of tokens refuses a text outside segments
 fault_outside : (source : List ℕ) (from : ℕ) (fault : TextFault) → HasFaultFrom source from fault → IsFaultOutside source from fault

@@ -23,10 +23,11 @@ use Rattle.omega_hoa.specs.private.dividing.Next.{IsNextDivision, IsRefusedNow, 
 use Rattle.omega_hoa.specs.declared.division.Division.{Division}
 use Rattle.omega_hoa.specs.declared.item.Item.{Item}
 use Rattle.omega_hoa.specs.declared.item.Item.TheVariants.{Automaton as AutomatonItem, Aborted}
-use Rattle.omega_hoa.proofs.Cutting.{cuts_end, cuts_forward, cuts_last, cuts_split, moved, part, part_cut}
+use Rattle.omega_hoa.proofs.Cutting.{cuts_last, moved, part, part_cut}
 use Rattle.omega_hoa.proofs.Dividing.{ended, open_push, opened, segment_moved, stream_push}
 use Rattle.omega_hoa.proofs.Places.{start_back, fault_here}
 use Rattle.omega_hoa.proofs.Written.{automaton_same, same_moved}
+use Rattle.omega_text.proofs.formats.Cutting.{cuts_end, cuts_forward, cuts_split}
 
 -- memory, or the other cases
 pub memory_or : (Holds : Refusal → Type 0) (refusal : Refusal) → or_memory Holds refusal → (refusal ≡ Memory) ⊎ Holds refusal

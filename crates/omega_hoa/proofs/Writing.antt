@@ -146,7 +146,7 @@ written_ends raw =
     (each_keeps state_row state_keeps raw.states (sign kind.End ∷ []) end_alone)))
 
 -- so does the whole
-whole_ends : (raw : RawAutomaton) → EndSpelled (automaton_symbols raw)
+pub whole_ends : (raw : RawAutomaton) → EndSpelled (automaton_symbols raw)
 whole_ends raw =
     let states = each state_row raw.states (sign kind.End ∷ []) in
     following (header _) (word raw.version ∷ each item_row raw.items (sign kind.Body ∷ states)) tt (written_ends raw)

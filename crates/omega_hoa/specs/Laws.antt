@@ -17,15 +17,14 @@ use Rattle.omega_automaton.specs.Automaton.{Description}
 use Rattle.omega_hoa.specs.Alone.{IsAutomatonRefusal, IsAutomatonText}
 use Rattle.omega_hoa.specs.Feeding.{IsFed, TakesPiece}
 use Rattle.omega_hoa.specs.Kept.{Kept}
-use Rattle.omega_hoa.specs.Segment.{IsNoRaw, IsRawOf, IsSyntaxWithin}
+use Rattle.omega_hoa.specs.Segment.{IsRawOf, IsSyntaxWithin}
 use Rattle.omega_hoa.specs.Stream.{IsSegment, IsStreamFault, IsStreamRefusal, IsStreamText}
 use Rattle.omega_hoa.specs.declared.item.Item.{Item}
 
--- two refusals `Syntax` of the tokens of one whole segment that spell no automaton: each is at the start of one of the
--- tokens; only tests show at which
+-- two refusals `Syntax` of the tokens of one whole segment: each is at a token through which no automaton begins; only
+-- tests show that it is the first such
 pub record AreOfSegment (segment : List (Lexeme HoaKind)) (one other : Refusal) : Type 0 where
   pub whole : IsSegment End segment
-  pub unread : IsNoRaw segment
   pub first : or_text (IsSyntaxWithin segment) never one
   pub second : or_text (IsSyntaxWithin segment) never other
 

@@ -1,5 +1,5 @@
 -- The tokens of one segment that ends with `--END--`: they spell an automaton, or are faulty.
-use Rattle.std.specs.Prelude.{◌≡◌, ℕ, ◌⊎◌, Some, List, [], ◌∷◌}
+use Rattle.std.specs.Prelude.{◌≡◌, ℕ, Some, List, [], ◌∷◌, ◌++◌}
 use Rattle.omega_text.specs.Cases.{never, or_automaton, or_text}
 use Rattle.omega_text.specs.Lexeme.{Lexeme}
 use Rattle.omega_text.specs.declared.hoa.kind.HoaKind.{HoaKind}
@@ -33,17 +33,20 @@ pub record HasMeaningFault (lexemes : List (Lexeme HoaKind)) (fault : AutomatonF
   pub written : IsRawOf lexemes raw
   pub has : automaton_fault_of raw ≡ Some fault
 
--- one of the tokens begins at this place
-abbrev pub IsStartOf : List (Lexeme HoaKind) → ℕ → Type 0
-IsStartOf [] at = ⊥
-IsStartOf (lexeme ∷ lexemes) at = (at ≡ lexeme.span.start) ⊎ IsStartOf lexemes at
+-- a token begins at this place, and no automaton as it is written begins with the tokens through it
+pub record IsUnwrittenThrough (lexemes : List (Lexeme HoaKind)) (place : ℕ) : Type 0 where
+  pub before : List (Lexeme HoaKind)
+  pub token : Lexeme HoaKind
+  pub rest : List (Lexeme HoaKind)
+  pub split : lexemes ≡ before ++ token ∷ rest
+  pub there : place ≡ token.span.start
+  pub unwritten : (more : List (Lexeme HoaKind)) → IsNoRaw (before ++ token ∷ more)
 
--- a fault of syntax, at the start of one of the tokens
+-- a fault of syntax, at a token through which no automaton begins
 abbrev pub IsSyntaxWithin : List (Lexeme HoaKind) → TextFault → Type 0
-IsSyntaxWithin lexemes (Syntax at) = IsStartOf lexemes at
+IsSyntaxWithin lexemes (Syntax at) = IsUnwrittenThrough lexemes at
 IsSyntaxWithin lexemes fault = ⊥
 
--- why the tokens are not an automaton's: `Syntax` at one of them if they spell no automaton, else a fault of meaning
+-- why the tokens are not an automaton's: `Syntax` at one of them through which none begins, else a fault of meaning
 abbrev pub IsSegmentFault : List (Lexeme HoaKind) → Refusal → Type 0
-IsSegmentFault lexemes =
-    or_text (λ fault. IsNoRaw lexemes × IsSyntaxWithin lexemes fault) (or_automaton (HasMeaningFault lexemes) never)
+IsSegmentFault lexemes = or_text (IsSyntaxWithin lexemes) (or_automaton (HasMeaningFault lexemes) never)

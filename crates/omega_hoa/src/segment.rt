@@ -3,8 +3,8 @@ ghost use Rattle.omega_text.specs.Cut.{IsCut};
 ghost use Rattle.omega_text.specs.Lexeme.{Lexeme};
 ghost use Rattle.omega_text.specs.hoa.Format.{hoa_format};
 ghost use Rattle.omega_text.specs.declared.hoa.kind.HoaKind.{HoaKind};
-ghost use Rattle.omega_hoa.specs.Segment.{IsAutomatonOf, IsRawOf, IsStartOf};
-ghost use Rattle.omega_hoa.specs.private.Places.{IsPartFault, IsPartUnread, OfSegment};
+ghost use Rattle.omega_hoa.specs.Segment.{IsAutomatonOf, IsRawOf};
+ghost use Rattle.omega_hoa.specs.private.Places.{IsPartFault, IsPartUnread, IsStartFrom, OfSegment};
 
 use omega_automaton::{Automaton, automaton_of};
 use omega_raw::{RawAutomaton, read_raw};
@@ -56,7 +56,7 @@ pub(crate) fn read_written(
 fn token_start(bytes: &[u8], at: usize) -> usize
     requires { (lexemes : List (Lexeme HoaKind)) × IsCut hoa_format bytes.now lexemes }
     ensures { (lexemes : List (Lexeme HoaKind))
-        → IsCut hoa_format bytes.now lexemes → (lexemes ≡ [] → ⊥) → IsStartOf lexemes result }
+        → IsCut hoa_format bytes.now lexemes → (lexemes ≡ [] → ⊥) → IsStartFrom at lexemes result }
 {
     cuts_are_one::<HoaKind>();
     let mut tokens = TextCursor::<HoaKind>::new(bytes);

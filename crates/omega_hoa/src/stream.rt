@@ -112,7 +112,6 @@ impl Stream {
         match self.refused {
             Some(refusal) => Err(refusal),
             None => {
-                HoaKind::goes_on_one_way();
                 let settled = self.tokenizer.finish();
                 if self.inside {
                     Err(end_inside(settled, self.begins + self.bytes.len()))

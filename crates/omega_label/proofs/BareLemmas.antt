@@ -6,14 +6,13 @@ use Rattle.std.proofs.lemmas.List.Elements.{filter-append}
 use Rattle.std.proofs.lemmas.List.Folds.{list_any-append}
 use Rattle.std.proofs.lemmas.List.Sums.{count_by-le-length, sum_by-append}
 use Rattle.omega_expression.specs.Depth.{counted}
-use Rattle.omega_label.specs.Expanding.{Defined, Entry, IsExpansion, Meaning, both, entries_of, expansion, fault_of_meaning, in_parentheses, negated, replaced}
+use Rattle.omega_label.specs.Expanding.{Defined, Entry, IsExpansion, Meaning, both, entries_of, expansion, extent_of, fault_of_meaning, in_parentheses, negated, replaced}
 use Rattle.omega_label.specs.Label.{LabelTree, label_size, label_depth}
 use Rattle.omega_label.specs.Postfix.{postfix}
 use Rattle.omega_label.specs.private.layout.Label.{IsLabelInPostfix, tree_of, tree_of-postfix}
 use Rattle.omega_label.specs.Label as label
 use Rattle.omega_label.specs.Raw.{RawLabelTree, alias, conjunction, constant, disjunction, group, negation, proposition, raw_depth}
 use Rattle.omega_label.specs.private.layout.Bare.{bare, is_alias, is_bare}
-use Rattle.omega_label.specs.private.layout.Extents.{extent_of}
 use Rattle.omega_expression.specs.Limits.{most_depth, most_size, past_size}
 use Rattle.omega_label.specs.private.layout.Raw.{raw_postfix}
 use Rattle.omega_label.proofs.ExpansionLemmas.{deep-none}

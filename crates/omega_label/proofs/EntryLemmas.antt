@@ -3,12 +3,12 @@ use Rattle.std.proofs.Common.{◌≡◌, ℕ, ◌<◌, ◌≤◌, zero, suc, Boo
 use Rattle.std.proofs.Math.Seq.{take-length}
 use Rattle.std.proofs.lemmas.List.{length-map}
 use Rattle.std.specs.Str.{bytes_eq}
-use Rattle.omega_label.specs.Expanding.{Defined, Entry, Meaning, both, entries_of, in_parentheses, negated, place_among, replaced, stands_for}
+use Rattle.omega_label.specs.Expanding.{Defined, Entry, Meaning, both, entries_of, extent_of, in_parentheses, negated, place_among, replaced, stands_for}
 use Rattle.omega_label.specs.private.layout.Emitting.{IsBodyAt}
 use Rattle.omega_label.specs.Label.{LabelTree, label_depth}
 use Rattle.omega_label.specs.Label as label
 use Rattle.omega_label.specs.Raw.{RawLabelTree, alias, conjunction, constant, disjunction, group, negation, proposition}
-use Rattle.omega_label.specs.private.layout.Extents.{extent_named, extent_of}
+use Rattle.omega_label.specs.private.layout.Extents.{extent_named}
 use Rattle.omega_label.specs.declared.extents.Extent.{Extent}
 
 -- the entry of a definition after earlier entries

@@ -1,11 +1,11 @@
 -- The extent that nodes make is that of what their label means.
 use Rattle.std.proofs.Common.{◌≡◌, ℕ, List, [], ◌∷◌, ◌++◌, Option, Some, None, option_map, length, drop, ap, append-nil, append_assoc, refl, sym, ◌∙◌, arith}
 use Rattle.std.proofs.Math.Seq.{drop-append_seam, take-append_seam}
-use Rattle.omega_label.specs.Expanding.{Entry, Meaning, both, in_parentheses, negated, replaced, stands_for}
+use Rattle.omega_label.specs.Expanding.{Entry, Meaning, both, extent_of, in_parentheses, negated, replaced, stands_for}
 use Rattle.omega_label.specs.Label.{LabelTree, label_size}
 use Rattle.omega_label.specs.Label as label
 use Rattle.omega_label.specs.Raw.{RawLabelTree, alias, conjunction, constant, disjunction, group, negation, proposition}
-use Rattle.omega_label.specs.private.layout.Extents.{atom_extent, both_extents, deeper_extent, extent_named, extent_of, extents_after, negated_extent}
+use Rattle.omega_label.specs.private.layout.Extents.{atom_extent, both_extents, deeper_extent, extent_named, extents_after, negated_extent}
 use Rattle.omega_expression.specs.Joins.{regrouped}
 use Rattle.omega_label.specs.private.layout.Raw.{alias_names, raw_postfix}
 use Rattle.omega_label.specs.declared.extents.Extent.{Extent}

@@ -1,11 +1,10 @@
 -- What is kept of definitions: the nodes of what they mean.
 use Rattle.std.proofs.Common.{◌≡◌, ℕ, ◌<◌, zero, suc, List, [], ◌∷◌, ◌++◌, Option, Some, None, option_map, IsSome, length, map, take, get_or, ap, subst, sym, ◌∙◌, append-nil, append_assoc, refl, arith}
 use Rattle.std.proofs.lemmas.Bool.{false≢true}
-use Rattle.omega_label.specs.Expanding.{Entry, Meaning, entries_of, replaced}
+use Rattle.omega_label.specs.Expanding.{Entry, Meaning, entries_of, extent_of, replaced}
 use Rattle.omega_label.specs.Raw.{RawLabelTree}
 use Rattle.omega_label.specs.private.layout.Aliases.{defined_of}
 use Rattle.omega_label.specs.private.layout.Emitting.{AllKept, IsBodyAt, IsKept, nodes_of}
-use Rattle.omega_label.specs.private.layout.Extents.{extent_of}
 use Rattle.omega_label.specs.declared.aliases.Definition.{Definition}
 use Rattle.omega_label.specs.declared.extents.Extent.{Extent}
 use Rattle.omega_label.specs.declared.label.LabelNode.{LabelNode}

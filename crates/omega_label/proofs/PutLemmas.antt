@@ -6,10 +6,9 @@ use Rattle.std.specs.Str.{bytes_eq}
 use Rattle.std.proofs.lemmas.Bool.{cond-false}
 use Rattle.std.proofs.lemmas.List.{map-append}
 use Rattle.omega_text.specs.declared.refusal.Refusal.{Refusal}
-use Rattle.omega_label.specs.Expanding.{Entry, entries_of, expansion}
+use Rattle.omega_label.specs.Expanding.{Entry, entries_of, expansion, extent_of}
 use Rattle.omega_label.specs.private.layout.Aliases.{defined_of}
 use Rattle.omega_label.specs.private.layout.Emitting.{AllKept, IsKept}
-use Rattle.omega_label.specs.private.layout.Extents.{extent_of}
 use Rattle.omega_label.specs.declared.aliases.Definition.{Definition}
 use Rattle.omega_label.proofs.EntryLemmas.{entries_of-push, entry_of}
 use Rattle.omega_label.proofs.KeptLemmas.{AllKept-push}

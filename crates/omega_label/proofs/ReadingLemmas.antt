@@ -14,6 +14,9 @@ use Rattle.omega_expression.specs.Passing.{NextIsNot, Passed, PassesNumber, Pass
 use Rattle.omega_label.specs.private.layout.Raw.{alias_names, raw_postfix}
 use Rattle.omega_expression.proofs.PassingLemmas.{GoOnNone, GoesOnNone, enclosed_list, end_others, followed_lists, go_on_others, joined_lists, passed_next, passed_same}
 use Rattle.omega_expression.proofs.PendingLemmas.{IsBar, IsConjunct, IsDisjunct, IsFree, IsLoose, IsNothing, IsParenthesis, below, free_open, kept, top}
+use Rattle.omega_expression.proofs.UnreadLemmas.{through_next}
+use Rattle.omega_expression.specs.Unread.{AgreeThroughNext, IsUnreadThrough}
+use Rattle.omega_text.specs.Cursor.{next_place}
 use Rattle.omega_text.specs.Lexeme.{Lexeme}
 use Rattle.omega_text.specs.declared.hoa.kind.HoaKind.{HoaKind}
 use Rattle.omega_text.specs.declared.hoa.kind.HoaKind.TheVariants as kind
@@ -529,11 +532,34 @@ not-through-had (lexeme ∷ rest) count none through =
     subst IsThrough (ap (λ state. run state (map expression_symbol_of rest)) (stuck-kind lexeme.kind count lexeme.value lexeme.text none) ∙ run-failed (map expression_symbol_of rest)) through
 
 -- where a part is wanted and none begins, nothing is read
-pub none_wanted : (whole left : List (Lexeme HoaKind)) (nodes : List LabelNode) (names : List ℕ) (pending : List Pending)
+nothing_wanted : (whole left : List (Lexeme HoaKind)) (nodes : List LabelNode) (names : List ℕ) (pending : List Pending)
     → Wants whole left nodes names pending → BeginNone left → ReadsNoLabel whole
-none_wanted whole left nodes names pending wants none tree rest reads =
+nothing_wanted whole left nodes names pending wants none tree rest reads =
     not-through-wanted left (opens wants.before) none
     (subst IsThrough (run-passed whole left (before_symbols wants.before) wants.passed ∙ ap (λ state. run state (map expression_symbol_of left)) (run-before wants.before)) (through-reads whole tree rest reads))
+
+-- a part is wanted as well before other tokens
+wants_before : (whole left others : List (Lexeme HoaKind)) (nodes : List LabelNode) (names : List ℕ) (pending : List Pending)
+    → (wants : Wants whole left nodes names pending) → Wants (wants.passed.front ++ others) others nodes names pending
+wants_before whole left others nodes names pending wants = record {
+  before = wants.before;
+  sound = wants.sound;
+  flat = wants.flat;
+  named = wants.named;
+  pends = wants.pends;
+  passed = record { front = wants.passed.front; split = refl; spells = wants.passed.spells };
+}
+
+begin_through : (left others : List (Lexeme HoaKind)) → AgreeThroughNext left others → BeginNone left → BeginNone others
+begin_through [] others agree none = subst BeginNone (sym agree) tt
+begin_through (lexeme ∷ rest) others agree none = subst BeginNone (sym agree.1) none
+
+-- and it is seen at the next token
+pub none_wanted : (whole left : List (Lexeme HoaKind)) (nodes : List LabelNode) (names : List ℕ) (pending : List Pending) (length place : ℕ)
+    → place ≡ next_place left length → Wants whole left nodes names pending → BeginNone left → IsUnreadThrough ReadsNoLabel whole length place
+none_wanted whole left nodes names pending length place there wants none =
+    through_next ReadsNoLabel whole wants.passed.front left length place wants.passed.split there
+    (λ others agree. nothing_wanted (wants.passed.front ++ others) others nodes names pending (wants_before whole left others nodes names pending wants) (begin_through left others agree none))
 
 unclosed_before : (before : Before) (whole left : List (Lexeme HoaKind)) (rest : List Pending) (part : RawLabelTree)
     → Open ∷ rest ≡ before_pending before → Passed whole (before_symbols before ++ label_symbols part) left → GoOnNone left → ReadsNoLabel whole
@@ -550,11 +576,17 @@ unclosed_before (opened before) whole left rest part pends passed none tree foll
     ∙ (ap (λ state. run state (label_symbols part)) (run-before (opened before)) ∙ run-label (suc (opens before)) part)))
     (through-reads whole tree following reads))
 
--- where a parenthesis is open and neither an operator nor `)` follows, nothing is read
-pub none_closed : (whole left : List (Lexeme HoaKind)) (depth : ℕ) (nodes : List LabelNode) (names : List ℕ) (rest : List Pending)
-    → Has disjunctive whole left depth nodes names (Open ∷ rest) → GoOnNone left → ReadsNoLabel whole
-none_closed whole left depth nodes names rest has none =
-    unclosed_before has.before whole left rest has.part has.pends has.passed none
+go_through : (left others : List (Lexeme HoaKind)) → AgreeThroughNext left others → GoOnNone left → GoOnNone others
+go_through [] others agree none = subst GoOnNone (sym agree) tt
+go_through (lexeme ∷ rest) others agree none = subst GoOnNone (sym agree.1) none
+
+-- where a parenthesis is open and neither an operator nor `)` follows, nothing is read through the next token
+none_closed : (whole left : List (Lexeme HoaKind)) (depth : ℕ) (nodes : List LabelNode) (names : List ℕ) (rest : List Pending) (length place : ℕ)
+    → place ≡ next_place left length → Has disjunctive whole left depth nodes names (Open ∷ rest) → GoOnNone left → IsUnreadThrough ReadsNoLabel whole length place
+none_closed whole left depth nodes names rest length place there has none =
+    through_next ReadsNoLabel whole has.passed.front left length place has.passed.split there
+    (λ others agree. unclosed_before has.before (has.passed.front ++ others) others rest has.part has.pends
+    (record { front = has.passed.front; split = refl; spells = has.passed.spells }) (go_through left others agree none))
 
 -- a kind that begins no part
 pub begins_others : (sort : HoaKind) → (sort ≡ kind.AliasName → ⊥) → (sort ≡ kind.True → ⊥) → (sort ≡ kind.False → ⊥) → (sort ≡ kind.Int → ⊥) → (sort ≡ kind.Not → ⊥) → (sort ≡ kind.OpenParenthesis → ⊥) → BeginsNone sort
@@ -591,12 +623,13 @@ whole_read whole old same left depth nodes names pending stays not_and rests not
     (subst EndsThere (sym at_left) (end_others old not_and (subst (NextIsNot kind.Or) stays not_or)))
 
 -- a parenthesis waits, and nothing that goes on follows
-pub unclosed_none : (whole old same left : List (Lexeme HoaKind)) (depth : ℕ) (nodes : List LabelNode) (names : List ℕ) (pending : List Pending) (first : Pending) (rest : List Pending)
-    → same ≡ old → NextIsNot kind.And old → left ≡ same → NextIsNot kind.Or same → NextIsNot kind.CloseParenthesis left → pending ≡ first ∷ rest
-    → Has disjunctive whole old depth nodes names pending → ReadsNoLabel whole
-unclosed_none whole old same left depth nodes names pending first rest stays not_and rests not_or not_close waits has =
+pub unclosed_none : (whole old same left final : List (Lexeme HoaKind)) (depth : ℕ) (nodes : List LabelNode) (names : List ℕ) (pending : List Pending) (first : Pending) (rest : List Pending) (length long place : ℕ)
+    → same ≡ old → NextIsNot kind.And old → left ≡ same → NextIsNot kind.Or same → final ≡ left → NextIsNot kind.CloseParenthesis left → pending ≡ first ∷ rest
+    → long ≡ length → place ≡ next_place final long → Has disjunctive whole old depth nodes names pending → IsUnreadThrough ReadsNoLabel whole length place
+unclosed_none whole old same left final depth nodes names pending first rest length long place stays not_and rests not_or ends not_close waits text there has =
     let free = subst IsFree waits (has_is_free whole old depth nodes names pending has) in
-    none_closed whole old depth nodes names rest
+    none_closed whole old depth nodes names rest length place
+    (there ∙ (ap (λ tokens. next_place tokens long) (ends ∙ (rests ∙ stays)) ∙ ap (λ l. next_place old l) text))
     (subst (Has disjunctive whole old depth nodes names) (waits ∙ ap (λ p. p ∷ rest) (free_open first rest free)) has)
     (go_on_others old not_and (subst (NextIsNot kind.Or) stays not_or) (subst (NextIsNot kind.CloseParenthesis) (rests ∙ stays) not_close))
 

@@ -1,6 +1,6 @@
 -- The meaning of a label once each alias is replaced by its definition (HOA v1, aliases; docs/formats.md, labels and
 -- acceptance formulas).
-use Rattle.std.specs.Prelude.{◌≡◌, ℕ, suc, ◌+◌, ◌<◌, ◌≤◌, length, nat_lt, if◌then◌else◌, List, [], ◌∷◌, ◌++◌, Option, Some, None, option_map, max}
+use Rattle.std.specs.Prelude.{◌≡◌, ℕ, suc, ◌+◌, ◌<◌, ◌≤◌, length, nat_lt, if◌then◌else◌, List, [], ◌∷◌, ◌++◌, Option, Some, None, option_map, max, min}
 use Rattle.std.specs.Str.{bytes_eq}
 use Rattle.omega_text.specs.Cases.{never, or_automaton, or_memory}
 use Rattle.omega_text.specs.declared.refusal.Refusal.{Refusal}
@@ -8,7 +8,8 @@ use Rattle.omega_text.specs.declared.refusal.automaton.AutomatonFault.{Automaton
 use Rattle.omega_text.specs.declared.refusal.automaton.AutomatonFault.TheVariants.{Alias, Expansion, TooDeep}
 use Rattle.omega_label.specs.Label.{LabelTree, label_size}
 use Rattle.omega_label.specs.Label as label
-use Rattle.omega_expression.specs.Limits.{most_depth, most_size}
+use Rattle.omega_expression.specs.Limits.{most_depth, most_size, past_depth, past_size}
+use Rattle.omega_label.specs.declared.extents.Extent.{Extent}
 use Rattle.omega_label.specs.Raw.{RawLabelTree, alias, conjunction, constant, disjunction, group, negation, proposition}
 
 -- an alias and its definition as it is written
@@ -20,6 +21,10 @@ pub record Defined : Type 0 where
 pub record Meaning : Type 0 where
   pub tree : LabelTree
   pub depth : ℕ
+
+-- the depth and the tree nodes of a meaning, each counted no further than one past its limit
+abbrev pub extent_of : Meaning → Extent
+extent_of meaning = record { depth = min meaning.depth past_depth; size = min (label_size meaning.tree) past_size }
 
 -- a name, and what it means; none if its definition reaches an undefined alias
 pub record Entry : Type 0 where

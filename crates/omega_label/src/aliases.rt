@@ -2,9 +2,9 @@ ghost use Rattle.std.specs.Prelude.{◌≡◌, ◌<◌, ◌++◌, [], ◌∷◌,
 ghost use Rattle.std.specs.List.{list_any};
 ghost use Rattle.std.specs.Str.{bytes_eq};
 ghost use Rattle.omega_text.specs.Cases.{IsMemory};
-ghost use Rattle.omega_label.specs.Expanding.{IsAdded, IsRepeated, entries_of, expansion, place_among};
+ghost use Rattle.omega_label.specs.Expanding.{IsAdded, IsRepeated, entries_of, expansion, extent_of, place_among};
 ghost use Rattle.omega_label.specs.private.layout.Emitting.{IsBodyAt, IsKept, IsKeptAt};
-ghost use Rattle.omega_label.specs.private.layout.Extents.{extent_named, extent_of};
+ghost use Rattle.omega_label.specs.private.layout.Extents.{extent_named};
 
 use crate::codes::ROOM;
 use crate::expansion::emit;
@@ -119,8 +119,9 @@ impl Aliases {
         }
     }
 
-    /// Returns the extent of `raw` once expanded. A label without aliases takes no memory.
-    pub(crate) fn measure(&self, alloc: Global, raw: &RawLabel) -> Result<Option<Extent>, Refusal>
+    /// Returns the depth and the number of tree nodes of `raw` once expanded, an alias counting as its definition
+    /// between parentheses, or `None` if it reaches an undefined alias. A label without aliases takes no memory.
+    pub fn measure(&self, alloc: Global, raw: &RawLabel) -> Result<Option<Extent>, Refusal>
         ensures ok { IfOk result (λ extent. extent ≡ option_map extent_of (expansion self.now raw.now)) }
         ensures err { IfErr result IsMemory }
     {

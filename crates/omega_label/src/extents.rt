@@ -9,11 +9,11 @@ use smallvec::SmallVec;
 use std::alloc::Global;
 use std::marker::Model;
 
-/// The depth and size of a label, counted no further than just past the limits.
+/// The depth of a label, from 1, and the number of its tree nodes. Each is counted no further than one past its limit.
 #[derive(Clone, Copy)]
-pub(crate) struct Extent {
-    pub(crate) depth: u32,
-    pub(crate) size: u32,
+pub struct Extent {
+    pub depth: u32,
+    pub size: u32,
 }
 
 /// Returns an atom's extent.

@@ -56,6 +56,14 @@ impl Label {
     ghost use Rattle.omega_label.specs.private.layout.Label.{IsLabelInPostfix, tree_of};
     ghost use Rattle.omega_expression.specs.Limits.{most_depth};
 
+    /// States what each label keeps: it is at most 256 deep. Does nothing: it hands on the type's invariant.
+    pub fn keeps_limits(&self)
+        ensures { label_depth self.now ≤ most_depth }
+    {
+        // A field is read, since only then a proof knows the invariant.
+        let _size = self.written.len();
+    }
+
     /// Returns the number of its atoms and operators.
     pub fn size(&self) -> usize
         ensures { result ≡ label_size self.now }

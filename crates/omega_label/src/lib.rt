@@ -21,6 +21,7 @@ mod writing;
 pub use aliases::Aliases;
 pub use codes::{MOST_IN_PLACE, ROOM};
 pub use expansion::{expand, expand_in_place, expanded_size};
+pub use extents::Extent;
 pub use label::{Label, LabelNode};
 pub use laws::{equal_labels_are_equal_trees, labels_are_one};
 pub use raw::RawLabel;

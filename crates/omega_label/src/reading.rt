@@ -1,8 +1,9 @@
 //! Labels read from tokens.
 
 ghost use Rattle.std.specs.Prelude.{◌≡◌, ◌<◌, ◌≤◌, List, length, IfErr, IfOk, MatchBool, OnOk};
-ghost use Rattle.omega_label.specs.Reading.{IsUnreadLabel, Reads, ReadsDeep, ReadsNoLabel};
-ghost use Rattle.omega_expression.specs.Symbols.{IsUnread, conjunctive, unary};
+ghost use Rattle.omega_label.specs.Reading.{IsUnreadLabel, Reads, ReadsNoLabel};
+ghost use Rattle.omega_expression.specs.Symbols.{conjunctive, unary};
+ghost use Rattle.omega_expression.specs.Unread.{IsUnread};
 ghost use Rattle.omega_expression.specs.Limits.{most_depth};
 ghost use Rattle.omega_label.specs.Raw.{raw_depth};
 ghost use Rattle.omega_label.specs.private.layout.Building.{HasIn, IsWhole, WantsIn};
@@ -20,13 +21,17 @@ use omega_text::{AutomatonFault, HoaKind, Refusal, TextFault, TokenSource};
 use std::alloc::Global;
 
 /// Reads a label as it is written (HOA v1, label expressions): the one prefix of the tokens that is a label and has
-/// neither `&` nor `|` after it. Refused with [TextFault::Syntax] if there is none. Linear time, without recursion.
+/// neither `&` nor `|` after it. Linear time, without recursion.
+///
+/// Refused with [TextFault::Syntax] if there is none, at the first token with which no label goes on, else at the
+/// length of the text. It is proved that no label begins with the tokens through that place; that it is the first such
+/// place is tested.
 pub fn read_raw_label<'a, S: TokenSource<'a, HoaKind>>(
     alloc: Global,
     source: &mut S,
 ) -> Result<RawLabel, Refusal>
     ensures ok { IfOk result (λ label. Reads (S.left source.old) label (S.left source.new)) }
-    ensures err { IfErr result (IsUnread (ReadsNoLabel (S.left source.old))) }
+    ensures err { IfErr result (IsUnread ReadsNoLabel (S.left source.old) (S.length source.old)) }
     ensures length { S.length source.new ≡ S.length source.old }
 {
     let mut unfinished = Unfinished::new(alloc);
@@ -43,7 +48,7 @@ pub fn read_raw_label<'a, S: TokenSource<'a, HoaKind>>(
     )
 }
 
-/// Reads a label as `read_raw_label` does. Refused with [TextFault::Syntax] if there is none, else with
+/// Reads a label as `read_raw_label` does. Refused with [TextFault::Syntax] as there, else with
 /// [AutomatonFault::TooDeep] if it is over 256 deep, an alias having depth 1. After the latter only the tokens after it
 /// are left.
 pub fn read_label<'a, S: TokenSource<'a, HoaKind>>(
@@ -52,8 +57,7 @@ pub fn read_label<'a, S: TokenSource<'a, HoaKind>>(
 ) -> Result<RawLabel, Refusal>
     ensures ok { IfOk result (λ label. Reads (S.left source.old) label (S.left source.new)) }
     ensures shallow { IfOk result (λ label. raw_depth label ≤ most_depth) }
-    ensures err { IfErr result (IsUnreadLabel (ReadsNoLabel (S.left source.old))
-        (ReadsDeep (S.left source.old) (S.left source.new))) }
+    ensures err { IfErr result (IsUnreadLabel (S.left source.old) (S.left source.new) (S.length source.old)) }
     ensures length { S.length source.new ≡ S.length source.old }
 {
     let label = read_raw_label(alloc, source)?;
@@ -71,7 +75,7 @@ fn operand<'a, S: TokenSource<'a, HoaKind>>(
     ensures ok { OnOk result ((whole : List (Lexeme Kind)) → WantsIn whole (S.left source.old) unfinished.old →
         HasIn conjunctive whole (S.left source.new) unfinished.new) }
     ensures err { IfErr result (λ refusal. (whole : List (Lexeme Kind)) →
-        WantsIn whole (S.left source.old) unfinished.old → IsUnread (ReadsNoLabel whole) refusal) }
+        WantsIn whole (S.left source.old) unfinished.old → IsUnread ReadsNoLabel whole (S.length source.old) refusal) }
     ensures less { OnOk result (length (S.left source.new) < length (S.left source.old)) }
     ensures length { S.length source.new ≡ S.length source.old }
 {
@@ -88,7 +92,7 @@ fn read_prefix<'a, S: TokenSource<'a, HoaKind>>(
         → MatchBool more (WantsIn whole (S.left source.new) unfinished.new)
         (HasIn unary whole (S.left source.new) unfinished.new)) }
     ensures err { IfErr result (λ refusal. (whole : List (Lexeme Kind)) →
-        WantsIn whole (S.left source.old) unfinished.old → IsUnread (ReadsNoLabel whole) refusal) }
+        WantsIn whole (S.left source.old) unfinished.old → IsUnread ReadsNoLabel whole (S.length source.old) refusal) }
     ensures less { OnOk result (length (S.left source.new) < length (S.left source.old)) }
     ensures length { S.length source.new ≡ S.length source.old }
 {
@@ -130,7 +134,8 @@ fn read_infix<'a, S: TokenSource<'a, HoaKind>>(
         → MatchBool more (HasIn conjunctive whole (S.left source.new) unfinished.new)
         (IsWhole whole (S.left source.new) unfinished.new)) }
     ensures err { IfErr result (λ refusal. (whole : List (Lexeme Kind)) →
-        HasIn conjunctive whole (S.left source.old) unfinished.old → IsUnread (ReadsNoLabel whole) refusal) }
+        HasIn conjunctive whole (S.left source.old) unfinished.old
+        → IsUnread ReadsNoLabel whole (S.length source.old) refusal) }
     ensures less { IfOk result (λ more. MatchBool more (length (S.left source.new) < length (S.left source.old))
         (Unit {0})) }
     ensures length { S.length source.new ≡ S.length source.old }
@@ -169,7 +174,7 @@ fn conjunct<'a, S: TokenSource<'a, HoaKind>>(
         HasIn conjunctive whole (S.left source.new) unfinished.new) }
     ensures err { IfErr result (λ refusal. (whole : List (Lexeme Kind)) (before : List (Lexeme Kind)) →
         PassesOne kinds.And before (S.left source.old) → HasIn conjunctive whole before unfinished.old →
-        IsUnread (ReadsNoLabel whole) refusal) }
+        IsUnread ReadsNoLabel whole (S.length source.old) refusal) }
     ensures less { OnOk result (length (S.left source.new) < length (S.left source.old)) }
     ensures length { S.length source.new ≡ S.length source.old }
 {

@@ -1,23 +1,31 @@
 -- Items by their headers.
-use Rattle.std.proofs.Common.{◌≡◌, ℕ, Bool, true, false, List, Option, refl, sym, ap, ◌∙◌, subst, codes, if◌then◌else◌, Result, Ok, Err}
+use Rattle.std.proofs.Common.{◌≡◌, ℕ, Bool, true, false, List, [], ◌∷◌, ◌++◌, Option, refl, sym, ap, ◌∙◌, subst, codes, if◌then◌else◌, Result, Ok, Err}
 use Rattle.std.proofs.lemmas.Slice.Eq.{bytes_eq-Decides}
 use Rattle.std.specs.Str.{bytes_eq}
 use Rattle.omega_formula.specs.Raw.{RawAccTree}
 use Rattle.omega_label.specs.Raw.{RawLabelTree}
 use Rattle.omega_formula.specs.declared.name.AccName.{AccName}
 use Rattle.omega_formula.specs.declared.name.Parameter.{Parameter}
-use Rattle.omega_raw.specs.private.steps.Contents.{FindsContent, FindsNamed, FindsUnknown, GivesContent, GivesNamed, GivesUnknown}
-use Rattle.omega_raw.specs.Grammar.{IsRawItem, content_row, header_named, item_name}
+use Rattle.omega_expression.proofs.UnreadLemmas.{through_next, unread_after, unread_missing}
+use Rattle.omega_expression.specs.Passing.{IsMissing}
+use Rattle.omega_expression.specs.Unread.{AgreeThroughNext, IsUnread, IsUnreadThrough}
+use Rattle.omega_raw.proofs.SpellingLemmas.{missing_symbol, token_taken}
+use Rattle.omega_raw.specs.private.steps.Contents.{FindsContent, FindsUnknown, FindsWhere, GivesContent, GivesUnknown, IsUnknownItem}
+use Rattle.omega_raw.specs.Grammar.{IsRawItem, content_row, header_named, item_name, item_row}
 use Rattle.omega_raw.specs.private.steps.Rows.{item_header}
 use Rattle.omega_raw.specs.private.steps.Parts.{EndsItem}
-use Rattle.omega_raw.specs.private.steps.Reading.{Found}
-use Rattle.omega_raw.specs.Symbols.{ReadsSymbols, AutomatonSymbol, Tokens}
+use Rattle.omega_raw.specs.private.steps.Reading.{Finds, GivesRow, IsUnwritten}
+use Rattle.omega_raw.specs.Symbols.{ReadsSymbols, AutomatonSymbol, Tokens, header, without_last}
 use Rattle.omega_raw.specs.First.{FirstIs}
 use Rattle.omega_raw.specs.declared.header.name.HeaderKind.{HeaderKind}
 use Rattle.omega_raw.specs.declared.header.name.HeaderKind.TheVariants as named
 use Rattle.omega_raw.specs.declared.header_value.HeaderValue.{HeaderValue}
 use Rattle.omega_raw.specs.declared.raw_item.RawItem.{RawItem}
 use Rattle.omega_raw.specs.declared.raw_item.RawItem.TheVariants as item
+use Rattle.omega_text.specs.Cursor.{next_place}
+use Rattle.omega_text.specs.Lexeme.{Lexeme}
+use Rattle.omega_text.specs.declared.hoa.kind.HoaKind.{HoaKind}
+use Rattle.omega_text.specs.declared.hoa.kind.HoaKind.TheVariants as kind
 use Rattle.omega_text.specs.declared.refusal.Refusal.{Refusal}
 
 -- what holds of each `States` item holds of an item of that header
@@ -117,35 +125,81 @@ item_named : (it : RawItem) (bytes : List ℕ) → IsKnown (item_header it) → 
 item_named (item.Unknown name values) bytes known is = absurd known
 item_named other bytes known is = sym is
 
--- an item of the header with a name has that name
-pub content_given : (header : HeaderKind) (name : List ℕ) (old new : Tokens) (result : Result RawItem Refusal) → header_named name ≡ header → IsKnown header
-    → GivesContent header old new result → GivesNamed name old new result
-content_given header name old new (Ok it) is known given = record {
-  is = (item_named it name (subst IsKnown (sym given.is.0) known) (subst (λ h. IsName h name) (is ∙ sym given.is.0) (name_is name)), given.is.1);
-  spells = given.spells;
+-- an item after its header is read
+pub item_given : (which : HeaderKind) (old mid new : Tokens) (lexeme : Lexeme HoaKind) (result : Result RawItem Refusal) → old ≡ lexeme ∷ mid → lexeme.kind ≡ kind.HeaderName
+    → header_named (without_last lexeme.text) ≡ which → IsKnown which → GivesContent which mid new result → GivesRow IsRawItem item_row old new result
+item_given which old mid new lexeme (Ok it) next sort is known given = record {
+  is = given.is.1;
+  spells = λ others rest spells. record {
+    middle = mid;
+    front = record {
+      lexeme = lexeme;
+      next = next;
+      shows = (sort, sym (item_named it (without_last lexeme.text) (subst IsKnown (sym given.is.0) known) (subst (λ h. IsName h (without_last lexeme.text)) (is ∙ sym given.is.0) (name_is (without_last lexeme.text)))));
+    };
+    back = given.spells others rest spells;
+  };
 }
-content_given header name old new (Err refusal) is known given = tt
+item_given which old mid new lexeme (Err refusal) next sort is known given = tt
 
--- an item of a name has the header with that name
-pub content_found : (header : HeaderKind) (name : List ℕ) (old new : Tokens) (result : Result RawItem Refusal) → header_named name ≡ header
-    → FindsContent header old new result → FindsNamed name old new result
-content_found header name old new result is finds it others rest called valid follow spells =
-    finds it others rest (sym (header_named-item_name it valid) ∙ (ap header_named called ∙ is)) valid follow spells
+-- an unknown item is read
+pub unknown_given : (name : List ℕ) (old mid new : Tokens) (lexeme : Lexeme HoaKind) (result : Result RawItem Refusal) → old ≡ lexeme ∷ mid → lexeme.kind ≡ kind.HeaderName
+    → name ≡ without_last lexeme.text → GivesUnknown name mid new result → GivesRow IsRawItem item_row old new result
+unknown_given name old mid new lexeme (Ok it) next sort is given = record {
+  is = given.is.1;
+  spells = λ others rest spells. record {
+    middle = mid;
+    front = record { lexeme = lexeme; next = next; shows = (sort, sym (given.is.0.called ∙ is)) };
+    back = given.spells others rest spells;
+  };
+}
+unknown_given name old mid new lexeme (Err refusal) next sort is given = tt
 
-pub unknown_given : (name : List ℕ) (old new : Tokens) (result : Result RawItem Refusal) → GivesUnknown name old new result → GivesNamed name old new result
-unknown_given name old new (Ok it) given = record { is = (given.is.0.called, given.is.1); spells = given.spells }
-unknown_given name old new (Err refusal) given = tt
+-- what is found after a header is found with it, if what holds of an item of that name is what is found
+item_where : (Is : RawItem → Type 0) (old mid new : Tokens) (lexeme : Lexeme HoaKind) (length long : ℕ) (result : Result RawItem Refusal) → old ≡ lexeme ∷ mid → long ≡ length
+    → ((it : RawItem) → IsRawItem it → without_last lexeme.text ≡ item_name it → Is it) → FindsWhere Is mid new long result
+    → Finds IsRawItem item_row (FirstIs EndsItem) old new length result
+item_where Is old mid new lexeme length long (Ok it) next same holds finds = record {
+  front = lexeme ∷ finds.front;
+  split = next ∙ ap (λ tokens. lexeme ∷ tokens) finds.split;
+  holds = λ others agree wanted more rest valid follow spells.
+      let taken = token_taken (header (item_name wanted)) (content_row wanted more) rest (lexeme ∷ (finds.front ++ others)) (finds.front ++ others) lexeme refl spells in
+      finds.holds others agree wanted more rest (holds wanted valid taken.0.1, valid) follow taken.1;
+}
+item_where Is old mid new lexeme length long (Err refusal) next same holds finds =
+    unread_after (IsUnwritten IsRawItem item_row (FirstIs EndsItem)) (IsUnwritten (λ it. Is it × IsRawItem it) content_row (FirstIs EndsItem)) old (lexeme ∷ []) mid length refusal next
+    (λ others none wanted more rest valid follow spells.
+    let taken = token_taken (header (item_name wanted)) (content_row wanted more) rest (lexeme ∷ others) others lexeme refl spells in
+    none wanted more rest (holds wanted valid taken.0.1, valid) follow taken.1)
+    (subst (λ l. IsUnread (IsUnwritten (λ it. Is it × IsRawItem it) content_row (FirstIs EndsItem)) mid l refusal) same finds)
 
-pub unknown_found : (name : List ℕ) (old new : Tokens) (result : Result RawItem Refusal) → header_named name ≡ named.Unknown
-    → FindsUnknown name old new result → FindsNamed name old new result
-unknown_found name old new result is finds it others rest called valid follow spells =
-    finds it others rest (record { unknown = sym (header_named-item_name it valid) ∙ (ap header_named called ∙ is); called = called }) valid follow spells
+pub item_found : (which : HeaderKind) (old mid new : Tokens) (lexeme : Lexeme HoaKind) (length long : ℕ) (result : Result RawItem Refusal) → old ≡ lexeme ∷ mid → long ≡ length
+    → header_named (without_last lexeme.text) ≡ which → FindsContent which mid new long result → Finds IsRawItem item_row (FirstIs EndsItem) old new length result
+item_found which old mid new lexeme length long result next same is finds =
+    item_where (λ it. item_header it ≡ which) old mid new lexeme length long result next same
+    (λ it valid called. sym (header_named-item_name it valid) ∙ (ap header_named (sym called) ∙ is)) finds
 
--- no item has a name that is that of no header
-pub none_found : (header : HeaderKind) (name : List ℕ) (old new : Tokens) (result : Result RawItem Refusal) → header_named name ≡ header
-    → ((it : RawItem) → item_header it ≡ header → ⊥) → FindsNamed name old new result
-none_found header name old new result is none it others rest called valid follow spells =
-    absurd (none it (sym (header_named-item_name it valid) ∙ (ap header_named called ∙ is)))
+pub unknown_found : (name : List ℕ) (old mid new : Tokens) (lexeme : Lexeme HoaKind) (length long : ℕ) (result : Result RawItem Refusal) → old ≡ lexeme ∷ mid → long ≡ length
+    → name ≡ without_last lexeme.text → header_named name ≡ named.Unknown → FindsUnknown name mid new long result → Finds IsRawItem item_row (FirstIs EndsItem) old new length result
+unknown_found name old mid new lexeme length long result next same is unknown finds =
+    item_where (IsUnknownItem name) old mid new lexeme length long result next same
+    (λ it valid called. record { unknown = sym (header_named-item_name it valid) ∙ (ap header_named (sym called ∙ sym is) ∙ unknown); called = sym called ∙ sym is }) finds
+
+-- no item begins without a header
+pub unheaded : (old : Tokens) (length : ℕ) (refusal : Refusal) → IsMissing kind.HeaderName old length refusal → IsUnread (IsUnwritten IsRawItem item_row (FirstIs EndsItem)) old length refusal
+unheaded old length refusal missing =
+    unread_missing (IsUnwritten IsRawItem item_row (FirstIs EndsItem)) kind.HeaderName old length refusal
+    (λ tokens not wanted others rest valid follow spells. missing_symbol (header (item_name wanted)) kind.HeaderName (λ lexeme shows. shows.0) tokens not _ spells) missing
+
+-- no item has a header that is that of none
+pub none_found : (sort : HeaderKind) (old mid : Tokens) (lexeme : Lexeme HoaKind) (length place : ℕ) → old ≡ lexeme ∷ mid → header_named (without_last lexeme.text) ≡ sort
+    → ((it : RawItem) → item_header it ≡ sort → ⊥) → place ≡ next_place old length → IsUnreadThrough (IsUnwritten IsRawItem item_row (FirstIs EndsItem)) old length place
+none_found sort old mid lexeme length place next is none there =
+    through_next (IsUnwritten IsRawItem item_row (FirstIs EndsItem)) old [] old length place refl there
+    (λ others agree wanted more rest valid follow spells.
+    let through = subst (λ tokens. AgreeThroughNext tokens others) next agree in
+    let taken = token_taken (header (item_name wanted)) (content_row wanted more) rest others through.0 lexeme through.1 spells in
+    none wanted (sym (header_named-item_name wanted valid) ∙ (ap header_named (sym taken.0.1) ∙ is)))
 
 pub no_format : (it : RawItem) → item_header it ≡ named.Format → ⊥
 no_format (item.Unknown name values) is = cc
@@ -155,62 +209,77 @@ pub no_state : (it : RawItem) → item_header it ≡ named.State → ⊥
 no_state (item.Unknown name values) is = cc
 no_state other is = cc
 
-pub start_found : (old new : Tokens) (result : Result RawItem Refusal)
-    → ((states : List ℕ) (others : List AutomatonSymbol) (rest : Tokens) → IsRawItem (item.Start states) → FirstIs EndsItem others → ReadsSymbols old (content_row (item.Start states) others) rest → Found result (item.Start states) (ReadsSymbols new others rest))
-    → FindsContent named.Start old new result
-start_found old new result direct it others rest is valid follow spells =
-    let P : RawItem → Type 0 = λ it. IsRawItem it → ReadsSymbols old (content_row it others) rest → Found result it (ReadsSymbols new others rest) in
-    of_start P (λ states valid spells. direct states others rest valid follow spells) it is valid spells
+-- what is shown of each item of a header is shown of an item that has it
+pub state_count_known : (tokens : Tokens) (Wanted : RawItem → List AutomatonSymbol → Tokens → Type 0)
+    → ((count : ℕ) (others : List AutomatonSymbol) (rest : Tokens) → FirstIs EndsItem others → ReadsSymbols tokens (content_row (item.States count) others) rest → Wanted (item.States count) others rest)
+    → (it : RawItem) (others : List AutomatonSymbol) (rest : Tokens) → (item_header it ≡ named.States) × IsRawItem it → FirstIs EndsItem others → ReadsSymbols tokens (content_row it others) rest → Wanted it others rest
+state_count_known tokens Wanted direct it others rest is follow spells =
+    let P : RawItem → Type 0 = λ it. IsRawItem it → ReadsSymbols tokens (content_row it others) rest → Wanted it others rest in
+    of_state_count P (λ count valid spells. direct count others rest follow spells) it is.0 is.1 spells
 
-pub propositions_found : (old new : Tokens) (result : Result RawItem Refusal)
-    → ((count : ℕ) (names : List (List ℕ)) (others : List AutomatonSymbol) (rest : Tokens) → FirstIs EndsItem others → ReadsSymbols old (content_row (item.Propositions count names) others) rest → Found result (item.Propositions count names) (ReadsSymbols new others rest))
-    → FindsContent named.Propositions old new result
-propositions_found old new result direct it others rest is valid follow spells =
-    let P : RawItem → Type 0 = λ it. IsRawItem it → ReadsSymbols old (content_row it others) rest → Found result it (ReadsSymbols new others rest) in
-    of_propositions P (λ count names valid spells. direct count names others rest follow spells) it is valid spells
+pub start_known : (tokens : Tokens) (Wanted : RawItem → List AutomatonSymbol → Tokens → Type 0)
+    → ((states : List ℕ) (others : List AutomatonSymbol) (rest : Tokens) → IsRawItem (item.Start states) → FirstIs EndsItem others → ReadsSymbols tokens (content_row (item.Start states) others) rest → Wanted (item.Start states) others rest)
+    → (it : RawItem) (others : List AutomatonSymbol) (rest : Tokens) → (item_header it ≡ named.Start) × IsRawItem it → FirstIs EndsItem others → ReadsSymbols tokens (content_row it others) rest → Wanted it others rest
+start_known tokens Wanted direct it others rest is follow spells =
+    let P : RawItem → Type 0 = λ it. IsRawItem it → ReadsSymbols tokens (content_row it others) rest → Wanted it others rest in
+    of_start P (λ states valid spells. direct states others rest valid follow spells) it is.0 is.1 spells
 
-pub alias_found : (old new : Tokens) (result : Result RawItem Refusal)
-    → ((name : List ℕ) (definition : RawLabelTree) (others : List AutomatonSymbol) (rest : Tokens) → FirstIs EndsItem others → ReadsSymbols old (content_row (item.Alias name definition) others) rest → Found result (item.Alias name definition) (ReadsSymbols new others rest))
-    → FindsContent named.Alias old new result
-alias_found old new result direct it others rest is valid follow spells =
-    let P : RawItem → Type 0 = λ it. IsRawItem it → ReadsSymbols old (content_row it others) rest → Found result it (ReadsSymbols new others rest) in
-    of_alias P (λ name definition valid spells. direct name definition others rest follow spells) it is valid spells
+pub propositions_known : (tokens : Tokens) (Wanted : RawItem → List AutomatonSymbol → Tokens → Type 0)
+    → ((count : ℕ) (names : List (List ℕ)) (others : List AutomatonSymbol) (rest : Tokens) → FirstIs EndsItem others → ReadsSymbols tokens (content_row (item.Propositions count names) others) rest → Wanted (item.Propositions count names) others rest)
+    → (it : RawItem) (others : List AutomatonSymbol) (rest : Tokens) → (item_header it ≡ named.Propositions) × IsRawItem it → FirstIs EndsItem others → ReadsSymbols tokens (content_row it others) rest → Wanted it others rest
+propositions_known tokens Wanted direct it others rest is follow spells =
+    let P : RawItem → Type 0 = λ it. IsRawItem it → ReadsSymbols tokens (content_row it others) rest → Wanted it others rest in
+    of_propositions P (λ count names valid spells. direct count names others rest follow spells) it is.0 is.1 spells
 
-pub acceptance_found : (old new : Tokens) (result : Result RawItem Refusal)
-    → ((count : ℕ) (tree : RawAccTree) (others : List AutomatonSymbol) (rest : Tokens) → FirstIs EndsItem others → ReadsSymbols old (content_row (item.Acceptance count tree) others) rest → Found result (item.Acceptance count tree) (ReadsSymbols new others rest))
-    → FindsContent named.Acceptance old new result
-acceptance_found old new result direct it others rest is valid follow spells =
-    let P : RawItem → Type 0 = λ it. IsRawItem it → ReadsSymbols old (content_row it others) rest → Found result it (ReadsSymbols new others rest) in
-    of_acceptance P (λ count tree valid spells. direct count tree others rest follow spells) it is valid spells
+pub alias_known : (tokens : Tokens) (Wanted : RawItem → List AutomatonSymbol → Tokens → Type 0)
+    → ((name : List ℕ) (definition : RawLabelTree) (others : List AutomatonSymbol) (rest : Tokens) → FirstIs EndsItem others → ReadsSymbols tokens (content_row (item.Alias name definition) others) rest → Wanted (item.Alias name definition) others rest)
+    → (it : RawItem) (others : List AutomatonSymbol) (rest : Tokens) → (item_header it ≡ named.Alias) × IsRawItem it → FirstIs EndsItem others → ReadsSymbols tokens (content_row it others) rest → Wanted it others rest
+alias_known tokens Wanted direct it others rest is follow spells =
+    let P : RawItem → Type 0 = λ it. IsRawItem it → ReadsSymbols tokens (content_row it others) rest → Wanted it others rest in
+    of_alias P (λ name definition valid spells. direct name definition others rest follow spells) it is.0 is.1 spells
 
-pub acc_name_found : (old new : Tokens) (result : Result RawItem Refusal)
-    → ((name : AccName) (others : List AutomatonSymbol) (rest : Tokens) → FirstIs EndsItem others → ReadsSymbols old (content_row (item.AccName name) others) rest → Found result (item.AccName name) (ReadsSymbols new others rest))
-    → FindsContent named.AccName old new result
-acc_name_found old new result direct it others rest is valid follow spells =
-    let P : RawItem → Type 0 = λ it. IsRawItem it → ReadsSymbols old (content_row it others) rest → Found result it (ReadsSymbols new others rest) in
-    of_acc_name P (λ name valid spells. direct name others rest follow spells) it is valid spells
+pub acceptance_known : (tokens : Tokens) (Wanted : RawItem → List AutomatonSymbol → Tokens → Type 0)
+    → ((count : ℕ) (tree : RawAccTree) (others : List AutomatonSymbol) (rest : Tokens) → FirstIs EndsItem others → ReadsSymbols tokens (content_row (item.Acceptance count tree) others) rest → Wanted (item.Acceptance count tree) others rest)
+    → (it : RawItem) (others : List AutomatonSymbol) (rest : Tokens) → (item_header it ≡ named.Acceptance) × IsRawItem it → FirstIs EndsItem others → ReadsSymbols tokens (content_row it others) rest → Wanted it others rest
+acceptance_known tokens Wanted direct it others rest is follow spells =
+    let P : RawItem → Type 0 = λ it. IsRawItem it → ReadsSymbols tokens (content_row it others) rest → Wanted it others rest in
+    of_acceptance P (λ count tree valid spells. direct count tree others rest follow spells) it is.0 is.1 spells
 
-pub tool_found : (old new : Tokens) (result : Result RawItem Refusal)
-    → ((first : List ℕ) (second : Option (List ℕ)) (others : List AutomatonSymbol) (rest : Tokens) → FirstIs EndsItem others → ReadsSymbols old (content_row (item.Tool first second) others) rest → Found result (item.Tool first second) (ReadsSymbols new others rest))
-    → FindsContent named.Tool old new result
-tool_found old new result direct it others rest is valid follow spells =
-    let P : RawItem → Type 0 = λ it. IsRawItem it → ReadsSymbols old (content_row it others) rest → Found result it (ReadsSymbols new others rest) in
-    of_tool P (λ first second valid spells. direct first second others rest follow spells) it is valid spells
+pub acc_name_known : (tokens : Tokens) (Wanted : RawItem → List AutomatonSymbol → Tokens → Type 0)
+    → ((name : AccName) (others : List AutomatonSymbol) (rest : Tokens) → FirstIs EndsItem others → ReadsSymbols tokens (content_row (item.AccName name) others) rest → Wanted (item.AccName name) others rest)
+    → (it : RawItem) (others : List AutomatonSymbol) (rest : Tokens) → (item_header it ≡ named.AccName) × IsRawItem it → FirstIs EndsItem others → ReadsSymbols tokens (content_row it others) rest → Wanted it others rest
+acc_name_known tokens Wanted direct it others rest is follow spells =
+    let P : RawItem → Type 0 = λ it. IsRawItem it → ReadsSymbols tokens (content_row it others) rest → Wanted it others rest in
+    of_acc_name P (λ name valid spells. direct name others rest follow spells) it is.0 is.1 spells
 
-pub properties_found : (old new : Tokens) (result : Result RawItem Refusal)
-    → ((words : List (List ℕ)) (others : List AutomatonSymbol) (rest : Tokens) → FirstIs EndsItem others → ReadsSymbols old (content_row (item.Properties words) others) rest → Found result (item.Properties words) (ReadsSymbols new others rest))
-    → FindsContent named.Properties old new result
-properties_found old new result direct it others rest is valid follow spells =
-    let P : RawItem → Type 0 = λ it. IsRawItem it → ReadsSymbols old (content_row it others) rest → Found result it (ReadsSymbols new others rest) in
-    of_properties P (λ words valid spells. direct words others rest follow spells) it is valid spells
+pub tool_known : (tokens : Tokens) (Wanted : RawItem → List AutomatonSymbol → Tokens → Type 0)
+    → ((first : List ℕ) (second : Option (List ℕ)) (others : List AutomatonSymbol) (rest : Tokens) → FirstIs EndsItem others → ReadsSymbols tokens (content_row (item.Tool first second) others) rest → Wanted (item.Tool first second) others rest)
+    → (it : RawItem) (others : List AutomatonSymbol) (rest : Tokens) → (item_header it ≡ named.Tool) × IsRawItem it → FirstIs EndsItem others → ReadsSymbols tokens (content_row it others) rest → Wanted it others rest
+tool_known tokens Wanted direct it others rest is follow spells =
+    let P : RawItem → Type 0 = λ it. IsRawItem it → ReadsSymbols tokens (content_row it others) rest → Wanted it others rest in
+    of_tool P (λ first second valid spells. direct first second others rest follow spells) it is.0 is.1 spells
 
-pub unknown_finds : (name : List ℕ) (old new : Tokens) (result : Result RawItem Refusal)
+pub title_known : (tokens : Tokens) (Wanted : RawItem → List AutomatonSymbol → Tokens → Type 0)
+    → ((bytes : List ℕ) (others : List AutomatonSymbol) (rest : Tokens) → FirstIs EndsItem others → ReadsSymbols tokens (content_row (item.Name bytes) others) rest → Wanted (item.Name bytes) others rest)
+    → (it : RawItem) (others : List AutomatonSymbol) (rest : Tokens) → (item_header it ≡ named.Name) × IsRawItem it → FirstIs EndsItem others → ReadsSymbols tokens (content_row it others) rest → Wanted it others rest
+title_known tokens Wanted direct it others rest is follow spells =
+    let P : RawItem → Type 0 = λ it. IsRawItem it → ReadsSymbols tokens (content_row it others) rest → Wanted it others rest in
+    of_title P (λ bytes valid spells. direct bytes others rest follow spells) it is.0 is.1 spells
+
+pub properties_known : (tokens : Tokens) (Wanted : RawItem → List AutomatonSymbol → Tokens → Type 0)
+    → ((words : List (List ℕ)) (others : List AutomatonSymbol) (rest : Tokens) → FirstIs EndsItem others → ReadsSymbols tokens (content_row (item.Properties words) others) rest → Wanted (item.Properties words) others rest)
+    → (it : RawItem) (others : List AutomatonSymbol) (rest : Tokens) → (item_header it ≡ named.Properties) × IsRawItem it → FirstIs EndsItem others → ReadsSymbols tokens (content_row it others) rest → Wanted it others rest
+properties_known tokens Wanted direct it others rest is follow spells =
+    let P : RawItem → Type 0 = λ it. IsRawItem it → ReadsSymbols tokens (content_row it others) rest → Wanted it others rest in
+    of_properties P (λ words valid spells. direct words others rest follow spells) it is.0 is.1 spells
+
+pub unknown_known : (name : List ℕ) (tokens : Tokens) (Wanted : RawItem → List AutomatonSymbol → Tokens → Type 0)
     → ((called : List ℕ) (values : List HeaderValue) (others : List AutomatonSymbol) (rest : Tokens) → called ≡ name → FirstIs EndsItem others
-    → ReadsSymbols old (content_row (item.Unknown called values) others) rest → Found result (item.Unknown called values) (ReadsSymbols new others rest))
-    → FindsUnknown name old new result
-unknown_finds name old new result direct it others rest is valid follow spells =
-    let P : RawItem → Type 0 = λ it. item_name it ≡ name → ReadsSymbols old (content_row it others) rest → Found result it (ReadsSymbols new others rest) in
-    of_unknown P (λ called values same spells. direct called values others rest same follow spells) it is.unknown is.called spells
+    → ReadsSymbols tokens (content_row (item.Unknown called values) others) rest → Wanted (item.Unknown called values) others rest)
+    → (it : RawItem) (others : List AutomatonSymbol) (rest : Tokens) → IsUnknownItem name it × IsRawItem it → FirstIs EndsItem others → ReadsSymbols tokens (content_row it others) rest → Wanted it others rest
+unknown_known name tokens Wanted direct it others rest is follow spells =
+    let P : RawItem → Type 0 = λ it. item_name it ≡ name → ReadsSymbols tokens (content_row it others) rest → Wanted it others rest in
+    of_unknown P (λ called values same spells. direct called values others rest same follow spells) it is.0.unknown is.0.called spells
 
 pub acc_name_same : (name : List ℕ) (parameters : List Parameter) (it : AccName) → name ≡ it.name → parameters ≡ it.parameters
     → (let read : AccName = record { name = name; parameters = parameters } in item.AccName read ≡ item.AccName it)

@@ -1,10 +1,12 @@
 -- Reading parts as long as they follow.
-use Rattle.std.proofs.Common.{◌≡◌, Bool, true, false, List, [], ◌∷◌, ◌++◌, append_assoc, append-nil, refl, sym, ap, ◌∙◌, subst, Option, Some, None, Result, Ok, Err}
+use Rattle.std.proofs.Common.{◌≡◌, ℕ, Bool, true, false, List, [], ◌∷◌, ◌++◌, append_assoc, append-nil, refl, sym, ap, ◌∙◌, subst, Option, Some, None, Result, Ok, Err}
 use Rattle.std.specs.Prelude.{IfOk, IfSome}
 use Rattle.std.specs.List.{AllByRecursion}
+use Rattle.omega_expression.specs.Unread.{IsUnread}
 use Rattle.omega_raw.proofs.SpellingLemmas.{first_then, next_clash, next_is, next_may}
+use Rattle.omega_raw.proofs.StepLemmas.{is_through, may_through, none_after, passes_after, passes_here, passes_then, unread_then}
 use Rattle.omega_raw.specs.Grammar.{each, optional_row}
-use Rattle.omega_raw.specs.private.steps.Reading.{EndsList, Given, NextIs, NextMayBe}
+use Rattle.omega_raw.specs.private.steps.Reading.{EndsList, Given, IsUnwritten, IsWritten, NextIs, NextMayBe, Passes}
 use Rattle.omega_raw.specs.Symbols.{ReadsSymbols, AutomatonSymbol, Tokens}
 use Rattle.omega_raw.specs.First.{FirstIs}
 use Rattle.omega_text.specs.declared.hoa.kind.HoaKind.{HoaKind}
@@ -17,11 +19,16 @@ pub record Remains {X : Type 0} (Is : X → Type 0) (row : X → List AutomatonS
   pub are : AllByRecursion Is more
   pub spells : ReadsSymbols now (each row more others) rest
 
+-- whatever was written as parts began with these, and the others remain
+abbrev pub LeavesRemains : {X : Type 0} → (X → Type 0) → (X → List AutomatonSymbol → List AutomatonSymbol) → (HoaKind → Type 0) → List X → (tokens left : Tokens) → Type 0
+LeavesRemains {X} Is row Last all tokens left =
+    (values : List X) (others : List AutomatonSymbol) (rest : Tokens) → AllByRecursion Is values → FirstIs Last others → ReadsSymbols tokens (each row values others) rest
+    → Remains Is row values all left others rest
+
 -- these parts were read, and whatever was written goes through here
 pub record IsReadTo {X : Type 0} (Is : X → Type 0) (row : X → List AutomatonSymbol → List AutomatonSymbol) (Last : HoaKind → Type 0) (old : Tokens) (all : List X) (now : Tokens) : Type 0 where
   pub given : Given (AllByRecursion Is) (each row) old now all
-  pub remains : (values : List X) (others : List AutomatonSymbol) (rest : Tokens) → AllByRecursion Is values → FirstIs Last others → ReadsSymbols old (each row values others) rest
-      → Remains Is row values all now others rest
+  pub remains : Passes (LeavesRemains Is row Last all) old now
 
 -- what is known of a part
 pub record IsPart {X : Type 0} (Is : X → Type 0) (row : X → List AutomatonSymbol → List AutomatonSymbol) (begins : HoaKind → Bool) (May : HoaKind → Type 0) : Type 0 where
@@ -32,7 +39,11 @@ pub record IsPart {X : Type 0} (Is : X → Type 0) (row : X → List AutomatonSy
 pub read_none : {X : Type 0} (Is : X → Type 0) (row : X → List AutomatonSymbol → List AutomatonSymbol) (Last : HoaKind → Type 0) (old : Tokens) → IsReadTo Is row Last old [] old
 read_none Is row Last old = record {
   given = record { is = tt; spells = λ others rest spells. spells };
-  remains = λ values others rest are last spells. record { more = values; joined = refl; are = are; spells = spells };
+  remains = record {
+    front = [];
+    split = refl;
+    holds = λ left agree values others rest are last spells. record { more = values; joined = refl; are = are; spells = spells };
+  };
 }
 
 AllByRecursion-snoc : {X : Type 0} (Is : X → Type 0) (all : List X) (it : X) → AllByRecursion Is all → Is it → AllByRecursion Is (all ++ it ∷ [])
@@ -50,18 +61,15 @@ follows_part Is row begins May part [] others are last = first_then (EndsList be
 follows_part Is row begins May part (next ∷ more) others are last =
     first_then (λ kind. begins kind ≡ true) May (row next (each row more others)) part.follows (part.begun next (each row more others) are.0)
 
--- one part more was read
-pub read_more : {X : Type 0} (Is : X → Type 0) (row : X → List AutomatonSymbol → List AutomatonSymbol) (begins : HoaKind → Bool) (May : HoaKind → Type 0) → IsPart Is row begins May
-    → (old now new : Tokens) (all : List X) (it : X) → IsReadTo Is row (EndsList begins May) old all now → NextIs (λ kind. begins kind ≡ true) now
-    → Given Is row now new it
-    → ((wanted : X) (others : List AutomatonSymbol) (rest : Tokens) → Is wanted → FirstIs May others → ReadsSymbols now (row wanted others) rest → (it ≡ wanted) × ReadsSymbols new others rest)
-    → IsReadTo Is row (EndsList begins May) old (all ++ it ∷ []) new
-read_more {X} Is row begins May part old now new all it read next given finds =
-    let through : (values more : List X) (others : List AutomatonSymbol) (rest : Tokens) → FirstIs (EndsList begins May) others → values ≡ all ++ more → AllByRecursion Is more
-    → ReadsSymbols now (each row more others) rest → Remains Is row values (all ++ it ∷ []) new others rest =
-    λ values more others rest last joined are spells. (elim more as (λ more. values ≡ all ++ more → AllByRecursion Is more → ReadsSymbols now (each row more others) rest → Remains Is row values (all ++ it ∷ []) new others rest) [
-      | [] ↦ λ joined are spells. absurd (next_clash begins now next
-          (next_may (λ kind. begins kind ≡ false) now (next_is (λ kind. begins kind ≡ false) others now rest (first_then (EndsList begins May) (λ kind. begins kind ≡ false) others (λ kind holds. holds.0) last) spells)))
+-- some parts and then one more
+remains_after : {X : Type 0} (Is : X → Type 0) (row : X → List AutomatonSymbol → List AutomatonSymbol) (begins : HoaKind → Bool) (May : HoaKind → Type 0) → IsPart Is row begins May
+    → (middle left : Tokens) (all : List X) (it : X) (values : List X) (others : List AutomatonSymbol) (rest : Tokens) → NextIs (λ kind. begins kind ≡ true) middle
+    → IsWritten Is row (FirstIs May) it middle left → FirstIs (EndsList begins May) others → Remains Is row values all middle others rest → Remains Is row values (all ++ it ∷ []) left others rest
+remains_after {X} Is row begins May part middle left all it values others rest next finds last remains =
+    let through : (more : List X) → values ≡ all ++ more → AllByRecursion Is more → ReadsSymbols middle (each row more others) rest → Remains Is row values (all ++ it ∷ []) left others rest =
+    λ more. (elim more as (λ more. values ≡ all ++ more → AllByRecursion Is more → ReadsSymbols middle (each row more others) rest → Remains Is row values (all ++ it ∷ []) left others rest) [
+      | [] ↦ λ joined are spells. absurd (next_clash begins middle next
+          (next_may (λ kind. begins kind ≡ false) middle (next_is (λ kind. begins kind ≡ false) others middle rest (first_then (EndsList begins May) (λ kind. begins kind ≡ false) others (λ kind holds. holds.0) last) spells)))
       | wanted ∷ more ↦ λ joined are spells.
           let found = finds wanted (each row more others) rest are.0 (follows_part Is row begins May part more others are.1 last) spells in
           record {
@@ -70,55 +78,90 @@ read_more {X} Is row begins May part old now new all it read next given finds =
             are = are.1;
             spells = found.1;
           }
-    ]) joined are spells
-    in record {
+    ])
+    in through remains.more remains.joined remains.are remains.spells
+
+-- one part more was read
+pub read_more : {X : Type 0} (Is : X → Type 0) (row : X → List AutomatonSymbol → List AutomatonSymbol) (begins : HoaKind → Bool) (May : HoaKind → Type 0) → IsPart Is row begins May
+    → (old now new : Tokens) (all : List X) (it : X) → IsReadTo Is row (EndsList begins May) old all now → NextIs (λ kind. begins kind ≡ true) now
+    → Given Is row now new it → Passes (IsWritten Is row (FirstIs May) it) now new
+    → IsReadTo Is row (EndsList begins May) old (all ++ it ∷ []) new
+read_more {X} Is row begins May part old now new all it read next given finds =
+    let begun = passes_here (NextIs (λ kind. begins kind ≡ true)) now (λ others. is_through (λ kind. begins kind ≡ true) now others next) in
+    record {
       given = record {
         is = AllByRecursion-snoc Is all it read.given.is given.is;
         spells = λ others rest spells. subst (λ symbols. ReadsSymbols old symbols rest) (sym (each-append row all (it ∷ []) others)) (read.given.spells (row it others) rest (given.spells others rest spells));
       };
-      remains = λ values others rest are last spells.
-          let remains = read.remains values others rest are last spells in
-          through values remains.more others rest last remains.joined remains.are remains.spells;
+      remains = passes_then _ (LeavesRemains Is row (EndsList begins May) (all ++ it ∷ [])) old new (passes_after _ _ old now new read.remains (passes_after _ _ now now new begun finds))
+          (λ tokens left t values others rest are last spells.
+          remains_after Is row begins May part t.second.middle left all it values others rest t.second.first.1 t.second.second last
+          (subst (λ middle. Remains Is row values all middle others rest) t.second.first.0 (t.first values others rest are last spells)));
     }
 
 -- no part follows any more
-pub read_all : {X : Type 0} (Is : X → Type 0) (row : X → List AutomatonSymbol → List AutomatonSymbol) (begins : HoaKind → Bool) (May : HoaKind → Type 0) → IsPart Is row begins May
-    → (old now : Tokens) (all : List X) → IsReadTo Is row (EndsList begins May) old all now → NextMayBe (λ kind. begins kind ≡ false) now
-    → (values : List X) (others : List AutomatonSymbol) (rest : Tokens) → AllByRecursion Is values → FirstIs (EndsList begins May) others → ReadsSymbols old (each row values others) rest
-    → (all ≡ values) × ReadsSymbols now others rest
-read_all {X} Is row begins May part old now all read may values others rest are last spells =
-    let remains = read.remains values others rest are last spells in
-    let through : (more : List X) → values ≡ all ++ more → AllByRecursion Is more → ReadsSymbols now (each row more others) rest → (all ≡ values) × ReadsSymbols now others rest =
-    λ more. (elim more as (λ more. values ≡ all ++ more → AllByRecursion Is more → ReadsSymbols now (each row more others) rest → (all ≡ values) × ReadsSymbols now others rest) [
+nothing_remains : {X : Type 0} (Is : X → Type 0) (row : X → List AutomatonSymbol → List AutomatonSymbol) (begins : HoaKind → Bool) (May : HoaKind → Type 0) → IsPart Is row begins May
+    → (left : Tokens) (all values : List X) (others : List AutomatonSymbol) (rest : Tokens) → NextMayBe (λ kind. begins kind ≡ false) left
+    → Remains Is row values all left others rest → (all ≡ values) × ReadsSymbols left others rest
+nothing_remains {X} Is row begins May part left all values others rest may remains =
+    let through : (more : List X) → values ≡ all ++ more → AllByRecursion Is more → ReadsSymbols left (each row more others) rest → (all ≡ values) × ReadsSymbols left others rest =
+    λ more. (elim more as (λ more. values ≡ all ++ more → AllByRecursion Is more → ReadsSymbols left (each row more others) rest → (all ≡ values) × ReadsSymbols left others rest) [
       | [] ↦ λ joined are spells. (sym (joined ∙ append-nil all), spells)
       | wanted ∷ more ↦ λ joined are spells.
-          absurd (next_clash begins now (next_is (λ kind. begins kind ≡ true) (row wanted (each row more others)) now rest (part.begun wanted (each row more others) are.0) spells) may)
+          absurd (next_clash begins left (next_is (λ kind. begins kind ≡ true) (row wanted (each row more others)) left rest (part.begun wanted (each row more others) are.0) spells) may)
     ])
     in through remains.more remains.joined remains.are remains.spells
 
--- a part that follows is what remains, and so what is known of all such parts is known
-pub read_failed : {X : Type 0} (Is : X → Type 0) (row : X → List AutomatonSymbol → List AutomatonSymbol) (begins : HoaKind → Bool) (May : HoaKind → Type 0) → IsPart Is row begins May
-    → (old now : Tokens) (all : List X) → IsReadTo Is row (EndsList begins May) old all now → NextIs (λ kind. begins kind ≡ true) now → (Wanted : Type 0)
-    → ((wanted : X) (others : List AutomatonSymbol) (rest : Tokens) → Is wanted → FirstIs May others → ReadsSymbols now (row wanted others) rest → Wanted)
-    → (values : List X) (others : List AutomatonSymbol) (rest : Tokens) → AllByRecursion Is values → FirstIs (EndsList begins May) others → ReadsSymbols old (each row values others) rest
-    → Wanted
-read_failed {X} Is row begins May part old now all read next Wanted finds values others rest are last spells =
-    let remains = read.remains values others rest are last spells in
-    let through : (more : List X) → AllByRecursion Is more → ReadsSymbols now (each row more others) rest → Wanted =
-    λ more. (elim more as (λ more. AllByRecursion Is more → ReadsSymbols now (each row more others) rest → Wanted) [
-      | [] ↦ λ are spells. absurd (next_clash begins now next
-          (next_may (λ kind. begins kind ≡ false) now (next_is (λ kind. begins kind ≡ false) others now rest (first_then (EndsList begins May) (λ kind. begins kind ≡ false) others (λ kind holds. holds.0) last) spells)))
-      | wanted ∷ more ↦ λ are spells. finds wanted (each row more others) rest are.0 (follows_part Is row begins May part more others are.1 last) spells
+pub read_all : {X : Type 0} (Is : X → Type 0) (row : X → List AutomatonSymbol → List AutomatonSymbol) (begins : HoaKind → Bool) (May : HoaKind → Type 0) → IsPart Is row begins May
+    → (old now : Tokens) (all : List X) → IsReadTo Is row (EndsList begins May) old all now → NextMayBe (λ kind. begins kind ≡ false) now
+    → Passes (IsWritten (AllByRecursion Is) (each row) (FirstIs (EndsList begins May)) all) old now
+read_all {X} Is row begins May part old now all read may =
+    let ended = passes_here (NextMayBe (λ kind. begins kind ≡ false)) now (λ others. may_through (λ kind. begins kind ≡ false) now others may) in
+    passes_then _ (IsWritten (AllByRecursion Is) (each row) (FirstIs (EndsList begins May)) all) old now (passes_after _ _ old now now read.remains ended)
+    (λ tokens left t values others rest are last spells.
+    nothing_remains Is row begins May part left all values others rest t.second.1
+    (subst (λ middle. Remains Is row values all middle others rest) t.second.0 (t.first values others rest are last spells)))
+
+-- a part that follows is what remains, and so nothing is read if it is not
+nothing_goes_on : {X : Type 0} (Is : X → Type 0) (row : X → List AutomatonSymbol → List AutomatonSymbol) (begins : HoaKind → Bool) (May : HoaKind → Type 0) → IsPart Is row begins May
+    → (middle : Tokens) (all values : List X) (others : List AutomatonSymbol) (rest : Tokens) → NextIs (λ kind. begins kind ≡ true) middle
+    → IsUnwritten Is row (FirstIs May) middle → FirstIs (EndsList begins May) others → Remains Is row values all middle others rest → ⊥
+nothing_goes_on {X} Is row begins May part middle all values others rest next none last remains =
+    let through : (more : List X) → AllByRecursion Is more → ReadsSymbols middle (each row more others) rest → ⊥ =
+    λ more. (elim more as (λ more. AllByRecursion Is more → ReadsSymbols middle (each row more others) rest → ⊥) [
+      | [] ↦ λ are spells. next_clash begins middle next
+          (next_may (λ kind. begins kind ≡ false) middle (next_is (λ kind. begins kind ≡ false) others middle rest (first_then (EndsList begins May) (λ kind. begins kind ≡ false) others (λ kind holds. holds.0) last) spells))
+      | wanted ∷ more ↦ λ are spells. none wanted (each row more others) rest are.0 (follows_part Is row begins May part more others are.1 last) spells
     ])
     in through remains.more remains.are remains.spells
 
+pub read_failed : {X : Type 0} (Is : X → Type 0) (row : X → List AutomatonSymbol → List AutomatonSymbol) (begins : HoaKind → Bool) (May : HoaKind → Type 0) → IsPart Is row begins May
+    → (old now : Tokens) (all : List X) (length : ℕ) (refusal : Refusal) → IsReadTo Is row (EndsList begins May) old all now → NextIs (λ kind. begins kind ≡ true) now
+    → IsUnread (IsUnwritten Is row (FirstIs May)) now length refusal
+    → IsUnread (IsUnwritten (AllByRecursion Is) (each row) (FirstIs (EndsList begins May))) old length refusal
+read_failed {X} Is row begins May part old now all length refusal read next none =
+    let begun = passes_here (NextIs (λ kind. begins kind ≡ true)) now (λ others. is_through (λ kind. begins kind ≡ true) now others next) in
+    unread_then _ (IsUnwritten (AllByRecursion Is) (each row) (FirstIs (EndsList begins May))) old length refusal
+    (none_after _ _ old now length refusal read.remains (none_after _ _ now now length refusal begun none))
+    (λ tokens t values others rest are last spells.
+    nothing_goes_on Is row begins May part t.second.middle all values others rest t.second.first.1 t.second.second last
+    (subst (λ middle. Remains Is row values all middle others rest) t.second.first.0 (t.first values others rest are last spells)))
+
 -- no part follows
-pub part_absent : {X : Type 0} (Is : X → Type 0) (row : X → List AutomatonSymbol → List AutomatonSymbol) (begins : HoaKind → Bool) (May : HoaKind → Type 0) → IsPart Is row begins May
+part_absent : {X : Type 0} (Is : X → Type 0) (row : X → List AutomatonSymbol → List AutomatonSymbol) (begins : HoaKind → Bool) (May : HoaKind → Type 0) → IsPart Is row begins May
     → (now : Tokens) → NextMayBe (λ kind. begins kind ≡ false) now
     → (it : Option X) (others : List AutomatonSymbol) (rest : Tokens) → IfSome it Is → ReadsSymbols now (optional_row row it others) rest → (None ≡ it) × ReadsSymbols now others rest
 part_absent Is row begins May part now may None others rest is spells = (refl, spells)
 part_absent Is row begins May part now may (Some it) others rest is spells =
     absurd (next_clash begins now (next_is (λ kind. begins kind ≡ true) (row it others) now rest (part.begun it others is) spells) may)
+
+pub absent_found : {X : Type 0} (Is : X → Type 0) (row : X → List AutomatonSymbol → List AutomatonSymbol) (begins : HoaKind → Bool) (May : HoaKind → Type 0) → IsPart Is row begins May
+    → (now : Tokens) → NextMayBe (λ kind. begins kind ≡ false) now → Passes (IsWritten (λ it. IfSome it Is) (optional_row row) (FirstIs (EndsList begins May)) None) now now
+absent_found Is row begins May part now may =
+    passes_then _ (IsWritten (λ it. IfSome it Is) (optional_row row) (FirstIs (EndsList begins May)) None) now now
+    (passes_here (NextMayBe (λ kind. begins kind ≡ false)) now (λ others. may_through (λ kind. begins kind ≡ false) now others may))
+    (λ tokens left t it others rest is last spells.
+    part_absent Is row begins May part left t.1 it others rest is (subst (λ here. ReadsSymbols here (optional_row row it others) rest) t.0 spells))
 
 -- a part follows, and so what is known of it is known
 pub part_there : {X : Type 0} (Is : X → Type 0) (row : X → List AutomatonSymbol → List AutomatonSymbol) (begins : HoaKind → Bool) (May : HoaKind → Type 0)
@@ -130,6 +173,28 @@ part_there Is row begins May now next Wanted others rest last finds None is spel
     (next_may (λ kind. begins kind ≡ false) now (next_is (λ kind. begins kind ≡ false) others now rest (first_then (EndsList begins May) (λ kind. begins kind ≡ false) others (λ kind holds. holds.0) last) spells)))
 part_there Is row begins May now next Wanted others rest last finds (Some it) is spells =
     finds it is (first_then (EndsList begins May) May others (λ kind holds. holds.1) last) spells
+
+pub there_found : {X : Type 0} (Is : X → Type 0) (row : X → List AutomatonSymbol → List AutomatonSymbol) (begins : HoaKind → Bool) (May : HoaKind → Type 0)
+    → (now new : Tokens) (value : X) → NextIs (λ kind. begins kind ≡ true) now → Passes (IsWritten Is row (FirstIs May) value) now new
+    → Passes (IsWritten (λ it. IfSome it Is) (optional_row row) (FirstIs (EndsList begins May)) (Some value)) now new
+there_found {X} Is row begins May now new value next finds =
+    passes_then _ (IsWritten (λ it. IfSome it Is) (optional_row row) (FirstIs (EndsList begins May)) (Some value)) now new
+    (passes_after _ _ now now new (passes_here (NextIs (λ kind. begins kind ≡ true)) now (λ others. is_through (λ kind. begins kind ≡ true) now others next)) finds)
+    (λ tokens left t it others rest is last spells.
+    part_there Is row begins May t.middle t.first.1 (λ it. (Some value ≡ it) × ReadsSymbols left others rest) others rest last
+    (λ it is follow spells. let found = t.second it others rest is follow spells in (ap Some found.0, found.1))
+    it is (subst (λ here. ReadsSymbols here (optional_row row it others) rest) t.first.0 spells))
+
+pub there_unread : {X : Type 0} (Is : X → Type 0) (row : X → List AutomatonSymbol → List AutomatonSymbol) (begins : HoaKind → Bool) (May : HoaKind → Type 0)
+    → (now : Tokens) (length : ℕ) (refusal : Refusal) → NextIs (λ kind. begins kind ≡ true) now → IsUnread (IsUnwritten Is row (FirstIs May)) now length refusal
+    → IsUnread (IsUnwritten (λ it. IfSome it Is) (optional_row row) (FirstIs (EndsList begins May))) now length refusal
+there_unread {X} Is row begins May now length refusal next none =
+    unread_then _ (IsUnwritten (λ it. IfSome it Is) (optional_row row) (FirstIs (EndsList begins May))) now length refusal
+    (none_after _ _ now now length refusal (passes_here (NextIs (λ kind. begins kind ≡ true)) now (λ others. is_through (λ kind. begins kind ≡ true) now others next)) none)
+    (λ tokens t it others rest is last spells.
+    part_there Is row begins May t.middle t.first.1 (λ it. ⊥) others rest last
+    (λ it is follow spells. t.second it others rest is follow spells)
+    it is (subst (λ here. ReadsSymbols here (optional_row row it others) rest) t.first.0 spells))
 
 -- what holds of what was read holds of it in another way
 pub given_then : {X : Type 0} (result : Result X Refusal) (Is Was : X → Type 0) → ((it : X) → Was it → Is it) → IfOk result Was → IfOk result Is

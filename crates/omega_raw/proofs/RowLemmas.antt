@@ -2,11 +2,12 @@
 use Rattle.std.proofs.Common.{◌≡◌, ℕ, List, [], ◌∷◌, Option, sym, ap, ◌∙◌, subst, arith, Result, Ok, Err}
 use Rattle.omega_label.specs.Raw.{RawLabelTree}
 use Rattle.std.specs.Prelude.{IfErr, IsErrAnd}
-use Rattle.omega_text.specs.Cases.{IsMemory}
-use Rattle.omega_expression.specs.Symbols.{IsUnread}
-use Rattle.omega_raw.specs.Grammar.{IsConj, ReadsAutomaton, ReadsNoAutomaton, conj_row}
+use Rattle.omega_expression.proofs.UnreadLemmas.{agree_same, unread_same}
+use Rattle.omega_expression.specs.Unread.{IsUnread}
+use Rattle.omega_raw.proofs.StepLemmas.{unread_then}
+use Rattle.omega_raw.specs.Grammar.{IsConj, ReadsAutomaton, ReadsNoAutomaton, ReadsNoOther, conj_row}
 use Rattle.omega_raw.specs.private.steps.Parts.{EndsConj}
-use Rattle.omega_raw.specs.private.steps.Reading.{Finds, Found, Given, IsSyntaxOrMemory}
+use Rattle.omega_raw.specs.private.steps.Reading.{Given, Passes}
 use Rattle.omega_raw.specs.Symbols.{ReadsSymbols, AutomatonSymbol, Tokens}
 use Rattle.omega_raw.specs.First.{FirstIs}
 use Rattle.omega_raw.specs.declared.raw_automaton.RawAutomaton.{RawAutomaton}
@@ -14,8 +15,6 @@ use Rattle.omega_raw.specs.declared.raw_edge.RawEdge.{RawEdge}
 use Rattle.omega_raw.specs.declared.raw_item.RawItem.{RawItem}
 use Rattle.omega_raw.specs.declared.raw_state.RawState.{RawState}
 use Rattle.omega_text.specs.declared.refusal.Refusal.{Refusal}
-use Rattle.omega_text.specs.declared.refusal.Refusal.TheVariants.{Memory, Text}
-use Rattle.omega_text.specs.declared.refusal.text.TextFault.TheVariants.{Syntax}
 
 pub edge_same : (label : Option RawLabelTree) (targets : List ℕ) (marks : Option (List ℕ)) (it : RawEdge) → label ≡ it.label → targets ≡ it.targets → marks ≡ it.marks
     → (let edge : RawEdge = record { label = label; targets = targets; marks = marks } in edge ≡ it)
@@ -42,11 +41,12 @@ of_conj : (P : List ℕ → Type 0) → ((first : ℕ) (more : List ℕ) → P (
 of_conj P holds [] valid = absurd (omega arith)
 of_conj P holds (first ∷ more) valid = holds first more
 
-pub conj_found : (old new : Tokens) (result : Result (List ℕ) Refusal)
-    → ((first : ℕ) (more : List ℕ) (others : List AutomatonSymbol) (rest : Tokens) → FirstIs EndsConj others → ReadsSymbols old (conj_row (first ∷ more) others) rest → Found result (first ∷ more) (ReadsSymbols new others rest))
-    → Finds IsConj conj_row (FirstIs EndsConj) old new result
-conj_found old new result direct it others rest valid follow spells =
-    let P : List ℕ → Type 0 = λ it. ReadsSymbols old (conj_row it others) rest → Found result it (ReadsSymbols new others rest) in
+-- what holds of each conj with a first number holds of a conj that can be written
+pub conj_known : (tokens : Tokens) (Wanted : List ℕ → List AutomatonSymbol → Tokens → Type 0)
+    → ((first : ℕ) (more : List ℕ) (others : List AutomatonSymbol) (rest : Tokens) → FirstIs EndsConj others → ReadsSymbols tokens (conj_row (first ∷ more) others) rest → Wanted (first ∷ more) others rest)
+    → (it : List ℕ) (others : List AutomatonSymbol) (rest : Tokens) → IsConj it → FirstIs EndsConj others → ReadsSymbols tokens (conj_row it others) rest → Wanted it others rest
+conj_known tokens Wanted direct it others rest valid follow spells =
+    let P : List ℕ → Type 0 = λ it. ReadsSymbols tokens (conj_row it others) rest → Wanted it others rest in
     of_conj P (λ first more spells. direct first more others rest follow spells) it valid spells
 
 pub conj_given : (old new : Tokens) (states : List ℕ) (first : ℕ) (more : List ℕ) → states ≡ first ∷ more
@@ -60,10 +60,16 @@ pub error_is : {X : Type 0} (result : Result X Refusal) (said Wanted : Refusal �
 error_is (Ok value) said Wanted is follows = tt
 error_is (Err refusal) said Wanted is follows = follows refusal is
 
--- a refusal that is want of memory wherever an automaton was written
-pub read_refused : (tokens : Tokens) (refusal : Refusal) → IsSyntaxOrMemory refusal → ((raw : RawAutomaton) (rest : Tokens) → ReadsAutomaton tokens raw rest → IsMemory refusal)
-    → IsUnread (ReadsNoAutomaton tokens) refusal
-read_refused tokens (Text (Syntax at)) is memory = memory
-read_refused tokens (Text fault) is memory = absurd is
-read_refused tokens Memory is memory = tt
-read_refused tokens refusal is memory = absurd is
+-- no automaton is read where a step is not
+pub automaton_unread : {X : Type 0} (result : Result X Refusal) (tokens : Tokens) (length long : ℕ) (refusal : Refusal) (IsMore : Tokens → Type 0) → IsErrAnd result (λ error. error ≡ refusal) → long ≡ length
+    → IsUnread IsMore tokens long refusal → ((others : Tokens) → IsMore others → (raw : RawAutomaton) (rest : Tokens) → ReadsAutomaton others raw rest → ⊥) → IfErr result (IsUnread ReadsNoAutomaton tokens length)
+automaton_unread result tokens length long refusal IsMore is same unread follows =
+    error_is result _ (IsUnread ReadsNoAutomaton tokens length) is
+    (λ error e. unread_same ReadsNoAutomaton tokens length long refusal error e same (unread_then IsMore ReadsNoAutomaton tokens long refusal unread follows))
+
+-- what was found in steps is the one automaton that was written
+pub only_found : (raw : RawAutomaton) (old new : Tokens) {Held : Tokens → Tokens → Type 0} → Passes Held old new
+    → ((tokens left : Tokens) → Held tokens left → (other : RawAutomaton) (rest : Tokens) → ReadsAutomaton tokens other rest → (raw ≡ other) × ReadsSymbols left [] rest) → ReadsNoOther old raw new
+only_found raw old new {Held} passes follows other rest reads =
+    let held = subst (λ tokens. Held tokens new) (sym passes.split) (passes.holds new (agree_same new)) in
+    follows old new held other rest reads

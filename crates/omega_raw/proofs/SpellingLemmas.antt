@@ -1,22 +1,16 @@
 -- What symbols say of the tokens that they spell.
-use Rattle.std.proofs.Common.{◌≡◌, ◌<◌, ◌≤◌, Bool, true, false, List, [], ◌∷◌, length, length-append, sym, ◌∙◌, subst, arith, Result, Ok, Err}
-use Rattle.std.specs.Prelude.{IfErr, IfOk, IsErrAnd}
-use Rattle.omega_text.specs.Cases.{IsMemory}
-use Rattle.omega_expression.specs.Symbols.{IsUnread}
+use Rattle.std.proofs.Common.{◌≡◌, ◌<◌, ◌≤◌, Bool, true, false, List, [], ◌∷◌, length, length-append, sym, ◌∙◌, subst, arith}
 use Rattle.omega_formula.specs.Reading.{ReadsAcc}
 use Rattle.omega_formula.specs.Raw.{RawAccTree}
 use Rattle.omega_label.specs.Reading.{Reads}
 use Rattle.omega_label.specs.Raw.{RawLabelTree}
 use Rattle.omega_expression.specs.Passing.{NextIsNot}
-use Rattle.omega_raw.specs.private.steps.Reading.{Found, NextIs, NextMayBe}
+use Rattle.omega_raw.specs.private.steps.Reading.{NextIs, NextMayBe}
 use Rattle.omega_raw.specs.Symbols.{IsNext, Shows, ReadsSymbols, Splits, AutomatonSymbol, Tokens, alias, formula, header, label, number, sign, text, word}
 use Rattle.omega_raw.specs.First.{FirstIs}
 use Rattle.omega_text.specs.Lexeme.{Lexeme}
 use Rattle.omega_text.specs.declared.hoa.kind.HoaKind.{HoaKind}
 use Rattle.omega_text.specs.declared.hoa.kind.HoaKind.TheVariants as kind
-use Rattle.omega_text.specs.declared.refusal.Refusal.{Refusal}
-use Rattle.omega_text.specs.declared.refusal.Refusal.TheVariants.{Memory, Text}
-use Rattle.omega_text.specs.declared.refusal.text.TextFault.TheVariants.{Syntax}
 
 -- the token that is taken shows the symbol, and those that are left spell the others
 pub token_taken : (symbol : AutomatonSymbol) (others : List AutomatonSymbol) (rest old new : Tokens) (lexeme : Lexeme HoaKind) → old ≡ lexeme ∷ new
@@ -109,32 +103,7 @@ shorter Holds (sign kind ∷ others) tokens rest first spells = let a = shorter_
 shorter Holds (label tree ∷ others) tokens rest first spells = absurd first
 shorter Holds (formula tree ∷ others) tokens rest first spells = absurd first
 
--- an error that is known to be want of memory finds what was to be found
-pub error_found : {X : Type 0} (result : Result X Refusal) (said : Refusal → Type 0) (it : X) (left : Type 0)
-    → IsErrAnd result said → ((refusal : Refusal) → said refusal → IsMemory refusal) → Found result it left
-error_found (Ok value) said it left is follows = absurd is
-error_found (Err refusal) said it left is follows = follows refusal is
-
--- a refusal with nothing missing is want of memory
-pub unread_memory : (None : Type 0) → (None → ⊥) → (refusal : Refusal) → IsUnread None refusal → IsMemory refusal
-unread_memory None never_none (Text (Syntax at)) is = never_none is
-unread_memory None never_none (Text fault) is = absurd is
-unread_memory None never_none Memory is = tt
-unread_memory None never_none refusal is = absurd is
-
--- if a token of a kind is refused and a symbol of that kind was written, memory is wanting
-pub missing_memory : (symbol : AutomatonSymbol) (kind : HoaKind) (old : Tokens) (Back : Tokens → Type 0) → ((lexeme : Lexeme HoaKind) → Shows symbol lexeme → lexeme.kind ≡ kind)
-    → (refusal : Refusal) → IsUnread (NextIsNot kind old) refusal → Splits (λ middle. IsNext symbol old middle) Back → IsMemory refusal
-missing_memory symbol kind old Back shown refusal unread splits =
-    unread_memory (NextIsNot kind old) (λ missing. token_missing symbol old splits.middle kind missing splits.front shown) refusal unread
-
--- what is read of an expression is what was written, as only one can be read
-pub expression_found : {X : Type 0} (R : Tokens → X → Tokens → Type 0)
-    → ((tokens : Tokens) (one other : X) (rest left : Tokens) → R tokens one rest → R tokens other left → (one ≡ other) × (rest ≡ left))
-    → (result : Result X Refusal) (old new : Tokens) → IfOk result (λ it. R old it new) → IfErr result (IsUnread ((it : X) (rest : Tokens) → R old it rest → ⊥))
-    → (wanted : X) (others : List AutomatonSymbol) (rest : Tokens) → Splits (λ middle. R old wanted middle) (λ middle. ReadsSymbols middle others rest) → Found result wanted (ReadsSymbols new others rest)
-expression_found R one (Ok it) old new reads none wanted others rest splits =
-    let same = one old it wanted new splits.middle reads splits.front in
-    (same.0, subst (λ tokens. ReadsSymbols tokens others rest) (sym same.1) splits.back)
-expression_found R one (Err refusal) old new reads none wanted others rest splits =
-    unread_memory _ (λ none_read. none_read wanted splits.middle splits.front) refusal none
+-- where a token of a kind is missing, no symbol of that kind was written
+pub missing_symbol : (symbol : AutomatonSymbol) (kind : HoaKind) → ((lexeme : Lexeme HoaKind) → Shows symbol lexeme → lexeme.kind ≡ kind)
+    → (tokens : Tokens) → NextIsNot kind tokens → (Back : Tokens → Type 0) → Splits (λ middle. IsNext symbol tokens middle) Back → ⊥
+missing_symbol symbol kind shown tokens missing Back splits = token_missing symbol tokens splits.middle kind missing splits.front shown

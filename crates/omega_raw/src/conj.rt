@@ -3,7 +3,7 @@ ghost use Rattle.omega_text.specs.Cases.{IsMemory};
 ghost use Rattle.omega_raw.specs.Grammar.{IsConj, conj_row, joined_row};
 ghost use Rattle.omega_raw.specs.private.steps.Parts.{EndsConj, is_and};
 ghost use Rattle.omega_raw.specs.First.{FirstIs};
-ghost use Rattle.omega_raw.specs.private.steps.Reading.{Finds, GivesRow, IsAny, IsKind, IsSyntaxOrMemory};
+ghost use Rattle.omega_raw.specs.private.steps.Reading.{Finds, GivesRow, IsAny, IsKind};
 
 use crate::part::{Part, read_numbers};
 use crate::taking::{take_int, take_sign};
@@ -30,7 +30,8 @@ impl<'a, S: TokenSource<'a, HoaKind>> Part<'a, S> for Joined {
 
     fn read(_alloc: Global, source: &mut S) -> Result<u32, Refusal> {
         take_sign(source, HoaKind::And)?;
-        take_int(source)
+        let state = take_int(source)?;
+        Ok(state)
     }
 
     ghost begun = { λ it others valid. refl };
@@ -45,8 +46,8 @@ pub(crate) fn conj<'a, S: TokenSource<'a, HoaKind>>(
     source: &mut S,
 ) -> Result<Numbers, Refusal>
     ensures gives { GivesRow IsConj conj_row (S.left source.old) (S.left source.new) result }
-    ensures finds { Finds IsConj conj_row (FirstIs EndsConj) (S.left source.old) (S.left source.new) result }
-    ensures err { IfErr result IsSyntaxOrMemory }
+    ensures finds { Finds IsConj conj_row (FirstIs EndsConj)
+        (S.left source.old) (S.left source.new) (S.length source.old) result }
     ensures length { S.length source.new ≡ S.length source.old }
 {
     let first = take_int(source)?;

@@ -1,8 +1,8 @@
 //! The expressions in a text of an automaton.
 
-ghost use Rattle.std.specs.Prelude.{◌≡◌, IfErr};
+ghost use Rattle.std.specs.Prelude.{◌≡◌};
 ghost use Rattle.omega_raw.specs.private.steps.Rows.{formula_row, expression_row};
-ghost use Rattle.omega_raw.specs.private.steps.Reading.{Anything, Finds, GivesRow, IsAny, IsSyntaxOrMemory};
+ghost use Rattle.omega_raw.specs.private.steps.Reading.{Anything, Finds, GivesRow, IsAny};
 
 use omega_formula::{RawAcc, formulas_are_one, read_raw_acc};
 use omega_label::{RawLabel, labels_are_one, read_raw_label};
@@ -15,8 +15,8 @@ pub(crate) fn label_expression<'a, S: TokenSource<'a, HoaKind>>(
     source: &mut S,
 ) -> Result<RawLabel, Refusal>
     ensures gives { GivesRow IsAny expression_row (S.left source.old) (S.left source.new) result }
-    ensures finds { Finds IsAny expression_row Anything (S.left source.old) (S.left source.new) result }
-    ensures err { IfErr result IsSyntaxOrMemory }
+    ensures finds { Finds IsAny expression_row Anything
+        (S.left source.old) (S.left source.new) (S.length source.old) result }
     ensures length { S.length source.new ≡ S.length source.old }
 {
     labels_are_one();
@@ -29,8 +29,8 @@ pub(crate) fn acceptance_expression<'a, S: TokenSource<'a, HoaKind>>(
     source: &mut S,
 ) -> Result<RawAcc, Refusal>
     ensures gives { GivesRow IsAny formula_row (S.left source.old) (S.left source.new) result }
-    ensures finds { Finds IsAny formula_row Anything (S.left source.old) (S.left source.new) result }
-    ensures err { IfErr result IsSyntaxOrMemory }
+    ensures finds { Finds IsAny formula_row Anything
+        (S.left source.old) (S.left source.new) (S.length source.old) result }
     ensures length { S.length source.new ≡ S.length source.old }
 {
     formulas_are_one();

@@ -1,8 +1,8 @@
-ghost use Rattle.std.specs.Prelude.{◌≡◌, All, IfErr, IfSome, MatchBool, true, false};
+ghost use Rattle.std.specs.Prelude.{◌≡◌, All, IfSome, MatchBool, true, false};
 ghost use Rattle.std.specs.List.{AllByRecursion};
 ghost use Rattle.omega_raw.specs.Grammar.{each, optional_row};
 ghost use Rattle.omega_raw.specs.First.{FirstIs};
-ghost use Rattle.omega_raw.specs.private.steps.Reading.{EndsList, Finds, GivesRow, IsSyntaxOrMemory, NextIs, NextMayBe};
+ghost use Rattle.omega_raw.specs.private.steps.Reading.{EndsList, Finds, GivesRow, NextIs, NextMayBe};
 
 use crate::raw_edge::RawEdge;
 use crate::raw_edges::RawEdges;
@@ -37,8 +37,8 @@ pub(crate) trait Part<'a, S: TokenSource<'a, HoaKind>> {
     /// Reads a part. Refused with [TextFault::Syntax] if none is next.
     fn read(alloc: Global, source: &mut S) -> Result<Self::Value, Refusal>
         ensures gives { GivesRow valid written (S.left source.old) (S.left source.new) result }
-        ensures finds { Finds valid written (FirstIs next) (S.left source.old) (S.left source.new) result }
-        ensures err { IfErr result IsSyntaxOrMemory }
+        ensures finds { Finds valid written (FirstIs next)
+            (S.left source.old) (S.left source.new) (S.length source.old) result }
         ensures length { S.length source.new ≡ S.length source.old };
 
     /// The symbols of a value begin with a first kind.
@@ -71,8 +71,7 @@ pub(crate) fn read_if<'a, P: Part<'a, S>, S: TokenSource<'a, HoaKind>>(
     ensures gives { GivesRow (λ it. IfSome it P.valid) (optional_row P.written)
         (S.left source.old) (S.left source.new) result }
     ensures finds { Finds (λ it. IfSome it P.valid) (optional_row P.written) (FirstIs (EndsList P.first P.next))
-        (S.left source.old) (S.left source.new) result }
-    ensures err { IfErr result IsSyntaxOrMemory }
+        (S.left source.old) (S.left source.new) (S.length source.old) result }
     ensures length { S.length source.new ≡ S.length source.old }
 {
     if !is_next::<P, S>(source) {
@@ -89,8 +88,7 @@ pub(crate) fn read_each<'a, P: Part<'a, S>, S: TokenSource<'a, HoaKind>>(
 ) -> Result<Seq<P::Value>, Refusal>
     ensures gives { GivesRow (AllByRecursion P.valid) (each P.written) (S.left source.old) (S.left source.new) result }
     ensures finds { Finds (AllByRecursion P.valid) (each P.written) (FirstIs (EndsList P.first P.next))
-        (S.left source.old) (S.left source.new) result }
-    ensures err { IfErr result IsSyntaxOrMemory }
+        (S.left source.old) (S.left source.new) (S.length source.old) result }
     ensures length { S.length source.new ≡ S.length source.old }
 {
     let values = read_growing::<P, S>(alloc, source)?;
@@ -104,8 +102,7 @@ pub(crate) fn read_growing<'a, P: Part<'a, S>, S: TokenSource<'a, HoaKind>>(
 ) -> Result<Seq<P::Value>, Refusal>
     ensures gives { GivesRow (AllByRecursion P.valid) (each P.written) (S.left source.old) (S.left source.new) result }
     ensures finds { Finds (AllByRecursion P.valid) (each P.written) (FirstIs (EndsList P.first P.next))
-        (S.left source.old) (S.left source.new) result }
-    ensures err { IfErr result IsSyntaxOrMemory }
+        (S.left source.old) (S.left source.new) (S.length source.old) result }
     ensures length { S.length source.new ≡ S.length source.old }
 {
     let mut values = Vec::new(alloc);
@@ -133,8 +130,7 @@ pub(crate) fn read_numbers<'a, P: Part<'a, S, Value = u32>, S: TokenSource<'a, H
 ) -> Result<Numbers, Refusal>
     ensures gives { GivesRow (AllByRecursion P.valid) (each P.written) (S.left source.old) (S.left source.new) result }
     ensures finds { Finds (AllByRecursion P.valid) (each P.written) (FirstIs (EndsList P.first P.next))
-        (S.left source.old) (S.left source.new) result }
-    ensures err { IfErr result IsSyntaxOrMemory }
+        (S.left source.old) (S.left source.new) (S.length source.old) result }
     ensures length { S.length source.new ≡ S.length source.old }
 {
     let mut numbers = Numbers::new();
@@ -153,8 +149,7 @@ pub(crate) fn read_raw_edges<'a, P: Part<'a, S, Value = RawEdge>, S: TokenSource
 ) -> Result<RawEdges, Refusal>
     ensures gives { GivesRow (AllByRecursion P.valid) (each P.written) (S.left source.old) (S.left source.new) result }
     ensures finds { Finds (AllByRecursion P.valid) (each P.written) (FirstIs (EndsList P.first P.next))
-        (S.left source.old) (S.left source.new) result }
-    ensures err { IfErr result IsSyntaxOrMemory }
+        (S.left source.old) (S.left source.new) (S.length source.old) result }
     ensures length { S.length source.new ≡ S.length source.old }
 {
     let mut edges = RawEdges::new(alloc);

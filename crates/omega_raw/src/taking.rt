@@ -2,10 +2,9 @@
 
 ghost use Rattle.std.specs.Prelude.{◌≡◌, ◌∷◌, List, IfErr, IfNone, IfOk, IfSome, OnOk};
 ghost use Rattle.omega_text.specs.Cases.{IsMemory};
-ghost use Rattle.omega_expression.specs.Symbols.{IsUnread};
 ghost use Rattle.omega_raw.specs.Grammar.{int_row, string_row, word_row};
-ghost use Rattle.omega_expression.specs.Passing.{NextIsNot};
-ghost use Rattle.omega_raw.specs.private.steps.Reading.{Anything, Finds, FoundThere, GivesRow, IsAny, IsSyntaxOrMemory};
+ghost use Rattle.omega_expression.specs.Passing.{IsMissing, NextIsNot};
+ghost use Rattle.omega_raw.specs.private.steps.Reading.{Anything, Finds, FindsSymbol, GivesRow, IsAny};
 ghost use Rattle.omega_raw.specs.Symbols.{ReadsSymbols, AutomatonSymbol, Tokens, header, sign, without_last};
 ghost use Rattle.omega_text.specs.Forms.{between_quotes};
 ghost use Rattle.omega_text.specs.Lexeme.{lexeme_of};
@@ -38,7 +37,7 @@ pub(crate) fn take_kind<'a, S: TokenSource<'a, HoaKind>>(
 ) -> Result<Token<'a, HoaKind>, Refusal>
     ensures ok { IfOk result (λ token.
         (S.left source.old ≡ lexeme_of token ∷ S.left source.new) × (token.kind ≡ kind)) }
-    ensures err { IfErr result (IsUnread (NextIsNot kind (S.left source.old))) }
+    ensures err { IfErr result (IsMissing kind (S.left source.old) (S.length source.old)) }
     ensures length { S.length source.new ≡ S.length source.old }
 {
     let at = source.place();
@@ -82,10 +81,7 @@ pub(crate) fn take_sign<'a, S: TokenSource<'a, HoaKind>>(
     ensures gives { OnOk result ((others : List AutomatonSymbol) (rest : Tokens)
         → ReadsSymbols (S.left source.new) others rest
         → ReadsSymbols (S.left source.old) (sign kind ∷ others) rest) }
-    ensures finds { (others : List AutomatonSymbol) (rest : Tokens)
-        → ReadsSymbols (S.left source.old) (sign kind ∷ others) rest
-        → FoundThere result (ReadsSymbols (S.left source.new) others rest) }
-    ensures err { IfErr result IsSyntaxOrMemory }
+    ensures finds { FindsSymbol (sign kind) (S.left source.old) (S.left source.new) (S.length source.old) result }
     ensures length { S.length source.new ≡ S.length source.old }
 {
     take_kind(source, kind)?;
@@ -101,10 +97,7 @@ pub(crate) fn take_header<'a, S: TokenSource<'a, HoaKind>>(
     ensures gives { OnOk result ((others : List AutomatonSymbol) (rest : Tokens)
         → ReadsSymbols (S.left source.new) others rest
         → ReadsSymbols (S.left source.old) (header name.now ∷ others) rest) }
-    ensures finds { (others : List AutomatonSymbol) (rest : Tokens)
-        → ReadsSymbols (S.left source.old) (header name.now ∷ others) rest
-        → FoundThere result (ReadsSymbols (S.left source.new) others rest) }
-    ensures err { IfErr result IsSyntaxOrMemory }
+    ensures finds { FindsSymbol (header name.now) (S.left source.old) (S.left source.new) (S.length source.old) result }
     ensures length { S.length source.new ≡ S.length source.old }
 {
     let at = source.place();
@@ -118,8 +111,7 @@ pub(crate) fn take_header<'a, S: TokenSource<'a, HoaKind>>(
 /// Takes an INT.
 pub(crate) fn take_int<'a, S: TokenSource<'a, HoaKind>>(source: &mut S) -> Result<u32, Refusal>
     ensures gives { GivesRow IsAny int_row (S.left source.old) (S.left source.new) result }
-    ensures finds { Finds IsAny int_row Anything (S.left source.old) (S.left source.new) result }
-    ensures err { IfErr result IsSyntaxOrMemory }
+    ensures finds { Finds IsAny int_row Anything (S.left source.old) (S.left source.new) (S.length source.old) result }
     ensures length { S.length source.new ≡ S.length source.old }
 {
     Ok(take_kind(source, HoaKind::Int)?.value)
@@ -131,8 +123,7 @@ pub(crate) fn take_word<'a, S: TokenSource<'a, HoaKind>>(
     source: &mut S,
 ) -> Result<ByteString, Refusal>
     ensures gives { GivesRow IsAny word_row (S.left source.old) (S.left source.new) result }
-    ensures finds { Finds IsAny word_row Anything (S.left source.old) (S.left source.new) result }
-    ensures err { IfErr result IsSyntaxOrMemory }
+    ensures finds { Finds IsAny word_row Anything (S.left source.old) (S.left source.new) (S.length source.old) result }
     ensures length { S.length source.new ≡ S.length source.old }
 {
     let token = take_kind(source, HoaKind::Identifier)?;
@@ -145,8 +136,8 @@ pub(crate) fn take_string<'a, S: TokenSource<'a, HoaKind>>(
     source: &mut S,
 ) -> Result<ByteString, Refusal>
     ensures gives { GivesRow IsAny string_row (S.left source.old) (S.left source.new) result }
-    ensures finds { Finds IsAny string_row Anything (S.left source.old) (S.left source.new) result }
-    ensures err { IfErr result IsSyntaxOrMemory }
+    ensures finds { Finds IsAny string_row Anything
+        (S.left source.old) (S.left source.new) (S.length source.old) result }
     ensures length { S.length source.new ≡ S.length source.old }
 {
     let token = take_kind(source, HoaKind::String)?;

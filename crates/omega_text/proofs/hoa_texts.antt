@@ -1,6 +1,7 @@
 -- Lemmas on Hanoi texts.
 pub mod AtOnce
 pub mod Completion
+pub mod Differing
 pub mod Exact
 pub mod Gaps
 pub mod Last

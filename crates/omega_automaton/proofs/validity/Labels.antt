@@ -1,4 +1,5 @@
--- Labels with their aliases replaced: their propositions stay below a count, and their tree nodes within the limit.
+-- Labels with their aliases replaced: their propositions stay below a count, and their depth and tree nodes within the
+-- limits.
 use Rattle.std.proofs.Common.{◌≡◌, ℕ, ◌<◌, ◌≤◌, Bool, true, false, cond, nat_lt, List, [], ◌∷◌, ◌++◌, Option, Some, None, All, option_map, refl, ap, sym, ◌∙◌, arith}
 use Rattle.std.specs.List.{list_all}
 use Rattle.std.specs.Str.{bytes_eq}
@@ -6,7 +7,7 @@ use Rattle.std.proofs.lemmas.Bool.{and_from, and_parts, ltb-false, ltb-true, not
 use Rattle.std.proofs.lemmas.List.Elements.{All-cons, All-head, All-nil, All-push, All-tail}
 use Rattle.std.proofs.lemmas.List.Folds.{list_all-append}
 use Rattle.omega_label.specs.Expanding.{Defined, Entry, Meaning, both, entries_of, expansion, fault_of_meaning, in_parentheses, negated, replaced, stands_for}
-use Rattle.omega_label.specs.Label.{LabelTree, label_size, propositions}
+use Rattle.omega_label.specs.Label.{LabelTree, label_depth, label_size, propositions}
 use Rattle.omega_label.specs.Label as label
 use Rattle.omega_expression.specs.Limits.{most_depth, most_size}
 use Rattle.omega_label.specs.Raw.{RawLabelTree, alias, conjunction, constant, disjunction, group, negation, proposition, raw_propositions}
@@ -14,6 +15,7 @@ use Rattle.omega_text.specs.declared.refusal.automaton.AutomatonFault.{Automaton
 use Rattle.omega_text.specs.declared.refusal.automaton.AutomatonFault.TheVariants.{Expansion, TooDeep}
 use Rattle.omega_automaton.specs.Automaton.{AreBelow}
 use Rattle.omega_automaton.specs.Faults.{is_beyond, size_of_meaning}
+use Rattle.omega_label.proofs.EntryLemmas.{IsShallow, shallow-entries, shallow-replaced}
 
 -- whether all of some numbers are below a count
 abbrev pub are_below : ℕ → List ℕ → Bool
@@ -131,6 +133,23 @@ tree_below count (Some meaning) tree h is =
 no_fault : (b : Bool) (fault : AutomatonFault) (rest : Option AutomatonFault) → cond b (Some fault) rest ≡ None → (b ≡ false) × (rest ≡ None)
 no_fault true fault rest h = absurd (let no : ⊥ = cc in no)
 no_fault false fault rest h = (refl, h)
+
+-- the tree of a meaning without a fault that is no deeper than the meaning is not too deep
+shallow_sound : (meaning : Option Meaning) (tree : LabelTree) → fault_of_meaning meaning ≡ None → IsShallow meaning
+    → option_map (λ meaning. meaning.tree) meaning ≡ Some tree → label_depth tree ≤ most_depth
+shallow_sound None tree sound shallow is = absurd (let no : ⊥ = cc in no)
+shallow_sound (Some meaning) tree sound shallow is =
+    let same : meaning.tree ≡ tree = cc in
+    let rest = cond (nat_lt most_size (label_size meaning.tree)) (Some Expansion) None in
+    let within : meaning.depth ≤ most_depth = ltb-false most_depth meaning.depth (no_fault (nat_lt most_depth meaning.depth) TooDeep rest sound).0 in
+    let depths : label_depth meaning.tree ≡ label_depth tree = ap label_depth same in
+    omega arith
+
+-- what a label means without a fault is not too deep
+pub tree_shallow : (definitions : List Defined) (raw : RawLabelTree) (tree : LabelTree) → fault_of_meaning (expansion definitions raw) ≡ None
+    → option_map (λ meaning. meaning.tree) (expansion definitions raw) ≡ Some tree → label_depth tree ≤ most_depth
+tree_shallow definitions raw tree sound is =
+    shallow_sound (expansion definitions raw) tree sound (shallow-replaced (entries_of [] definitions) (shallow-entries [] definitions tt) raw) is
 
 -- the tree of a meaning without a fault is small
 pub tree_small : (meaning : Option Meaning) (tree : LabelTree) → fault_of_meaning meaning ≡ None

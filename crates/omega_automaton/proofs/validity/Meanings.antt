@@ -1,5 +1,5 @@
 -- An automaton that is written without a fault means one, part by part.
-use Rattle.std.proofs.Common.{◌≡◌, Bool, true, false, cond, not, ◌&&◌, ◌||◌, nat_lt, List, [], ◌∷◌, map, Option, Some, None, IfSome, All, is_none, is_some, option_map, option_and_then, refl, ap, sym, ◌∙◌}
+use Rattle.std.proofs.Common.{◌≡◌, Bool, true, false, cond, not, ◌||◌, nat_lt, List, [], ◌∷◌, map, Option, Some, None, IfSome, All, is_none, is_some, option_map, option_and_then, refl, ap, sym, ◌∙◌}
 use Rattle.std.specs.List.{AllZip, cons_option, filter_map, flat_map, list_any, slice_get}
 use Rattle.std.proofs.lemmas.Bool.{false≢true, not-false}
 use Rattle.std.proofs.lemmas.List.Elements.{All-head, All-tail}
@@ -26,7 +26,7 @@ use Rattle.omega_automaton.proofs.validity.Tests.{all_fail, first_of, neither, s
 -- ---- labels
 
 -- a meaning that fails none of the tests has no fault
-sound_by_tests : (deep large : Bool) → deep ≡ false → (not deep && large) ≡ false → cond deep (Some TooDeep) (cond large (Some Expansion) None) ≡ None
+sound_by_tests : (deep large : Bool) → deep ≡ false → large ≡ false → cond deep (Some TooDeep) (cond large (Some Expansion) None) ≡ None
 sound_by_tests true large one other = absurd (false≢true (sym one))
 sound_by_tests false true one other = absurd (false≢true (sym other))
 sound_by_tests false false one other = refl

@@ -13,7 +13,7 @@ use Rattle.omega_automaton.specs.Faults.{are_out_of_range, is_beyond, is_labelle
 use Rattle.omega_automaton.specs.Meaning.{AreMarksOf, IsEdgeOf, IsLabelOf, IsStateOf, written_marks}
 use Rattle.omega_automaton.specs.declared.edge.Edge.{Edge}
 use Rattle.omega_automaton.specs.declared.state.State.{State}
-use Rattle.omega_automaton.proofs.validity.Labels.{expansion_below, tree_below, tree_small}
+use Rattle.omega_automaton.proofs.validity.Labels.{expansion_below, tree_below, tree_shallow, tree_small}
 use Rattle.omega_automaton.proofs.validity.Tests.{all_below, all_fail, neither, zip_all}
 
 -- definitions that mention no proposition beyond a count
@@ -47,6 +47,7 @@ label_well a definitions written None bodies h is = tt
 label_well a definitions None (Some label) bodies h is = absurd is
 label_well a definitions (Some raw) (Some label) bodies h is = record {
   below = tree_below (length a.propositions) (expansion definitions raw) label (expansion_below (length a.propositions) definitions raw bodies h) is.tree_is;
+  shallow = tree_shallow definitions raw label is.sound is.tree_is;
   small = tree_small (expansion definitions raw) label is.sound is.tree_is;
 }
 

@@ -1,16 +1,17 @@
-ghost use Rattle.std.specs.Prelude.{◌≡◌, ◌≤◌, ◌+◌, Some, false, sum_by, IfErr, IfOk};
+ghost use Rattle.std.specs.Prelude.{◌≡◌, ◌≤◌, ◌+◌, Option, Some, false, option_map, sum_by, IfErr, IfOk};
 ghost use Rattle.std.specs.List.{list_any};
 ghost use Rattle.std.specs.Option.{option_copied};
 ghost use Rattle.omega_text.specs.Cases.{IsMemory};
-ghost use Rattle.omega_label.specs.Expanding.{expansion};
-ghost use Rattle.omega_automaton.specs.Faults.{is_labelled, label_total, passes, size_under};
+ghost use Rattle.omega_label.specs.Expanding.{Meaning, expansion, extent_of};
+ghost use Rattle.omega_automaton.specs.Faults.{is_labelled, label_total, passes, size_of_meaning, size_under};
 ghost use Rattle.omega_automaton.specs.Limits.{most_total_size};
 ghost use Rattle.omega_automaton.specs.private.layout.Findings.{AreFound, AreJoinedFindings, labels_pass};
 
 use crate::limits::MOST_TOTAL_SIZE;
-use omega_label::{Aliases, RawLabel, expanded_size};
+use omega_expression::{MOST_DEPTH, MOST_SIZE};
+use omega_label::{Aliases, Extent, RawLabel};
 use omega_raw::{RawEdges, RawState};
-use omega_text::{AutomatonFault, Refusal};
+use omega_text::Refusal;
 use std::alloc::Global;
 
 /// The faults and the size of labels with their aliases replaced.
@@ -20,7 +21,7 @@ pub(crate) struct Findings {
     pub undefined: bool,
     /// Whether one is too deep.
     pub deep: bool,
-    /// Whether one is too large, and not too deep as well.
+    /// Whether one is too large.
     pub large: bool,
     /// The tree nodes of all together, counted up to the limit and one more, if none has a fault.
     pub size: u64,
@@ -36,6 +37,27 @@ impl Findings {
             deep: false,
             large: false,
             size: 0,
+        }
+    }
+
+    /// Makes the findings of a label of this extent, or of one that reaches an undefined alias.
+    fn of(extent: Option<Extent>) -> Findings
+        ensures { (meaning : Option Meaning) → extent ≡ option_map extent_of meaning
+            → AreFound (λ test. test meaning) (size_of_meaning meaning) result }
+    {
+        match extent {
+            Some(extent) => Findings {
+                undefined: false,
+                deep: MOST_DEPTH < extent.depth,
+                large: MOST_SIZE < extent.size,
+                size: u64::from(extent.size),
+            },
+            None => Findings {
+                undefined: true,
+                deep: false,
+                large: false,
+                size: 0,
+            },
         }
     }
 
@@ -137,13 +159,6 @@ pub(crate) fn findings_of(
         (size_under aliases.now (Some label.now))) }
     ensures err { IfErr result IsMemory }
 {
-    let mut found = Findings::none();
-    match expanded_size(alloc, label, aliases) {
-        Ok(size) => found.size = u64::from(size).min(MOST_TOTAL_SIZE + 1),
-        Err(Refusal::Automaton(AutomatonFault::Alias)) => found.undefined = true,
-        Err(Refusal::Automaton(AutomatonFault::TooDeep)) => found.deep = true,
-        Err(Refusal::Automaton(AutomatonFault::Expansion)) => found.large = true,
-        Err(_) => return Err(Refusal::Memory),
-    }
-    Ok(found)
+    let extent = aliases.measure(alloc, label)?;
+    Ok(Findings::of(extent))
 }

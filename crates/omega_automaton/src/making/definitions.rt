@@ -6,7 +6,7 @@ use omega_label::{Aliases, RawLabel};
 use omega_text::{AutomatonFault, Refusal, Seq};
 use std::alloc::Global;
 
-/// The aliases of a header so far, and whether one of their definitions is too deep, or too large and not too deep.
+/// The aliases of a header so far, and whether one of their definitions is too deep, or too large.
 #[derive(Drop)]
 pub(crate) struct Definitions {
     pub aliases: Aliases,

@@ -1,5 +1,5 @@
 -- The places of a segment that is read by itself, a part of a text.
-use Rattle.std.specs.Prelude.{◌≡◌, ℕ, ◌+◌, ◌⊎◌, List, [], ◌++◌, map}
+use Rattle.std.specs.Prelude.{◌≡◌, ℕ, ◌+◌, ◌≤◌, ◌⊎◌, List, [], ◌∷◌, ◌++◌, map}
 use Rattle.omega_text.specs.Cases.{never, or_automaton, or_memory, or_text}
 use Rattle.omega_text.specs.Cut.{IsCut}
 use Rattle.omega_text.specs.Lexeme.{Lexeme}
@@ -7,7 +7,7 @@ use Rattle.omega_text.specs.hoa.Format.{hoa_format}
 use Rattle.omega_text.specs.declared.hoa.kind.HoaKind.{HoaKind}
 use Rattle.omega_text.specs.declared.hoa.kind.HoaKind.TheVariants.{End}
 use Rattle.omega_text.specs.declared.refusal.Refusal.{Refusal}
-use Rattle.omega_hoa.specs.Segment.{HasMeaningFault, IsNoRaw, IsStartOf, IsSyntaxWithin}
+use Rattle.omega_hoa.specs.Segment.{HasMeaningFault, IsSyntaxWithin}
 use Rattle.omega_hoa.specs.Stream.{IsSegment}
 
 -- a token of a part that begins at a place, with its own place counted from the first byte of all
@@ -16,21 +16,36 @@ counted_from begins lexeme = record { kind = lexeme.kind; text = lexeme.text; va
 
 -- the tokens of a part spell no automaton as it is written: `Syntax` at one of them, or `Memory`
 abbrev pub IsPartUnread : ℕ → List (Lexeme HoaKind) → Refusal → Type 0
-IsPartUnread begins lexemes =
-    or_text (λ fault. IsNoRaw lexemes × IsSyntaxWithin (map (counted_from begins) lexemes) fault) (or_memory never)
+IsPartUnread begins lexemes = or_text (IsSyntaxWithin (map (counted_from begins) lexemes)) (or_memory never)
 
 -- why the tokens of a part are not an automaton's, or `Memory`
 abbrev pub IsPartFault : ℕ → List (Lexeme HoaKind) → Refusal → Type 0
 IsPartFault begins lexemes =
-    or_text (λ fault. IsNoRaw lexemes × IsSyntaxWithin (map (counted_from begins) lexemes) fault) (or_automaton (HasMeaningFault lexemes) (or_memory never))
+    or_text (IsSyntaxWithin (map (counted_from begins) lexemes)) (or_automaton (HasMeaningFault lexemes) (or_memory never))
 
 -- this holds of the tokens of the bytes, if they are a segment that ends with `--END--`
 abbrev pub OfSegment : List ℕ → (List (Lexeme HoaKind) → Type 0) → Type 0
 OfSegment bytes Holds =
     (lexemes : List (Lexeme HoaKind)) → IsCut hoa_format bytes lexemes → IsSegment End lexemes → Holds lexemes
 
+-- the last of the tokens begins at a place
+pub record IsLastAt (place : ℕ) (lexemes : List (Lexeme HoaKind)) : Type 0 where
+  pub before : List (Lexeme HoaKind)
+  pub token : Lexeme HoaKind
+  pub split : lexemes ≡ before ++ token ∷ []
+  pub there : place ≡ token.span.start
+
 -- of some tokens these are left, and the last before them, if there is one, begins at a place
 pub record HasPassedTo (place : ℕ) (lexemes left : List (Lexeme HoaKind)) : Type 0 where
   pub passed : List (Lexeme HoaKind)
   pub split : lexemes ≡ passed ++ left
-  pub last : (passed ≡ []) ⊎ IsStartOf passed place
+  pub last : (passed ≡ []) ⊎ IsLastAt place passed
+
+-- a token begins at a place, which is not before another one unless it is the last
+pub record IsStartFrom (at : ℕ) (lexemes : List (Lexeme HoaKind)) (place : ℕ) : Type 0 where
+  pub before : List (Lexeme HoaKind)
+  pub token : Lexeme HoaKind
+  pub rest : List (Lexeme HoaKind)
+  pub split : lexemes ≡ before ++ token ∷ rest
+  pub there : place ≡ token.span.start
+  pub from : (at ≤ place) ⊎ (rest ≡ [])

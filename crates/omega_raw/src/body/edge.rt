@@ -1,7 +1,7 @@
-ghost use Rattle.std.specs.Prelude.{◌≡◌, IfErr};
+ghost use Rattle.std.specs.Prelude.{◌≡◌};
 ghost use Rattle.std.specs.List.{AllByRecursion};
 ghost use Rattle.omega_raw.specs.First.{FirstIs};
-ghost use Rattle.omega_raw.specs.private.steps.Reading.{EndsList, Finds, GivesRow, IsSyntaxOrMemory};
+ghost use Rattle.omega_raw.specs.private.steps.Reading.{EndsList, Finds, GivesRow};
 ghost use Rattle.omega_raw.specs.private.steps.Beginnings.{edge_begun, edge_follows};
 ghost use Rattle.omega_raw.specs.Grammar.{IsRawEdge, each, edge_row};
 ghost use Rattle.omega_raw.specs.private.steps.Parts.{EndsEdge, is_edge};
@@ -58,8 +58,7 @@ pub(crate) fn read_edges<'a, S: TokenSource<'a, HoaKind>>(
 ) -> Result<RawEdges, Refusal>
     ensures gives { GivesRow (AllByRecursion IsRawEdge) (each edge_row) (S.left source.old) (S.left source.new) result }
     ensures finds { Finds (AllByRecursion IsRawEdge) (each edge_row) (FirstIs (EndsList is_edge EndsEdge))
-        (S.left source.old) (S.left source.new) result }
-    ensures err { IfErr result IsSyntaxOrMemory }
+        (S.left source.old) (S.left source.new) (S.length source.old) result }
     ensures length { S.length source.new ≡ S.length source.old }
 {
     let edges = read_raw_edges::<Edge, S>(alloc, source)?;

@@ -1,8 +1,8 @@
-ghost use Rattle.std.specs.Prelude.{◌≡◌, IfErr, IfSome, refl};
+ghost use Rattle.std.specs.Prelude.{◌≡◌, IfSome, refl};
 ghost use Rattle.omega_raw.specs.Grammar.{optional_row, sig_row};
 ghost use Rattle.omega_raw.specs.First.{FirstIs};
 ghost use Rattle.omega_raw.specs.private.steps.Parts.{is_brace};
-ghost use Rattle.omega_raw.specs.private.steps.Reading.{EndsList, Finds, GivesRow, IsAny, IsKind, IsSyntaxOrMemory};
+ghost use Rattle.omega_raw.specs.private.steps.Reading.{EndsList, Finds, GivesRow, IsAny, IsKind};
 
 use crate::part::{Part, read_if, read_numbers};
 use crate::single::Int;
@@ -50,8 +50,7 @@ pub(crate) fn read_marks<'a, S: TokenSource<'a, HoaKind>>(
     ensures gives { GivesRow (λ it. IfSome it IsAny) (optional_row sig_row)
         (S.left source.old) (S.left source.new) result }
     ensures finds { Finds (λ it. IfSome it IsAny) (optional_row sig_row) (FirstIs (EndsList is_brace IsKind))
-        (S.left source.old) (S.left source.new) result }
-    ensures err { IfErr result IsSyntaxOrMemory }
+        (S.left source.old) (S.left source.new) (S.length source.old) result }
     ensures length { S.length source.new ≡ S.length source.old }
 {
     let sets = read_if::<Sig, S>(alloc, source)?;

@@ -1,6 +1,6 @@
-ghost use Rattle.std.specs.Prelude.{◌≡◌, IfErr, IfSome};
+ghost use Rattle.std.specs.Prelude.{◌≡◌, IfSome};
 ghost use Rattle.omega_raw.specs.First.{FirstIs};
-ghost use Rattle.omega_raw.specs.private.steps.Reading.{EndsList, Finds, GivesRow, IsAny, IsKind, IsSyntaxOrMemory};
+ghost use Rattle.omega_raw.specs.private.steps.Reading.{EndsList, Finds, GivesRow, IsAny, IsKind};
 ghost use Rattle.omega_raw.specs.private.steps.Beginnings.{state_begun, state_follows};
 ghost use Rattle.omega_raw.specs.Grammar.{IsRawState, optional_row, state_row, string_row};
 ghost use Rattle.omega_raw.specs.private.steps.Parts.{EndsState, is_header, is_string};
@@ -63,8 +63,7 @@ fn read_name<'a, S: TokenSource<'a, HoaKind>>(
     ensures gives { GivesRow (λ it. IfSome it IsAny) (optional_row string_row)
         (S.left source.old) (S.left source.new) result }
     ensures finds { Finds (λ it. IfSome it IsAny) (optional_row string_row) (FirstIs (EndsList is_string IsKind))
-        (S.left source.old) (S.left source.new) result }
-    ensures err { IfErr result IsSyntaxOrMemory }
+        (S.left source.old) (S.left source.new) (S.length source.old) result }
     ensures length { S.length source.new ≡ S.length source.old }
 {
     let bytes = read_if::<Quoted, S>(alloc, source)?;

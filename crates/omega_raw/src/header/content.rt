@@ -1,7 +1,9 @@
-ghost use Rattle.std.specs.Prelude.{◌≡◌, IfErr};
-ghost use Rattle.omega_raw.specs.private.steps.Contents.{FindsNamed, GivesNamed, FindsUnknown, GivesUnknown};
-ghost use Rattle.omega_raw.specs.Grammar.{header_named};
-ghost use Rattle.omega_raw.specs.private.steps.Reading.{IsSyntaxOrMemory};
+ghost use Rattle.std.specs.Prelude.{◌≡◌};
+ghost use Rattle.omega_raw.specs.First.{FirstIs};
+ghost use Rattle.omega_raw.specs.Grammar.{IsRawItem, header_named, item_row};
+ghost use Rattle.omega_raw.specs.private.steps.Contents.{FindsUnknown, GivesUnknown};
+ghost use Rattle.omega_raw.specs.private.steps.Parts.{EndsItem};
+ghost use Rattle.omega_raw.specs.private.steps.Reading.{Finds, GivesRow};
 ghost use Rattle.omega_raw.specs.declared.header.name.HeaderKind.TheVariants as header;
 
 use crate::header::known;
@@ -9,25 +11,26 @@ use crate::header::name::HeaderKind;
 use crate::part::read_each;
 use crate::raw_item::RawItem;
 use crate::single::UnknownValue;
-use crate::taking::copied;
+use crate::taking::{copied, take_kind, without_colon};
 use omega_text::{HoaKind, Refusal, TextFault, TokenSource};
 use std::alloc::Global;
 
-/// Reads what follows the header `name`, which is without its colon. Refused with [TextFault::Syntax] at the header's
-/// place `at` if no item has that name.
+/// Reads a header and what follows it. Refused with [TextFault::Syntax] at the header's place if no item has its name.
 pub(crate) fn content<'a, S: TokenSource<'a, HoaKind>>(
     alloc: Global,
-    name: &[u8],
-    at: usize,
     source: &mut S,
 ) -> Result<RawItem, Refusal>
-    ensures gives { GivesNamed name.now (S.left source.old) (S.left source.new) result }
-    ensures finds { FindsNamed name.now (S.left source.old) (S.left source.new) result }
-    ensures err { IfErr result IsSyntaxOrMemory }
+    ensures gives { GivesRow IsRawItem item_row (S.left source.old) (S.left source.new) result }
+    ensures finds { Finds IsRawItem item_row (FirstIs EndsItem)
+        (S.left source.old) (S.left source.new) (S.length source.old) result }
     ensures length { S.length source.new ≡ S.length source.old }
 {
+    let at = source.place();
+    let token = take_kind(source, HoaKind::HeaderName)?;
+    let name = without_colon(token.text);
     match HeaderKind::of_name(name) {
-        HeaderKind::Format | HeaderKind::State => Err(Refusal::Text(TextFault::Syntax { at })),
+        HeaderKind::Format => Err(Refusal::Text(TextFault::Syntax { at })),
+        HeaderKind::State => Err(Refusal::Text(TextFault::Syntax { at })),
         HeaderKind::States => known::state_count(source),
         HeaderKind::Start => known::start(alloc, source),
         HeaderKind::Propositions => known::propositions(alloc, source),
@@ -49,8 +52,7 @@ fn unknown<'a, S: TokenSource<'a, HoaKind>>(
 ) -> Result<RawItem, Refusal>
     requires { header_named name.now ≡ header.Unknown }
     ensures gives { GivesUnknown name.now (S.left source.old) (S.left source.new) result }
-    ensures finds { FindsUnknown name.now (S.left source.old) (S.left source.new) result }
-    ensures err { IfErr result IsSyntaxOrMemory }
+    ensures finds { FindsUnknown name.now (S.left source.old) (S.left source.new) (S.length source.old) result }
     ensures length { S.length source.new ≡ S.length source.old }
 {
     let name = copied(alloc, name)?;

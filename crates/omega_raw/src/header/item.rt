@@ -5,7 +5,6 @@ ghost use Rattle.omega_raw.specs.private.steps.Parts.{EndsItem, is_header};
 use crate::header::content::content;
 use crate::part::Part;
 use crate::raw_item::RawItem;
-use crate::taking::{take_kind, without_colon};
 use omega_text::{HoaKind, Refusal, TokenSource};
 use std::alloc::Global;
 
@@ -28,9 +27,7 @@ impl<'a, S: TokenSource<'a, HoaKind>> Part<'a, S> for Item {
     }
 
     fn read(alloc: Global, source: &mut S) -> Result<RawItem, Refusal> {
-        let at = source.place();
-        let token = take_kind(source, HoaKind::HeaderName)?;
-        content(alloc, without_colon(token.text), at, source)
+        content(alloc, source)
     }
 
     ghost begun = { item_begun };

@@ -1,8 +1,7 @@
 //! What follows the header of an item.
 
-ghost use Rattle.std.specs.Prelude.{◌≡◌, IfErr};
+ghost use Rattle.std.specs.Prelude.{◌≡◌};
 ghost use Rattle.omega_raw.specs.private.steps.Contents.{FindsContent, GivesContent};
-ghost use Rattle.omega_raw.specs.private.steps.Reading.{IsSyntaxOrMemory};
 ghost use Rattle.omega_raw.specs.declared.header.name.HeaderKind.TheVariants as header;
 
 use crate::conj::conj;
@@ -20,8 +19,7 @@ pub(crate) fn state_count<'a, S: TokenSource<'a, HoaKind>>(
     source: &mut S,
 ) -> Result<RawItem, Refusal>
     ensures gives { GivesContent header.States (S.left source.old) (S.left source.new) result }
-    ensures finds { FindsContent header.States (S.left source.old) (S.left source.new) result }
-    ensures err { IfErr result IsSyntaxOrMemory }
+    ensures finds { FindsContent header.States (S.left source.old) (S.left source.new) (S.length source.old) result }
     ensures length { S.length source.new ≡ S.length source.old }
 {
     Ok(RawItem::States(take_int(source)?))
@@ -33,8 +31,7 @@ pub(crate) fn start<'a, S: TokenSource<'a, HoaKind>>(
     source: &mut S,
 ) -> Result<RawItem, Refusal>
     ensures gives { GivesContent header.Start (S.left source.old) (S.left source.new) result }
-    ensures finds { FindsContent header.Start (S.left source.old) (S.left source.new) result }
-    ensures err { IfErr result IsSyntaxOrMemory }
+    ensures finds { FindsContent header.Start (S.left source.old) (S.left source.new) (S.length source.old) result }
     ensures length { S.length source.new ≡ S.length source.old }
 {
     let states = conj(alloc, source)?;
@@ -47,8 +44,8 @@ pub(crate) fn propositions<'a, S: TokenSource<'a, HoaKind>>(
     source: &mut S,
 ) -> Result<RawItem, Refusal>
     ensures gives { GivesContent header.Propositions (S.left source.old) (S.left source.new) result }
-    ensures finds { FindsContent header.Propositions (S.left source.old) (S.left source.new) result }
-    ensures err { IfErr result IsSyntaxOrMemory }
+    ensures finds { FindsContent header.Propositions
+        (S.left source.old) (S.left source.new) (S.length source.old) result }
     ensures length { S.length source.new ≡ S.length source.old }
 {
     let count = take_int(source)?;
@@ -62,8 +59,7 @@ pub(crate) fn alias<'a, S: TokenSource<'a, HoaKind>>(
     source: &mut S,
 ) -> Result<RawItem, Refusal>
     ensures gives { GivesContent header.Alias (S.left source.old) (S.left source.new) result }
-    ensures finds { FindsContent header.Alias (S.left source.old) (S.left source.new) result }
-    ensures err { IfErr result IsSyntaxOrMemory }
+    ensures finds { FindsContent header.Alias (S.left source.old) (S.left source.new) (S.length source.old) result }
     ensures length { S.length source.new ≡ S.length source.old }
 {
     let token = take_kind(source, HoaKind::AliasName)?;
@@ -78,8 +74,8 @@ pub(crate) fn acceptance<'a, S: TokenSource<'a, HoaKind>>(
     source: &mut S,
 ) -> Result<RawItem, Refusal>
     ensures gives { GivesContent header.Acceptance (S.left source.old) (S.left source.new) result }
-    ensures finds { FindsContent header.Acceptance (S.left source.old) (S.left source.new) result }
-    ensures err { IfErr result IsSyntaxOrMemory }
+    ensures finds { FindsContent header.Acceptance
+        (S.left source.old) (S.left source.new) (S.length source.old) result }
     ensures length { S.length source.new ≡ S.length source.old }
 {
     let count = take_int(source)?;
@@ -93,8 +89,7 @@ pub(crate) fn acc_name<'a, S: TokenSource<'a, HoaKind>>(
     source: &mut S,
 ) -> Result<RawItem, Refusal>
     ensures gives { GivesContent header.AccName (S.left source.old) (S.left source.new) result }
-    ensures finds { FindsContent header.AccName (S.left source.old) (S.left source.new) result }
-    ensures err { IfErr result IsSyntaxOrMemory }
+    ensures finds { FindsContent header.AccName (S.left source.old) (S.left source.new) (S.length source.old) result }
     ensures length { S.length source.new ≡ S.length source.old }
 {
     let name = take_word(alloc, source)?;
@@ -108,8 +103,7 @@ pub(crate) fn tool<'a, S: TokenSource<'a, HoaKind>>(
     source: &mut S,
 ) -> Result<RawItem, Refusal>
     ensures gives { GivesContent header.Tool (S.left source.old) (S.left source.new) result }
-    ensures finds { FindsContent header.Tool (S.left source.old) (S.left source.new) result }
-    ensures err { IfErr result IsSyntaxOrMemory }
+    ensures finds { FindsContent header.Tool (S.left source.old) (S.left source.new) (S.length source.old) result }
     ensures length { S.length source.new ≡ S.length source.old }
 {
     let first = take_string(alloc, source)?;
@@ -123,8 +117,7 @@ pub(crate) fn title<'a, S: TokenSource<'a, HoaKind>>(
     source: &mut S,
 ) -> Result<RawItem, Refusal>
     ensures gives { GivesContent header.Name (S.left source.old) (S.left source.new) result }
-    ensures finds { FindsContent header.Name (S.left source.old) (S.left source.new) result }
-    ensures err { IfErr result IsSyntaxOrMemory }
+    ensures finds { FindsContent header.Name (S.left source.old) (S.left source.new) (S.length source.old) result }
     ensures length { S.length source.new ≡ S.length source.old }
 {
     Ok(RawItem::Name(take_string(alloc, source)?))
@@ -136,8 +129,8 @@ pub(crate) fn properties<'a, S: TokenSource<'a, HoaKind>>(
     source: &mut S,
 ) -> Result<RawItem, Refusal>
     ensures gives { GivesContent header.Properties (S.left source.old) (S.left source.new) result }
-    ensures finds { FindsContent header.Properties (S.left source.old) (S.left source.new) result }
-    ensures err { IfErr result IsSyntaxOrMemory }
+    ensures finds { FindsContent header.Properties
+        (S.left source.old) (S.left source.new) (S.length source.old) result }
     ensures length { S.length source.new ≡ S.length source.old }
 {
     let words = read_each::<Word, S>(alloc, source)?;

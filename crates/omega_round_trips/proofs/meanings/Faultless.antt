@@ -343,7 +343,7 @@ module _ (label_means : WrittenLabelsMean) (formula_means : WrittenFormulasMean)
   none-large : has_large_expression (written_automaton a) ≡ false
   unfolding has_large_expression
   none-large =
-      or_from _ _ (meanings-fail is_large (λ tree here. and-right _ _ (le-ltb most_size (label_size tree) here.label.small))) total-small
+      or_from _ _ (meanings-fail is_large (λ tree here. le-ltb most_size (label_size tree) here.label.small)) total-small
 
   -- no fault
   pub faultless : automaton_fault_of (written_automaton a) ≡ None

@@ -1,5 +1,5 @@
 -- Cuts, piece by piece, and that each text has one or a fault.
-use Rattle.std.proofs.Common.{ℕ, zero, suc, ◌+◌, ◌≤◌, ◌⊎◌, inl, inr, ⊎_elim, List, [], ◌∷◌, ◌++◌, length, map, refl, sym, subst, arith}
+use Rattle.std.proofs.Common.{◌≡◌, ◌∙◌, ℕ, zero, suc, ◌+◌, ◌≤◌, ◌⊎◌, inl, inr, ⊎_elim, List, [], ◌∷◌, ◌++◌, length, map, refl, sym, subst, arith}
 use Rattle.std.proofs.lemmas.List.{map_push}
 use Rattle.std.specs.Prelude.{Result, Ok, Err, IfErr, OnOk}
 use Rattle.omega_text.specs.Cut.{CutOrFault, Cuts, IsCut, IsFault}
@@ -15,6 +15,19 @@ pub record IsCutTo {Kind : Type 0} (format : TextFormat Kind) (source : List ℕ
   pub cuts : Cuts format source from lexemes to
 
 module _ {Kind : Type 0} (format : TextFormat Kind) where
+  -- a cut of tokens one after the other is that of the first, and of the others from where it ends
+  pub cuts_split : (source : List ℕ) (from to : ℕ) (front back : List (Lexeme Kind)) → Cuts format source from (front ++ back) to
+      → (middle : ℕ) × Cuts format source from front middle × Cuts format source middle back to
+  cuts_split source from to [] back cuts = (from, refl, cuts)
+  cuts_split source from to (lexeme ∷ front) back cuts =
+      let parts = cuts_split source lexeme.span.end to front back cuts.1 in
+      (parts.0, (cuts.0, parts.1), parts.2)
+
+  -- a cut ends at one place
+  pub cuts_end : (source : List ℕ) (from one other : ℕ) (lexemes : List (Lexeme Kind)) → Cuts format source from lexemes one → Cuts format source from lexemes other → one ≡ other
+  cuts_end source from one other [] here there = sym here ∙ there
+  cuts_end source from one other (lexeme ∷ lexemes) here there = cuts_end source lexeme.span.end one other lexemes here.1 there.1
+
   -- two cuts, one after the other, are a cut
   pub cuts_join : (source : List ℕ) (from middle to : ℕ) (front back : List (Lexeme Kind)) → Cuts format source from front middle → Cuts format source middle back to → Cuts format source from (front ++ back) to
   cuts_join source from middle to [] back is cuts = subst (λ n. Cuts format source n back to) (sym is) cuts
@@ -51,6 +64,15 @@ CutFrom {Kind} format source from = ((lexemes : List (Lexeme Kind)) × (to : ℕ
     ⊎ ((lexemes : List (Lexeme Kind)) × (to : ℕ) × (fault : TextFault) × Cuts format source from lexemes to × format.faults source to fault)
 
 module _ {Kind : Type 0} (format : TextFormat Kind) (exact : GoesOneWay format) where
+  -- a cut ends where it begins or after it, within the text
+  pub cuts_forward : (source : List ℕ) (from to : ℕ) (lexemes : List (Lexeme Kind)) → from ≤ length source → Cuts format source from lexemes to
+      → (from ≤ to) × (to ≤ length source)
+  cuts_forward source from to [] within cuts = (omega (arith, cuts), omega (arith, cuts))
+  cuts_forward source from to (lexeme ∷ lexemes) within cuts =
+      let part = exact.following source from lexeme cuts.0 in
+      let rest = cuts_forward source lexeme.span.end to lexemes part.within cuts.1 in
+      (omega (arith, part.forward, part.nonempty, rest.0), rest.1)
+
   -- if a token follows, a longer text is left than after it
   shorter : (left : ℕ) (source : List ℕ) (from : ℕ) (lexeme : Lexeme Kind) → format.follows source from lexeme → length source ≤ from + suc left
       → (lexeme.span.end ≤ length source) × (length source ≤ lexeme.span.end + left)

@@ -1,5 +1,5 @@
 -- What is settled of a text that comes byte by byte: it stays so however the text goes on.
-use Rattle.std.specs.Prelude.{◌≡◌, ℕ, ◌+◌, ◌-◌, ◌<◌, ◌^◌, Bool, true, false, Option, Some, None, List, [], ◌∷◌, ◌++◌, length, take, drop}
+use Rattle.std.specs.Prelude.{◌≡◌, ℕ, ◌+◌, ◌-◌, ◌<◌, ◌≤◌, ◌^◌, Bool, true, false, Option, Some, None, List, [], ◌∷◌, ◌++◌, length, take, drop}
 use Rattle.omega_text.specs.Cut.{Cuts, IsCut}
 use Rattle.omega_text.specs.Lexeme.{Lexeme}
 use Rattle.omega_text.specs.declared.hoa.kind.HoaKind.{HoaKind}
@@ -105,3 +105,11 @@ pub record HasPassed (IsRead : Reading) (seen : List ℕ) (lexemes : List (Lexem
   pub passed : List (Lexeme HoaKind)
   pub read : IsRead (seen ++ bytes) (lexemes ++ passed)
   pub plain : NoneMarks passed
+
+-- the text `other` differs from `one` only before a place, where whole tokens of each end however both go on
+pub record DiffersBefore (place : ℕ) (one : List ℕ) (front : List (Lexeme HoaKind)) (other : List ℕ) (another : List (Lexeme HoaKind)) : Type 0 where
+  pub within : place ≤ length one
+  pub long : length other ≡ length one
+  pub same : drop place one ≡ drop place other
+  pub cuts : (more : List ℕ) → Cuts hoa_format (one ++ more) 0 front place
+  pub other_cuts : (more : List ℕ) → Cuts hoa_format (other ++ more) 0 another place

@@ -1,6 +1,6 @@
 ghost use Rattle.std.specs.Prelude.{◌≡◌, ◌<◌, ◌-◌, ◌≤◌, [], ◌∷◌, ◌++◌, false, IfSome, None, drop, length, slice_index, take};
 ghost use Rattle.omega_text.specs.hoa.Laws.{is_closed};
-ghost use Rattle.omega_text.specs.hoa.Pieces.{HasPassed, HasRoom, IsCutUpToFault, IsSettled, StopsBefore, settled_lexemes};
+ghost use Rattle.omega_text.specs.hoa.Pieces.{DiffersBefore, HasPassed, HasRoom, IsCutUpToFault, IsSettled, StopsBefore, settled_lexemes};
 
 use super::placed::Settled;
 
@@ -68,4 +68,11 @@ pub trait ByteTokenizer {
     fn read_is_settled(&self)
         ensures { (seen : List ℕ) (lexemes : List (Lexeme HoaKind))
             → read self.now seen lexemes → IsSettled (fault self.now) seen lexemes };
+
+    /// States that tokens are forgotten once they are whole: if one text was read, so was each that differs from it
+    /// only before a place where whole tokens of both end. An implementation proves this law.
+    fn read_forgets_whole_tokens(&self)
+        ensures { fault self.now ≡ None → (place : ℕ) (one other : List ℕ) (front another rest : List (Lexeme HoaKind))
+            → DiffersBefore place one front other another
+            → read self.now one (front ++ rest) → read self.now other (another ++ rest) };
 }

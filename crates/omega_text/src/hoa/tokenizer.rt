@@ -72,6 +72,8 @@ impl ByteTokenizer for HoaTokenizer {
     }
 
     fn read_is_settled(&self) {}
+
+    fn read_forgets_whole_tokens(&self) {}
 }
 
 #[inline(always)]

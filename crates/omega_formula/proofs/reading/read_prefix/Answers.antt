@@ -2,18 +2,19 @@
 use Rattle.std.proofs.Common.{true, false, [], ◌∷◌, ap, append-nil, subst, sym, ◌∙◌}
 use Rattle.omega_formula.specs.Reading.{ReadsNoAcc}
 use Rattle.omega_formula.specs.Raw.{atom, constant}
-use Rattle.omega_expression.specs.Symbols.{IsUnread, seen_as}
+use Rattle.omega_expression.specs.Symbols.{seen_as}
 use Rattle.omega_formula.specs.private.layout.Building.{Wants}
 use Rattle.omega_formula.specs.private.layout.States.{set_symbols}
 use Rattle.omega_expression.specs.Passing.{Passed}
 use Rattle.omega_formula.proofs.ReadingLemmas.{has_leaf, wants_opened}
-use Rattle.omega_formula.proofs.Unread.{BeginNone, begins_others, none_named, none_wanted}
-use Rattle.omega_expression.proofs.PassingLemmas.{error_then, nothing_passed, unread_where}
+use Rattle.omega_formula.proofs.Unread.{BeginNone, begins_others, none_wanted, unread_named}
+use Rattle.omega_expression.proofs.PassingLemmas.{error_then, nothing_passed}
+use Rattle.omega_expression.proofs.UnreadLemmas.{unread_same}
 use Rattle.omega_formula.proofs.reading.read_prefix.Goals as goal
 use Rattle.omega_formula.proofs.reading.read_prefix.Goals.{in-True+in_ok-push-in-True, in-False+in_ok-push-in-False, in-Identifier+in_ok-negated-in-Identifier+in_ok-push-in-Identifier+in_ok-extend_from_slice-in-Identifier}
 
 pub returns-in_default-clause-err : goal.returns-in_default-clause-err
-returns-in_default-clause-err g c whole wants = none_wanted whole _ _ _ _ wants (subst BeginNone (sym c.in_default.ensures.none.0) tt)
+returns-in_default-clause-err g c whole wants = none_wanted whole _ _ _ _ _ _ c.place-at.ensures wants (subst BeginNone (sym c.in_default.ensures.none.0) tt)
 
 pub returns-in-OpenParenthesis-clause-wants : goal.returns-in-OpenParenthesis-clause-wants
 returns-in-OpenParenthesis-clause-wants g c whole wants =
@@ -23,15 +24,14 @@ returns-in-OpenParenthesis-clause-wants g c whole wants =
 pub returns-in_err-negated-in-Identifier-clause-err : goal.returns-in_err-negated-in-Identifier-clause-err
 returns-in_err-negated-in-Identifier-clause-err g c =
     error_then c.from_residual-in_err-negated-in-Identifier.result _ _ c.from_residual-in_err-negated-in-Identifier.ensures.1
-    (λ e is whole wants. subst (IsUnread (ReadsNoAcc whole)) (sym is)
-    (unread_where _ _ _
-    (none_named whole _ _ _ _ _ _ _ wants c.in-Some.ensures.some (ap (λ k. seen_as k c.in-Some.token.value c.in-Some.token.text.now) c.in-Identifier.is))
+    (λ e is whole wants. unread_same ReadsNoAcc whole _ _ _ e is c.in-Some.ensures.length
+    (unread_named whole _ _ _ _ _ _ _ _ _ wants c.in-Some.ensures.some (ap (λ k. seen_as k c.in-Some.token.value c.in-Some.token.text.now) c.in-Identifier.is)
     c.in_err-negated-in-Identifier.ensures.err))
 
 pub returns-in_default-kind : goal.returns-in_default-kind
 returns-in_default-kind g c = record {
   wants = tt;
-  err = λ whole wants. none_wanted whole _ _ _ _ wants
+  err = λ whole wants. none_wanted whole _ _ _ _ _ _ c.place-at.ensures wants
       (subst BeginNone (sym c.in-Some.ensures.some)
       (begins_others c.in-Some.token.kind c.in_default-kind.not-Identifier c.in_default-kind.not-True c.in_default-kind.not-False c.in_default-kind.not-OpenParenthesis));
   less = tt;

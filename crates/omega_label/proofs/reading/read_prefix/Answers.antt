@@ -9,7 +9,7 @@ use Rattle.omega_label.proofs.reading.read_prefix.Goals as goal
 use Rattle.omega_label.proofs.reading.read_prefix.Goals.{in-True+in_ok-push-in-True, in-False+in_ok-push-in-False, in-Int+in_ok-push-in-Int, in-AliasName+in_ok-count-in-AliasName+in_ok-push-in-AliasName+in_ok-extend_from_slice-in-AliasName}
 
 pub returns-in_default-clause-err : goal.returns-in_default-clause-err
-returns-in_default-clause-err g c whole wants = none_wanted whole _ _ _ _ wants (subst BeginNone (sym c.in_default.ensures.none.0) tt)
+returns-in_default-clause-err g c whole wants = none_wanted whole _ _ _ _ _ _ c.place-at.ensures wants (subst BeginNone (sym c.in_default.ensures.none.0) tt)
 
 pub returns-in-Not-clause-wants : goal.returns-in-Not-clause-wants
 returns-in-Not-clause-wants g c whole wants =
@@ -24,7 +24,7 @@ returns-in-OpenParenthesis-clause-wants g c whole wants =
 pub returns-in_default-kind : goal.returns-in_default-kind
 returns-in_default-kind g c = record {
   wants = tt;
-  err = λ whole wants. none_wanted whole _ _ _ _ wants
+  err = λ whole wants. none_wanted whole _ _ _ _ _ _ c.place-at.ensures wants
       (subst BeginNone (sym c.in-Some.ensures.some)
       (begins_others c.in-Some.token.kind c.in_default-kind.not-AliasName c.in_default-kind.not-True c.in_default-kind.not-False c.in_default-kind.not-Int c.in_default-kind.not-Not c.in_default-kind.not-OpenParenthesis));
   less = tt;

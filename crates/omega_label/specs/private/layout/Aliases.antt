@@ -2,10 +2,9 @@
 -- kept.
 use Rattle.std.specs.Prelude.{◌≡◌, ℕ, List, [], map, option_map}
 use Rattle.std.specs.Coded.{Coded, code_by, coded_list, coded×, coded_ℕ}
-use Rattle.omega_label.specs.Expanding.{Defined, entries_of}
+use Rattle.omega_label.specs.Expanding.{Defined, entries_of, extent_of}
 use Rattle.omega_label.specs.Raw.{RawLabelTree}
 use Rattle.omega_label.specs.private.layout.Emitting.{AllKept}
-use Rattle.omega_label.specs.private.layout.Extents.{extent_of}
 use Rattle.omega_label.specs.private.layout.Raw.{raw_label_code}
 use Rattle.omega_label.specs.declared.aliases.Aliases.TheInside.{Inside}
 use Rattle.omega_label.specs.declared.aliases.Definition.{Definition}

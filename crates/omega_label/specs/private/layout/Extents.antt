@@ -1,15 +1,10 @@
 -- The depth and size of meanings, counted no further than just past the limits.
 use Rattle.std.specs.Prelude.{ℕ, ◌+◌, List, [], ◌∷◌, Option, Some, None, option_map, max, min, take, drop}
 use Rattle.omega_expression.specs.Limits.{past_depth, past_size}
-use Rattle.omega_label.specs.Expanding.{Entry, Meaning, stands_for}
-use Rattle.omega_label.specs.Label.{label_size}
+use Rattle.omega_label.specs.Expanding.{Entry, extent_of, stands_for}
 use Rattle.omega_label.specs.declared.extents.Extent.{Extent}
 use Rattle.omega_label.specs.declared.label.LabelNode.{LabelNode}
 use Rattle.omega_label.specs.declared.label.LabelNode.TheVariants.{Alias, And, Constant, Group, Not, Or, Proposition}
-
--- the extent of a meaning
-abbrev pub extent_of : Meaning → Extent
-extent_of meaning = record { depth = min meaning.depth past_depth; size = min (label_size meaning.tree) past_size }
 
 -- an atom's extent
 abbrev pub atom_extent : Option Extent

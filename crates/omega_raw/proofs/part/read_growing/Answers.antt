@@ -2,11 +2,12 @@
 use Rattle.std.proofs.Common.{rules, true, []}
 use Rattle.std.proofs.Common.{◌≡◌, refl, sym, subst, ◌∙◌}
 use Rattle.std.specs.List.{AllByRecursion}
-use Rattle.omega_text.specs.Cases.{IsMemory}
 use Rattle.omega_raw.proofs.PartLemmas.{IsPart, IsReadTo, read_all, read_failed, read_more, read_none}
-use Rattle.omega_raw.proofs.SpellingLemmas.{error_found, shorter}
+use Rattle.omega_raw.proofs.SpellingLemmas.{shorter}
+use Rattle.omega_raw.proofs.StepLemmas.{finds_error}
 use Rattle.omega_raw.specs.Grammar.{each}
-use Rattle.omega_raw.specs.private.steps.Reading.{EndsList, Given}
+use Rattle.omega_raw.specs.private.steps.Reading.{EndsList, Given, IsWritten, Passes}
+use Rattle.omega_raw.specs.First.{FirstIs}
 use Rattle.omega_raw.proofs.part.read_growing.Goals as goal
 
 pub loop-alloc-init : goal.loop-alloc-init
@@ -18,12 +19,11 @@ loop-alloc-init g c = record {
 }
 
 pub returns-in_err-value-clause-finds : goal.returns-in_err-value-clause-finds
-returns-in_err-value-clause-finds g c it others rest are last spells =
+returns-in_err-value-clause-finds g c =
     let part : IsPart g.P.Part.valid g.P.Part.written g.P.Part.first g.P.Part.next = let met = g.met.P.Part c.lifetimes (search rules) in record { begun = met.begun; follows = met.follows } in
-    error_found c.from_residual.result _ it _ c.from_residual.ensures.1
-    (λ e is. subst IsMemory (sym is)
-    (read_failed g.P.Part.valid g.P.Part.written g.P.Part.first g.P.Part.next part (g.S.TokenSource.left c.args.source.now) (g.S.TokenSource.left c.loop-alloc.source) c.loop-alloc.values.items c.loop-alloc.invariant.read c.loop-alloc-test.ensures _
-    c.in_err-value.ensures.finds it others rest are last spells))
+    finds_error c.from_residual.result _ _ _ _ _ _ _ _ _ c.from_residual.ensures.1 c.loop-alloc.invariant.text
+    (read_failed g.P.Part.valid g.P.Part.written g.P.Part.first g.P.Part.next part (g.S.TokenSource.left c.args.source.now) (g.S.TokenSource.left c.loop-alloc.source) c.loop-alloc.values.items _ _ c.loop-alloc.invariant.read c.loop-alloc-test.ensures c.in_err-value.ensures.finds)
+    (λ tokens none. none)
 
 pub loop-alloc-smaller : goal.loop-alloc-smaller
 loop-alloc-smaller g c =
@@ -45,7 +45,7 @@ pub returns-clause-gives : goal.returns-clause-gives
 returns-clause-gives g c = subst (λ all. Given (AllByRecursion g.P.Part.valid) (each g.P.Part.written) (g.S.TokenSource.left c.args.source.now) (g.S.TokenSource.left c.loop-alloc.source) all) (sym c.from_vec.ensures) c.loop-alloc.invariant.read.given
 
 pub returns-clause-finds : goal.returns-clause-finds
-returns-clause-finds g c it others rest are last spells =
+returns-clause-finds g c =
     let part : IsPart g.P.Part.valid g.P.Part.written g.P.Part.first g.P.Part.next = let met = g.met.P.Part c.lifetimes (search rules) in record { begun = met.begun; follows = met.follows } in
-    let read = read_all g.P.Part.valid g.P.Part.written g.P.Part.first g.P.Part.next part (g.S.TokenSource.left c.args.source.now) (g.S.TokenSource.left c.loop-alloc.source) c.loop-alloc.values.items c.loop-alloc.invariant.read c.loop-alloc-test.ensures it others rest are last spells in
-    (c.from_vec.ensures ∙ read.0, read.1)
+    subst (λ all. Passes (IsWritten (AllByRecursion g.P.Part.valid) (each g.P.Part.written) (FirstIs (EndsList g.P.Part.first g.P.Part.next)) all) (g.S.TokenSource.left c.args.source.now) (g.S.TokenSource.left c.loop-alloc.source)) (sym c.from_vec.ensures)
+    (read_all g.P.Part.valid g.P.Part.written g.P.Part.first g.P.Part.next part (g.S.TokenSource.left c.args.source.now) (g.S.TokenSource.left c.loop-alloc.source) c.loop-alloc.values.items c.loop-alloc.invariant.read c.loop-alloc-test.ensures)

@@ -1,8 +1,8 @@
 -- One edge more is read, or none follows any more.
 use Rattle.std.proofs.Common.{◌≡◌, ◌∙◌, rules, true, [], refl, sym, subst}
-use Rattle.omega_text.specs.Cases.{IsMemory}
 use Rattle.omega_raw.proofs.PartLemmas.{IsPart, IsReadTo, read_all, read_failed, read_more, read_none}
-use Rattle.omega_raw.proofs.SpellingLemmas.{error_found, shorter}
+use Rattle.omega_raw.proofs.SpellingLemmas.{shorter}
+use Rattle.omega_raw.proofs.StepLemmas.{finds_error}
 use Rattle.omega_raw.specs.private.steps.Reading.{EndsList}
 use Rattle.omega_raw.proofs.part.read_raw_edges.Goals as goal
 
@@ -15,12 +15,11 @@ loop-alloc-init g c = record {
 }
 
 pub returns-in_err-edge-clause-finds : goal.returns-in_err-edge-clause-finds
-returns-in_err-edge-clause-finds g c it others rest are last spells =
+returns-in_err-edge-clause-finds g c =
     let part : IsPart g.P.Part.valid g.P.Part.written g.P.Part.first g.P.Part.next = let met = g.met.P.Part c.lifetimes (search rules) in record { begun = met.begun; follows = met.follows } in
-    error_found c.from_residual.result _ it _ c.from_residual.ensures.1
-    (λ e is. subst IsMemory (sym is)
-    (read_failed g.P.Part.valid g.P.Part.written g.P.Part.first g.P.Part.next part (g.S.TokenSource.left c.args.source.now) (g.S.TokenSource.left c.loop-alloc.source) c.loop-alloc.edges c.loop-alloc.invariant.read c.loop-alloc-test.ensures _
-    c.in_err-edge.ensures.finds it others rest are last spells))
+    finds_error c.from_residual.result _ _ _ _ _ _ _ _ _ c.from_residual.ensures.1 c.loop-alloc.invariant.text
+    (read_failed g.P.Part.valid g.P.Part.written g.P.Part.first g.P.Part.next part (g.S.TokenSource.left c.args.source.now) (g.S.TokenSource.left c.loop-alloc.source) c.loop-alloc.edges _ _ c.loop-alloc.invariant.read c.loop-alloc-test.ensures c.in_err-edge.ensures.finds)
+    (λ tokens none. none)
 
 pub loop-alloc-smaller : goal.loop-alloc-smaller
 loop-alloc-smaller g c =
@@ -42,6 +41,6 @@ pub returns-clause-gives : goal.returns-clause-gives
 returns-clause-gives g c = c.loop-alloc.invariant.read.given
 
 pub returns-clause-finds : goal.returns-clause-finds
-returns-clause-finds g c it others rest are last spells =
+returns-clause-finds g c =
     let part : IsPart g.P.Part.valid g.P.Part.written g.P.Part.first g.P.Part.next = let met = g.met.P.Part c.lifetimes (search rules) in record { begun = met.begun; follows = met.follows } in
-    read_all g.P.Part.valid g.P.Part.written g.P.Part.first g.P.Part.next part (g.S.TokenSource.left c.args.source.now) (g.S.TokenSource.left c.loop-alloc.source) c.loop-alloc.edges c.loop-alloc.invariant.read c.loop-alloc-test.ensures it others rest are last spells
+    read_all g.P.Part.valid g.P.Part.written g.P.Part.first g.P.Part.next part (g.S.TokenSource.left c.args.source.now) (g.S.TokenSource.left c.loop-alloc.source) c.loop-alloc.edges c.loop-alloc.invariant.read c.loop-alloc-test.ensures

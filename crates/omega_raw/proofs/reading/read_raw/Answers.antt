@@ -1,8 +1,8 @@
 -- The automaton that is read is one that was written, and if none was written none is read.
-use Rattle.std.proofs.Common.{refl, sym, subst, ◌∷◌, []}
-use Rattle.omega_expression.specs.Symbols.{IsUnread}
-use Rattle.omega_raw.proofs.RowLemmas.{error_is, raw_same, read_refused}
-use Rattle.omega_raw.specs.Grammar.{ReadsNoAutomaton, each, item_row, state_row}
+use Rattle.std.proofs.Common.{refl, ◌∙◌, ◌∷◌, []}
+use Rattle.omega_raw.proofs.RowLemmas.{automaton_unread, only_found, raw_same}
+use Rattle.omega_raw.proofs.StepLemmas.{none_after, passes_after}
+use Rattle.omega_raw.specs.Grammar.{each, item_row, state_row}
 use Rattle.omega_raw.specs.Symbols.{sign, word}
 use Rattle.omega_text.specs.declared.hoa.kind.HoaKind.TheVariants as kind
 use Rattle.omega_raw.proofs.reading.read_raw.Goals as goal
@@ -20,61 +20,69 @@ returns-clause-ok g c = record {
 }
 
 pub returns-clause-only : goal.returns-clause-only
-returns-clause-only g c = λ raw rest reads.
-    let s1 = c.in_ok-take_header.ensures.finds (word raw.version ∷ each item_row raw.items (sign kind.Body ∷ each state_row raw.states (sign kind.End ∷ []))) rest reads.spells in
-    let s2 = c.in_ok-version.ensures.finds raw.version (each item_row raw.items (sign kind.Body ∷ each state_row raw.states (sign kind.End ∷ []))) rest tt tt s1 in
-    let s3 = c.in_ok-items.ensures.finds raw.items (sign kind.Body ∷ each state_row raw.states (sign kind.End ∷ [])) rest reads.items (refl, tt) s2.1 in
-    let s4 = c.in_ok-take_sign.ensures.finds (each state_row raw.states (sign kind.End ∷ [])) rest s3.1 in
-    let s5 = c.in_ok-states.ensures.finds raw.states (sign kind.End ∷ []) rest reads.states (refl, tt) s4 in
-    (raw_same c.in_ok-version.version c.in_ok-items.items c.in_ok-states.states raw s2.0 s3.0 s5.0, c.in_ok-take_sign-2.ensures.finds [] rest s5.1)
+returns-clause-only g c =
+    only_found (record { version = c.in_ok-version.version; items = c.in_ok-items.items; states = c.in_ok-states.states }) _ _ (passes_after _ _ _ _ _ c.in_ok-take_header.ensures.finds (passes_after _ _ _ _ _ c.in_ok-version.ensures.finds (passes_after _ _ _ _ _ c.in_ok-items.ensures.finds (passes_after _ _ _ _ _ c.in_ok-take_sign.ensures.finds (passes_after _ _ _ _ _ c.in_ok-states.ensures.finds c.in_ok-take_sign-2.ensures.finds)))))
+    (λ tokens left t raw rest reads.
+    let s1 = t.first (word raw.version ∷ each item_row raw.items (sign kind.Body ∷ each state_row raw.states (sign kind.End ∷ []))) rest reads.spells in
+    let s2 = t.second.first raw.version (each item_row raw.items (sign kind.Body ∷ each state_row raw.states (sign kind.End ∷ []))) rest tt tt s1 in
+    let s3 = t.second.second.first raw.items (sign kind.Body ∷ each state_row raw.states (sign kind.End ∷ [])) rest reads.items (refl, tt) s2.1 in
+    let s4 = t.second.second.second.first (each state_row raw.states (sign kind.End ∷ [])) rest s3.1 in
+    let s5 = t.second.second.second.second.first raw.states (sign kind.End ∷ []) rest reads.states (refl, tt) s4 in
+    (raw_same c.in_ok-version.version c.in_ok-items.items c.in_ok-states.states raw s2.0 s3.0 s5.0, t.second.second.second.second.second [] rest s5.1))
 
 pub returns-in_err-take_header-clause-err : goal.returns-in_err-take_header-clause-err
 returns-in_err-take_header-clause-err g c =
-    error_is c.from_residual.result _ _ c.from_residual.ensures.1 (λ e is. subst (IsUnread (ReadsNoAutomaton (g.S.TokenSource.left c.args.source.now))) (sym is)
-    (read_refused (g.S.TokenSource.left c.args.source.now) _ c.in_err-take_header.ensures.err (λ raw rest reads.
-    c.in_err-take_header.ensures.finds (word raw.version ∷ each item_row raw.items (sign kind.Body ∷ each state_row raw.states (sign kind.End ∷ []))) rest reads.spells)))
+    automaton_unread c.from_residual.result _ _ _ _ _ c.from_residual.ensures.1 refl
+    c.in_err-take_header.ensures.finds
+    (λ tokens t raw rest reads.
+    t (word raw.version ∷ each item_row raw.items (sign kind.Body ∷ each state_row raw.states (sign kind.End ∷ []))) rest reads.spells)
 
 pub returns-in_err-version-clause-err : goal.returns-in_err-version-clause-err
 returns-in_err-version-clause-err g c =
-    error_is c.from_residual-in_err-version.result _ _ c.from_residual-in_err-version.ensures.1 (λ e is. subst (IsUnread (ReadsNoAutomaton (g.S.TokenSource.left c.args.source.now))) (sym is)
-    (read_refused (g.S.TokenSource.left c.args.source.now) _ c.in_err-version.ensures.err (λ raw rest reads.
-    let s1 = c.in_ok-take_header.ensures.finds (word raw.version ∷ each item_row raw.items (sign kind.Body ∷ each state_row raw.states (sign kind.End ∷ []))) rest reads.spells in
-    c.in_err-version.ensures.finds raw.version (each item_row raw.items (sign kind.Body ∷ each state_row raw.states (sign kind.End ∷ []))) rest tt tt s1)))
+    automaton_unread c.from_residual-in_err-version.result _ _ _ _ _ c.from_residual-in_err-version.ensures.1 c.in_ok-take_header.ensures.length
+    (none_after _ _ _ _ _ _ c.in_ok-take_header.ensures.finds c.in_err-version.ensures.finds)
+    (λ tokens t raw rest reads.
+    let s1 = t.first (word raw.version ∷ each item_row raw.items (sign kind.Body ∷ each state_row raw.states (sign kind.End ∷ []))) rest reads.spells in
+    t.second raw.version (each item_row raw.items (sign kind.Body ∷ each state_row raw.states (sign kind.End ∷ []))) rest tt tt s1)
 
 pub returns-in_err-items-clause-err : goal.returns-in_err-items-clause-err
 returns-in_err-items-clause-err g c =
-    error_is c.from_residual-in_err-items.result _ _ c.from_residual-in_err-items.ensures.1 (λ e is. subst (IsUnread (ReadsNoAutomaton (g.S.TokenSource.left c.args.source.now))) (sym is)
-    (read_refused (g.S.TokenSource.left c.args.source.now) _ c.in_err-items.ensures.err (λ raw rest reads.
-    let s1 = c.in_ok-take_header.ensures.finds (word raw.version ∷ each item_row raw.items (sign kind.Body ∷ each state_row raw.states (sign kind.End ∷ []))) rest reads.spells in
-    let s2 = c.in_ok-version.ensures.finds raw.version (each item_row raw.items (sign kind.Body ∷ each state_row raw.states (sign kind.End ∷ []))) rest tt tt s1 in
-    c.in_err-items.ensures.finds raw.items (sign kind.Body ∷ each state_row raw.states (sign kind.End ∷ [])) rest reads.items (refl, tt) s2.1)))
+    automaton_unread c.from_residual-in_err-items.result _ _ _ _ _ c.from_residual-in_err-items.ensures.1 (c.in_ok-version.ensures.length ∙ c.in_ok-take_header.ensures.length)
+    (none_after _ _ _ _ _ _ c.in_ok-take_header.ensures.finds (none_after _ _ _ _ _ _ c.in_ok-version.ensures.finds c.in_err-items.ensures.finds))
+    (λ tokens t raw rest reads.
+    let s1 = t.first (word raw.version ∷ each item_row raw.items (sign kind.Body ∷ each state_row raw.states (sign kind.End ∷ []))) rest reads.spells in
+    let s2 = t.second.first raw.version (each item_row raw.items (sign kind.Body ∷ each state_row raw.states (sign kind.End ∷ []))) rest tt tt s1 in
+    t.second.second raw.items (sign kind.Body ∷ each state_row raw.states (sign kind.End ∷ [])) rest reads.items (refl, tt) s2.1)
 
 pub returns-in_err-take_sign-clause-err : goal.returns-in_err-take_sign-clause-err
 returns-in_err-take_sign-clause-err g c =
-    error_is c.from_residual-in_err-take_sign.result _ _ c.from_residual-in_err-take_sign.ensures.1 (λ e is. subst (IsUnread (ReadsNoAutomaton (g.S.TokenSource.left c.args.source.now))) (sym is)
-    (read_refused (g.S.TokenSource.left c.args.source.now) _ c.in_err-take_sign.ensures.err (λ raw rest reads.
-    let s1 = c.in_ok-take_header.ensures.finds (word raw.version ∷ each item_row raw.items (sign kind.Body ∷ each state_row raw.states (sign kind.End ∷ []))) rest reads.spells in
-    let s2 = c.in_ok-version.ensures.finds raw.version (each item_row raw.items (sign kind.Body ∷ each state_row raw.states (sign kind.End ∷ []))) rest tt tt s1 in
-    let s3 = c.in_ok-items.ensures.finds raw.items (sign kind.Body ∷ each state_row raw.states (sign kind.End ∷ [])) rest reads.items (refl, tt) s2.1 in
-    c.in_err-take_sign.ensures.finds (each state_row raw.states (sign kind.End ∷ [])) rest s3.1)))
+    automaton_unread c.from_residual-in_err-take_sign.result _ _ _ _ _ c.from_residual-in_err-take_sign.ensures.1 (c.in_ok-items.ensures.length ∙ (c.in_ok-version.ensures.length ∙ c.in_ok-take_header.ensures.length))
+    (none_after _ _ _ _ _ _ c.in_ok-take_header.ensures.finds (none_after _ _ _ _ _ _ c.in_ok-version.ensures.finds (none_after _ _ _ _ _ _ c.in_ok-items.ensures.finds c.in_err-take_sign.ensures.finds)))
+    (λ tokens t raw rest reads.
+    let s1 = t.first (word raw.version ∷ each item_row raw.items (sign kind.Body ∷ each state_row raw.states (sign kind.End ∷ []))) rest reads.spells in
+    let s2 = t.second.first raw.version (each item_row raw.items (sign kind.Body ∷ each state_row raw.states (sign kind.End ∷ []))) rest tt tt s1 in
+    let s3 = t.second.second.first raw.items (sign kind.Body ∷ each state_row raw.states (sign kind.End ∷ [])) rest reads.items (refl, tt) s2.1 in
+    t.second.second.second (each state_row raw.states (sign kind.End ∷ [])) rest s3.1)
 
 pub returns-in_err-states-clause-err : goal.returns-in_err-states-clause-err
 returns-in_err-states-clause-err g c =
-    error_is c.from_residual-in_err-states.result _ _ c.from_residual-in_err-states.ensures.1 (λ e is. subst (IsUnread (ReadsNoAutomaton (g.S.TokenSource.left c.args.source.now))) (sym is)
-    (read_refused (g.S.TokenSource.left c.args.source.now) _ c.in_err-states.ensures.err (λ raw rest reads.
-    let s1 = c.in_ok-take_header.ensures.finds (word raw.version ∷ each item_row raw.items (sign kind.Body ∷ each state_row raw.states (sign kind.End ∷ []))) rest reads.spells in
-    let s2 = c.in_ok-version.ensures.finds raw.version (each item_row raw.items (sign kind.Body ∷ each state_row raw.states (sign kind.End ∷ []))) rest tt tt s1 in
-    let s3 = c.in_ok-items.ensures.finds raw.items (sign kind.Body ∷ each state_row raw.states (sign kind.End ∷ [])) rest reads.items (refl, tt) s2.1 in
-    let s4 = c.in_ok-take_sign.ensures.finds (each state_row raw.states (sign kind.End ∷ [])) rest s3.1 in
-    c.in_err-states.ensures.finds raw.states (sign kind.End ∷ []) rest reads.states (refl, tt) s4)))
+    automaton_unread c.from_residual-in_err-states.result _ _ _ _ _ c.from_residual-in_err-states.ensures.1 (c.in_ok-take_sign.ensures.length ∙ (c.in_ok-items.ensures.length ∙ (c.in_ok-version.ensures.length ∙ c.in_ok-take_header.ensures.length)))
+    (none_after _ _ _ _ _ _ c.in_ok-take_header.ensures.finds (none_after _ _ _ _ _ _ c.in_ok-version.ensures.finds (none_after _ _ _ _ _ _ c.in_ok-items.ensures.finds (none_after _ _ _ _ _ _ c.in_ok-take_sign.ensures.finds c.in_err-states.ensures.finds))))
+    (λ tokens t raw rest reads.
+    let s1 = t.first (word raw.version ∷ each item_row raw.items (sign kind.Body ∷ each state_row raw.states (sign kind.End ∷ []))) rest reads.spells in
+    let s2 = t.second.first raw.version (each item_row raw.items (sign kind.Body ∷ each state_row raw.states (sign kind.End ∷ []))) rest tt tt s1 in
+    let s3 = t.second.second.first raw.items (sign kind.Body ∷ each state_row raw.states (sign kind.End ∷ [])) rest reads.items (refl, tt) s2.1 in
+    let s4 = t.second.second.second.first (each state_row raw.states (sign kind.End ∷ [])) rest s3.1 in
+    t.second.second.second.second raw.states (sign kind.End ∷ []) rest reads.states (refl, tt) s4)
 
 pub returns-in_err-take_sign-2-clause-err : goal.returns-in_err-take_sign-2-clause-err
 returns-in_err-take_sign-2-clause-err g c =
-    error_is c.from_residual-in_err-take_sign-2.result _ _ c.from_residual-in_err-take_sign-2.ensures.1 (λ e is. subst (IsUnread (ReadsNoAutomaton (g.S.TokenSource.left c.args.source.now))) (sym is)
-    (read_refused (g.S.TokenSource.left c.args.source.now) _ c.in_err-take_sign-2.ensures.err (λ raw rest reads.
-    let s1 = c.in_ok-take_header.ensures.finds (word raw.version ∷ each item_row raw.items (sign kind.Body ∷ each state_row raw.states (sign kind.End ∷ []))) rest reads.spells in
-    let s2 = c.in_ok-version.ensures.finds raw.version (each item_row raw.items (sign kind.Body ∷ each state_row raw.states (sign kind.End ∷ []))) rest tt tt s1 in
-    let s3 = c.in_ok-items.ensures.finds raw.items (sign kind.Body ∷ each state_row raw.states (sign kind.End ∷ [])) rest reads.items (refl, tt) s2.1 in
-    let s4 = c.in_ok-take_sign.ensures.finds (each state_row raw.states (sign kind.End ∷ [])) rest s3.1 in
-    let s5 = c.in_ok-states.ensures.finds raw.states (sign kind.End ∷ []) rest reads.states (refl, tt) s4 in
-    c.in_err-take_sign-2.ensures.finds [] rest s5.1)))
+    automaton_unread c.from_residual-in_err-take_sign-2.result _ _ _ _ _ c.from_residual-in_err-take_sign-2.ensures.1 (c.in_ok-states.ensures.length ∙ (c.in_ok-take_sign.ensures.length ∙ (c.in_ok-items.ensures.length ∙ (c.in_ok-version.ensures.length ∙ c.in_ok-take_header.ensures.length))))
+    (none_after _ _ _ _ _ _ c.in_ok-take_header.ensures.finds (none_after _ _ _ _ _ _ c.in_ok-version.ensures.finds (none_after _ _ _ _ _ _ c.in_ok-items.ensures.finds (none_after _ _ _ _ _ _ c.in_ok-take_sign.ensures.finds (none_after _ _ _ _ _ _ c.in_ok-states.ensures.finds c.in_err-take_sign-2.ensures.finds)))))
+    (λ tokens t raw rest reads.
+    let s1 = t.first (word raw.version ∷ each item_row raw.items (sign kind.Body ∷ each state_row raw.states (sign kind.End ∷ []))) rest reads.spells in
+    let s2 = t.second.first raw.version (each item_row raw.items (sign kind.Body ∷ each state_row raw.states (sign kind.End ∷ []))) rest tt tt s1 in
+    let s3 = t.second.second.first raw.items (sign kind.Body ∷ each state_row raw.states (sign kind.End ∷ [])) rest reads.items (refl, tt) s2.1 in
+    let s4 = t.second.second.second.first (each state_row raw.states (sign kind.End ∷ [])) rest s3.1 in
+    let s5 = t.second.second.second.second.first raw.states (sign kind.End ∷ []) rest reads.states (refl, tt) s4 in
+    t.second.second.second.second.second [] rest s5.1)

@@ -1,7 +1,6 @@
 -- What a call reads of tokens: it finds what they are written as, if the tokens that follow do not go on with it.
-use Rattle.std.specs.Prelude.{◌≡◌, Bool, false, List, [], ◌∷◌, Result, Ok, Err, IfOk}
-use Rattle.omega_text.specs.Cases.{IsMemory}
-use Rattle.omega_expression.specs.Symbols.{IsUnread}
+use Rattle.std.specs.Prelude.{◌≡◌, ℕ, Bool, false, List, [], ◌∷◌, ◌++◌, Result, Ok, Err, IfOk}
+use Rattle.omega_expression.specs.Unread.{AgreeThroughNext, IsUnread}
 use Rattle.omega_text.specs.declared.hoa.kind.HoaKind.{HoaKind}
 use Rattle.omega_text.specs.declared.refusal.Refusal.{Refusal}
 use Rattle.omega_raw.specs.Symbols.{ReadsSymbols, AutomatonSymbol, Tokens}
@@ -16,19 +15,36 @@ abbrev pub NextMayBe : (HoaKind → Type 0) → Tokens → Type 0
 NextMayBe Holds [] = Unit {0}
 NextMayBe Holds (lexeme ∷ rest) = Holds lexeme.kind
 
--- want of memory, or the fault of a syntax
-abbrev pub IsSyntaxOrMemory : Refusal → Type 0
-IsSyntaxOrMemory = IsUnread (Unit {0})
+-- Some tokens are passed and these are left. This holds of all tokens that agree with all of them through the first
+-- that is left, and of what then is left.
+pub record Passes (Holds : (tokens left : Tokens) → Type 0) (old new : Tokens) : Type 0 where
+  pub front : Tokens
+  pub split : old ≡ front ++ new
+  pub holds : (others : Tokens) → AgreeThroughNext new others → Holds (front ++ others) others
 
--- the result is this value, and this holds; or memory is wanting
-abbrev pub Found : {X : Type 0} → Result X Refusal → X → Type 0 → Type 0
-Found (Ok it) wanted left = (it ≡ wanted) × left
-Found (Err refusal) wanted left = IsMemory refusal
+-- what was written as a value of this row is this one, and the tokens that are left are what follows it
+abbrev pub IsWritten : {X : Type 0} → (X → Type 0) → (X → List AutomatonSymbol → List AutomatonSymbol) → (List AutomatonSymbol → Type 0) → X → (tokens left : Tokens) → Type 0
+IsWritten {X} Is row Follow it tokens left =
+    (wanted : X) (others : List AutomatonSymbol) (rest : Tokens) → Is wanted → Follow others → ReadsSymbols tokens (row wanted others) rest
+    → (it ≡ wanted) × ReadsSymbols left others rest
 
--- this holds, or memory is wanting
-abbrev pub FoundThere : {X : Type 0} → Result X Refusal → Type 0 → Type 0
-FoundThere (Ok done) left = left
-FoundThere (Err refusal) left = IsMemory refusal
+-- no value of this row was written
+abbrev pub IsUnwritten : {X : Type 0} → (X → Type 0) → (X → List AutomatonSymbol → List AutomatonSymbol) → (List AutomatonSymbol → Type 0) → Tokens → Type 0
+IsUnwritten {X} Is row Follow tokens =
+    (wanted : X) (others : List AutomatonSymbol) (rest : Tokens) → Is wanted → Follow others → ReadsSymbols tokens (row wanted others) rest → ⊥
+
+-- if the symbol was written, the tokens that are left are what follows it
+abbrev pub FollowSymbol : AutomatonSymbol → (tokens left : Tokens) → Type 0
+FollowSymbol symbol tokens left = (others : List AutomatonSymbol) (rest : Tokens) → ReadsSymbols tokens (symbol ∷ others) rest → ReadsSymbols left others rest
+
+-- the symbol was not written
+abbrev pub IsNotSymbol : AutomatonSymbol → Tokens → Type 0
+IsNotSymbol symbol tokens = (others : List AutomatonSymbol) (rest : Tokens) → ReadsSymbols tokens (symbol ∷ others) rest → ⊥
+
+-- the symbol is passed if it was written, in a text of this length; else nothing is read
+abbrev pub FindsSymbol : {X : Type 0} → AutomatonSymbol → (old new : Tokens) → ℕ → Result X Refusal → Type 0
+FindsSymbol symbol old new length (Ok done) = Passes (FollowSymbol symbol) old new
+FindsSymbol symbol old new length (Err refusal) = IsUnread (IsNotSymbol symbol) old length refusal
 
 -- this is what was read: whatever the tokens that are left are written as,
 -- those before were written as this and then that
@@ -40,11 +56,10 @@ pub record Given {X : Type 0} (Is : X → Type 0) (row : X → List AutomatonSym
 abbrev pub GivesRow : {X : Type 0} → (X → Type 0) → (X → List AutomatonSymbol → List AutomatonSymbol) → (old new : Tokens) → Result X Refusal → Type 0
 GivesRow Is row old new result = IfOk result (Given Is row old new)
 
--- what was written is read, if such symbols follow
-abbrev pub Finds : {X : Type 0} → (X → Type 0) → (X → List AutomatonSymbol → List AutomatonSymbol) → (List AutomatonSymbol → Type 0) → (old new : Tokens) → Result X Refusal → Type 0
-Finds {X} Is row Follow old new result =
-    (it : X) (others : List AutomatonSymbol) (rest : Tokens) → Is it → Follow others → ReadsSymbols old (row it others) rest
-    → Found result it (ReadsSymbols new others rest)
+-- what was written is read, if such symbols follow, in a text of this length; else nothing is read
+abbrev pub Finds : {X : Type 0} → (X → Type 0) → (X → List AutomatonSymbol → List AutomatonSymbol) → (List AutomatonSymbol → Type 0) → (old new : Tokens) → ℕ → Result X Refusal → Type 0
+Finds Is row Follow old new length (Ok it) = Passes (IsWritten Is row Follow it) old new
+Finds Is row Follow old new length (Err refusal) = IsUnread (IsUnwritten Is row Follow) old length refusal
 
 -- the kind does not go on with a list of parts, and may follow a part
 abbrev pub EndsList : (HoaKind → Bool) → (HoaKind → Type 0) → HoaKind → Type 0

@@ -26,7 +26,7 @@ read_piece-requires-clause-so_far c =
     let all = c.as_slice.result.now in
     let is : all ≡ kept.bytes ++ c.args.piece.now = c.as_slice.ensures.value ∙ c.in_ok-extend_from_slice.ensures.items in
     let fits = fits_of some.seen some.items kept held (length c.args.piece.now) some.taken count c.if-piece-self.false in
-    let progress = progress_before some.seen some.items kept c.args.piece.now all held some.taken is count c.goes_on_one_way.ensures c.self.inside.tokenizer some fits in
+    let progress = progress_before some.seen some.items kept c.args.piece.now all held some.taken is count c.self.inside.tokenizer some fits in
     (take kept.begins some.seen, some.items, progress)
 
 pub overflow_sub-after : goal.overflow_sub-after
@@ -39,7 +39,7 @@ overflow_sub-after c =
     let all = c.as_slice.result.now in
     let is : all ≡ kept.bytes ++ c.args.piece.now = c.as_slice.ensures.value ∙ c.in_ok-extend_from_slice.ensures.items in
     let fits = fits_of some.seen some.items kept held (length c.args.piece.now) some.taken count c.if-piece-self.false in
-    let progress = progress_before some.seen some.items kept c.args.piece.now all held some.taken is count c.goes_on_one_way.ensures c.self.inside.tokenizer some fits in
+    let progress = progress_before some.seen some.items kept c.args.piece.now all held some.taken is count c.self.inside.tokenizer some fits in
     let read = c.in-Ok.ensures.read (take kept.begins some.seen) some.items progress in
     read.holds.from
 
@@ -53,7 +53,7 @@ drop_front-requires c =
     let all = c.as_slice.result.now in
     let is : all ≡ kept.bytes ++ c.args.piece.now = c.as_slice.ensures.value ∙ c.in_ok-extend_from_slice.ensures.items in
     let fits = fits_of some.seen some.items kept held (length c.args.piece.now) some.taken count c.if-piece-self.false in
-    let progress = progress_before some.seen some.items kept c.args.piece.now all held some.taken is count c.goes_on_one_way.ensures c.self.inside.tokenizer some fits in
+    let progress = progress_before some.seen some.items kept c.args.piece.now all held some.taken is count c.self.inside.tokenizer some fits in
     let read = c.in-Ok.ensures.read (take kept.begins some.seen) some.items progress in
     let within = begins_within c.goes_on_one_way.ensures all kept.begins c.in-Ok.after (take kept.begins some.seen) (some.items ++ read.added) read.holds in
     omega (arith, within, c.as_slice.ensures.len)
@@ -68,7 +68,7 @@ invariant_of-self-in-Ok c =
     let all = c.as_slice.result.now in
     let is : all ≡ kept.bytes ++ c.args.piece.now = c.as_slice.ensures.value ∙ c.in_ok-extend_from_slice.ensures.items in
     let fits = fits_of some.seen some.items kept held (length c.args.piece.now) some.taken count c.if-piece-self.false in
-    let progress = progress_before some.seen some.items kept c.args.piece.now all held some.taken is count c.goes_on_one_way.ensures c.self.inside.tokenizer some fits in
+    let progress = progress_before some.seen some.items kept c.args.piece.now all held some.taken is count c.self.inside.tokenizer some fits in
     let read = c.in-Ok.ensures.read (take kept.begins some.seen) some.items progress in
     let after = c.in-Ok.after in
     let now : Kept = record { bytes = c.drop_front.new.bytes.items; begins = after.division.begins; inside = after.division.inside; refused = c.self.inside.refused } in
@@ -86,7 +86,7 @@ invariant_of-self-in_default c =
     let all = c.as_slice.result.now in
     let is : all ≡ kept.bytes ++ c.args.piece.now = c.as_slice.ensures.value ∙ c.in_ok-extend_from_slice.ensures.items in
     let fits = fits_of some.seen some.items kept held (length c.args.piece.now) some.taken count c.if-piece-self.false in
-    let progress = progress_before some.seen some.items kept c.args.piece.now all held some.taken is count c.goes_on_one_way.ensures c.self.inside.tokenizer some fits in
+    let progress = progress_before some.seen some.items kept c.args.piece.now all held some.taken is count c.self.inside.tokenizer some fits in
     let refused = refused_after (take kept.begins some.seen ++ all) _ _ some.items c.in-Err.refusal c.in_default.not-Memory (c.in-Err.ensures.refused (take kept.begins some.seen) some.items progress) in
     (take kept.begins some.seen ++ all, some.items ++ refused.added, inr refused.holds)
 
@@ -103,7 +103,7 @@ returns-in-Ok-clause-taken c = λ no_memory seen items fed.
     let rest : now.bytes ≡ drop (after.division.begins - kept.begins) all = c.drop_front.ensures ∙ ap (drop (after.division.begins - kept.begins)) (sym c.as_slice.ensures.value) in
     let taken : IsTaken seen items kept = subst (IsTaken seen items) (sym c.self.view_is) (taken_of seen items c.args.self.now c.requires fed) in
     let fits = fits_of seen items kept held (length c.args.piece.now) taken count c.if-piece-self.false in
-    let progress = progress_before seen items kept c.args.piece.now all held taken is count c.goes_on_one_way.ensures c.self.inside.tokenizer (known_of kept c.self.inside.tokenizer none c.self.invariant) fits in
+    let progress = progress_before seen items kept c.args.piece.now all held taken is count c.self.inside.tokenizer (known_of kept c.self.inside.tokenizer none c.self.invariant) fits in
     more_says _ _ items (IsProgress all kept.begins (length all) after (take kept.begins seen)) _ (c.in-Ok.ensures.read (take kept.begins seen) items progress)
     (λ every reached. fed_of (seen ++ c.args.piece.now) every now none
     (subst (λ bytes. IsTaken bytes every now) (with_piece seen items kept c.args.piece.now all held taken is count)
@@ -119,7 +119,7 @@ returns-in_default-clause-taken c = λ no_memory seen items fed.
     let is : all ≡ kept.bytes ++ c.args.piece.now = c.as_slice.ensures.value ∙ c.in_ok-extend_from_slice.ensures.items in
     let taken : IsTaken seen items kept = subst (IsTaken seen items) (sym c.self.view_is) (taken_of seen items c.args.self.now c.requires fed) in
     let fits = fits_of seen items kept held (length c.args.piece.now) taken count c.if-piece-self.false in
-    let progress = progress_before seen items kept c.args.piece.now all held taken is count c.goes_on_one_way.ensures c.self.inside.tokenizer (known_of kept c.self.inside.tokenizer none c.self.invariant) fits in
+    let progress = progress_before seen items kept c.args.piece.now all held taken is count c.self.inside.tokenizer (known_of kept c.self.inside.tokenizer none c.self.invariant) fits in
     more_says _ _ items (λ every. (more : List ℕ) → IsStreamFault ((take kept.begins seen ++ all) ++ more) every c.in-Err.refusal) _
     (refused_after (take kept.begins seen ++ all) _ _ items c.in-Err.refusal c.in_default.not-Memory (c.in-Err.ensures.refused (take kept.begins seen) items progress))
     (λ every refused. inr (subst (λ bytes. (more : List ℕ) → IsStreamFault (bytes ++ more) every c.in-Err.refusal) (with_piece seen items kept c.args.piece.now all held taken is count) refused))
@@ -134,7 +134,7 @@ returns-in_default-clause-refused c = λ within seen items fed.
     let is : all ≡ kept.bytes ++ c.args.piece.now = c.as_slice.ensures.value ∙ c.in_ok-extend_from_slice.ensures.items in
     let taken : IsTaken seen items kept = subst (IsTaken seen items) (sym c.self.view_is) (taken_of seen items c.args.self.now c.requires fed) in
     let fits = fits_of seen items kept held (length c.args.piece.now) taken count c.if-piece-self.false in
-    let progress = progress_before seen items kept c.args.piece.now all held taken is count c.goes_on_one_way.ensures c.self.inside.tokenizer (known_of kept c.self.inside.tokenizer none c.self.invariant) fits in
+    let progress = progress_before seen items kept c.args.piece.now all held taken is count c.self.inside.tokenizer (known_of kept c.self.inside.tokenizer none c.self.invariant) fits in
     subst (λ bytes. IsRefusedThen bytes c.args.out.now.items c.read_piece.new.out.items items c.in-Err.refusal) (with_piece seen items kept c.args.piece.now all held taken is count)
     (c.in-Err.ensures.refused (take kept.begins seen) items progress)
 

@@ -12,11 +12,10 @@ returns-then-self-clause-refused c = λ none seen items fed.
     let taken : IsTaken seen items kept = taken_of seen items kept c.in-None.is (subst (IsFed seen items) (sym c.self.view_is) fed) in
     let all : kept.begins + c.len.result ≡ length seen = omega (arith, taken.total, c.len.ensures, c.self.inside.bytes.ok.0) in
     let known = known_of kept c.self.inside.tokenizer c.in-None.is c.self.invariant in
-    let exact = c.goes_on_one_way.ensures in
-    let lexemes = known_lexemes exact seen items kept c.self.inside.tokenizer taken known in
+    let lexemes = known_lexemes seen items kept c.self.inside.tokenizer taken known in
     c.end_inside.ensures.refused seen lexemes items kept.begins all (record {
-      divided = subst (IsDivided seen lexemes items kept.begins) c.if-self.true (known_divided exact seen items kept c.self.inside.tokenizer taken known);
-      finished = c.finish-settled.ensures.finishes seen lexemes (known_read exact seen items kept c.self.inside.tokenizer taken known);
+      divided = subst (IsDivided seen lexemes items kept.begins) c.if-self.true (known_divided seen items kept c.self.inside.tokenizer taken known);
+      finished = c.finish-settled.ensures.finishes seen lexemes (known_read seen items kept c.self.inside.tokenizer taken known);
     })
 
 pub returns-clause-ok : goal.returns-clause-ok
@@ -24,11 +23,10 @@ returns-clause-ok c = ok_says c.end_outside.result _ _ (λ value ends seen items
     let kept : Kept = record { bytes = c.self.inside.bytes.items; begins = c.self.inside.begins; inside = c.self.inside.inside; refused = c.self.inside.refused } in
     let taken : IsTaken seen items kept = taken_of seen items kept c.in-None.is (subst (IsFed seen items) (sym c.self.view_is) fed) in
     let known = known_of kept c.self.inside.tokenizer c.in-None.is c.self.invariant in
-    let exact = c.goes_on_one_way.ensures in
-    let lexemes = known_lexemes exact seen items kept c.self.inside.tokenizer taken known in
+    let lexemes = known_lexemes seen items kept c.self.inside.tokenizer taken known in
     let whole = ends seen lexemes items kept.begins (record {
-      divided = subst (IsDivided seen lexemes items kept.begins) c.if-self.false (known_divided exact seen items kept c.self.inside.tokenizer taken known);
-      finished = c.finish-settled.ensures.finishes seen lexemes (known_read exact seen items kept c.self.inside.tokenizer taken known);
+      divided = subst (IsDivided seen lexemes items kept.begins) c.if-self.false (known_divided seen items kept c.self.inside.tokenizer taken known);
+      finished = c.finish-settled.ensures.finishes seen lexemes (known_read seen items kept c.self.inside.tokenizer taken known);
     }) in
     record { short = taken.short; lexemes = whole.lexemes; cut = whole.cut; stream = whole.stream })
     c.end_outside.ensures.ok
@@ -38,11 +36,10 @@ returns-clause-refused c = λ none. err_says c.end_outside.result _ _ (λ refusa
     let kept : Kept = record { bytes = c.self.inside.bytes.items; begins = c.self.inside.begins; inside = c.self.inside.inside; refused = c.self.inside.refused } in
     let taken : IsTaken seen items kept = taken_of seen items kept c.in-None.is (subst (IsFed seen items) (sym c.self.view_is) fed) in
     let known = known_of kept c.self.inside.tokenizer c.in-None.is c.self.invariant in
-    let exact = c.goes_on_one_way.ensures in
-    let lexemes = known_lexemes exact seen items kept c.self.inside.tokenizer taken known in
+    let lexemes = known_lexemes seen items kept c.self.inside.tokenizer taken known in
     ends seen lexemes items kept.begins (record {
-      divided = subst (IsDivided seen lexemes items kept.begins) c.if-self.false (known_divided exact seen items kept c.self.inside.tokenizer taken known);
-      finished = c.finish-settled.ensures.finishes seen lexemes (known_read exact seen items kept c.self.inside.tokenizer taken known);
+      divided = subst (IsDivided seen lexemes items kept.begins) c.if-self.false (known_divided seen items kept c.self.inside.tokenizer taken known);
+      finished = c.finish-settled.ensures.finishes seen lexemes (known_read seen items kept c.self.inside.tokenizer taken known);
     }))
     c.end_outside.ensures.refused
 

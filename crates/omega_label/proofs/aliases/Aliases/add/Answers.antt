@@ -1,10 +1,9 @@
 -- The name is not among the keys; with one more, or as they were, aliases keep what they keep.
 use Rattle.std.proofs.Common.{◌≡◌, length, ap, subst, sym, ◌∙◌, arith, option_map}
 use Rattle.std.proofs.lemmas.List.{length-map}
-use Rattle.omega_label.specs.Expanding.{expansion, place_among}
+use Rattle.omega_label.specs.Expanding.{expansion, extent_of, place_among}
 use Rattle.omega_label.specs.private.layout.Aliases.{defined_of, definitions_held}
 use Rattle.omega_label.specs.private.layout.Emitting.{IsKept}
-use Rattle.omega_label.specs.private.layout.Extents.{extent_of}
 use Rattle.omega_label.proofs.AliasLemmas.{place-absent}
 use Rattle.omega_label.proofs.PutLemmas.{Keeps-push, Keeps-put}
 use Rattle.omega_label.proofs.aliases.Aliases.add.Goals as goal

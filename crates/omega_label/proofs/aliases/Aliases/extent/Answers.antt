@@ -1,9 +1,9 @@
 -- The extent at the place of a name is that of what it stands for.
 use Rattle.std.proofs.Common.{◌≡◌, [], None, get_or, length, map, option_map, ap, arith, sym, ◌∙◌}
 use Rattle.std.proofs.lemmas.List.{length-map}
-use Rattle.omega_label.specs.Expanding.{entries_of, place_among}
+use Rattle.omega_label.specs.Expanding.{entries_of, extent_of, place_among}
 use Rattle.omega_label.specs.private.layout.Aliases.{defined_of, definitions_held}
-use Rattle.omega_label.specs.private.layout.Extents.{extent_named, extent_of}
+use Rattle.omega_label.specs.private.layout.Extents.{extent_named}
 use Rattle.omega_label.proofs.AliasLemmas.{get_or-made}
 use Rattle.omega_label.proofs.EntryLemmas.{extent-at, stands_for-none}
 use Rattle.omega_label.proofs.aliases.Aliases.extent.Goals as goal

@@ -1,19 +1,26 @@
 -- The state after `&` is the one that was written.
-use Rattle.std.proofs.Common.{sym, subst, ◌∷◌}
-use Rattle.omega_text.specs.Cases.{IsMemory}
-use Rattle.omega_raw.proofs.PartLemmas.{given_then}
-use Rattle.omega_raw.proofs.SpellingLemmas.{error_found}
+use Rattle.std.proofs.Common.{◌∷◌, refl}
+use Rattle.omega_raw.proofs.StepLemmas.{finds_error, none_after, passes_after, passes_then}
 use Rattle.omega_raw.specs.Symbols.{number}
+use Rattle.omega_raw.specs.Grammar.{joined_row}
 use Rattle.omega_raw.proofs.conj.JoinedPart.read.Goals as goal
 
 pub returns-in_err-take_sign-clause-finds : goal.returns-in_err-take_sign-clause-finds
-returns-in_err-take_sign-clause-finds g c it others rest valid follow spells =
-    error_found c.from_residual.result _ it _ c.from_residual.ensures.1 (λ e is. subst IsMemory (sym is) (c.in_err-take_sign.ensures.finds (number it ∷ others) rest spells))
+returns-in_err-take_sign-clause-finds g c =
+    finds_error c.from_residual.result _ joined_row _ _ (g.S.TokenSource.left c.take_sign.new.source) _ _ _ _ c.from_residual.ensures.1 refl
+    c.in_err-take_sign.ensures.finds
+    (λ tokens t it others rest valid follow spells. t (number it ∷ others) rest spells)
+
+pub returns-in_err-state-clause-finds : goal.returns-in_err-state-clause-finds
+returns-in_err-state-clause-finds g c =
+    finds_error c.from_residual-in_err-state.result _ joined_row _ _ (g.S.TokenSource.left c.take_int.new.source) _ _ _ _ c.from_residual-in_err-state.ensures.1 c.in_ok-take_sign.ensures.length
+    (none_after _ _ _ _ _ _ c.in_ok-take_sign.ensures.finds c.in_err-state.ensures.finds)
+    (λ tokens t it others rest valid follow spells. t.second it others rest tt tt (t.first (number it ∷ others) rest spells))
 
 pub returns-clause-gives : goal.returns-clause-gives
-returns-clause-gives g c =
-    given_then c.take_int.result _ _ (λ it given. record { is = tt; spells = λ others rest spells. c.in_ok-take_sign.ensures.gives (number it ∷ others) rest (given.spells others rest spells) }) c.take_int.ensures.gives
+returns-clause-gives g c = record { is = tt; spells = λ others rest spells. c.in_ok-take_sign.ensures.gives (number c.in_ok-state.state ∷ others) rest (c.in_ok-state.ensures.gives.spells others rest spells) }
 
 pub returns-clause-finds : goal.returns-clause-finds
-returns-clause-finds g c it others rest valid follow spells =
-    c.take_int.ensures.finds it others rest tt tt (c.in_ok-take_sign.ensures.finds (number it ∷ others) rest spells)
+returns-clause-finds g c =
+    passes_then _ _ _ _ (passes_after _ _ _ _ _ c.in_ok-take_sign.ensures.finds c.in_ok-state.ensures.finds)
+    (λ tokens left t it others rest valid follow spells. t.second it others rest tt tt (t.first (number it ∷ others) rest spells))
