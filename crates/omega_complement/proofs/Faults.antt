@@ -2,10 +2,10 @@
 use Rattle.std.proofs.Common.{◌≡◌, ℕ, ◌<◌, ◌⊎◌, inl, inr, Bool, false, List, length, Some, sym, subst, arith}
 use Rattle.omega_label.specs.Label.{LabelTree}
 use Rattle.omega_label.specs.Raw.{raw_depth}
-use Rattle.omega_satisfying.specs.Satisfiable.{mentioned}
+use Rattle.omega_satisfying.specs.Undecided.{IsHardLabel}
 use Rattle.omega_label.specs.Shape.{FitsALabel}
 use Rattle.omega_formula.specs.Raw.{raw_acc_depth}
-use Rattle.omega_expression.specs.Limits.{most_depth, most_mentioned}
+use Rattle.omega_expression.specs.Limits.{most_depth}
 use Rattle.omega_label.specs.Writing.{label_written}
 use Rattle.omega_formula.specs.Writing.{acc_written}
 use Rattle.omega_text.specs.declared.refusal.Refusal.{Refusal}
@@ -45,10 +45,10 @@ module _ (full : Bool) (labels : List LabelTree) (number : ℕ) (label : LabelTr
 
   pub unjudged_refused : (refusal : Refusal) → IsJudgedLabel full labels label → IsUnjudged label refusal → IsStateRefusal full labels number refusal
   unjudged_refused refusal judged is =
-      task_weaker (λ fault. ((fault ≡ TooLarge) × (FitsALabel label → ⊥)) ⊎ ((fault ≡ TooManyPropositions) × (most_mentioned < length (mentioned label))))
+      task_weaker (λ fault. ((fault ≡ TooLarge) × (FitsALabel label → ⊥)) ⊎ ((fault ≡ TooManyPropositions) × IsHardLabel label))
       (IsStateFault full labels number) go refusal is
     where
-      go : (fault : TaskFault) → ((fault ≡ TooLarge) × (FitsALabel label → ⊥)) ⊎ ((fault ≡ TooManyPropositions) × (most_mentioned < length (mentioned label)))
+      go : (fault : TaskFault) → ((fault ≡ TooLarge) × (FitsALabel label → ⊥)) ⊎ ((fault ≡ TooManyPropositions) × IsHardLabel label)
           → IsStateFault full labels number fault
       go fault (inl large) = subst (IsStateFault full labels number) (sym large.0) (inl (label, judged, large.1))
       go fault (inr wide) = subst (IsStateFault full labels number) (sym wide.0) (label, judged, wide.1)

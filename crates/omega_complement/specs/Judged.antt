@@ -1,9 +1,8 @@
 -- The labels of a state that are judged, whether they can be true, and the labels that are written, and whether they
 -- fit.
-use Rattle.std.specs.Prelude.{◌≡◌, ◌⊎◌, ℕ, ◌<◌, Bool, false, List, length, slice_get, Some}
-use Rattle.omega_expression.specs.Limits.{most_mentioned}
+use Rattle.std.specs.Prelude.{◌≡◌, ◌⊎◌, ℕ, Bool, false, List, slice_get, Some}
 use Rattle.omega_label.specs.Label.{LabelTree, conjunction}
-use Rattle.omega_satisfying.specs.Satisfiable.{mentioned}
+use Rattle.omega_satisfying.specs.Undecided.{IsHardLabel}
 use Rattle.omega_label.specs.Shape.{FitsALabel}
 use Rattle.omega_complement.specs.Letters.{IsPair, IsRestLabel, LacksLetter}
 use Rattle.omega_edge_labels.specs.Fitting.{FitsAText}
@@ -47,10 +46,9 @@ pub record AreFitting (full : Bool) (labels : List LabelTree) : Type 0 where
   pub judged : JudgedFit full labels
   pub written : (label : LabelTree) → IsWrittenLabel labels label → FitsAText label
 
--- a label to be judged mentions more propositions than the limit
-abbrev pub HasWideJudged : Bool → List LabelTree → Type 0
-HasWideJudged full labels =
-    (label : LabelTree) × IsJudgedLabel full labels label × (most_mentioned < length (mentioned label))
+-- a label to be judged may be left undecided
+abbrev pub HasUndecidedJudged : Bool → List LabelTree → Type 0
+HasUndecidedJudged full labels = (label : LabelTree) × IsJudgedLabel full labels label × IsHardLabel label
 
 -- a label to be judged, or one to be written with its parentheses, is too deep or too large
 abbrev pub HasLargeJudged : Bool → List LabelTree → Type 0

@@ -13,7 +13,7 @@ use Rattle.omega_automaton.specs.Branching.{has_universal_branching}
 use Rattle.omega_automaton.specs.Faults.{automaton_fault_of}
 use Rattle.omega_raw.specs.declared.raw_automaton.RawAutomaton.{RawAutomaton}
 use Rattle.omega_complement.specs.Complement.{AreExclusiveBelow, AreFittingBelow, exceeds_limits}
-use Rattle.omega_complement.specs.Judged.{HasLargeJudged, HasWideJudged}
+use Rattle.omega_complement.specs.Judged.{HasLargeJudged, HasUndecidedJudged}
 use Rattle.omega_complement.specs.Labels.{is_full_at, labels_at}
 use Rattle.omega_complement.specs.Letters.{HasClash}
 use Rattle.omega_complement.specs.Written.{IsWrittenComplement}
@@ -26,7 +26,7 @@ IsSecondStart a state = (start : List ℕ) × (slice_get a.starts 1 ≡ Some sta
 abbrev pub IsStateFault : Bool → List LabelTree → ℕ → TaskFault → Type 0
 IsStateFault full labels number NotParity = ⊥
 IsStateFault full labels number UniversalBranch = ⊥
-IsStateFault full labels number TooManyPropositions = HasWideJudged full labels
+IsStateFault full labels number TooManyPropositions = HasUndecidedJudged full labels
 IsStateFault full labels number TooWide = ⊥
 IsStateFault full labels number Budget = ⊥
 IsStateFault full labels number BadSolution = ⊥

@@ -6,17 +6,18 @@ use Rattle.omega_text.specs.declared.refusal.task.TaskFault.{TaskFault}
 use Rattle.omega_text.specs.declared.refusal.task.TaskFault.TheVariants.{BadSolution, Budget, NotDeterministic, NotParity, TooLarge, TooManyPropositions, TooWide, UniversalBranch, UnknownNode}
 use Rattle.omega_automaton.specs.Automaton.{Description}
 use Rattle.omega_automaton.specs.Branching.{has_universal_branching}
-use Rattle.omega_runs.specs.Judging.{HasWideLabel}
+use Rattle.omega_runs.specs.Judging.{HasHardLabel}
 
 -- `UniversalBranch` does not apply: each start and each edge lists one state
 abbrev pub IsSearchable : Description → Type 0
 IsSearchable a = has_universal_branching a ≡ false
 
--- the fault applies, and none with a lesser number does; `TooManyPropositions` only if a label is wide
+-- the fault applies, and none with a lesser number does; `TooManyPropositions` only if a label may be
+-- given up undecided
 abbrev pub IsSearchFault : Description → TaskFault → Type 0
 IsSearchFault a NotParity = ⊥
 IsSearchFault a UniversalBranch = has_universal_branching a ≡ true
-IsSearchFault a TooManyPropositions = (has_universal_branching a ≡ false) × HasWideLabel a
+IsSearchFault a TooManyPropositions = (has_universal_branching a ≡ false) × HasHardLabel a
 IsSearchFault a TooWide = ⊥
 IsSearchFault a Budget = ⊥
 IsSearchFault a BadSolution = ⊥

@@ -2,7 +2,7 @@
 ghost use Rattle.std.specs.Prelude.{◌≡◌, ◌++◌, ◌↔◌, [], ◌∷◌, if◌then◌else◌, IfErr, IfOk, IfSome, IsOkUnless, IsTrue, OnOk};
 ghost use Rattle.omega_satisfying.specs.Satisfiable.{IsSatisfiable};
 ghost use Rattle.omega_automaton.specs.Automaton.{edges_from};
-ghost use Rattle.omega_runs.specs.Judging.{AreUsable, GivesUpOn, HasWide, HasWideLabel, IsWide};
+ghost use Rattle.omega_runs.specs.Judging.{AreUsable, GivesUpOn, HasHard, HasHardLabel, IsHard};
 ghost use Rattle.omega_runs.specs.Lasso.{IsUsable};
 ghost use Rattle.omega_lasso_search.specs.private.Judged.{AddsJudged};
 ghost use Rattle.omega_lasso_search.specs.private.Searched.{AreUsableEdges};
@@ -16,7 +16,7 @@ use std::alloc::Global;
 /// propositions and is given up.
 pub(crate) fn usable_edges(alloc: Global, automaton: &Automaton) -> Result<Vec<u32>, Refusal>
     ensures usable { IfOk result (λ edges. AreUsableEdges automaton.now edges.items) }
-    ensures refused { IfErr result (GivesUpOn (HasWideLabel automaton.now)) }
+    ensures refused { IfErr result (GivesUpOn (HasHardLabel automaton.now)) }
 {
     let flags = judged(alloc, automaton)?;
     let edges = chosen(alloc, automaton, flags.as_slice())?;
@@ -27,7 +27,7 @@ pub(crate) fn usable_edges(alloc: Global, automaton: &Automaton) -> Result<Vec<u
 /// given up.
 fn judged(alloc: Global, automaton: &Automaton) -> Result<Vec<bool>, Refusal>
     ensures usable { IfOk result (λ usable. AreUsable automaton.now usable.items) }
-    ensures refused { IfErr result (GivesUpOn (HasWideLabel automaton.now)) }
+    ensures refused { IfErr result (GivesUpOn (HasHardLabel automaton.now)) }
 {
     let mut usable = Vec::with_capacity(alloc, automaton.edge_count() as usize)?;
     for state in automaton.defined() {
@@ -40,7 +40,7 @@ fn judged(alloc: Global, automaton: &Automaton) -> Result<Vec<bool>, Refusal>
 /// given up.
 fn judge_edges(alloc: Global, state: &State, usable: &mut Vec<bool>) -> Result<(), Refusal>
     ensures judged { OnOk result (AddsJudged (edges_from state.now) usable.old.items usable.new.items) }
-    ensures refused { IfErr result (GivesUpOn (HasWide state.now)) }
+    ensures refused { IfErr result (GivesUpOn (HasHard state.now)) }
 {
     let possible = can_hold(alloc, state.label.as_ref())?;
     for at in 0..state.edges.len() {
@@ -61,7 +61,7 @@ fn is_usable(
 ) -> Result<bool, Refusal>
     requires { IsTrue possible ↔ IfSome state.now.label IsSatisfiable }
     ensures judged { IfOk result (λ judged. IsTrue judged ↔ IsUsable (record { source = state.now; edge = edge.now })) }
-    ensures refused { IfErr result (GivesUpOn (IsWide edge.now.label)) }
+    ensures refused { IfErr result (GivesUpOn (IsHard edge.now.label)) }
 {
     match &state.label {
         Some(_) => Ok(possible),

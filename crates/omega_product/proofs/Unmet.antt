@@ -4,11 +4,9 @@ use Rattle.omega_text.specs.Cases.{never, or_memory, or_task}
 use Rattle.omega_text.specs.declared.refusal.Refusal.{Refusal}
 use Rattle.omega_text.specs.declared.refusal.task.TaskFault.{TaskFault}
 use Rattle.omega_text.specs.declared.refusal.task.TaskFault.TheVariants.{BadSolution, Budget, NotDeterministic, NotParity, TooLarge, TooManyPropositions, TooWide, UniversalBranch, UnknownNode}
-use Rattle.omega_expression.specs.Limits.{most_mentioned}
 use Rattle.omega_label.specs.Label.{LabelTree, conjunction}
-use Rattle.omega_satisfying.specs.Satisfiable.{mentioned}
 use Rattle.omega_label.specs.Shape.{FitsALabel}
-use Rattle.omega_satisfying.specs.Undecided.{IsUndecidedLabel}
+use Rattle.omega_satisfying.specs.Undecided.{IsHardLabel, IsUndecidedLabel}
 use Rattle.omega_automaton.specs.Automaton.{Description}
 use Rattle.omega_edge_labels.specs.Fitting.{FitsAText, IsUnfit}
 use Rattle.omega_edge_labels.proofs.Depths.{unfit_text}
@@ -46,7 +44,7 @@ module _ (one other : Description) (pairs : List Pair) (done : ℕ) (found : Are
   join_fault NotParity unmet = unmet.partner.unmet
   join_fault UniversalBranch unmet = unmet.partner.unmet
   join_fault TooManyPropositions unmet =
-      record { transition = unmet.transition; partner = unmet.partner.other; met = met TooManyPropositions unmet; wide = unmet.partner.unmet }
+      record { transition = unmet.transition; partner = unmet.partner.other; met = met TooManyPropositions unmet; hard = unmet.partner.unmet }
   join_fault TooWide unmet = unmet.partner.unmet
   join_fault Budget unmet = unmet.partner.unmet
   join_fault BadSolution unmet = unmet.partner.unmet
@@ -68,8 +66,8 @@ unfit_unmet transition other label is refusal h =
     (λ fault p. subst (IsUnmet transition other) (sym p.0) (subst (λ (l : LabelTree). FitsAText l → ⊥) is (unfit_text label p.1))) refusal h
 
 -- one that may not be decided too
-pub wide_unmet : (transition other : Transition) (label : LabelTree) → label ≡ conjunction transition.label other.label → (refusal : Refusal)
+pub hard_unmet : (transition other : Transition) (label : LabelTree) → label ≡ conjunction transition.label other.label → (refusal : Refusal)
     → IsUndecidedLabel label refusal → or_task (IsUnmet transition other) (or_memory never) refusal
-wide_unmet transition other label is refusal h =
-    task_weaker (λ fault. (fault ≡ TooManyPropositions) × (most_mentioned < length (mentioned label))) (IsUnmet transition other)
-    (λ fault p. subst (IsUnmet transition other) (sym p.0) (subst (λ (l : LabelTree). most_mentioned < length (mentioned l)) is p.1)) refusal h
+hard_unmet transition other label is refusal h =
+    task_weaker (λ fault. (fault ≡ TooManyPropositions) × IsHardLabel label) (IsUnmet transition other)
+    (λ fault p. subst (IsUnmet transition other) (sym p.0) (subst IsHardLabel is p.1)) refusal h

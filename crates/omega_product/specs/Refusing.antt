@@ -7,12 +7,12 @@ use Rattle.omega_text.specs.declared.refusal.Refusal.{Refusal}
 use Rattle.omega_text.specs.declared.refusal.automaton.AutomatonFault.{AutomatonFault}
 use Rattle.omega_text.specs.declared.refusal.task.TaskFault.{TaskFault}
 use Rattle.omega_text.specs.declared.refusal.task.TaskFault.TheVariants.{BadSolution, Budget, NotDeterministic, NotParity, TooLarge, TooManyPropositions, TooWide, UniversalBranch, UnknownNode}
-use Rattle.omega_expression.specs.Limits.{most_depth, most_mentioned}
+use Rattle.omega_expression.specs.Limits.{most_depth}
 use Rattle.omega_formula.specs.Writing.{acc_written}
 use Rattle.omega_formula.specs.Raw.{raw_acc_depth}
 use Rattle.omega_formula.specs.Acceptance as acc
 use Rattle.omega_label.specs.Label.{conjunction}
-use Rattle.omega_satisfying.specs.Satisfiable.{mentioned}
+use Rattle.omega_satisfying.specs.Undecided.{IsHardLabel}
 use Rattle.omega_label.specs.Shape.{FitsALabel}
 use Rattle.omega_automaton.specs.Automaton.{Description}
 use Rattle.omega_automaton.specs.Branching.{has_universal_branching}
@@ -43,12 +43,12 @@ pub record AreMet (one other : Description) (transition partner : Transition) : 
   pub first : Contains (first_leaving one other pair) transition
   pub second : Contains (second_leaving one other pair) partner
 
--- two such edges mention more propositions together than are judged without a search
-pub record HasWideMeeting (one other : Description) : Type 0 where
+-- it may be left undecided whether two such edges can be taken together
+pub record HasUndecidedMeeting (one other : Description) : Type 0 where
   pub transition : Transition
   pub partner : Transition
   pub met : AreMet one other transition partner
-  pub wide : most_mentioned < length (mentioned (conjunction transition.label partner.label))
+  pub hard : IsHardLabel (conjunction transition.label partner.label)
 
 -- the joint label of two such edges is too deep or too large for a text
 pub record HasUnfitMeeting (one other : Description) : Type 0 where
@@ -118,7 +118,7 @@ pub data IsProductTooLarge (one other : Description) : Type 0 where
 abbrev pub IsJoinFault : Description → Description → TaskFault → Type 0
 IsJoinFault one other NotParity = ⊥
 IsJoinFault one other UniversalBranch = ⊥
-IsJoinFault one other TooManyPropositions = HasWideMeeting one other
+IsJoinFault one other TooManyPropositions = HasUndecidedMeeting one other
 IsJoinFault one other TooWide = ⊥
 IsJoinFault one other Budget = ⊥
 IsJoinFault one other BadSolution = ⊥
@@ -130,7 +130,7 @@ IsJoinFault one other (NotDeterministic state) = ⊥
 abbrev pub IsProductFault : Description → Description → TaskFault → Type 0
 IsProductFault one other NotParity = ⊥
 IsProductFault one other UniversalBranch = (has_universal_branching one || has_universal_branching other) ≡ true
-IsProductFault one other TooManyPropositions = HaveNoBranch one other × HasWideMeeting one other
+IsProductFault one other TooManyPropositions = HaveNoBranch one other × HasUndecidedMeeting one other
 IsProductFault one other TooWide = ⊥
 IsProductFault one other Budget = ⊥
 IsProductFault one other BadSolution = ⊥

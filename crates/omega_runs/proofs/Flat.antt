@@ -9,10 +9,11 @@ use Rattle.omega_text.specs.declared.refusal.task.TaskFault.TheVariants.{TooMany
 use Rattle.omega_label.specs.Label.{LabelTree}
 use Rattle.omega_expression.specs.Limits.{most_mentioned}
 use Rattle.omega_satisfying.specs.Satisfiable.{mentioned}
+use Rattle.omega_satisfying.specs.Undecided.{IsHardLabel}
 use Rattle.omega_automaton.specs.Automaton.{BodyEdge, Description, edges_from}
 use Rattle.omega_automaton.specs.declared.edge.Edge.{Edge}
 use Rattle.omega_automaton.specs.declared.state.State.{State}
-use Rattle.omega_runs.specs.Judging.{GivesUpOn, HasNarrow, HasNarrowLabels, HasWide, HasWideLabel, IsLabelIn, IsNarrow, IsWide}
+use Rattle.omega_runs.specs.Judging.{GivesUpOn, HasHard, HasHardLabel, HasLabelWith, HasNarrow, HasNarrowLabels, HasWide, HasWideLabel, IsLabelIn, IsNarrow, IsWide, IsWideLabel}
 
 -- an edge that a state lists, as an edge of the body
 contains_from : (state : State) (edges : List Edge) (k : ℕ) (edge : Edge) → k < length edges → edge ≡ get_or edges k edge
@@ -58,11 +59,18 @@ listed_flat (x ∷ xs) edge has = elim (Contains-append_cases (edges_from x) (fl
       record { place = suc rest.place; below = omega (arith, rest.below); here = rest.here; contained = rest.contained }
 ]
 
--- a wide label of a state or of its edges is one of the automaton
+-- a label of a state or of its edges is one of the automaton
+label_of_state : (Has : LabelTree → Type 0) (a : Description) (k : ℕ) (state : State) → k < length a.defined → state ≡ get_or a.defined k state
+    → HasLabelWith Has state → (label : LabelTree) × IsLabelIn a label × Has label
+label_of_state Has a k state below here (inl own) = (own.0, inl (state, (k, below, sym here), own.1), own.2)
+label_of_state Has a k state below here (inr (edge, contained, with)) =
+    (with.0, inr (record { source = state; edge = edge }, contains_flat a.defined k state edge below here contained, with.1), with.2)
+
 pub wide_label : (a : Description) (k : ℕ) (state : State) → k < length a.defined → state ≡ get_or a.defined k state → HasWide state → HasWideLabel a
-wide_label a k state below here (inl own) = (own.0, inl (state, (k, below, sym here), own.1), own.2)
-wide_label a k state below here (inr (edge, contained, wide)) =
-    (wide.0, inr (record { source = state; edge = edge }, contains_flat a.defined k state edge below here contained, wide.1), wide.2)
+wide_label = label_of_state IsWideLabel
+
+pub hard_label : (a : Description) (k : ℕ) (state : State) → k < length a.defined → state ≡ get_or a.defined k state → HasHard state → HasHardLabel a
+hard_label = label_of_state IsHardLabel
 
 -- a refusal for one is a refusal for the other
 pub wide_refused : (P Q : Type 0) → (P → Q) → (e : Refusal) → GivesUpOn P e → GivesUpOn Q e

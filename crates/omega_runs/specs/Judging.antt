@@ -1,4 +1,4 @@
--- Which edges are usable, judged one by one, and which labels are wide: those that may be given up undecided.
+-- Which edges are usable, judged one by one; which labels are wide, and which may be given up undecided.
 use Rattle.std.specs.Prelude.{◌≡◌, ◌⊎◌, ◌↔◌, ℕ, ◌<◌, ◌≤◌, Bool, true, IsTrue, List, [], ◌∷◌, Contains, length, Option, Some, IfSome, slice_get}
 use Rattle.omega_text.specs.Cases.{never, or_memory, or_task}
 use Rattle.omega_text.specs.declared.refusal.Refusal.{Refusal}
@@ -6,6 +6,7 @@ use Rattle.omega_text.specs.declared.refusal.task.TaskFault.TheVariants.{TooMany
 use Rattle.omega_label.specs.Label.{LabelTree}
 use Rattle.omega_expression.specs.Limits.{most_mentioned}
 use Rattle.omega_satisfying.specs.Satisfiable.{mentioned}
+use Rattle.omega_satisfying.specs.Undecided.{IsHardLabel}
 use Rattle.omega_automaton.specs.Automaton.{BodyEdge, Description, edge_at, edge_count, edges_of}
 use Rattle.omega_automaton.specs.declared.edge.Edge.{Edge}
 use Rattle.omega_automaton.specs.declared.state.State.{State}
@@ -28,22 +29,43 @@ AreJudged (edge ∷ edges) (entry ∷ entries) = (IsTrue entry ↔ IsUsable edge
 abbrev pub IsNarrow : Option LabelTree → Type 0
 IsNarrow label = IfSome label (λ tree. length (mentioned tree) ≤ most_mentioned)
 
--- there is a label, and it mentions over `most_mentioned` propositions
-abbrev pub IsWide : Option LabelTree → Type 0
-IsWide label = (tree : LabelTree) × (label ≡ Some tree) × (most_mentioned < length (mentioned tree))
+-- the label mentions over `most_mentioned` propositions
+abbrev pub IsWideLabel : LabelTree → Type 0
+IsWideLabel tree = most_mentioned < length (mentioned tree)
 
--- the refusal is `TooManyPropositions`, and there is such a wide label, or it is `Memory`
+-- there is a label, and it has the property
+abbrev pub IsLabelWith : (LabelTree → Type 0) → Option LabelTree → Type 0
+IsLabelWith Has label = (tree : LabelTree) × (label ≡ Some tree) × Has tree
+
+-- there is a label, and it is wide
+abbrev pub IsWide : Option LabelTree → Type 0
+IsWide label = IsLabelWith IsWideLabel label
+
+-- there is a label, and it may be given up undecided
+abbrev pub IsHard : Option LabelTree → Type 0
+IsHard label = IsLabelWith IsHardLabel label
+
+-- the refusal is `TooManyPropositions`, and there is such a label, or it is `Memory`
 abbrev pub GivesUpOn : Type 0 → Refusal → Type 0
-GivesUpOn wide = or_task (λ fault. (fault ≡ TooManyPropositions) × wide) (or_memory never)
+GivesUpOn There = or_task (λ fault. (fault ≡ TooManyPropositions) × There) (or_memory never)
 
 -- the labels of the state and of its edges are narrow
 pub record HasNarrow (state : State) : Type 0 where
   pub own : IsNarrow state.label
   pub edges : (edge : Edge) → Contains state.edges edge → IsNarrow edge.label
 
+-- the label of the state or of one of its edges has the property
+abbrev pub HasLabelWith : (LabelTree → Type 0) → State → Type 0
+HasLabelWith Has state =
+    IsLabelWith Has state.label ⊎ ((edge : Edge) × Contains state.edges edge × IsLabelWith Has edge.label)
+
 -- the label of the state or of one of its edges is wide
 abbrev pub HasWide : State → Type 0
-HasWide state = IsWide state.label ⊎ ((edge : Edge) × Contains state.edges edge × IsWide edge.label)
+HasWide state = HasLabelWith IsWideLabel state
+
+-- the label of the state or of one of its edges may be given up undecided
+abbrev pub HasHard : State → Type 0
+HasHard state = HasLabelWith IsHardLabel state
 
 -- the label of some state or of some edge
 abbrev pub IsLabelIn : Description → LabelTree → Type 0
@@ -53,7 +75,11 @@ IsLabelIn a label =
 
 -- some label of the automaton mentions over `most_mentioned` propositions
 abbrev pub HasWideLabel : Description → Type 0
-HasWideLabel a = (label : LabelTree) × IsLabelIn a label × (most_mentioned < length (mentioned label))
+HasWideLabel a = (label : LabelTree) × IsLabelIn a label × IsWideLabel label
+
+-- some label of the automaton may be given up undecided
+abbrev pub HasHardLabel : Description → Type 0
+HasHardLabel a = (label : LabelTree) × IsLabelIn a label × IsHardLabel label
 
 -- each label of the automaton mentions at most `most_mentioned` propositions
 abbrev pub HasNarrowLabels : Description → Type 0

@@ -1,6 +1,8 @@
 -- Lemmas, by what they are about.
 pub mod Branching
+pub mod Cubes
 pub mod Leading
+pub mod Parities
 pub mod Parts
 pub mod Valuations
 pub mod WordLemmas

@@ -1,11 +1,15 @@
 -- How labels become steps: the parts of a label, and the exits on from them.
-use Rattle.std.proofs.Common.{◌≡◌, ℕ, Bool, true, false, not, ◌&&◌, ◌||◌, List, ap, refl, sym, ◌∙◌, arith}
+use Rattle.std.proofs.Common.{◌≡◌, ℕ, Bool, true, false, not, ◌&&◌, ◌||◌, List, Result, Ok, Err, IfOk, ap, refl, subst, sym, ◌∙◌, arith}
 use Rattle.std.proofs.lemmas.Bool.Decides.{Decides-eqb}
-use Rattle.omega_label.specs.Label.{LabelTree, truth}
+use Rattle.omega_label.specs.Label.{LabelTree, conjunction, disjunction, truth}
 use Rattle.omega_satisfying.specs.declared.steps.Step.{Step}
 use Rattle.omega_satisfying.specs.declared.encoding.Exits.{Exits}
 use Rattle.omega_satisfying.specs.private.Leading.{ArePlanned, IsKept, is_as, leads}
-use Rattle.omega_satisfying.specs.private.Encoding.{AreExits, IsEncoded, leads_past, left_exits, right_exits}
+use Rattle.omega_satisfying.specs.Cubes.{cubes, cubes_of_parts}
+use Rattle.omega_satisfying.specs.private.Encoding.{AreExits, AreVisited, IsEncoded, leads_past, left_exits, right_exits}
+use Rattle.omega_satisfying.specs.private.Visits.{visits}
+use Rattle.omega_satisfying.proofs.Cubes.{cubes-positive, visited-parts}
+use Rattle.omega_satisfying.proofs.Parities.{conjunction-joined, disjunction-joined, joined}
 
 -- the exits stay where steps are kept
 AreExits-kept : (old new : List Step) (exits : Exits) → AreExits old exits → IsKept old new → AreExits new exits
@@ -54,11 +58,6 @@ AreExits-left false old new exits tree wanted place planned are kept encoded = r
       (sym (encoded.leading held) ∙ elsewhere);
 }
 
--- both of two, or one
-abbrev joined : Bool → Bool → Bool → Bool
-joined true left right = left && right
-joined false left right = left || right
-
 both-past : (left right after nowhere otherwise : Bool) → nowhere ≡ false
     → ((left && ((right && after) || nowhere)) || otherwise) ≡ (((left && right) && after) || otherwise)
 both-past true true true nowhere otherwise e = refl
@@ -74,40 +73,63 @@ either-past true false false otherwise = refl
 either-past false right after otherwise = refl
 
 -- two parts, the right one taken in first, are the label
-pub IsEncoded-joined : (both : Bool) (old mid new : List Step) (exits : Exits) (left right tree : LabelTree) (wanted : Bool) (at place : ℕ)
+IsEncoded-joined : (both : Bool) (old mid new : List Step) (exits : Exits) (left right tree : LabelTree) (wanted : Bool) (at place : ℕ)
     → ((held : ℕ → Bool) → is_as wanted (truth held tree) ≡ joined both (is_as wanted (truth held left)) (is_as wanted (truth held right)))
+    → cubes wanted tree ≡ cubes_of_parts both (cubes wanted left) (cubes wanted right)
     → ArePlanned old → AreExits old exits → IsKept old mid → IsEncoded old mid right wanted (right_exits both exits) at
     → IsEncoded mid new left wanted (left_exits both exits at) place → IsEncoded old new tree wanted exits place
-IsEncoded-joined true old mid new exits left right tree wanted at place means planned are kept first second = record {
+IsEncoded-joined true old mid new exits left right tree wanted at place means parts planned are kept first second = record {
   there = second.there;
   leading = λ held.
       second.leading held
       ∙ ((λ i. (is_as wanted (truth held left) && first.leading held i) || kept.same held exits.otherwise are.otherwise_there i)
       ∙ (both-past (is_as wanted (truth held left)) (is_as wanted (truth held right)) (leads held old exits.after) (leads held old 0) (leads held old exits.otherwise) (planned.stuck held)
       ∙ ap (λ holds. leads_past (leads held old) exits holds) (sym (means held))));
+  visited =
+      subst (λ all. AreVisited all (visits old exits.after) (visits old exits.otherwise) (visits new place)) (sym parts)
+      (visited-parts true (cubes wanted left) (cubes wanted right) (visits old exits.after) (visits old exits.otherwise) (visits mid at) (visits new place)
+      (cubes-positive wanted right)
+      (subst (λ n. AreVisited (cubes wanted right) (visits old exits.after) n (visits mid at)) planned.stuck_visited first.visited)
+      (subst (λ n. AreVisited (cubes wanted left) (visits mid at) n (visits new place)) (kept.visited exits.otherwise are.otherwise_there) second.visited));
 }
-IsEncoded-joined false old mid new exits left right tree wanted at place means planned are kept first second = record {
+IsEncoded-joined false old mid new exits left right tree wanted at place means parts planned are kept first second = record {
   there = second.there;
   leading = λ held.
       second.leading held
       ∙ ((λ i. (is_as wanted (truth held left) && kept.same held exits.after are.after_there i) || first.leading held i)
       ∙ (either-past (is_as wanted (truth held left)) (is_as wanted (truth held right)) (leads held old exits.after) (leads held old exits.otherwise)
       ∙ ap (λ holds. leads_past (leads held old) exits holds) (sym (means held))));
+  visited =
+      subst (λ all. AreVisited all (visits old exits.after) (visits old exits.otherwise) (visits new place)) (sym parts)
+      (visited-parts false (cubes wanted left) (cubes wanted right) (visits old exits.after) (visits old exits.otherwise) (visits mid at) (visits new place)
+      (cubes-positive wanted right) first.visited
+      (subst (λ n. AreVisited (cubes wanted left) n (visits mid at) (visits new place)) (kept.visited exits.after are.after_there) second.visited));
 }
 
--- a conjunction that is wanted is both parts, and a disjunction one of them; what is not wanted, the other way round
-pub conjunction-joined : (wanted left right : Bool) → is_as wanted (left && right) ≡ joined wanted (is_as wanted left) (is_as wanted right)
-conjunction-joined true left right = refl
-conjunction-joined false true right = refl
-conjunction-joined false false right = refl
+-- the same of a result, if the exits of the parts are known by equations
+IsEncoded-result : {E : Type 0} (both : Bool) (old mid new : List Step) (exits one other : Exits) (left right tree : LabelTree) (wanted : Bool) (at : ℕ) (result : Result ℕ E)
+    → ((held : ℕ → Bool) → is_as wanted (truth held tree) ≡ joined both (is_as wanted (truth held left)) (is_as wanted (truth held right)))
+    → cubes wanted tree ≡ cubes_of_parts both (cubes wanted left) (cubes wanted right) → one ≡ right_exits both exits → other ≡ left_exits both exits at
+    → ArePlanned old → AreExits old exits → IsKept old mid → IsEncoded old mid right wanted one at → IfOk result (IsEncoded mid new left wanted other)
+    → IfOk result (IsEncoded old new tree wanted exits)
+IsEncoded-result both old mid new exits one other left right tree wanted at (Ok place) means parts is_one is_other planned are kept first second =
+    IsEncoded-joined both old mid new exits left right tree wanted at place means parts planned are kept
+    (subst (λ e. IsEncoded old mid right wanted e at) is_one first) (subst (λ e. IsEncoded mid new left wanted e place) is_other second)
+IsEncoded-result both old mid new exits one other left right tree wanted at (Err e) means parts is_one is_other planned are kept first second = tt
 
-pub disjunction-joined : (wanted left right : Bool) → is_as wanted (left || right) ≡ joined (not wanted) (is_as wanted left) (is_as wanted right)
-disjunction-joined true left right = refl
-disjunction-joined false true right = refl
-disjunction-joined false false right = refl
+-- so is a conjunction, both of its parts if it is wanted, and a disjunction, one of them
+pub IsEncoded-and : {E : Type 0} (old mid new : List Step) (exits one other : Exits) (left right tree : LabelTree) (wanted : Bool) (at : ℕ) (result : Result ℕ E)
+    → tree ≡ conjunction left right → one ≡ right_exits wanted exits → other ≡ left_exits wanted exits at
+    → ArePlanned old → AreExits old exits → IsKept old mid → IsEncoded old mid right wanted one at → IfOk result (IsEncoded mid new left wanted other)
+    → IfOk result (IsEncoded old new tree wanted exits)
+IsEncoded-and old mid new exits one other left right tree wanted at result is =
+    IsEncoded-result wanted old mid new exits one other left right tree wanted at result
+    (λ held. ap (λ t. is_as wanted (truth held t)) is ∙ conjunction-joined wanted (truth held left) (truth held right)) (ap (cubes wanted) is)
 
--- a part after `!` is wanted the other way round
-pub negation-as : (wanted value : Bool) → is_as wanted (not value) ≡ is_as (not wanted) value
-negation-as true value = refl
-negation-as false true = refl
-negation-as false false = refl
+pub IsEncoded-or : {E : Type 0} (old mid new : List Step) (exits one other : Exits) (left right tree : LabelTree) (wanted : Bool) (at : ℕ) (result : Result ℕ E)
+    → tree ≡ disjunction left right → one ≡ right_exits (not wanted) exits → other ≡ left_exits (not wanted) exits at
+    → ArePlanned old → AreExits old exits → IsKept old mid → IsEncoded old mid right wanted one at → IfOk result (IsEncoded mid new left wanted other)
+    → IfOk result (IsEncoded old new tree wanted exits)
+IsEncoded-or old mid new exits one other left right tree wanted at result is =
+    IsEncoded-result (not wanted) old mid new exits one other left right tree wanted at result
+    (λ held. ap (λ t. is_as wanted (truth held t)) is ∙ disjunction-joined wanted (truth held left) (truth held right)) (ap (cubes wanted) is)

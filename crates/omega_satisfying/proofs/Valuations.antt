@@ -4,6 +4,7 @@ use Rattle.std.specs.Int.{bit_at}
 use Rattle.std.specs.List.{list_any}
 use Rattle.std.proofs.lemmas.Bool.{agree_below_at, cases_Bool, cases_lt, false≢true, cond-false, cond-true, cond_both, eqb-true, le-ltb, or_cases, or_left, or_right}
 use Rattle.std.proofs.lemmas.Nat.Bits.{bit_at-suc, bit_at_cat_high, bit_at_cat_low, bit_at_lowest}
+use Rattle.omega_expression.specs.Limits.{most_mentioned}
 use Rattle.omega_label.specs.Label.{LabelTree, conjunction, constant, disjunction, negation, proposition, propositions, truth}
 use Rattle.omega_satisfying.specs.Satisfiable.{each_once, mentioned}
 use Rattle.omega_satisfying.specs.private.Words.{mask, pattern, propositions_of, word_among, word_of, word_of_truth}
@@ -195,8 +196,8 @@ some-block held tree is none =
 
 -- a proposition that is not among twelve makes more than twelve
 pub over-mentioned : (seen all : List ℕ) (nodes : List LabelNode) (place number : ℕ) (d : LabelNode)
-    → place < length nodes → get_or nodes place d ≡ Proposition number → among number seen ≡ false → length seen ≡ 12
-    → each_once seen (propositions_of (drop place nodes)) ≡ all → 12 < length all
+    → place < length nodes → get_or nodes place d ≡ Proposition number → among number seen ≡ false → length seen ≡ most_mentioned
+    → each_once seen (propositions_of (drop place nodes)) ≡ all → most_mentioned < length all
 over-mentioned seen all nodes place number d within here new full is =
     let split = ap (λ more. length (each_once seen (propositions_of more))) (drop-cons nodes place d within) in
     let next = ap (λ node. length (each_once seen (propositions_of (node ∷ drop (suc place) nodes)))) here in

@@ -6,6 +6,7 @@ use Rattle.omega_label.proofs.LabelLemmas.{depth-positive}
 use Rattle.omega_label.specs.Label.{LabelTree, conjunction, constant, disjunction, negation, proposition, propositions, truth, label_depth}
 use Rattle.omega_label.specs.Postfix.{postfix}
 use Rattle.omega_expression.specs.Joins.{regrouped}
+use Rattle.omega_expression.specs.Limits.{most_depth}
 use Rattle.omega_satisfying.specs.private.Words.{height_with, ones, peak, propositions_of, word_of, word_of_truth, top_word, words_after, words_below}
 use Rattle.omega_label.specs.declared.label.LabelNode.{LabelNode}
 use Rattle.omega_label.specs.declared.label.LabelNode.TheVariants.{Alias, And, Constant, Group, Not, Or, Proposition}
@@ -52,7 +53,7 @@ peak-postfix (disjunction left right) height rest =
     omega (arith, joined, again, depth-positive left, peak-postfix left height (postfix right ++ Or ∷ rest), peak-postfix right (height + 1) (Or ∷ rest))
 
 -- a label that is not too deep needs no more room
-pub peak-label : (tree : LabelTree) → label_depth tree ≤ 256 → peak 0 (postfix tree) ≤ 256
+pub peak-label : (tree : LabelTree) → label_depth tree ≤ most_depth → peak 0 (postfix tree) ≤ most_depth
 peak-label tree shallow = omega (arith, ap (peak 0) (append-nil (postfix tree)), peak-postfix tree 0 [])
 
 -- the height grows by no more than one for each node

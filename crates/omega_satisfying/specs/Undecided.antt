@@ -1,13 +1,20 @@
 -- Labels for which the search does not decide whether they can be true.
-use Rattle.std.specs.Prelude.{◌≡◌, ◌<◌, length}
+use Rattle.std.specs.Prelude.{◌≡◌, ◌*◌, ◌<◌, ◌≤◌, length}
 use Rattle.omega_text.specs.Cases.{never, or_memory, or_task}
 use Rattle.omega_text.specs.declared.refusal.Refusal.{Refusal}
 use Rattle.omega_text.specs.declared.refusal.task.TaskFault.TheVariants.{TooManyPropositions}
 use Rattle.omega_expression.specs.Limits.{most_mentioned}
 use Rattle.omega_label.specs.Label.{LabelTree}
+use Rattle.omega_satisfying.specs.Cubes.{literal_count}
+use Rattle.omega_satisfying.specs.Limits.{most_visited}
 use Rattle.omega_satisfying.specs.Satisfiable.{mentioned}
 
--- too many propositions, only if the label mentions more than are judged without a search, or want of memory
+-- a label that may be left undecided: it mentions more propositions than are judged without a search, and its cubes
+-- have so many literals that the search, which tries each once and may fail once at it, may pass its limit
+pub record IsHardLabel (tree : LabelTree) : Type 0 where
+  pub wide : most_mentioned < length (mentioned tree)
+  pub long : most_visited ≤ 2 * literal_count tree
+
+-- too many propositions, only for such a label, or want of memory
 abbrev pub IsUndecidedLabel : LabelTree → Refusal → Type 0
-IsUndecidedLabel tree =
-    or_task (λ fault. (fault ≡ TooManyPropositions) × (most_mentioned < length (mentioned tree))) (or_memory never)
+IsUndecidedLabel tree = or_task (λ fault. (fault ≡ TooManyPropositions) × IsHardLabel tree) (or_memory never)

@@ -1,4 +1,6 @@
-ghost use Rattle.std.specs.Prelude.{◌↔◌, IfErr, IfOk, IfSome, IsOkUnless, IsTrue};
+ghost use Rattle.std.specs.Prelude.{◌*◌, ◌≤◌, ◌↔◌, IfErr, IfNone, IfOk, IfSome, IsOkUnless, IsTrue};
+ghost use Rattle.omega_satisfying.specs.Cubes.{literal_count};
+ghost use Rattle.omega_satisfying.specs.Limits.{most_visited};
 ghost use Rattle.omega_satisfying.specs.Satisfiable.{IsSatisfiable};
 ghost use Rattle.omega_satisfying.specs.Undecided.{IsUndecidedLabel};
 
@@ -14,8 +16,9 @@ use std::alloc::Global;
 ///
 /// A label that mentions at most `MOST_MENTIONED` propositions is judged by [`satisfiable`], without memory. For others
 /// a DPLL-like search assumes the first literal that it needs and goes on; if this fails it backtracks. It visits at
-/// most [`MOST_VISITED`](crate::MOST_VISITED) steps. A conjunction of literals or a disjunction of these takes about
-/// as many as it has atoms and operators. Fails with [`TaskFault::TooManyPropositions`] if the steps do not suffice.
+/// most [`MOST_VISITED`](crate::MOST_VISITED) steps. It needs at most two for each literal of the label's disjunctive
+/// normal form, and one more. Fails with [`TaskFault::TooManyPropositions`] if the steps do not suffice. They do for
+/// each label that is in that form ([`normal_forms_are_decided`](crate::normal_forms_are_decided)).
 pub fn is_satisfiable(alloc: Global, label: &Label) -> Result<bool, Refusal>
     ensures ok { IfOk result (λ possible. IsTrue possible ↔ IsSatisfiable label.now) }
     ensures err { IfErr result (IsUndecidedLabel label.now) }
@@ -32,6 +35,7 @@ pub fn is_satisfiable(alloc: Global, label: &Label) -> Result<bool, Refusal>
 /// Returns the answer of the search, or none if it takes too many steps.
 fn searched(alloc: Global, label: &Label) -> Result<Option<bool>, Refusal>
     ensures ok { IfOk result (λ answer. IfSome answer (λ possible. IsTrue possible ↔ IsSatisfiable label.now)) }
+    ensures none { IfOk result (λ answer. IfNone answer (most_visited ≤ 2 * literal_count label.now)) }
     ensures memory { IsOkUnless result Refusal.Memory }
 {
     let shape = label.shape(alloc)?;

@@ -23,12 +23,13 @@ pub(crate) struct Branches {
 }
 
 impl Branches {
-    ghost use Rattle.omega_satisfying.specs.private.Branching.{ArePending, HasValuation, IsAssumed, IsDeferred, IsExhausted, IsOneBranch, IsResumed, IsTried};
+    ghost use Rattle.omega_satisfying.specs.private.Branching.{ArePending, HasNoPending, HasValuation, IsAssumed, IsDeferred, IsExhausted, IsFewerTried, IsOneBranch, IsOneFewer, IsResumed, IsTried};
 
     /// Returns one branch without assumptions.
     pub(crate) fn new(alloc: Global) -> Self
         ensures leading { IsOneBranch result }
         ensures pending { ArePending result }
+        ensures visited { HasNoPending result }
     {
         Branches {
             assumed: IndexMap::new(alloc),
@@ -40,6 +41,7 @@ impl Branches {
     pub(crate) fn take(&mut self, literal: Literal) -> Result<usize, Refusal>
         requires { ArePending self.old }
         ensures ok { IfOk result (IsTried self.old self.new literal) }
+        ensures visited { IfOk result (IsFewerTried self.old self.new literal) }
         ensures pending { OnOk result (ArePending self.new) }
         ensures memory { IsOkUnless result Refusal.Memory }
     {
@@ -64,6 +66,7 @@ impl Branches {
         requires free { IsFree self.old.assumed.entries extra }
         ensures assumed { self.new.assumed ≡ self.old.assumed }
         ensures leading { OnOk result (IsDeferred self.old self.new place extra) }
+        ensures visited { OnOk result (IsOneFewer self.new self.old place) }
         ensures pending { OnOk result (ArePending self.new) }
         ensures memory { IsOkUnless result Refusal.Memory }
     {
@@ -80,6 +83,7 @@ impl Branches {
     pub(crate) fn backtrack(&mut self) -> Result<Option<usize>, Refusal>
         requires { ArePending self.old }
         ensures some { IfOk result (λ next. IfSome next (IsResumed self.old self.new)) }
+        ensures visited { IfOk result (λ next. IfSome next (IsOneFewer self.old self.new)) }
         ensures none { IfOk result (λ next. IfNone next (IsExhausted self.old)) }
         ensures pending { OnOk result (ArePending self.new) }
         ensures memory { IsOkUnless result Refusal.Memory }
@@ -105,6 +109,7 @@ impl Branches {
     fn assume(&mut self, proposition: u32, value: bool) -> Result<(), Refusal>
         requires pending { ArePending self.old }
         requires free { get nat_eq self.old.assumed proposition ≡ None }
+        ensures later { self.new.later ≡ self.old.later }
         ensures leading { OnOk result (IsAssumed self.old self.new proposition value) }
         ensures pending { OnOk result (ArePending self.new) }
         ensures memory { IsOkUnless result Refusal.Memory }

@@ -71,7 +71,7 @@ pub(crate) fn append_label(
     ensures memory { IsOkUnless result Refusal.Memory }
 {
     match shape {
-        LabelShape::Constant(value) => append_constant(is_as(wanted, *value), exits, steps),
+        LabelShape::Constant(value) => append_constant(*value, wanted, exits, steps),
         LabelShape::Proposition(number) => append_literal(*number, wanted, exits, steps),
         LabelShape::Not(part) => append_label(part, !wanted, exits, steps),
         LabelShape::And(left, right) => {
@@ -85,17 +85,22 @@ pub(crate) fn append_label(
     }
 }
 
-/// Appends the step of a constant that `holds`, and returns its place. Returns `exits.otherwise` if the constant does
-/// not hold.
-fn append_constant(holds: bool, exits: Exits, steps: &mut Vec<Step>) -> Result<usize, Refusal>
+/// Appends the step of a constant that is the `wanted` one, and returns its place. Returns `exits.otherwise` if it is
+/// not.
+fn append_constant(
+    value: bool,
+    wanted: bool,
+    exits: Exits,
+    steps: &mut Vec<Step>,
+) -> Result<usize, Refusal>
     requires planned { ArePlanned steps.old.items }
     requires exits { AreExits steps.old.items exits }
-    ensures ok { IfOk result (IsEncoded steps.old.items steps.new.items (constant holds) true exits) }
+    ensures ok { IfOk result (IsEncoded steps.old.items steps.new.items (constant value) wanted exits) }
     ensures kept { OnOk result (IsKept steps.old.items steps.new.items) }
     ensures planned { OnOk result (ArePlanned steps.new.items) }
     ensures memory { IsOkUnless result Refusal.Memory }
 {
-    if holds {
+    if is_as(wanted, value) {
         add(Step::Either(exits.after, exits.otherwise), steps)
     } else {
         Ok(exits.otherwise)

@@ -10,6 +10,7 @@
 mod answer;
 mod branches;
 mod encoding;
+mod laws;
 mod limits;
 mod mentioned;
 mod satisfying;
@@ -18,5 +19,6 @@ mod steps;
 mod words;
 
 pub use answer::is_satisfiable;
+pub use laws::{labels_are_their_cubes, normal_forms_are_decided};
 pub use limits::{MOST_VISITED, visits_limit_is_stated};
 pub use satisfying::satisfiable;

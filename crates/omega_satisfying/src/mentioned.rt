@@ -6,21 +6,22 @@ ghost use Rattle.omega_satisfying.specs.private.Words.{mask, pattern, word_among
 use omega_expression::MOST_MENTIONED;
 use std::marker::Model;
 
-/// Up to twelve propositions, each once. It takes no memory.
+/// Up to [`MOST_MENTIONED`] propositions, each once. It takes no memory.
 #[derive(Drop)]
 pub(crate) struct Mentioned {
-    numbers: [u32; 12],
+    numbers: [u32; MOST_MENTIONED],
     count: usize,
 }
 
 impl Model for Mentioned {
     ghost use Rattle.std.specs.Prelude.{List, take, ◌≤◌, ℕ};
+    ghost use Rattle.omega_expression.specs.Limits.{most_mentioned};
 
     ghost Value = { List ℕ };
 
     ghost view = { λ m. take m.count m.numbers };
 
-    ghost invariant = { λ m. m.count ≤ 12 };
+    ghost invariant = { λ m. m.count ≤ most_mentioned };
 }
 
 impl Mentioned {
@@ -29,7 +30,7 @@ impl Mentioned {
         ensures { result ≡ [] }
     {
         Mentioned {
-            numbers: [0; 12],
+            numbers: [0; MOST_MENTIONED],
             count: 0,
         }
     }

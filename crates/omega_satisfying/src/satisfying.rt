@@ -1,17 +1,18 @@
 //! Whether a label can be true, judged under all valuations of the propositions that it mentions.
 
 ghost use Rattle.std.specs.Prelude.{◌≡◌, ◌≤◌, ◌-◌, ◌^◌, ◌↔◌, [], length, IfErr, IfOk, IsTrue};
-ghost use Rattle.omega_expression.specs.Limits.{most_mentioned};
+ghost use Rattle.omega_expression.specs.Limits.{most_depth, most_mentioned};
 ghost use Rattle.omega_satisfying.specs.Satisfiable.{IsJudged, IsOverMentioned, IsSatisfiable, mentioned};
 ghost use Rattle.omega_satisfying.specs.private.Words.{peak, top_word, word_among, words_after};
 
+use crate::limits::MOST_STACKED;
 use crate::mentioned::Mentioned;
 use crate::words::Words;
 use omega_label::{Label, LabelNode, MOST_IN_PLACE, ROOM};
 use omega_text::{Refusal, TaskFault};
 
 /// Whether some set of propositions makes `label` true. Refused with [TaskFault::TooManyPropositions] exactly if the
-/// label mentions over 12.
+/// label mentions over `MOST_MENTIONED`.
 ///
 /// Takes no memory. At most 64 passes over the label, one for each 64 sets of the propositions mentioned.
 pub fn satisfiable(label: &Label) -> Result<bool, Refusal>
@@ -57,20 +58,20 @@ fn blocks(count: usize) -> u64
 
 /// Returns the word of `nodes` in postfix order under the valuations of `block`.
 fn word_of(nodes: &[LabelNode], found: &Mentioned, block: u64) -> u64
-    requires { peak 0 nodes.now ≤ 256 }
+    requires { peak 0 nodes.now ≤ most_depth }
     ensures { result ≡ top_word (words_after (word_among block 0 found.now) [] nodes.now) }
 {
     // Few nodes need little room, and no more is made ready for them.
     if nodes.len() <= MOST_IN_PLACE {
-        word_within::<21>(nodes, found, block)
+        word_within::<MOST_IN_PLACE>(nodes, found, block)
     } else {
-        word_within::<256>(nodes, found, block)
+        word_within::<MOST_STACKED>(nodes, found, block)
     }
 }
 
 /// Returns the word of `nodes` as `word_of` does, if at most `MOST` words are on the stack at once.
 fn word_within<const MOST: usize>(nodes: &[LabelNode], found: &Mentioned, block: u64) -> u64
-    requires room { MOST ≤ 256 }
+    requires room { MOST ≤ most_depth }
     requires enough { peak 0 nodes.now ≤ MOST }
     ensures { result ≡ top_word (words_after (word_among block 0 found.now) [] nodes.now) }
 {

@@ -1,5 +1,7 @@
-ghost use Rattle.std.specs.Prelude.{◌↔◌, IfOk, IfSome, IsOkUnless, IsTrue};
+ghost use Rattle.std.specs.Prelude.{◌<◌, ◌↔◌, IfNone, IfOk, IfSome, IsOkUnless, IsTrue};
+ghost use Rattle.omega_satisfying.specs.Limits.{most_visited};
 ghost use Rattle.omega_satisfying.specs.private.Leading.{ArePlanned, ReachesEnd};
+ghost use Rattle.omega_satisfying.specs.private.Visits.{visits};
 
 use crate::branches::Branches;
 use crate::limits::MOST_VISITED;
@@ -11,6 +13,7 @@ use std::alloc::Global;
 pub(crate) fn search(alloc: Global, steps: &[Step], start: usize) -> Result<Option<bool>, Refusal>
     requires { ArePlanned steps.now }
     ensures ok { IfOk result (λ answer. IfSome answer (λ possible. IsTrue possible ↔ ReachesEnd steps.now start)) }
+    ensures none { IfOk result (λ answer. IfNone answer (most_visited < visits steps.now start)) }
     ensures memory { IsOkUnless result Refusal.Memory }
 {
     let mut branches = Branches::new(alloc);

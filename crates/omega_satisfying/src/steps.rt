@@ -2,6 +2,7 @@
 
 ghost use Rattle.std.specs.Prelude.{◌≡◌, ◌<◌, length, IfOk, IsOkUnless, OnOk};
 ghost use Rattle.omega_satisfying.specs.private.Leading.{ArePlanned, IsEnd, IsKept, LeadsBy, MayFollow};
+ghost use Rattle.omega_satisfying.specs.private.Visits.{VisitsBy, visits};
 
 use omega_text::Refusal;
 use std::alloc::Global;
@@ -44,6 +45,7 @@ pub(crate) const DONE: usize = 1;
 pub(crate) fn first_steps(alloc: Global) -> Result<Vec<Step>, Refusal>
     ensures planned { IfOk result (λ steps. ArePlanned steps.items) }
     ensures done { IfOk result (λ steps. IsEnd steps.items 1) }
+    ensures done_visited { IfOk result (λ steps. visits steps.items 1 ≡ 1) }
     ensures two { IfOk result (λ steps. length steps.items ≡ 2) }
     ensures memory { IsOkUnless result Refusal.Memory }
 {
@@ -59,6 +61,7 @@ pub(crate) fn add(step: Step, steps: &mut Vec<Step>) -> Result<usize, Refusal>
     requires step { MayFollow steps.old.items step }
     ensures there { IfOk result (λ place. place < length steps.new.items) }
     ensures leading { IfOk result (λ place. LeadsBy steps.old.items steps.new.items place step) }
+    ensures visited { IfOk result (λ place. VisitsBy steps.old.items steps.new.items place step) }
     ensures kept { OnOk result (IsKept steps.old.items steps.new.items) }
     ensures planned { OnOk result (ArePlanned steps.new.items) }
     ensures memory { IsOkUnless result Refusal.Memory }
@@ -72,6 +75,7 @@ pub(crate) fn add(step: Step, steps: &mut Vec<Step>) -> Result<usize, Refusal>
 pub(crate) fn step_at(steps: &[Step], place: usize) -> Step
     requires { ArePlanned steps.now }
     ensures leading { LeadsBy steps.now steps.now place result }
+    ensures visited { VisitsBy steps.now steps.now place result }
     ensures step { MayFollow steps.now result }
 {
     match steps.get(place) {

@@ -1,13 +1,12 @@
 -- Results and refusals of the private functions of the complement.
-use Rattle.std.specs.Prelude.{◌≡◌, ◌⊎◌, ◌↔◌, ℕ, ◌<◌, Bool, false, IsTrue, List, length}
+use Rattle.std.specs.Prelude.{◌≡◌, ◌⊎◌, ◌↔◌, ℕ, Bool, false, IsTrue, List}
 use Rattle.std.specs.List.{AllZip, range_with_len}
 use Rattle.omega_text.specs.Cases.{never, or_memory, or_task}
 use Rattle.omega_text.specs.declared.refusal.Refusal.{Refusal}
 use Rattle.omega_text.specs.declared.refusal.task.TaskFault.TheVariants.{NotDeterministic, TooLarge, TooManyPropositions}
 use Rattle.omega_label.specs.Label.{LabelTree}
-use Rattle.omega_satisfying.specs.Satisfiable.{mentioned}
+use Rattle.omega_satisfying.specs.Undecided.{IsHardLabel}
 use Rattle.omega_label.specs.Shape.{FitsALabel}
-use Rattle.omega_expression.specs.Limits.{most_mentioned}
 use Rattle.omega_automaton.specs.Automaton.{Description}
 use Rattle.omega_automaton.specs.declared.state.State.{State}
 use Rattle.omega_raw.specs.declared.raw_automaton.RawAutomaton.{RawAutomaton}
@@ -20,12 +19,12 @@ use Rattle.omega_complement.specs.Written.{IsTurnedAt, SomeLacksLetter}
 use Rattle.omega_complement.specs.declared.state_labels.StateLabels.{StateLabels}
 use Rattle.omega_edge_labels.specs.Fitting.{IsLarge}
 
--- why a label is not judged: it is too deep or too large, or it mentions too many propositions
+-- why a label is not judged: it is too deep or too large, or it may be left undecided
 abbrev pub IsUnjudged : LabelTree → Refusal → Type 0
 IsUnjudged label =
     or_task (λ fault.
     ((fault ≡ TooLarge) × (FitsALabel label → ⊥))
-    ⊎ ((fault ≡ TooManyPropositions) × (most_mentioned < length (mentioned label))))
+    ⊎ ((fault ≡ TooManyPropositions) × IsHardLabel label))
     (or_memory never)
 
 -- the refusal of a state; `full` says whether it has an edge for each valuation

@@ -1,10 +1,9 @@
 -- Edges of two automata that are taken together, and why the two may be refused.
-use Rattle.std.specs.Prelude.{◌≡◌, ◌<◌, true, false, List, length, Contains, Option, None, Some}
+use Rattle.std.specs.Prelude.{◌≡◌, true, false, List, Contains, Option, None, Some}
 use Rattle.omega_text.specs.declared.refusal.task.TaskFault.{TaskFault}
 use Rattle.omega_text.specs.declared.refusal.task.TaskFault.TheVariants.{BadSolution, Budget, NotDeterministic, NotParity, TooLarge, TooManyPropositions, TooWide, UniversalBranch, UnknownNode}
-use Rattle.omega_expression.specs.Limits.{most_mentioned}
 use Rattle.omega_label.specs.Label.{conjunction}
-use Rattle.omega_satisfying.specs.Satisfiable.{mentioned}
+use Rattle.omega_satisfying.specs.Undecided.{IsHardLabel}
 use Rattle.omega_label.specs.Shape.{label_tree_of_shape}
 use Rattle.omega_label.specs.declared.shape.LabelShape.{LabelShape}
 use Rattle.omega_product.specs.Pairs.{can_meet}
@@ -22,8 +21,7 @@ IsMeeting transition other (Some shape) =
 abbrev pub IsUnmet : Transition → Transition → TaskFault → Type 0
 IsUnmet transition other NotParity = ⊥
 IsUnmet transition other UniversalBranch = ⊥
-IsUnmet transition other TooManyPropositions =
-    most_mentioned < length (mentioned (conjunction transition.label other.label))
+IsUnmet transition other TooManyPropositions = IsHardLabel (conjunction transition.label other.label)
 IsUnmet transition other TooWide = ⊥
 IsUnmet transition other Budget = ⊥
 IsUnmet transition other BadSolution = ⊥

@@ -1,11 +1,12 @@
 -- All open branches of a search, and how each change of them keeps the valuations that lead to the end. `onward` says
 -- from which places the valuation `held` leads to the end.
-use Rattle.std.specs.Prelude.{◌≡◌, ℕ, Bool, true, false, ◌&&◌, ◌||◌, Option, reverse}
+use Rattle.std.specs.Prelude.{◌≡◌, ℕ, ◌+◌, ◌<◌, Bool, true, false, ◌&&◌, ◌||◌, Option, [], reverse}
 use Rattle.omega_satisfying.specs.declared.branches.Branches.{Branches}
 use Rattle.omega_satisfying.specs.declared.steps.Literal.{Literal}
 use Rattle.omega_satisfying.specs.declared.steps.Step.TheVariants.{Try}
 use Rattle.omega_satisfying.specs.private.Leading.{is_as, leads_by}
 use Rattle.omega_satisfying.specs.private.Pending.{IsPending, fits, fits_one, pending_lead}
+use Rattle.omega_satisfying.specs.private.Visits.{pending_visits, visits_by}
 
 -- whether a valuation leads to the end in some open branch, if `now` says whether it does from the current place
 abbrev pub branches_lead : (ℕ → Bool) → (ℕ → Bool) → Branches → Bool → Bool
@@ -55,3 +56,21 @@ IsAssumed old new proposition value =
 -- some valuation meets the assumptions of the current branch
 abbrev pub HasValuation : Branches → Type 0
 HasValuation branches = (held : ℕ → Bool) × ((onward : ℕ → Bool) → branches_lead held onward branches true ≡ true)
+
+-- a literal is tried: at the place and in the pending branches of `new` fewer steps are visited than by the literal and
+-- in those of `old`
+abbrev pub IsFewerTried : Branches → Branches → Literal → ℕ → Type 0
+IsFewerTried old new literal place =
+    (onward : ℕ → ℕ)
+    → onward place + pending_visits onward new.later.items
+    < visits_by onward (Try literal) + pending_visits onward old.later.items
+
+-- in the pending branches of `new`, and at a place more, as many steps are visited as in those of `old`
+abbrev pub IsOneFewer : Branches → Branches → ℕ → Type 0
+IsOneFewer old new place =
+    (onward : ℕ → ℕ)
+    → onward place + pending_visits onward new.later.items ≡ pending_visits onward old.later.items
+
+-- no branch is pending
+abbrev pub HasNoPending : Branches → Type 0
+HasNoPending branches = branches.later.items ≡ []

@@ -1,9 +1,11 @@
 -- How a label is encoded as steps of a search.
-use Rattle.std.specs.Prelude.{◌≡◌, ℕ, ◌<◌, ◌==◌, Bool, true, false, ◌&&◌, ◌||◌, List, length}
+use Rattle.std.specs.Prelude.{◌≡◌, ℕ, ◌+◌, ◌*◌, ◌<◌, ◌≤◌, ◌==◌, Bool, true, false, ◌&&◌, ◌||◌, List, length}
 use Rattle.omega_label.specs.Label.{LabelTree, truth}
 use Rattle.omega_satisfying.specs.declared.steps.Step.{Step}
 use Rattle.omega_satisfying.specs.declared.encoding.Exits.{Exits}
+use Rattle.omega_satisfying.specs.Cubes.{cubes, literals_in}
 use Rattle.omega_satisfying.specs.private.Leading.{is_as, leads}
+use Rattle.omega_satisfying.specs.private.Visits.{visits}
 
 -- the exits of the right one of two parts, for a conjunction or for a disjunction
 abbrev pub right_exits : Bool → Exits → Exits
@@ -28,9 +30,15 @@ pub record AreExits (steps : List Step) (exits : Exits) : Type 0 where
       exits.whole ≡ true → (held : ℕ → Bool)
       → leads held steps exits.otherwise ≡ true → leads held steps exits.after ≡ true
 
+-- no more than this are visited from a label with these cubes on: for each literal one step and one where it fails, but
+-- after the last literal of a cube as many as `after` says, and at the end as many as `otherwise` says
+abbrev pub AreVisited : List (List LabelTree) → (after otherwise count : ℕ) → Type 0
+AreVisited all after otherwise count = count + length all ≤ 2 * literals_in all + length all * after + otherwise
+
 -- the new steps encode a label, or its negation if it is not wanted: from a place among them a valuation leads to the
--- end exactly if it does by the label and the exits among the old steps
+-- end exactly if it does by the label and the exits among the old steps, and no more are visited than by its cubes
 pub record IsEncoded (old new : List Step) (tree : LabelTree) (wanted : Bool) (exits : Exits) (place : ℕ) : Type 0 where
   pub there : place < length new
   pub leading :
       (held : ℕ → Bool) → leads held new place ≡ leads_past (leads held old) exits (is_as wanted (truth held tree))
+  pub visited : AreVisited (cubes wanted tree) (visits old exits.after) (visits old exits.otherwise) (visits new place)

@@ -1,8 +1,10 @@
 -- Steps of a search, and which valuations lead from a place among them to the end.
-use Rattle.std.specs.Prelude.{◌≡◌, ℕ, ◌<◌, ◌≤◌, ◌==◌, Bool, true, false, not, ◌&&◌, ◌||◌, if◌then◌else◌, List, [], ◌∷◌, length, reverse}
+use Rattle.std.specs.Prelude.{◌≡◌, ℕ, ◌<◌, ◌≤◌, Bool, true, false, not, ◌&&◌, ◌||◌, List, [], ◌∷◌, length, reverse}
 use Rattle.omega_satisfying.specs.declared.steps.Literal.{Literal}
 use Rattle.omega_satisfying.specs.declared.steps.Step.{Step}
 use Rattle.omega_satisfying.specs.declared.steps.Step.TheVariants.{Done, Either, Stuck, Try}
+use Rattle.omega_satisfying.specs.private.Among.{among}
+use Rattle.omega_satisfying.specs.private.Visits.{visits}
 
 -- whether a truth value is the wanted one
 abbrev pub is_as : Bool → Bool → Bool
@@ -19,9 +21,7 @@ leads_by held onward (Try literal) =
 
 -- whether a valuation leads from a place to the end, by the steps in reverse order
 abbrev pub leads_among : (ℕ → Bool) → List Step → ℕ → Bool
-leads_among held [] place = false
-leads_among held (step ∷ earlier) place =
-    if place == length earlier then leads_by held (leads_among held earlier) step else leads_among held earlier place
+leads_among held = among false (leads_by held)
 
 -- whether a valuation leads from a place to the end
 abbrev pub leads : (ℕ → Bool) → List Step → ℕ → Bool
@@ -64,13 +64,15 @@ abbrev pub AreSteps : List Step → Type 0
 AreSteps [] = Unit {0}
 AreSteps (step ∷ earlier) = IsStep (length earlier) (λ held. leads_among held earlier) step × AreSteps earlier
 
--- each step goes on at earlier ones, and no valuation leads to the end from the first one
+-- each step goes on at earlier ones; from the first one no valuation leads to the end, and no other step is visited
 pub record ArePlanned (steps : List Step) : Type 0 where
   pub are : AreSteps (reverse steps)
   pub stuck : (held : ℕ → Bool) → leads held steps 0 ≡ false
+  pub stuck_visited : visits steps 0 ≡ 1
   pub some : 0 < length steps
 
--- from each place of the old steps the same valuations lead to the end by the new ones
+-- from each place of the old steps the same valuations lead to the end by the new ones, and as many steps are visited
 pub record IsKept (old new : List Step) : Type 0 where
   pub longer : length old ≤ length new
   pub same : (held : ℕ → Bool) (place : ℕ) → place < length old → leads held new place ≡ leads held old place
+  pub visited : (place : ℕ) → place < length old → visits new place ≡ visits old place

@@ -3,7 +3,7 @@ use Rattle.std.proofs.Common.{◌≡◌, ℕ, ◌++◌, ◌<◌, inr, Bool, List
 use Rattle.std.proofs.lemmas.Result.{err_from_is_err_and}
 use Rattle.omega_automaton.specs.Automaton.{BodyEdge, edges_from}
 use Rattle.omega_automaton.specs.declared.edge.Edge.{Edge}
-use Rattle.omega_runs.specs.Judging.{AreJudged, HasWide, IsWide}
+use Rattle.omega_runs.specs.Judging.{AreJudged, HasHard, IsHard}
 use Rattle.omega_runs.proofs.Flat.{wide_refused}
 use Rattle.omega_runs.proofs.Judged.{judged_on, judged_one}
 use Rattle.omega_runs.proofs.Edges.{edges_take}
@@ -15,7 +15,7 @@ returns-in_err-judged-clause-refused c =
     let below : c.loop-at.at < length c.args.state.now.edges = omega (arith, c.len-at-end.ensures, c.loop-at-test.true) in
     let p = err_from_is_err_and c.from_residual-in_err-judged.result c.from_residual-in_err-judged.ensures.1 in
     rw (p.1, p.2)
-    (wide_refused (IsWide c.edge-edge.result.label) (HasWide c.args.state.now) (λ wide. inr (c.edge-edge.result, (c.loop-at.at, below, sym here), wide))
+    (wide_refused (IsHard c.edge-edge.result.label) (HasHard c.args.state.now) (λ hard. inr (c.edge-edge.result, (c.loop-at.at, below, sym here), hard))
     _ c.in_err-judged.ensures.refused)
 
 pub loop-at-preserved : goal.loop-at-preserved

@@ -5,9 +5,9 @@ use Rattle.std.proofs.lemmas.List.{take_all}
 use Rattle.std.proofs.lemmas.Result.{err_from_is_err_and}
 use Rattle.omega_automaton.specs.Automaton.{BodyEdge, edges_from}
 use Rattle.omega_automaton.specs.declared.state.State.{State}
-use Rattle.omega_runs.specs.Judging.{AreJudged, HasWide}
-use Rattle.omega_runs.specs.Judging.{HasWideLabel}
-use Rattle.omega_runs.proofs.Flat.{wide_label, wide_refused}
+use Rattle.omega_runs.specs.Judging.{AreJudged, HasHard}
+use Rattle.omega_runs.specs.Judging.{HasHardLabel}
+use Rattle.omega_runs.proofs.Flat.{hard_label, wide_refused}
 use Rattle.omega_runs.proofs.Judged.{judged_on, judged_usable}
 use Rattle.omega_runs.proofs.Edges.{flat_more}
 use Rattle.omega_lasso_search.proofs.usable.judged.Goals as goal
@@ -19,7 +19,7 @@ returns-in_err-judge_edges-clause-refused c =
     let below : c.loop-state.state-index < length states = omega (arith, ap length c.defined-state-items.ensures) in
     let p = err_from_is_err_and c.from_residual-in_err-judge_edges.result c.from_residual-in_err-judge_edges.ensures.1 in
     rw (p.1, p.2)
-    (wide_refused (HasWide c.state-item.result) (HasWideLabel c.args.automaton.now) (wide_label c.args.automaton.now c.loop-state.state-index c.state-item.result below here)
+    (wide_refused (HasHard c.state-item.result) (HasHardLabel c.args.automaton.now) (hard_label c.args.automaton.now c.loop-state.state-index c.state-item.result below here)
     _ c.in_err-judge_edges.ensures.refused)
 
 pub loop-state-preserved : goal.loop-state-preserved
