@@ -5,3 +5,4 @@ pub mod Walks
 pub mod Weights
 pub mod Search
 pub mod Rounds
+pub mod Tours

@@ -17,6 +17,7 @@ mod stepping;
 mod task;
 mod touring;
 mod valuing;
+mod walked;
 mod way;
 
 pub use accepting::accepting_walk;

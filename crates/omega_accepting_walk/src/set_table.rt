@@ -1,5 +1,5 @@
 //! A table of the sets that a list of edges carries, made once for all atoms.
-ghost use Rattle.std.specs.Prelude.{◌≡◌, length, IfOk, IsOkUnless};
+ghost use Rattle.std.specs.Prelude.{◌≡◌, ◌≤◌, [], length, take, IfOk, IsOkUnless};
 ghost use Rattle.omega_accepting_walk.specs.private.Walks.{AreSetsOn, HaveMarksAdded};
 ghost use Rattle.omega_accepting_walk.specs.private.Search.{HaveMarks, graph_of, occurs_on};
 
@@ -12,9 +12,8 @@ use std::alloc::Global;
 /// The least bound on the length of the table, however few edges there are.
 const FEW_SETS: usize = 64;
 
-/// Returns for each set of the formula, from 0 on, whether one of `edges` is in it. The table has at most as many
-/// entries as there are edges, or 64 if these are fewer; sets past it are not in it. Makes one pass over the marks of
-/// the edges.
+/// Returns for each set of the formula, from 0 on, whether one of `edges` is in it, as far as the table of [`no_sets`]
+/// goes. Makes one pass over the marks of the edges.
 pub(crate) fn set_table(
     alloc: Global,
     search: &Search<'_>,
@@ -24,12 +23,35 @@ pub(crate) fn set_table(
     ensures sets { IfOk result (λ sets. AreSetsOn (graph_of search.now) edges.now sets.items) }
     ensures memory { IsOkUnless result Refusal.Memory }
 {
-    let count = set_count(search.nodes).min(edges.len().max(FEW_SETS));
-    let mut sets = vec![in alloc; false; count]?;
-    for edge in edges {
-        add_marks(&mut sets, search.marks[*edge as usize].as_slice());
-    }
+    let mut sets = no_sets(alloc, search, edges.len())?;
+    add_edges(&mut sets, search, edges, 0);
     Ok(sets)
+}
+
+/// Returns the table of no edges, for edges of which there are up to `count`. It has at most `count` entries, or 64 if
+/// that is less; sets past it are not in it.
+pub(crate) fn no_sets(
+    alloc: Global,
+    search: &Search<'_>,
+    count: usize,
+) -> Result<Vec<bool>, Refusal>
+    ensures sets { IfOk result (λ sets. AreSetsOn (graph_of search.now) [] sets.items) }
+    ensures memory { IsOkUnless result Refusal.Memory }
+{
+    let length = set_count(search.nodes).min(count.max(FEW_SETS));
+    Ok(vec![in alloc; false; length]?)
+}
+
+/// Takes the `edges` from the index `from` on into the table `sets` of those before. Makes one pass over their marks.
+pub(crate) fn add_edges(sets: &mut Vec<bool>, search: &Search<'_>, edges: &[u32], from: usize)
+    requires edges { HaveMarks search.now edges.now }
+    requires from { from ≤ length edges.now }
+    requires before { AreSetsOn (graph_of search.now) (take from edges.now) sets.old.items }
+    ensures sets { AreSetsOn (graph_of search.now) edges.now sets.new.items }
+{
+    for at in from..edges.len() {
+        add_marks(sets, search.marks[edges[at] as usize].as_slice());
+    }
 }
 
 /// Sets the flag of each set that is in `marks`, as far as `sets` goes.

@@ -1,22 +1,24 @@
 //! A closed walk through edges that show what a formula asks of all edges together.
-ghost use Rattle.std.specs.Prelude.{◌≡◌, ◌<◌, ◌+◌, length, slice_index, slice_index_or, All, Contains, IfOk, IsOkUnless, OnOk};
+ghost use Rattle.std.specs.Prelude.{◌<◌, length, Contains, IfOk, IsOkUnless, OnOk};
 ghost use Rattle.omega_walk_laws.specs.Rules.{IsConnected};
 ghost use Rattle.omega_walk_laws.specs.Walks.{IsClosedEdgeWalk};
 ghost use Rattle.omega_components.specs.Graph.{AreEdges, listed};
 ghost use Rattle.omega_accepting_walk.specs.private.Lists.{Extends};
-ghost use Rattle.omega_accepting_walk.specs.private.Walks.{GoesOn, LeadOn, ShowsAtom};
 ghost use Rattle.omega_accepting_walk.specs.private.Search.{AreEdgesOf, HaveMarks, IsReady, ShowsAllOf, ShowsInfOf, ShowsSet, graph_of};
+ghost use Rattle.omega_accepting_walk.specs.private.Tours.{IsWalked, LeadsTo, last_of};
+ghost use Rattle.omega_accepting_walk.specs.private.Walks.{LeadOn, ShowsAtom};
 
-use crate::meeting::{meeting, occurs};
+use crate::meeting::meeting;
 use crate::node::Node;
 use crate::search::Search;
+use crate::set_table::{add_edges, no_sets, occurs_by};
+use crate::walked::Walked;
 use omega_components::{Graph, path};
 use omega_text::Refusal;
 use omega_walk_laws::passing_walks_accept;
 use std::alloc::Global;
 
-/// Returns a closed walk in the connected `edges` that satisfies each formula that holds of all of them together. It
-/// passes an edge for each atom `Inf` that some edge meets.
+/// Returns a closed walk in the connected `edges` that satisfies each formula that holds of all of them together.
 pub(crate) fn walk_through(
     alloc: Global,
     search: &Search<'_>,
@@ -31,145 +33,184 @@ pub(crate) fn walk_through(
     ensures memory { IsOkUnless result Refusal.Memory }
 {
     passing_walks_accept();
-    let stops = stops(alloc, search, edges)?;
-    let walk = tour(alloc, search, edges, stops.as_slice())?;
+    let walk = tour(alloc, search, edges)?;
     Ok(walk)
 }
 
-/// Returns at least one edge, and for each atom `Inf` that some edge of `edges` meets, an edge that meets it.
-fn stops(alloc: Global, search: &Search<'_>, edges: &[u32]) -> Result<Vec<u32>, Refusal>
-    requires edges { HaveMarks search.now edges.now }
+/// Returns a closed walk in the connected `edges` that meets each atom `Inf` that some edge meets. It goes by shortest
+/// paths from atom to atom, in the order of the formula, and passes over each atom that it meets already. So it goes
+/// round a ring once, whatever the order of its marks.
+fn tour(alloc: Global, search: &Search<'_>, edges: &[u32]) -> Result<Vec<u32>, Refusal>
+    requires edges { AreEdgesOf search.now edges.now }
+    requires marks { HaveMarks search.now edges.now }
     requires some { 0 < length edges.now }
-    ensures some { IfOk result (λ stops. 0 < length stops.items) }
-    ensures among { IfOk result (λ stops. All (Contains edges.now) stops.items) }
-    ensures shows { IfOk result (λ stops. ShowsInfOf search.now edges.now stops.items) }
+    requires connected { IsConnected (graph_of search.now) (listed edges.now) }
+    ensures closed { IfOk result (λ walk. IsClosedEdgeWalk (graph_of search.now) (listed edges.now) walk.items) }
+    ensures shows { IfOk result (λ walk. ShowsInfOf search.now edges.now walk.items) }
     ensures memory { IsOkUnless result Refusal.Memory }
 {
-    let mut stops = Vec::new(alloc);
+    let mut walked = begun(alloc, search, edges)?;
     for node in search.nodes {
-        add_stops(&mut stops, search, edges, *node)?;
+        meet_node(alloc, &mut walked, search, edges, *node)?;
     }
-    add_first(&mut stops, edges)?;
-    Ok(stops)
+    let walk = closed(alloc, walked, search, edges)?;
+    Ok(walk)
 }
 
-/// Appends the first of `edges` if `stops` is empty.
-fn add_first(stops: &mut Vec<u32>, edges: &[u32]) -> Result<(), Refusal>
+/// Returns the walk through one edge, the first that meets an atom `Inf`, if some edge meets one.
+fn begun(alloc: Global, search: &Search<'_>, edges: &[u32]) -> Result<Walked, Refusal>
+    requires marks { HaveMarks search.now edges.now }
     requires some { 0 < length edges.now }
-    requires stops { All (Contains edges.now) stops.old.items }
-    ensures some { OnOk result (0 < length stops.new.items) }
-    ensures among { OnOk result (All (Contains edges.now) stops.new.items) }
-    ensures kept { OnOk result (Extends stops.old.items stops.new.items) }
+    ensures walked { IfOk result (IsWalked search.now edges.now) }
     ensures memory { IsOkUnless result Refusal.Memory }
 {
-    if !stops.is_empty() {
-        return Ok(());
-    }
-    stops.push(edges[0])?;
-    Ok(())
+    let mut walk = Vec::new(alloc);
+    walk.push(first_stop(search, edges))?;
+    let mut sets = no_sets(alloc, search, edges.len())?;
+    add_edges(&mut sets, search, walk.as_slice(), 0);
+    Ok(Walked { walk, sets })
 }
 
-/// Appends an edge that meets `node` if it is an atom `Inf`, unless `stops` has one or no edge of `edges` meets it.
-fn add_stops(
-    stops: &mut Vec<u32>,
+/// Returns the first of `edges` that meets an atom `Inf`, the first of those atoms that one meets; or else the first of
+/// `edges`.
+fn first_stop(search: &Search<'_>, edges: &[u32]) -> u32
+    requires marks { HaveMarks search.now edges.now }
+    requires some { 0 < length edges.now }
+    ensures among { Contains edges.now result }
+{
+    for node in search.nodes {
+        if let Node::Inf(negated, set) = *node {
+            if let Some(edge) = meeting(search, edges, negated, set) {
+                return edge;
+            }
+        }
+    }
+    edges[0]
+}
+
+/// Goes on to an edge that meets `node`, if it is an atom `Inf` that some edge meets and the walk does not.
+fn meet_node(
+    alloc: Global,
+    walked: &mut Walked,
     search: &Search<'_>,
     edges: &[u32],
     node: Node,
 ) -> Result<(), Refusal>
-    requires edges { HaveMarks search.now edges.now }
-    requires stops { All (Contains edges.now) stops.old.items }
-    ensures among { OnOk result (All (Contains edges.now) stops.new.items) }
-    ensures kept { OnOk result (Extends stops.old.items stops.new.items) }
-    ensures shows { OnOk result (ShowsAtom (graph_of search.now) edges.now stops.new.items node) }
+    requires edges { AreEdgesOf search.now edges.now }
+    requires marks { HaveMarks search.now edges.now }
+    requires connected { IsConnected (graph_of search.now) (listed edges.now) }
+    requires walked { IsWalked search.now edges.now walked.old }
+    ensures walked { OnOk result (IsWalked search.now edges.now walked.new) }
+    ensures kept { OnOk result (Extends walked.old.walk.items walked.new.walk.items) }
+    ensures shows { OnOk result (ShowsAtom (graph_of search.now) edges.now walked.new.walk.items node) }
     ensures memory { IsOkUnless result Refusal.Memory }
 {
     match node {
-        Node::Inf(negated, set) => add_stop(stops, search, edges, negated, set),
+        Node::Inf(negated, set) => meet_set(alloc, walked, search, edges, negated, set),
         Node::Constant(_) | Node::Fin(_, _) | Node::And(_, _) | Node::Or(_, _) => Ok(()),
     }
 }
 
-/// Appends an edge that carries `set` (that lacks it if `negated`), unless `stops` already has one or no edge does.
-fn add_stop(
-    stops: &mut Vec<u32>,
+/// Goes on to an edge that carries `set` (that lacks it if `negated`), if some edge does and the walk has none.
+fn meet_set(
+    alloc: Global,
+    walked: &mut Walked,
     search: &Search<'_>,
     edges: &[u32],
     negated: bool,
     set: u32,
 ) -> Result<(), Refusal>
-    requires edges { HaveMarks search.now edges.now }
-    requires stops { All (Contains edges.now) stops.old.items }
-    ensures among { OnOk result (All (Contains edges.now) stops.new.items) }
-    ensures kept { OnOk result (Extends stops.old.items stops.new.items) }
-    ensures shows { OnOk result (ShowsSet search.now edges.now stops.new.items negated set) }
+    requires edges { AreEdgesOf search.now edges.now }
+    requires marks { HaveMarks search.now edges.now }
+    requires connected { IsConnected (graph_of search.now) (listed edges.now) }
+    requires walked { IsWalked search.now edges.now walked.old }
+    ensures walked { OnOk result (IsWalked search.now edges.now walked.new) }
+    ensures kept { OnOk result (Extends walked.old.walk.items walked.new.walk.items) }
+    ensures shows { OnOk result (ShowsSet search.now edges.now walked.new.walk.items negated set) }
     ensures memory { IsOkUnless result Refusal.Memory }
 {
-    if occurs(search, stops.as_slice(), negated, set) {
+    if occurs_by(
+        search,
+        walked.walk.as_slice(),
+        walked.sets.as_slice(),
+        negated,
+        set,
+    ) {
         return Ok(());
     }
     if let Some(edge) = meeting(search, edges, negated, set) {
-        stops.push(edge)?;
+        pass(alloc, walked, search, edges, edge)?;
     }
     Ok(())
 }
 
-/// Returns a closed walk in the connected `edges` that passes each of `stops`.
-fn tour(
+/// Goes on by a shortest path to `edge`, and along it.
+fn pass(
     alloc: Global,
+    walked: &mut Walked,
     search: &Search<'_>,
     edges: &[u32],
-    stops: &[u32],
+    edge: u32,
+) -> Result<(), Refusal>
+    requires edges { AreEdgesOf search.now edges.now }
+    requires marks { HaveMarks search.now edges.now }
+    requires connected { IsConnected (graph_of search.now) (listed edges.now) }
+    requires edge { Contains edges.now edge }
+    requires walked { IsWalked search.now edges.now walked.old }
+    ensures walked { OnOk result (IsWalked search.now edges.now walked.new) }
+    ensures kept { OnOk result (Extends walked.old.walk.items walked.new.walk.items) }
+    ensures passed { OnOk result (Contains walked.new.walk.items edge) }
+    ensures memory { IsOkUnless result Refusal.Memory }
+{
+    let so_far = walked.walk.as_slice();
+    let from = so_far.len();
+    let way = way_on(alloc, search.graph, edges, so_far, edge)?;
+    walked.walk.extend_from_slice(way.as_slice())?;
+    walked.walk.push(edge)?;
+    add_edges(&mut walked.sets, search, walked.walk.as_slice(), from);
+    Ok(())
+}
+
+/// Returns the walk with a shortest path from its end to where it begins.
+fn closed(
+    alloc: Global,
+    walked: Walked,
+    search: &Search<'_>,
+    edges: &[u32],
 ) -> Result<Vec<u32>, Refusal>
     requires edges { AreEdgesOf search.now edges.now }
     requires connected { IsConnected (graph_of search.now) (listed edges.now) }
-    requires some { 0 < length stops.now }
-    requires among { All (Contains edges.now) stops.now }
+    requires walked { IsWalked search.now edges.now walked }
     ensures closed { IfOk result (λ walk. IsClosedEdgeWalk (graph_of search.now) (listed edges.now) walk.items) }
-    ensures passes { IfOk result (λ walk. All (Contains walk.items) stops.now) }
+    ensures kept { IfOk result (λ walk. Extends walked.walk.items walk.items) }
     ensures memory { IsOkUnless result Refusal.Memory }
 {
-    let mut walk = Vec::new(alloc);
-    for at in 0..stops.len() {
-        let next = next_stop(stops, at);
-        add_way(alloc, &mut walk, search.graph, edges, stops[at], next)?;
-    }
+    let mut walk = walked.walk;
+    let so_far = walk.as_slice();
+    let way = way_on(alloc, search.graph, edges, so_far, so_far[0])?;
+    walk.extend_from_slice(way.as_slice())?;
     Ok(walk)
 }
 
-/// Returns the stop after the one at the index `at`: the first stop after the last.
-fn next_stop(stops: &[u32], at: usize) -> u32
-    requires { at < length stops.now }
-    ensures { result ≡ slice_index_or stops.now (at + 1) (slice_index stops.now 0) }
-{
-    if at + 1 < stops.len() {
-        stops[at + 1]
-    } else {
-        stops[0]
-    }
-}
-
-/// Appends `edge` to `walk`, and then a path from its end to the state that the edge `next` leaves.
-fn add_way(
+/// Returns a shortest path from the end of `walk` to the state that the edge `next` leaves.
+fn way_on(
     alloc: Global,
-    walk: &mut Vec<u32>,
     graph: &Graph,
     edges: &[u32],
-    edge: u32,
+    walk: &[u32],
     next: u32,
-) -> Result<(), Refusal>
+) -> Result<Vec<u32>, Refusal>
     requires edges { AreEdges graph.now edges.now }
     requires connected { LeadOn graph.now edges.now }
-    requires edge { Contains edges.now edge }
+    requires some { 0 < length walk.now }
+    requires last { Contains edges.now (last_of walk.now) }
     requires next { Contains edges.now next }
-    ensures way { OnOk result (GoesOn graph.now edges.now edge next walk.old.items walk.new.items) }
+    ensures leads { IfOk result (λ way. LeadsTo graph.now edges.now (last_of walk.now) next way.items) }
     ensures memory { IsOkUnless result Refusal.Memory }
 {
-    walk.push(edge)?;
-    match path(alloc, graph, edges, &[graph.to(edge)], graph.from(next))? {
-        Some(way) => {
-            walk.extend_from_slice(way.as_slice())?;
-            Ok(())
-        }
+    let last = walk[walk.len() - 1];
+    match path(alloc, graph, edges, &[graph.to(last)], graph.from(next))? {
+        Some(way) => Ok(way),
         None => unreachable!(),
     }
 }
