@@ -1,12 +1,14 @@
 -- Connected edges that are usable are a lasso.
-use Rattle.std.proofs.Common.{◌≡◌, ℕ, suc, ◌<◌, List, [], ◌∷◌, ◌++◌, length, get_or, All, Option, Some, refl, sym, ap, subst, ◌∙◌, arith, add-one, append_assoc}
+use Rattle.std.proofs.Common.{◌≡◌, ℕ, suc, ◌+◌, ◌<◌, inl, inr, List, [], ◌∷◌, ◌++◌, length, get_or, All, Option, Some, refl, sym, ap, subst, ◌∙◌, arith, add-one, append_assoc}
 use Rattle.std.specs.Prelude.{option_map}
 use Rattle.std.specs.Option.{unwrap_or}
-use Rattle.std.proofs.lemmas.List.Elements.{All-cons, All-get_or, All-head, All-nil, All-push, All-tail}
+use Rattle.std.proofs.lemmas.Bool.{cases_lt}
+use Rattle.std.proofs.lemmas.List.{get_or-append-add, get_or_append_left, get_or_push, length-append, length_push}
+use Rattle.std.proofs.lemmas.List.Elements.{All-cons, All-head, All-nil, All-tail}
 use Rattle.std.proofs.lemmas.Option.{same_Some}
 use Rattle.omega_automaton.specs.Automaton.{BodyEdge, Description, edge_at}
 use Rattle.omega_runs.specs.Lasso.{IsLasso, IsStart, IsStep, IsUsable, Leads}
-use Rattle.omega_lasso_judge.specs.Conditions.{AreLinked, FollowsEdge, IsLassoWalk, IsUsableNumber, LeavesStart, once_round}
+use Rattle.omega_lasso_judge.specs.Conditions.{AreLinked, FollowsEdge, IsClosed, IsLassoWalk, IsUsableNumber, LeavesStart}
 
 -- what holds of all items of two lists
 pub all_front : (P : ℕ → Type 0) (xs ys : List ℕ) → All P (xs ++ ys) → All P xs
@@ -16,20 +18,6 @@ all_front P (x ∷ xs) ys all = All-cons P x xs (All-head P x (xs ++ ys) all) (a
 pub all_after : (P : ℕ → Type 0) (xs ys : List ℕ) → All P (xs ++ ys) → All P ys
 all_after P [] ys all = all
 all_after P (x ∷ xs) ys all = all_after P xs ys (All-tail P x (xs ++ ys) all)
-
--- the first edge of the cycle after the last
-pub round_is : (stem cycle : List ℕ) → 0 < length cycle → (stem ++ cycle) ++ get_or cycle 0 0 ∷ [] ≡ once_round stem cycle
-round_is stem [] longer = absurd (omega arith)
-round_is stem (first ∷ cycle) longer = append_assoc stem (first ∷ cycle) (first ∷ [])
-
-pub all_round : (P : ℕ → Type 0) (stem cycle : List ℕ) → 0 < length cycle → All P (stem ++ cycle) → All P ((stem ++ cycle) ++ get_or cycle 0 0 ∷ [])
-all_round P stem cycle longer all =
-    All-push P (stem ++ cycle) (get_or cycle 0 0) all (All-get_or P cycle 0 0 longer (all_after P stem cycle all))
-
-pub first_round : (stem cycle : List ℕ) → 0 < length cycle → get_or ((stem ++ cycle) ++ get_or cycle 0 0 ∷ []) 0 0 ≡ get_or (stem ++ cycle) 0 0
-first_round [] [] longer = absurd (omega arith)
-first_round [] (first ∷ cycle) longer = refl
-first_round (number ∷ stem) cycle longer = refl
 
 module _ (a : Description) where
   -- the state that an edge leaves, or 0 if there is no edge
@@ -51,9 +39,45 @@ module _ (a : Description) where
   linked_from numbers links k below =
       subst (λ (n : ℕ). FollowsEdge a (get_or numbers k 0) (get_or numbers n 0)) (sym (add-one k)) (links k (omega arith))
 
+  -- the front of what is linked is linked, and so is what comes after it
+  pub links_front : (xs ys : List ℕ) → Links (xs ++ ys) → Links xs
+  links_front xs ys links k below =
+      let more : suc k < length (xs ++ ys) = omega (arith, length-append xs ys) in
+      subst (λ (n : ℕ). FollowsEdge a (get_or xs k 0) n) (get_or_append_left xs ys 0 (suc k) below)
+      (subst (λ (n : ℕ). FollowsEdge a n (get_or (xs ++ ys) (suc k) 0)) (get_or_append_left xs ys 0 k (omega arith)) (links k more))
+
   links_after : (xs ys : List ℕ) → Links (xs ++ ys) → Links ys
   links_after [] ys links = links
   links_after (x ∷ xs) ys links = links_after xs ys (λ k below. links (suc k) (omega arith))
+
+  -- one edge more, which follows the last one
+  links_push : (xs : List ℕ) (next : ℕ) → Links xs → ((last : ℕ) → last + 1 ≡ length xs → FollowsEdge a (get_or xs last 0) next)
+      → Links (xs ++ next ∷ [])
+  links_push xs next links follows k below = elim (cases_lt (suc k) (length xs)) [
+    | inl inside ↦
+        subst (λ (n : ℕ). FollowsEdge a (get_or (xs ++ next ∷ []) k 0) n) (sym (get_or_append_left xs (next ∷ []) 0 (suc k) inside))
+        (subst (λ (n : ℕ). FollowsEdge a n (get_or xs (suc k) 0)) (sym (get_or_append_left xs (next ∷ []) 0 k (omega arith))) (links k inside))
+    | inr past ↦
+        let last : length xs ≡ suc k = omega (arith, length_push xs next) in
+        subst (λ (n : ℕ). FollowsEdge a (get_or (xs ++ next ∷ []) k 0) n) (sym (get_or_push xs next 0 (suc k) last))
+        (subst (λ (n : ℕ). FollowsEdge a n next) (sym (get_or_append_left xs (next ∷ []) 0 k (omega arith))) (follows k (omega arith)))
+  ]
+
+  -- the first edge of a cycle that closes follows the last one of the lasso
+  closes : (stem : List ℕ) (first : ℕ) (cycle : List ℕ) → IsClosed a (first ∷ cycle) → (last : ℕ) → last + 1 ≡ length (stem ++ first ∷ cycle)
+      → FollowsEdge a (get_or (stem ++ first ∷ cycle) last 0) first
+  closes stem first cycle closed last is =
+      let at : last ≡ length stem + length cycle = omega (arith, is, length-append stem (first ∷ cycle)) in
+      subst (λ (n : ℕ). FollowsEdge a n first)
+      (sym (ap (λ (n : ℕ). get_or (stem ++ first ∷ cycle) n 0) at ∙ get_or-append-add stem (first ∷ cycle) (length cycle) 0))
+      (closed (length cycle) (add-one (length cycle)))
+
+  -- the edges of a lasso, and then the first of the cycle again
+  links_round : (stem : List ℕ) (first : ℕ) (cycle : List ℕ) → AreLinked a (stem ++ first ∷ cycle) → IsClosed a (first ∷ cycle)
+      → Links (stem ++ first ∷ (cycle ++ first ∷ []))
+  links_round stem first cycle linked closed =
+      subst Links (append_assoc stem (first ∷ cycle) (first ∷ []))
+      (links_push (stem ++ first ∷ cycle) first (links_from (stem ++ first ∷ cycle) linked) (closes stem first cycle closed))
 
   -- a usable edge leads to the state that the next one leaves
   step : (number next : ℕ) → IsUsableNumber a number → FollowsEdge a number next → IsStep a (left_state number) number (left_state next)
@@ -88,7 +112,7 @@ module _ (a : Description) where
   pub lasso_of : (stem cycle : List ℕ) → IsLassoWalk a stem cycle → All (IsUsableNumber a) (stem ++ cycle) → IsLasso a stem cycle
   lasso_of stem [] connected usable = let longer : 0 < 0 = connected.begun.edges.longer in absurd (omega arith)
   lasso_of stem (first ∷ cycle) connected usable =
-      let links : Links (stem ++ first ∷ (cycle ++ first ∷ [])) = links_from (once_round stem (first ∷ cycle)) connected.linked in
+      let links : Links (stem ++ first ∷ (cycle ++ first ∷ [])) = links_round stem first cycle connected.linked connected.closed in
       let around : Links ((first ∷ cycle) ++ first ∷ []) = links_after stem (first ∷ (cycle ++ first ∷ [])) links in
       record {
         start = left_state (get_or (stem ++ first ∷ cycle) 0 0);

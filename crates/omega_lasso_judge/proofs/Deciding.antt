@@ -2,10 +2,10 @@
 use Rattle.std.proofs.Common.{◌≡◌, ℕ, ◌+◌, ◌<◌, ◌⊎◌, inl, inr, List, [], ◌++◌, length, get_or, refl, sym, ap, subst, ◌∙◌, arith}
 use Rattle.std.proofs.lemmas.Bool.{cases_order}
 use Rattle.omega_automaton.specs.Automaton.{Description}
-use Rattle.omega_lasso_judge.specs.Conditions.{AreLinked, FailsFirst, FollowsEdge, HasEdges, IsBegun, IsFirstApart, IsNumber, IsUsableNumber, LeavesStart, once_round}
+use Rattle.omega_lasso_judge.specs.Conditions.{AreLinked, FailsFirst, FollowsEdge, HasEdges, IsBegun, IsFirstApart, IsNumber, IsUsableNumber, LeavesStart}
 use Rattle.omega_lasso_judge.specs.Fault.{IsLassoFault}
 use Rattle.omega_lasso_judge.specs.declared.fault.LassoFault.{LassoFault}
-use Rattle.omega_lasso_judge.specs.declared.fault.LassoFault.TheVariants.{Apart, NeverTrue, NoCycle, NoStart, NotAccepted, NotThere}
+use Rattle.omega_lasso_judge.specs.declared.fault.LassoFault.TheVariants.{Apart, NeverTrue, NoCycle, NoStart, NotAccepted, NotClosed, NotThere}
 use Rattle.omega_lasso_judge.proofs.Excluding.{all_usable, connected, none_fails}
 
 first_fails : (condition : ℕ → Type 0) (numbers : List ℕ) (m n : ℕ) → FailsFirst condition numbers m → FailsFirst condition numbers n → m ≡ n
@@ -38,6 +38,7 @@ module _ (a : Description) where
     no_cycle is (NotThere n) found = absurd (empty is found.0)
     no_cycle is (NoStart n) found = absurd (empty is found.0.longer)
     no_cycle is (Apart n) found = absurd (empty is found.0.edges.longer)
+    no_cycle is NotClosed found = absurd (empty is found.0.edges.longer)
     no_cycle is (NeverTrue n) found = absurd (empty is found.0.begun.edges.longer)
     no_cycle is NotAccepted found = absurd (empty is found.0.longer)
 
@@ -49,6 +50,7 @@ module _ (a : Description) where
     not_there m is (NotThere n) found = ap NotThere (first_fails (IsNumber a) (stem ++ cycle) m n is.1 found.1)
     not_there m is (NoStart n) found = absurd (missing m is.1 found.0)
     not_there m is (Apart n) found = absurd (missing m is.1 found.0.edges)
+    not_there m is NotClosed found = absurd (missing m is.1 found.0.edges)
     not_there m is (NeverTrue n) found = absurd (missing m is.1 found.0.begun.edges)
     not_there m is NotAccepted found = absurd (missing m is.1 (connected a stem cycle found.0).begun.edges)
 
@@ -60,6 +62,7 @@ module _ (a : Description) where
     no_start m is (NotThere n) found = sym (not_there n found (NoStart m) is)
     no_start m is (NoStart n) found = ap NoStart (is.1 ∙ sym found.1)
     no_start m is (Apart n) found = absurd (unbegun m is found.0)
+    no_start m is NotClosed found = absurd (unbegun m is found.0)
     no_start m is (NeverTrue n) found = absurd (unbegun m is found.0.begun)
     no_start m is NotAccepted found = absurd (unbegun m is (connected a stem cycle found.0).begun)
 
@@ -67,15 +70,26 @@ module _ (a : Description) where
     apart m is NoCycle found = sym (no_cycle found (Apart m) is)
     apart m is (NotThere n) found = sym (not_there n found (Apart m) is)
     apart m is (NoStart n) found = sym (no_start n found (Apart m) is)
-    apart m is (Apart n) found = ap Apart (first_apart (once_round stem cycle) m n is.1 found.1)
-    apart m is (NeverTrue n) found = absurd (unlinked (once_round stem cycle) m is.1 found.0.linked)
-    apart m is NotAccepted found = absurd (unlinked (once_round stem cycle) m is.1 (connected a stem cycle found.0).linked)
+    apart m is (Apart n) found = ap Apart (first_apart (stem ++ cycle) m n is.1 found.1)
+    apart m is NotClosed found = absurd (unlinked (stem ++ cycle) m is.1 found.1)
+    apart m is (NeverTrue n) found = absurd (unlinked (stem ++ cycle) m is.1 found.0.linked)
+    apart m is NotAccepted found = absurd (unlinked (stem ++ cycle) m is.1 (connected a stem cycle found.0).linked)
+
+    not_closed : IsLassoFault a stem cycle NotClosed → (other : LassoFault) → IsLassoFault a stem cycle other → NotClosed ≡ other
+    not_closed is NoCycle found = sym (no_cycle found NotClosed is)
+    not_closed is (NotThere n) found = sym (not_there n found NotClosed is)
+    not_closed is (NoStart n) found = sym (no_start n found NotClosed is)
+    not_closed is (Apart n) found = sym (apart n found NotClosed is)
+    not_closed is NotClosed found = refl
+    not_closed is (NeverTrue n) found = absurd (is.2 found.0.closed)
+    not_closed is NotAccepted found = absurd (is.2 (connected a stem cycle found.0).closed)
 
     never_true : (m : ℕ) → IsLassoFault a stem cycle (NeverTrue m) → (other : LassoFault) → IsLassoFault a stem cycle other → NeverTrue m ≡ other
     never_true m is NoCycle found = sym (no_cycle found (NeverTrue m) is)
     never_true m is (NotThere n) found = sym (not_there n found (NeverTrue m) is)
     never_true m is (NoStart n) found = sym (no_start n found (NeverTrue m) is)
     never_true m is (Apart n) found = sym (apart n found (NeverTrue m) is)
+    never_true m is NotClosed found = sym (not_closed found (NeverTrue m) is)
     never_true m is (NeverTrue n) found = ap NeverTrue (first_fails (IsUsableNumber a) (stem ++ cycle) m n is.1 found.1)
     never_true m is NotAccepted found = absurd (none_fails a (IsUsableNumber a) (stem ++ cycle) m (all_usable a stem cycle found.0) is.1)
 
@@ -84,6 +98,7 @@ module _ (a : Description) where
     not_accepted is (NotThere n) found = sym (not_there n found NotAccepted is)
     not_accepted is (NoStart n) found = sym (no_start n found NotAccepted is)
     not_accepted is (Apart n) found = sym (apart n found NotAccepted is)
+    not_accepted is NotClosed found = sym (not_closed found NotAccepted is)
     not_accepted is (NeverTrue n) found = sym (never_true n found NotAccepted is)
     not_accepted is NotAccepted found = refl
 
@@ -93,5 +108,6 @@ module _ (a : Description) where
   one_fault stem cycle (NotThere m) other is found = not_there stem cycle m is other found
   one_fault stem cycle (NoStart m) other is found = no_start stem cycle m is other found
   one_fault stem cycle (Apart m) other is found = apart stem cycle m is other found
+  one_fault stem cycle NotClosed other is found = not_closed stem cycle is other found
   one_fault stem cycle (NeverTrue m) other is found = never_true stem cycle m is other found
   one_fault stem cycle NotAccepted other is found = not_accepted stem cycle is other found

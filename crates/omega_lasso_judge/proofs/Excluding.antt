@@ -1,15 +1,16 @@
 -- An accepting lasso has no fault.
-use Rattle.std.proofs.Common.{ℕ, zero, suc, ◌<◌, List, [], ◌∷◌, ◌++◌, length, get_or, All, sym, ap, subst, ◌∙◌, arith}
+use Rattle.std.proofs.Common.{ℕ, zero, suc, ◌<◌, List, [], ◌∷◌, ◌++◌, length, get_or, All, sym, ap, subst, ◌∙◌, add-one, arith}
 use Rattle.std.proofs.lemmas.Bool.{false≢true}
+use Rattle.std.proofs.lemmas.List.{get_or_append_left, get_or_push, length_push}
 use Rattle.std.proofs.lemmas.List.Elements.{All-append, All-cons, All-get_or, All-nil, All-weaker}
 use Rattle.std.proofs.lemmas.Option.{slice_get_within}
 use Rattle.omega_automaton.specs.Automaton.{Description, edges_of}
 use Rattle.omega_runs.specs.Lasso.{IsAcceptingLasso, IsLasso, IsStart, IsStep, Leads}
-use Rattle.omega_lasso_judge.specs.Conditions.{FailsFirst, FollowsEdge, IsLassoWalk, IsNumber, IsUsableNumber, LeavesStart, once_round}
+use Rattle.omega_lasso_judge.specs.Conditions.{FailsFirst, FollowsEdge, IsClosed, IsLassoWalk, IsNumber, IsUsableNumber, LeavesStart}
 use Rattle.omega_lasso_judge.specs.Fault.{IsLassoFault}
 use Rattle.omega_lasso_judge.specs.declared.fault.LassoFault.{LassoFault}
-use Rattle.omega_lasso_judge.specs.declared.fault.LassoFault.TheVariants.{Apart, NeverTrue, NoCycle, NoStart, NotAccepted, NotThere}
-use Rattle.omega_lasso_judge.proofs.Connecting.{Links, linked_from}
+use Rattle.omega_lasso_judge.specs.declared.fault.LassoFault.TheVariants.{Apart, NeverTrue, NoCycle, NoStart, NotAccepted, NotClosed, NotThere}
+use Rattle.omega_lasso_judge.proofs.Connecting.{Links, linked_from, links_front}
 
 module _ (a : Description) where
   -- the edges of a way are usable
@@ -58,6 +59,14 @@ module _ (a : Description) where
   alone : (number : ℕ) → Links a (number ∷ [])
   alone number k below = absurd (omega arith)
 
+  -- a cycle closes if its edges and then the first one again follow one another
+  closed_from : (first : ℕ) (cycle : List ℕ) → Links a ((first ∷ cycle) ++ first ∷ []) → IsClosed a (first ∷ cycle)
+  closed_from first cycle links last is =
+      let below : suc last < length ((first ∷ cycle) ++ first ∷ []) = omega (arith, is, length_push (first ∷ cycle) first) in
+      subst (λ (n : ℕ). FollowsEdge a n first) (get_or_append_left (first ∷ cycle) (first ∷ []) 0 last (omega (arith, is)))
+      (subst (λ (n : ℕ). FollowsEdge a (get_or ((first ∷ cycle) ++ first ∷ []) last 0) n)
+      (get_or_push (first ∷ cycle) first 0 (suc last) (sym is ∙ add-one last)) (links last below))
+
   starts_at : (start number : ℕ) → IsStart a start → Leaves number start → LeavesStart a number
   unfolding Leaves
   starts_at start number begins leaves =
@@ -86,8 +95,9 @@ module _ (a : Description) where
           };
           begins = first_starts lasso.start lasso.loop_state stem first cycle lasso.begins lasso.stem_leads leaves;
         };
-        linked = linked_from a (once_round stem (first ∷ cycle))
-            (links_on lasso.start stem lasso.loop_state first (cycle ++ first ∷ []) lasso.stem_leads leaves around);
+        linked = linked_from a (stem ++ first ∷ cycle)
+            (links_on lasso.start stem lasso.loop_state first cycle lasso.stem_leads leaves (links_front a (first ∷ cycle) (first ∷ []) around));
+        closed = closed_from first cycle around;
       }
 
   pub none_fails : (condition : ℕ → Type 0) (numbers : List ℕ) (number : ℕ) → All condition numbers → FailsFirst condition numbers number → ⊥
@@ -102,7 +112,8 @@ module _ (a : Description) where
   not_accepting stem cycle (NoStart number) is accepting =
       is.2 (subst (LeavesStart a) (sym is.1) (connected stem cycle accepting.lasso).begun.begins)
   not_accepting stem cycle (Apart number) is accepting =
-      is.1.apart (subst (FollowsEdge a (get_or (once_round stem cycle) is.1.before 0)) (sym is.1.number_is)
+      is.1.apart (subst (FollowsEdge a (get_or (stem ++ cycle) is.1.before 0)) (sym is.1.number_is)
       ((connected stem cycle accepting.lasso).linked is.1.before is.1.within))
+  not_accepting stem cycle NotClosed is accepting = is.2 (connected stem cycle accepting.lasso).closed
   not_accepting stem cycle (NeverTrue number) is accepting = none_fails (IsUsableNumber a) (stem ++ cycle) number (all_usable stem cycle accepting.lasso) is.1
   not_accepting stem cycle NotAccepted is accepting = false≢true (sym is.1 ∙ accepting.accepted)

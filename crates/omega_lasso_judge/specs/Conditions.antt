@@ -1,6 +1,6 @@
 -- The conditions by which a lasso, given by numbers of edges, is one of an automaton (HOA v1, section 3;
 -- docs/formats.md, automata).
-use Rattle.std.specs.Prelude.{◌≡◌, ℕ, ◌+◌, ◌<◌, Bool, List, [], ◌∷◌, ◌++◌, length, map, take, All, Some, slice_index}
+use Rattle.std.specs.Prelude.{◌≡◌, ℕ, ◌+◌, ◌<◌, Bool, List, [], ◌∷◌, ◌++◌, length, map, All, Some, slice_index}
 use Rattle.omega_formula.specs.Acceptance.{accepts}
 use Rattle.omega_automaton.specs.Automaton.{BodyEdge, Description, edge_at, edge_count}
 use Rattle.omega_runs.specs.Lasso.{IsStart, IsUsable, marks_at}
@@ -46,6 +46,11 @@ abbrev pub AreLinked : Description → List ℕ → Type 0
 AreLinked a numbers =
     (k : ℕ) → k + 1 < length numbers → FollowsEdge a (slice_index numbers k) (slice_index numbers (k + 1))
 
+-- the cycle leads back to where it begins: its first edge follows its last one
+abbrev pub IsClosed : Description → List ℕ → Type 0
+IsClosed a cycle =
+    (last : ℕ) → last + 1 ≡ length cycle → FollowsEdge a (slice_index cycle last) (slice_index cycle 0)
+
 -- `number` is the first edge in the list that does not follow the one before it
 pub record IsFirstApart (a : Description) (numbers : List ℕ) (number : ℕ) : Type 0 where
   pub before : ℕ
@@ -53,10 +58,6 @@ pub record IsFirstApart (a : Description) (numbers : List ℕ) (number : ℕ) : 
   pub number_is : number ≡ slice_index numbers (before + 1)
   pub linked : (k : ℕ) → k < before → FollowsEdge a (slice_index numbers k) (slice_index numbers (k + 1))
   pub apart : ¬ FollowsEdge a (slice_index numbers before) number
-
--- the edges of a lasso, and then the first of the cycle again, to which it returns
-abbrev pub once_round : List ℕ → List ℕ → List ℕ
-once_round stem cycle = stem ++ (cycle ++ take 1 cycle)
 
 -- the cycle has an edge, and each number is an edge's
 pub record HasEdges (a : Description) (stem cycle : List ℕ) : Type 0 where
@@ -68,10 +69,11 @@ pub record IsBegun (a : Description) (stem cycle : List ℕ) : Type 0 where
   pub edges : HasEdges a stem cycle
   pub begins : LeavesStart a (slice_index (stem ++ cycle) 0)
 
--- the edges begin at a start, and each follows the one before it, as the first of the cycle follows the last
+-- the edges begin at a start, each follows the one before it, and the cycle closes
 pub record IsLassoWalk (a : Description) (stem cycle : List ℕ) : Type 0 where
   pub begun : IsBegun a stem cycle
-  pub linked : AreLinked a (once_round stem cycle)
+  pub linked : AreLinked a (stem ++ cycle)
+  pub closed : IsClosed a cycle
 
 -- whether the acceptance formula holds of the marks of the cycle's edges
 abbrev pub cycle_accepts : Description → List ℕ → Bool

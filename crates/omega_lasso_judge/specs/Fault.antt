@@ -2,9 +2,9 @@
 use Rattle.std.specs.Prelude.{◌≡◌, ℕ, ◌<◌, ◌++◌, [], false, List, length, slice_index}
 use Rattle.omega_automaton.specs.Automaton.{Description}
 use Rattle.omega_runs.specs.Lasso.{IsLasso}
-use Rattle.omega_lasso_judge.specs.Conditions.{FailsFirst, HasEdges, IsBegun, IsFirstApart, IsLassoWalk, IsNumber, IsUsableNumber, LeavesStart, cycle_accepts, once_round}
+use Rattle.omega_lasso_judge.specs.Conditions.{AreLinked, FailsFirst, HasEdges, IsBegun, IsClosed, IsFirstApart, IsLassoWalk, IsNumber, IsUsableNumber, LeavesStart, cycle_accepts}
 use Rattle.omega_lasso_judge.specs.declared.fault.LassoFault.{LassoFault}
-use Rattle.omega_lasso_judge.specs.declared.fault.LassoFault.TheVariants.{Apart, NeverTrue, NoCycle, NoStart, NotAccepted, NotThere}
+use Rattle.omega_lasso_judge.specs.declared.fault.LassoFault.TheVariants.{Apart, NeverTrue, NoCycle, NoStart, NotAccepted, NotClosed, NotThere}
 
 -- the fault applies, and none before it in that order does
 abbrev pub IsLassoFault : Description → (stem cycle : List ℕ) → LassoFault → Type 0
@@ -12,7 +12,8 @@ IsLassoFault a stem cycle NoCycle = cycle ≡ []
 IsLassoFault a stem cycle (NotThere number) = (0 < length cycle) × FailsFirst (IsNumber a) (stem ++ cycle) number
 IsLassoFault a stem cycle (NoStart number) =
     HasEdges a stem cycle × (number ≡ slice_index (stem ++ cycle) 0) × (¬ LeavesStart a number)
-IsLassoFault a stem cycle (Apart number) = IsBegun a stem cycle × IsFirstApart a (once_round stem cycle) number
+IsLassoFault a stem cycle (Apart number) = IsBegun a stem cycle × IsFirstApart a (stem ++ cycle) number
+IsLassoFault a stem cycle NotClosed = IsBegun a stem cycle × AreLinked a (stem ++ cycle) × (¬ IsClosed a cycle)
 IsLassoFault a stem cycle (NeverTrue number) =
     IsLassoWalk a stem cycle × FailsFirst (IsUsableNumber a) (stem ++ cycle) number
 IsLassoFault a stem cycle NotAccepted = IsLasso a stem cycle × (cycle_accepts a cycle ≡ false)

@@ -7,22 +7,22 @@ use Rattle.omega_text.specs.declared.refusal.task.TaskFault.{TaskFault}
 use Rattle.omega_text.specs.declared.refusal.task.TaskFault.TheVariants.{BadSolution, Budget, NotDeterministic, NotParity, TooLarge, TooManyPropositions, TooWide, UniversalBranch, UnknownNode}
 use Rattle.omega_automaton.specs.Automaton.{BodyEdge, Description, edge_at}
 use Rattle.omega_automaton.specs.Branching.{has_universal_branching}
-use Rattle.omega_runs.specs.Judging.{IsWide}
+use Rattle.omega_runs.specs.Judging.{IsHard}
 use Rattle.omega_runs.specs.Lasso.{label_of}
 use Rattle.omega_lasso_judge.specs.Conditions.{IsFirst, IsLassoWalk, IsUsableNumber}
 
--- the edge with this number has a wide label, which may be given up
-pub record IsWideEdge (a : Description) (number : ℕ) : Type 0 where
+-- the edge with this number has a label that may be given up undecided
+pub record IsHardEdge (a : Description) (number : ℕ) : Type 0 where
   pub edge : BodyEdge
   pub numbered : edge_at a number ≡ Some edge
-  pub wide : IsWide (label_of edge)
+  pub hard : IsHard (label_of edge)
 
--- an edge in the list has a wide label, and those before it are usable
+-- an edge in the list has a label that may be given up undecided, and those before it are usable
 abbrev pub IsUndecidedAlong : Description → List ℕ → Type 0
-IsUndecidedAlong a numbers = (number : ℕ) × IsFirst (IsUsableNumber a) (IsWideEdge a) numbers number
+IsUndecidedAlong a numbers = (number : ℕ) × IsFirst (IsUsableNumber a) (IsHardEdge a) numbers number
 
 -- the fault applies, and none with a lesser number does; `TooManyPropositions` only if the edges are connected and one
--- of their labels that has to be judged is wide
+-- of their labels that has to be judged may be given up undecided
 abbrev pub IsJudgingFault : Description → (stem cycle : List ℕ) → TaskFault → Type 0
 IsJudgingFault a stem cycle NotParity = ⊥
 IsJudgingFault a stem cycle UniversalBranch = has_universal_branching a ≡ true

@@ -14,9 +14,12 @@ pub enum LassoFault {
     #[error("edge {0} leaves no start")]
     NoStart(u32),
     /// The edge does not leave the state that the edge before it enters. The edge before the first of the cycle is the
-    /// last of the stem, and, as the cycle returns, the last of the cycle too.
+    /// last of the stem.
     #[error("edge {0} does not follow")]
     Apart(u32),
+    /// The last edge of the cycle does not enter the state that the first one leaves.
+    #[error("the cycle does not close")]
+    NotClosed,
     /// No set of propositions makes the label of the edge, or of the state that it leaves, true.
     #[error("edge {0} can not be taken")]
     NeverTrue(u32),

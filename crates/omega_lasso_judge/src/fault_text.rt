@@ -14,6 +14,7 @@ pub fn write_lasso_fault(fault: LassoFault, out: &mut Vec<u8>) -> Result<(), Ref
         LassoFault::NotThere(edge) => write_edge(b"edge ", edge, b" is not there", out),
         LassoFault::NoStart(edge) => write_edge(b"edge ", edge, b" leaves no start", out),
         LassoFault::Apart(edge) => { write_edge(b"edge ", edge, b" does not follow", out) }
+        LassoFault::NotClosed => Ok(out.extend_from_slice(b"the cycle does not close")?),
         LassoFault::NeverTrue(edge) => { write_edge(b"edge ", edge, b" can not be taken", out) }
         LassoFault::NotAccepted => Ok(out.extend_from_slice(b"the cycle does not accept")?),
     }

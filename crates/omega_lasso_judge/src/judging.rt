@@ -11,7 +11,7 @@ use crate::acceptance::is_accepted;
 use crate::edge_table::EdgeTable;
 use crate::fault::LassoFault;
 use crate::labels::first_never_true;
-use crate::links::{first_apart, first_not_there, leaves_start};
+use crate::links::{first_apart, first_not_there, is_closed, leaves_start};
 use omega_automaton::{Automaton, Refusal, has_universal_branching};
 use omega_runs::edge_places;
 use omega_text::TaskFault;
@@ -83,7 +83,7 @@ fn judged(
     })
 }
 
-/// Returns why a lasso does not begin at a start or is not connected, if that is so.
+/// Returns why a lasso does not begin at a start, is not connected or does not close, if that is so.
 fn link_fault(
     alloc: Global,
     table: &EdgeTable<'_>,
@@ -96,16 +96,19 @@ fn link_fault(
     ensures none { IfOk result (λ found. IfNone found (IsLassoWalk (automaton_of table.now) stem.now cycle.now)) }
     ensures memory { IsOkUnless result Refusal.Memory }
 {
-    let mut walk = joined(alloc, stem, cycle)?;
-    walk.push(cycle[0])?;
+    let walk = joined(alloc, stem, cycle)?;
     let edges = walk.as_slice();
     if !leaves_start(table, edges[0]) {
         return Ok(Some(LassoFault::NoStart(edges[0])));
     }
-    match first_apart(table, edges) {
-        Some(number) => Ok(Some(LassoFault::Apart(number))),
-        None => Ok(None),
+    if let Some(number) = first_apart(table, edges) {
+        return Ok(Some(LassoFault::Apart(number)));
     }
+    Ok(if is_closed(table, cycle) {
+        None
+    } else {
+        Some(LassoFault::NotClosed)
+    })
 }
 
 /// Returns `first` followed by `second`.

@@ -2,7 +2,7 @@
 ghost use Rattle.std.specs.Prelude.{◌↔◌, All, IfErr, IfNone, IfOk, IfSome, IsTrue};
 ghost use Rattle.omega_runs.specs.Judging.{GivesUpOn};
 ghost use Rattle.omega_lasso_judge.specs.Conditions.{FailsFirst, IsNumber, IsUsableNumber};
-ghost use Rattle.omega_lasso_judge.specs.Refusing.{IsUndecidedAlong, IsWideEdge};
+ghost use Rattle.omega_lasso_judge.specs.Refusing.{IsUndecidedAlong, IsHardEdge};
 ghost use Rattle.omega_lasso_judge.specs.private.EdgeTable.{IsTable, automaton_of};
 
 use crate::edge_table::EdgeTable;
@@ -38,7 +38,7 @@ fn is_usable(alloc: Global, table: &EdgeTable<'_>, number: u32) -> Result<bool, 
     requires places { IsTable table.now }
     requires there { IsNumber (automaton_of table.now) number }
     ensures judged { IfOk result (λ usable. IsTrue usable ↔ IsUsableNumber (automaton_of table.now) number) }
-    ensures refused { IfErr result (GivesUpOn (IsWideEdge (automaton_of table.now) number)) }
+    ensures refused { IfErr result (GivesUpOn (IsHardEdge (automaton_of table.now) number)) }
 {
     let found = table.find(number);
     match &found.source.label {

@@ -1,7 +1,7 @@
 //! Whether numbers are those of edges, and how the edges follow one another.
-ghost use Rattle.std.specs.Prelude.{◌≡◌, ◌↔◌, [], ◌∷◌, All, IfNone, IfSome, IsTrue};
+ghost use Rattle.std.specs.Prelude.{◌≡◌, ◌<◌, ◌↔◌, [], ◌∷◌, length, All, IfNone, IfSome, IsTrue};
 ghost use Rattle.omega_runs.specs.Lasso.{IsStart};
-ghost use Rattle.omega_lasso_judge.specs.Conditions.{AreLinked, FailsFirst, FollowsEdge, IsFirstApart, IsNumber, LeavesStart};
+ghost use Rattle.omega_lasso_judge.specs.Conditions.{AreLinked, FailsFirst, FollowsEdge, IsClosed, IsFirstApart, IsNumber, LeavesStart};
 ghost use Rattle.omega_lasso_judge.specs.private.EdgeTable.{IsTable, automaton_of};
 
 use crate::edge_table::EdgeTable;
@@ -62,6 +62,16 @@ pub(crate) fn first_apart(table: &EdgeTable<'_>, numbers: &[u32]) -> Option<u32>
         }
     }
     None
+}
+
+/// Whether the first edge of `cycle` follows its last one.
+pub(crate) fn is_closed(table: &EdgeTable<'_>, cycle: &[u32]) -> bool
+    requires places { IsTable table.now }
+    requires there { All (IsNumber (automaton_of table.now)) cycle.now }
+    requires longer { 0 < length cycle.now }
+    ensures { IsTrue result ↔ IsClosed (automaton_of table.now) cycle.now }
+{
+    follows(table, cycle[cycle.len() - 1], cycle[0])
 }
 
 /// Whether the edge `number` leaves the state that the edge `before` enters, and `before` enters that one alone.
