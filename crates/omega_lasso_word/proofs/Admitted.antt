@@ -6,10 +6,11 @@ use Rattle.omega_runs.specs.Lasso.{IsStart, IsStep, Leads, marks_at}
 use Rattle.omega_runs.specs.Runs.{Satisfies}
 use Rattle.omega_runs.specs.Words.{CanBeTaken, IsAccepted}
 use Rattle.omega_runs.proofs.runs.Forever.{ever, ever_satisfies}
-use Rattle.omega_lasso_word.specs.Laws.{AdmittedWordsAreAccepted, number_along}
+use Rattle.omega_lasso_word.specs.Fitting.{along}
+use Rattle.omega_lasso_word.specs.Laws.{AdmittedWordsAreAccepted}
 
 -- the numbers along a lasso
-along_ever : (first : ℕ) (others numbers : List ℕ) (i : ℕ) → ever first others numbers i ≡ number_along first others numbers i
+along_ever : (first : ℕ) (others numbers : List ℕ) (i : ℕ) → ever first others numbers i ≡ along first others numbers i
 along_ever first others [] zero = refl
 along_ever first others [] (suc i) = along_ever first others others i
 along_ever first others (x ∷ xs) zero = refl
@@ -24,7 +25,7 @@ module _ (a : Description) (loop_state first : ℕ) (others : List ℕ) (lap : L
 
   -- each step is one of the edges
   step_along : (s i : ℕ) (numbers : List ℕ) (leads : Leads a s numbers loop_state)
-      → IsStep a (state_along s i numbers leads) (number_along first others numbers i) (state_along s (suc i) numbers leads)
+      → IsStep a (state_along s i numbers leads) (along first others numbers i) (state_along s (suc i) numbers leads)
   step_along s zero [] leads = let P : ℕ → Type 0 = λ n. IsStep a n first lap.0 in subst P (sym leads) lap.1
   step_along s zero (x ∷ xs) leads = leads.1
   step_along s (suc i) [] leads = step_along lap.0 i others lap.2
@@ -32,14 +33,14 @@ module _ (a : Description) (loop_state first : ℕ) (others : List ℕ) (lap : L
 
   -- so the word of these edges is accepted
   accepted_along : (start : ℕ) (stem : List ℕ) (word : ℕ → ℕ → Bool) → IsStart a start → Leads a start stem loop_state
-      → accepts (map (marks_at a) (first ∷ others)) a.acceptance ≡ true → ((i : ℕ) → CanBeTaken a (number_along first others stem i) (word i)) → IsAccepted a word
+      → accepts (map (marks_at a) (first ∷ others)) a.acceptance ≡ true → ((i : ℕ) → CanBeTaken a (along first others stem i) (word i)) → IsAccepted a word
   accepted_along start stem word begins leads accepted admitted = record {
     states = λ i. state_along start i stem leads;
-    edges = λ i. number_along first others stem i;
+    edges = λ i. along first others stem i;
     accepting = record {
       run = record {
         begins = begins;
-        steps = λ i. (let P : ℕ → Type 0 = λ n. IsStep a (state_along start i stem leads) (number_along first others stem i) (state_along start n stem leads) in
+        steps = λ i. (let P : ℕ → Type 0 = λ n. IsStep a (state_along start i stem leads) (along first others stem i) (state_along start n stem leads) in
             subst P (sym (add-one i)) (step_along start i stem leads));
       };
       accepted = (let P : (ℕ → ℕ) → Type 0 = λ f. Satisfies (λ i. marks_at a (f i)) a.acceptance in

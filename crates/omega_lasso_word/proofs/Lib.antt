@@ -1,3 +1,8 @@
--- Lemmas of words of lassos: runs along them, and literals.
+-- Lemmas of words of lassos: runs along them, literals, and what their texts say.
 pub mod Admitted
 pub mod Literals
+pub mod Reader
+pub mod Truths
+pub mod Said
+pub mod Lines
+pub mod Fitted

@@ -4,11 +4,7 @@ use Rattle.omega_label.specs.Label.{LabelTree, conjunction, constant, disjunctio
 use Rattle.omega_automaton.specs.Automaton.{BodyEdge, Description, edge_at}
 use Rattle.omega_runs.specs.Lasso.{label_of}
 use Rattle.omega_runs.specs.Words.{has_bit, index_in}
-use Rattle.omega_edge_labels.specs.Names.{is_identifier}
-
--- a name, in quotes if it is no identifier
-abbrev pub name_text : List ℕ → List ℕ
-name_text name = if is_identifier name then name else codes "\"" ++ (name ++ codes "\"")
+use Rattle.omega_lasso_word.specs.Names.{name_text}
 
 -- a text, in parentheses if it needs them
 abbrev pub enclosed : Bool → List ℕ → List ℕ

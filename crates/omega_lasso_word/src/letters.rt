@@ -2,7 +2,8 @@
 
 ghost use Rattle.std.specs.Prelude.{◌≡◌, ◌++◌, [], get_or, IsOkUnless, OnOk};
 ghost use Rattle.omega_label.specs.Shape.{label_tree_of_shape};
-ghost use Rattle.omega_lasso_word.specs.Letters.{label_words, literal_text, name_text, valuation_text};
+ghost use Rattle.omega_lasso_word.specs.Letters.{label_words, literal_text, valuation_text};
+ghost use Rattle.omega_lasso_word.specs.Names.{name_text};
 
 use crate::names::write_name;
 use omega_edge_labels::has_bit;

@@ -14,8 +14,9 @@ use std::alloc::Global;
 /// has the letters of the stem, a semicolon after each, and those of the cycle in `cycle{..}`.
 ///
 /// A letter is what the label of its edge demands, by the names of the propositions, or `1` if anything goes. A name is
-/// in quotes if it is no identifier. An edge without a label has the valuation of its index. Each word that the letters
-/// admit is accepted, by `laws::admitted_words_are_accepted`.
+/// in quotes unless it is an identifier that Spot reads as a name (tl.pdf, atomic propositions). An edge without a
+/// label has the valuation of its index. Each word that fits the text is accepted, by
+/// `laws::fitting_words_are_accepted`.
 ///
 /// Linear in the states and edges of the automaton, the lasso and the labels along it.
 pub fn word_of(
