@@ -1,4 +1,4 @@
--- A refusal of one of two texts, or want of memory, which is about none.
+-- A refusal of one of two texts, or want of memory, which is about none; and why a text is refused.
 use Rattle.std.proofs.Common.{refl}
 use Rattle.omega_text.specs.Cases.{or_memory}
 use Rattle.omega_text.specs.declared.refusal.Refusal.{Refusal}
@@ -14,3 +14,13 @@ of_file own file input then (Automaton fault) is = then (Automaton fault) is
 of_file own file input then (Task fault) is = then (Task fault) is
 of_file own file input then Memory is = refl
 of_file own file input then Io is = then Io is
+
+-- another reason for the same refusal
+pub memory_or : (own other : Refusal → Type 0) → ((refusal : Refusal) → own refusal → other refusal) → (refusal : Refusal)
+    → or_memory own refusal → or_memory other refusal
+memory_or own other then (Text fault) is = then (Text fault) is
+memory_or own other then (Game fault) is = then (Game fault) is
+memory_or own other then (Automaton fault) is = then (Automaton fault) is
+memory_or own other then (Task fault) is = then (Task fault) is
+memory_or own other then Memory is = is
+memory_or own other then Io is = then Io is

@@ -8,6 +8,7 @@ use Rattle.omega_hoa.specs.Alone.{IsAutomatonRefusal, IsAutomatonText}
 use Rattle.omega_product.specs.Limits.{IsWithin}
 use Rattle.omega_product.specs.Product.{IsProduct}
 use Rattle.omega_product.specs.Refusing.{HaveNoBranch, IsProductRefusal}
+use Rattle.omega_product.specs.Written.{IsWritten}
 
 -- the answer of `meet`: both texts are those of automata without universal branching, and the canonical text of their
 -- product is written, the automaton of the input first
@@ -19,6 +20,7 @@ pub record IsMeetAnswer (file input output : List ℕ) : Type 0 where
   pub given : HaveNoBranch first second
   pub product : Description
   pub product_is : IsProduct first second product
+  pub product_written : IsWritten first second product
   pub within : IsWithin product
   pub written : output ≡ canonical_automaton product
 

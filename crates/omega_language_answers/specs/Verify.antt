@@ -1,7 +1,10 @@
 -- The answer of `verify` for the text of an automaton, that of a file, and the text of a lasso, that of the input.
 use Rattle.std.specs.Prelude.{◌≡◌, ◌⊎◌, ◌++◌, ℕ, Bool, true, false, List, codes}
 use Rattle.omega_text.specs.declared.refusal.Refusal.{Refusal}
+use Rattle.omega_text.specs.declared.refusal.Refusal.TheVariants.{Task}
+use Rattle.omega_text.specs.declared.refusal.task.TaskFault.TheVariants.{UniversalBranch}
 use Rattle.omega_automaton.specs.Automaton.{Description}
+use Rattle.omega_automaton.specs.Branching.{has_universal_branching}
 use Rattle.omega_runs.specs.Lasso.{IsAcceptingLasso}
 use Rattle.omega_hoa.specs.Alone.{IsAutomatonRefusal, IsAutomatonText}
 use Rattle.omega_io.specs.declared.exit.Exit.{Exit}
@@ -36,24 +39,38 @@ pub record IsLassoAnswer (file input : List ℕ) (explain : Bool) (exit : Exit) 
   pub read : IsLassoText input lasso
   pub verdict : IsLassoVerdict automaton lasso explain exit output
 
--- the texts are those of an automaton and of a lasso, and the referee refuses the automaton
+-- the text of the file is that of an automaton with universal branching
+pub record RefusesBranching (file : List ℕ) (refusal : Refusal) : Type 0 where
+  pub automaton : Description
+  pub automaton_read : IsAutomatonText file automaton
+  pub branches : has_universal_branching automaton ≡ true
+  pub refused : refusal ≡ Task UniversalBranch
+
+-- the refusal of the file before the input is read: that of its text, or else that of universal branching
+abbrev pub RefusesFileFirst : List ℕ → Refusal → Type 0
+RefusesFileFirst file refusal = IsAutomatonRefusal file refusal ⊎ RefusesBranching file refusal
+
+-- the texts are those of an automaton without universal branching and of a lasso, and the referee refuses the automaton
 pub record RefusesJudging (file input : List ℕ) (refusal : Refusal) : Type 0 where
   pub automaton : Description
   pub automaton_read : IsAutomatonText file automaton
+  pub given : has_universal_branching automaton ≡ false
   pub lasso : LassoText
   pub read : IsLassoText input lasso
   pub refused : RefusesToJudge automaton lasso.stem lasso.cycle refusal
 
--- the refusal about the file: that of its text, or else that of its automaton by the referee
+-- the refusal about the file: that before the input is read, or else that of its automaton by the referee
 abbrev pub RefusesAutomaton : (file input : List ℕ) → Refusal → Type 0
-RefusesAutomaton file input refusal = IsAutomatonRefusal file refusal ⊎ RefusesJudging file input refusal
+RefusesAutomaton file input refusal = RefusesFileFirst file refusal ⊎ RefusesJudging file input refusal
 
--- the refusal about the input: the text of the file is that of an automaton, and the text of the input is no lasso's
+-- the refusal about the input: the text of the file is that of an automaton without universal branching, and the text
+-- of the input is no lasso's
 pub record RefusesLasso (file input : List ℕ) (refusal : Refusal) : Type 0 where
   pub automaton : Description
   pub automaton_read : IsAutomatonText file automaton
+  pub given : has_universal_branching automaton ≡ false
   pub refused : IsLassoRefusal input refusal
 
--- the refusal of `verify`: that of the automaton, or else that of the lasso's text
+-- the refusal of `verify`: that of the automaton, or that of the lasso's text
 abbrev pub IsLassoAnswerRefusal : (file input : List ℕ) → Refusal → Type 0
 IsLassoAnswerRefusal file input refusal = RefusesAutomaton file input refusal ⊎ RefusesLasso file input refusal

@@ -1,27 +1,29 @@
-ghost use Rattle.std.specs.Prelude.{◌≡◌, ◌++◌, IfErr, IfOk, IsOkUnless, OnOk};
+ghost use Rattle.std.specs.Prelude.{◌≡◌, ◌++◌, false, IfErr, IfOk, IsOkUnless, OnOk};
 ghost use Rattle.omega_text.specs.Cases.{or_memory};
-ghost use Rattle.omega_hoa.specs.Alone.{IsAutomatonRefusal, IsAutomatonText};
+ghost use Rattle.omega_automaton.specs.Branching.{has_universal_branching};
+ghost use Rattle.omega_hoa.specs.Alone.{IsAutomatonText};
 ghost use Rattle.omega_lasso_judge.specs.Refusing.{IsJudgeRefusal};
 ghost use Rattle.omega_lasso_text.specs.Refusing.{IsReadLassoRefusal};
 ghost use Rattle.omega_lasso_text.specs.Text.{IsLassoText};
 ghost use Rattle.omega_io.specs.Refused.{IsRefusedOf};
 ghost use Rattle.omega_language_answers.specs.Verify.{IsLassoAnswer, IsLassoVerdict, no_text};
-ghost use Rattle.omega_language_answers.specs.Verify.{RefusesAutomaton, RefusesLasso};
+ghost use Rattle.omega_language_answers.specs.Verify.{RefusesAutomaton, RefusesFileFirst, RefusesLasso};
 
-use omega_automaton::{Automaton, Refusal};
+use omega_automaton::{Automaton, Refusal, has_universal_branching};
 use omega_hoa::read_one;
 use omega_io::{Exit, Refused, Which};
 use omega_lasso_judge::{LassoFault, judge_lasso, write_lasso_fault};
 use omega_lasso_text::{LassoText, read_lasso};
+use omega_text::TaskFault;
 use std::alloc::Global;
 
 /// Judges whether the lasso of `input`, given by the numbers of its edges, is an accepting lasso of the automaton of
 /// `file`, without a search for one. If it is not and `explain` is set, the answer also says why. Both texts are
 /// dropped once they are read.
 ///
-/// Fails with the [Refusal::Text] or [Refusal::Automaton] of `file`, or else with the [Refusal::Text] of `input`. Or
-/// else fails with [TaskFault::UniversalBranch] or [TaskFault::TooManyPropositions] of the automaton, which is about
-/// `file` too.
+/// Fails with the [Refusal::Text] or [Refusal::Automaton] of `file`, or else with [TaskFault::UniversalBranch] of its
+/// automaton. Or else fails with the [Refusal::Text] of `input`, and then with [TaskFault::TooManyPropositions] of the
+/// automaton, which is about `file` too.
 pub fn verify_lasso(
     alloc: Global,
     file: Vec<u8>,
@@ -46,12 +48,18 @@ pub fn verify_lasso(
     }
 }
 
-/// Reads the automaton of `text`, which is dropped.
+/// Reads the automaton of `text`, which is dropped. Fails with [TaskFault::UniversalBranch] if it has universal
+/// branching.
 fn automaton_in(alloc: Global, text: Vec<u8>) -> Result<Automaton, Refusal>
     ensures automaton { IfOk result (IsAutomatonText text.items) }
-    ensures refused { IfErr result (or_memory (IsAutomatonRefusal text.items)) }
+    ensures given { IfOk result (λ automaton. has_universal_branching automaton ≡ false) }
+    ensures refused { IfErr result (or_memory (RefusesFileFirst text.items)) }
 {
-    read_one(alloc, text.as_slice())
+    let automaton = read_one(alloc, text.as_slice())?;
+    if has_universal_branching(&automaton) {
+        return Err(Refusal::Task(TaskFault::UniversalBranch));
+    }
+    Ok(automaton)
 }
 
 /// Reads the lasso of `text`, which is dropped.
@@ -62,8 +70,8 @@ fn lasso_in(alloc: Global, text: Vec<u8>) -> Result<LassoText, Refusal>
     read_lasso(alloc, text.as_slice())
 }
 
-/// Returns the verdict on `lasso` as one of `automaton`, with the fault of the lasso if `explain` is set. Fails with
-/// [TaskFault::UniversalBranch] or [TaskFault::TooManyPropositions].
+/// Returns the verdict on `lasso` as one of `automaton`, with the fault of the lasso if `explain` is set. Fails as
+/// [judge_lasso] does.
 fn verdict_on(
     alloc: Global,
     automaton: &Automaton,

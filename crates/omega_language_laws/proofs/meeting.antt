@@ -5,4 +5,5 @@ pub mod Labels
 pub mod Lists
 pub mod Marks
 pub mod Meeting
+pub mod One
 pub mod Transitions

@@ -1,4 +1,4 @@
--- The law of products: which words they accept.
+-- Laws of products: which words they accept, and that two automata have one.
 use Rattle.std.specs.Prelude.{◌≡◌, ◌↔◌, ℕ, Bool, false}
 use Rattle.omega_automaton.specs.Automaton.{Description, IsAutomaton}
 use Rattle.omega_automaton.specs.Branching.{has_universal_branching}
@@ -15,3 +15,7 @@ ProductsMeet =
     → has_universal_branching one ≡ false → has_universal_branching other ≡ false → IsProduct one other a
     → IsAccepted a word ↔ (IsAccepted one (part_of_word (first_view one other).places word)
     × IsAccepted other (part_of_word (second_view one other).places word))
+
+-- two automata have at most one product
+abbrev pub ProductsAreOne : Type 0
+ProductsAreOne = (one other a b : Description) → IsProduct one other a → IsProduct one other b → a ≡ b

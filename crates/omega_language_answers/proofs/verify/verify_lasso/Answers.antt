@@ -1,10 +1,9 @@
 -- the automaton's text is refused, or the automaton itself
 use Rattle.std.proofs.Common.{inl, inr, sym, subst}
-use Rattle.omega_hoa.specs.Alone.{IsAutomatonRefusal}
 use Rattle.omega_io.specs.declared.refused.Refused.{Refused}
 use Rattle.omega_io.specs.Refused.{IsRefusedOf}
 use Rattle.omega_lasso_judge.specs.Refusing.{RefusesToJudge}
-use Rattle.omega_language_answers.specs.Verify.{RefusesAutomaton, RefusesLasso}
+use Rattle.omega_language_answers.specs.Verify.{RefusesAutomaton, RefusesFileFirst, RefusesLasso}
 use Rattle.omega_language_answers.proofs.Refusals.{of_file}
 use Rattle.omega_language_answers.proofs.verify.verify_lasso.Goals as goal
 
@@ -12,7 +11,7 @@ pub returns-in-Err-clause-refused : goal.returns-in-Err-clause-refused
 returns-in-Err-clause-refused c =
     subst (λ (refused : Refused). IsRefusedOf (RefusesAutomaton c.args.file.items c.args.input.items) (RefusesLasso c.args.file.items c.args.input.items) refused)
     (sym c.of.ensures)
-    (of_file (IsAutomatonRefusal c.args.file.items) (RefusesAutomaton c.args.file.items c.args.input.items) (RefusesLasso c.args.file.items c.args.input.items)
+    (of_file (RefusesFileFirst c.args.file.items) (RefusesAutomaton c.args.file.items c.args.input.items) (RefusesLasso c.args.file.items c.args.input.items)
     (λ refusal is. inl is) c.in-Err.refusal c.in-Err.ensures.refused)
 
 pub returns-clause-refused : goal.returns-clause-refused
@@ -24,6 +23,7 @@ returns-clause-refused c =
     (λ refusal is. inr (record {
       automaton = c.in-Ok.automaton;
       automaton_read = c.in-Ok.ensures.automaton;
+      given = c.in-Ok.ensures.given;
       lasso = c.in-Ok-lasso_in.lasso;
       read = c.in-Ok-lasso_in.ensures.lasso;
       refused = is;
