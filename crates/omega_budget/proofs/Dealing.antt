@@ -1,18 +1,19 @@
 -- Budgets dealt out in the reordered game are dealt out in the original game.
-use Rattle.std.proofs.Common.{◌≡◌, ◌∙◌, ◌<◌, ◌++◌, ℕ, Bool, true, false, List, [], ◌∷◌, length, map, get_or, replicate, ap, ap₂, arith, refl, subst, sym}
+use Rattle.std.proofs.Common.{◌≡◌, ◌∙◌, ◌<◌, ◌≤◌, ◌++◌, ℕ, Bool, true, false, List, [], ◌∷◌, length, map, get_or, replicate, ap, ap₂, arith, refl, subst, sym}
 use Rattle.std.proofs.lemmas.List.{ext_get_or, get_or-map, get_or-replicate, length-map, length-replicate, length_push}
 use Rattle.omega_parity_game.specs.declared.player.Player.{Player}
 use Rattle.omega_parity_game.specs.Bound.{bound_of}
 use Rattle.omega_parity_game.specs.Game.{Node, IsGame, priorities}
 use Rattle.omega_lift_laws.specs.Laws.{RunsAreBounded}
 use Rattle.omega_lift_laws.specs.Measure.{Measure, zero_measure}
-use Rattle.omega_lift_laws.specs.Run.{IsDue, IsLiftingRun, zero_table}
+use Rattle.omega_lift_laws.specs.Run.{IsDue, IsLiftingRun, IsStable, zero_table}
 use Rattle.omega_solve.specs.Headline.{DealsOut, Headline, Runs}
 use Rattle.omega_solve.specs.Schedule.{all_pending}
-use Rattle.omega_solve.specs.Solver.{SolverState, start_of}
-use Rattle.omega_budget.specs.Laws.{HeadlineByPlace}
+use Rattle.omega_solve.specs.Solver.{SolverState, solver_state, start_of}
+use Rattle.omega_budget.specs.declared.found.Found.{Found}
+use Rattle.omega_budget.specs.Laws.{HeadlineByPlace, IsAnswerOfSolver}
 use Rattle.omega_budget.specs.Reordering.{IsReordering, flags_by_place, measures_by_place, state_by_place}
-use Rattle.omega_budget.specs.Within.{GoesOnAfter}
+use Rattle.omega_budget.specs.Within.{GoesOnAfter, IsFound, LiftsTo}
 use Rattle.omega_budget.proofs.Games.{IsClosed, edge_from, position_below}
 use Rattle.omega_budget.proofs.Lifting.{due_here, run_here, run_long, stable_here, zeros_here}
 
@@ -122,3 +123,40 @@ pub below_bound : RunsAreBounded → (nodes : List Node) (player : Player) (budg
 below_bound bounded nodes player budget goes_on =
     let longer = run_more nodes player _ goes_on.table goes_on.lifted.places goes_on.place goes_on.due goes_on.lifted.run in
     omega (arith, bounded nodes player (goes_on.lifted.places ++ goes_on.place ∷ []) longer.0 longer.1, length_push goes_on.lifted.places goes_on.place, goes_on.lifted.counted)
+
+-- a solver that is done after these lifts
+abbrev solver_done : List Node → Player → List Measure → ℕ → SolverState
+solver_done nodes player table lifts =
+    solver_state nodes player (record { player = player; priorities = priorities nodes; measures = table }) (all_pending (length nodes)) lifts true
+
+-- a lifting run within the budget that leaves no lift due is a call of `run`
+runs_at_once : (nodes : List Node) (player : Player) (budget lifts : ℕ) (table : List Measure) → LiftsTo nodes player lifts table → IsStable nodes player table → lifts ≤ budget
+    → Runs (start_of nodes player) budget (solver_done nodes player table lifts)
+runs_at_once nodes player budget lifts table lifted stable within = record {
+  same_nodes = refl;
+  same_player = refl;
+  lifted = record {
+    places = lifted.places;
+    lifted = lifted.run;
+    counted = omega (arith, lifted.counted);
+    within = omega (arith, lifted.counted, within);
+  };
+  done = λ _. stable;
+  spent = λ still. (let e : true ≡ false = still in cc);
+}
+
+-- what was found within a budget is the answer of a new solver that was given the whole budget
+pub answer_of_solver : (nodes : List Node) (player : Player) (budget : ℕ) (found : Found) → IsFound nodes player budget found
+    → IsAnswerOfSolver nodes player budget found
+answer_of_solver nodes player budget found is = record {
+  solver = solver_done nodes player is.ended.ended.table found.lifts;
+  dealt = (
+    solver_done nodes player is.ended.ended.table found.lifts,
+    runs_at_once nodes player budget found.lifts is.ended.ended.table is.ended.ended.lifted is.ended.ended.done is.ended.within,
+    refl,
+  );
+  done = refl;
+  lifts = refl;
+  won = is.below_top;
+  chosen = is.chosen;
+}

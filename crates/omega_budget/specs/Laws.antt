@@ -1,12 +1,14 @@
 -- What holds of solvers of reordered games, and of budgets, whatever the code does.
-use Rattle.std.specs.Prelude.{◌≡◌, ◌<◌, ℕ, List}
+use Rattle.std.specs.Prelude.{◌≡◌, ◌<◌, ℕ, List, [], ◌∷◌, true}
 use Rattle.omega_parity_game.specs.declared.player.Player.{Player}
 use Rattle.omega_parity_game.specs.Bound.{bound_of}
 use Rattle.omega_parity_game.specs.Game.{Node, IsGame, priorities}
+use Rattle.omega_lift_laws.specs.Answer.{AreChoices, won_in}
 use Rattle.omega_solve.specs.Headline.{DealsOut, IsBoundedAndExact}
 use Rattle.omega_solve.specs.Solver.{SolverState, HasLiftDue, IsFinished, IsReached, start_of}
 use Rattle.omega_budget.specs.Reordering.{IsReordering, state_by_place}
-use Rattle.omega_budget.specs.Within.{GoesOnAfter}
+use Rattle.omega_budget.specs.Within.{GoesOnAfter, IsFound}
+use Rattle.omega_budget.specs.declared.found.Found.{Found}
 
 -- For each game, each order to solve it in, and each way to deal out a budget to a new solver of the reordered game.
 -- Read by original place, the run is a lifting run of the original game, with at most as many lifts as its bound.
@@ -16,6 +18,22 @@ HeadlineByPlace =
     (nodes other : List Node) (positions places : List ℕ) (player : Player) (budgets : List ℕ) (solver : SolverState)
     → IsGame nodes → IsReordering nodes other positions places → DealsOut (start_of other player) budgets solver
     → IsBoundedAndExact nodes player budgets (state_by_place nodes positions solver)
+
+-- the answer is that of a solver: a new one to which the whole budget is dealt out at once, and which is then done. Its
+-- lifts are those of the answer, and in its table are the places won and the choices
+pub record IsAnswerOfSolver (nodes : List Node) (player : Player) (budget : ℕ) (found : Found) : Type 0 where
+  pub solver : SolverState
+  pub dealt : DealsOut (start_of nodes player) (budget ∷ []) solver
+  pub done : solver.done ≡ true
+  pub lifts : found.lifts ≡ solver.lifts
+  pub won : found.won.items ≡ won_in solver.table.measures
+  pub chosen : AreChoices nodes player solver.table.measures found.choice.items
+
+-- what was found within a budget is the answer of a solver, so the headline holds of it
+abbrev pub AnswersAreOfSolvers : Type 0
+AnswersAreOfSolvers =
+    (nodes : List Node) (player : Player) (budget : ℕ) (found : Found)
+    → IsFound nodes player budget found → IsAnswerOfSolver nodes player budget found
 
 -- a budget that does not suffice is below the bound
 abbrev pub SpentBudgetsAreBelowTheBound : Type 0

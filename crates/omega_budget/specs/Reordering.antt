@@ -45,3 +45,7 @@ pub record Reordering : Type 0 where
   pub reordered : List Node
   pub positions : List ℕ
   pub places : List ℕ
+
+-- the reordered game is the original game with each node at its position
+abbrev pub IsReordered : Reordering → Type 0
+IsReordered reordering = IsReordering reordering.given reordering.reordered reordering.positions reordering.places

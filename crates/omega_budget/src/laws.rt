@@ -1,5 +1,5 @@
 //! Laws of the definitions that the calls of `Reordered` cite.
-ghost use Rattle.omega_budget.specs.Laws.{SpentBudgetsAreBelowTheBound, HeadlineByPlace, ReorderingsKeepBounds, ReorderingsKeepStates};
+ghost use Rattle.omega_budget.specs.Laws.{AnswersAreOfSolvers, SpentBudgetsAreBelowTheBound, HeadlineByPlace, ReorderingsKeepBounds, ReorderingsKeepStates};
 
 use omega_lift_laws::runs_are_bounded;
 use omega_solve::headline;
@@ -13,6 +13,12 @@ pub fn headline_by_place()
 {
     headline();
 }
+
+/// States that what `Reordered::solve` finds within a budget is the answer of a solver to which the whole budget is
+/// dealt out at once. So the headline holds of it.
+pub fn answers_are_of_solvers()
+    ensures { AnswersAreOfSolvers }
+{}
 
 /// States that a budget refused with [TaskFault::Budget] is below the bound.
 pub fn spent_budgets_are_below_the_bound()

@@ -15,7 +15,7 @@ mod solving;
 
 pub use found::Found;
 pub use laws::{
-    headline_by_place, reorderings_keep_bounds, reorderings_keep_states,
+    answers_are_of_solvers, headline_by_place, reorderings_keep_bounds, reorderings_keep_states,
     spent_budgets_are_below_the_bound,
 };
 pub use observing::{LIFTS_BETWEEN_REPORTS, NoObserver, Progress, Reporter};

@@ -18,8 +18,7 @@ pub struct Reordered<'g> {
 }
 
 impl<'g> Model for Reordered<'g> {
-    ghost use Rattle.omega_budget.specs.Reordering.{Reordering};
-    ghost use Rattle.omega_budget.specs.private.steps.Reordering.{IsReordered};
+    ghost use Rattle.omega_budget.specs.Reordering.{IsReordered, Reordering};
 
     ghost Value = { Reordering };
 
@@ -30,12 +29,13 @@ impl<'g> Model for Reordered<'g> {
 }
 
 impl<'g> Reordered<'g> {
-    ghost use Rattle.omega_budget.specs.private.steps.Reordering.{IsReordered};
+    ghost use Rattle.omega_budget.specs.Reordering.{IsReordered};
 
     /// Reorders `game` so that few lifts are made. Takes about 3 (n + m) steps for n nodes and m edges, and the memory
     /// of the reordered game with its predecessors.
     pub fn of(alloc: Global, game: &'g ForwardGame) -> Result<Reordered<'g>, Refusal>
         ensures given { IfOk result (λ reordering. reordering.given ≡ game.entry.now) }
+        ensures reordered { IfOk result IsReordered }
         ensures memory { IsOkUnless result Refusal.Memory }
     {
         let permutation = Permutation::nested(alloc, game)?;

@@ -16,8 +16,7 @@ use Rattle.omega_budget.specs.declared.observing.Progress.{Progress}
 use Rattle.omega_game_answers.specs.Part.{IsPartFrom}
 use Rattle.omega_game_answers.specs.solve.AnswerText.{IsAnswerOf, WinsExactly, answer_text}
 use Rattle.omega_game_answers.specs.declared.solve.asked.Asked.{Asked}
-use Rattle.omega_game_answers.specs.solve.Refusing.{IsSolvedFor, IsTooWide}
-use Rattle.omega_game_answers.specs.private.steps.SolveGameRefusal.{IsSolveGameRefusal}
+use Rattle.omega_game_answers.specs.solve.Refusing.{IsSolveGameRefusal, IsSolvedFor, IsTooWide}
 use Rattle.omega_game_answers.specs.private.steps.PartRefusal.{IsPartRefusal}
 use Rattle.omega_game_answers.specs.private.steps.Places.{places_from}
 use Rattle.omega_game_answers.proofs.Places.{Contains-places_from, IsStrictlyIncreasing-places_from, places_from-true}

@@ -1,9 +1,8 @@
 ghost use Rattle.std.specs.Prelude.{◌≤◌, IfOk, IfErr, Some, None};
 ghost use Rattle.omega_solve.specs.Limits.{most_lifts};
 ghost use Rattle.omega_text.specs.Cases.{or_memory};
-ghost use Rattle.omega_game_answers.specs.solve.Refusing.{IsSolveRefusal};
+ghost use Rattle.omega_game_answers.specs.solve.Refusing.{IsSolveGameRefusal, IsSolveRefusal};
 ghost use Rattle.omega_game_answers.specs.solve.Solving.{IsSolveAnswer, SolvesPart, SolvesWhole};
-ghost use Rattle.omega_game_answers.specs.private.steps.SolveGameRefusal.{IsSolveGameRefusal};
 ghost use Rattle.omega_game_answers.specs.Observing.{CountsReported, CountsReportedOfPart, CountsReportedOfText, LiftsText};
 ghost use Rattle.omega_game_answers.specs.private.steps.Lifts.{LiftsPart, LiftsWholeGame};
 ghost use Rattle.omega_budget.specs.Observing.{IsObserved, refusal_in};

@@ -1,5 +1,4 @@
 -- The steps between a text and its answer: cited by private contracts alone.
-pub mod SolveGameRefusal
 pub mod PartRefusal
 pub mod Places
 pub mod Drawn

@@ -1,6 +1,6 @@
 -- The refusal of `solve`: that of the text, or else the first fault of its game.
 use Rattle.std.specs.Prelude.{◌≡◌, List, Option, Some, None, true, false, ℕ}
-use Rattle.omega_text.specs.Cases.{or_task}
+use Rattle.omega_text.specs.Cases.{never, or_memory, or_task}
 use Rattle.omega_text.specs.declared.refusal.Refusal.{Refusal}
 use Rattle.omega_text.specs.declared.refusal.task.TaskFault.{TaskFault}
 use Rattle.omega_text.specs.declared.refusal.task.TaskFault.TheVariants.{Budget, TooWide, UnknownNode}
@@ -52,6 +52,10 @@ abbrev pub IsSolveFault : List Node → Asked → Option ℕ → ℕ → TaskFau
 IsSolveFault game asked None budget fault = IsWholeFault game asked budget fault
 IsSolveFault game asked (Some identifier) budget UnknownNode = IsUnknownIdentifier game identifier
 IsSolveFault game asked (Some identifier) budget fault = IsPartFault game asked identifier budget fault
+
+-- the refusal of solving a game that was read, or a part of it: its fault, or memory
+abbrev pub IsSolveGameRefusal : List Node → Asked → Option ℕ → ℕ → Refusal → Type 0
+IsSolveGameRefusal game asked from budget = or_task (IsSolveFault game asked from budget) (or_memory never)
 
 -- the text is that of a game that has this fault
 pub record IsSolveTaskFault (text : List ℕ) (asked : Asked) (from : Option ℕ) (budget : ℕ) (fault : TaskFault)

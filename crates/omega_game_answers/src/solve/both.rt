@@ -2,12 +2,11 @@ ghost use Rattle.std.specs.Prelude.{◌≡◌, ◌≤◌, IfOk, IfErr, IsOk, IsO
 ghost use Rattle.omega_parity_game.specs.Game.{priorities};
 ghost use Rattle.omega_measure.specs.Table.{is_too_wide};
 ghost use Rattle.omega_text.specs.declared.refusal.task.TaskFault.TheVariants.{TooWide};
-ghost use Rattle.omega_game_answers.specs.solve.Refusing.{IsTooWide};
+ghost use Rattle.omega_game_answers.specs.solve.Refusing.{IsSolveGameRefusal, IsTooWide};
 ghost use Rattle.omega_solve.specs.Limits.{most_lifts};
 ghost use Rattle.omega_text.specs.declared.refusal.Refusal.TheVariants.{Task};
 ghost use Rattle.omega_game_answers.specs.declared.solve.asked.Asked.TheVariants.{Both};
 ghost use Rattle.omega_game_answers.specs.solve.Solution.{IsNarrow, IsRight, IsSolutionOf};
-ghost use Rattle.omega_game_answers.specs.private.steps.SolveGameRefusal.{IsSolveGameRefusal};
 ghost use Rattle.omega_game_answers.specs.solve.Winners.{winners_of};
 ghost use Rattle.omega_game_answers.specs.private.steps.Lifts.{LiftsWholeGame};
 ghost use Rattle.omega_budget.specs.Observing.{IsObserved, refusal_in};

@@ -1,7 +1,7 @@
 ghost use Rattle.std.specs.Prelude.{◌≡◌, ◌≤◌, IfOk, IfErr, None};
 ghost use Rattle.omega_game_answers.specs.declared.solve.asked.Asked.TheVariants as way;
 ghost use Rattle.omega_solve.specs.Limits.{most_lifts};
-ghost use Rattle.omega_game_answers.specs.private.steps.SolveGameRefusal.{IsSolveGameRefusal};
+ghost use Rattle.omega_game_answers.specs.solve.Refusing.{IsSolveGameRefusal};
 ghost use Rattle.omega_game_answers.specs.Observing.{CountsReported};
 ghost use Rattle.omega_game_answers.specs.private.steps.Lifts.{LiftsWholeGame};
 ghost use Rattle.omega_budget.specs.Observing.{IsObserved, refusal_in};

@@ -3,7 +3,7 @@ ghost use Rattle.omega_solve.specs.Limits.{most_lifts};
 ghost use Rattle.omega_game_answers.specs.declared.solve.asked.Asked.TheVariants.{Search};
 ghost use Rattle.omega_parity_game.specs.Solution.{IsExactSolution};
 ghost use Rattle.omega_game_answers.specs.solve.Solution.{IsExactSolutionOf};
-ghost use Rattle.omega_game_answers.specs.private.steps.SolveGameRefusal.{IsSolveGameRefusal};
+ghost use Rattle.omega_game_answers.specs.solve.Refusing.{IsSolveGameRefusal};
 ghost use Rattle.omega_game_answers.specs.private.steps.Lifts.{LiftsWholeGame};
 ghost use Rattle.omega_budget.specs.Observing.{IsObserved, refusal_in};
 

@@ -1,7 +1,7 @@
 -- `lifted`: a game that is too wide for a player is refused first.
 use Rattle.std.proofs.Common.{None, rules}
 use Rattle.omega_game_answers.specs.declared.solve.asked.Asked.TheVariants.{Both}
-use Rattle.omega_game_answers.specs.private.steps.SolveGameRefusal.{IsSolveGameRefusal}
+use Rattle.omega_game_answers.specs.solve.Refusing.{IsSolveGameRefusal}
 use Rattle.omega_game_answers.proofs.Solving.{refused-wide}
 use Rattle.omega_arrays.proofs.lifting.lifted.Goals as goal
 

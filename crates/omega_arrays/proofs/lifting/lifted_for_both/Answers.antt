@@ -2,7 +2,7 @@
 use Rattle.std.proofs.Common.{None, ap, ◌∙◌, rules}
 use Rattle.omega_parity_game.specs.declared.player.Player.TheVariants.{One, Zero}
 use Rattle.omega_game_answers.specs.declared.solve.asked.Asked.TheVariants.{Both}
-use Rattle.omega_game_answers.specs.private.steps.SolveGameRefusal.{IsSolveGameRefusal}
+use Rattle.omega_game_answers.specs.solve.Refusing.{IsSolveGameRefusal}
 use Rattle.omega_game_answers.specs.solve.Winners.{winners_of}
 use Rattle.omega_game_answers.proofs.Solving.{found_for, refused-solving, solving_for}
 use Rattle.omega_game_answers.proofs.Solutions.{right_solution}

@@ -1,7 +1,7 @@
 -- `solve_part`: what is answered or refused for the part is that for its node.
 use Rattle.std.proofs.Common.{Some, rules}
 use Rattle.std.proofs.lemmas.Result.{IfErr-weaker, IfOk-weaker}
-use Rattle.omega_game_answers.specs.private.steps.SolveGameRefusal.{IsSolveGameRefusal}
+use Rattle.omega_game_answers.specs.solve.Refusing.{IsSolveGameRefusal}
 use Rattle.omega_game_answers.proofs.Solving.{refused-part, refused-unknown}
 use Rattle.omega_game_answers.specs.private.steps.PartRefusal.{IsPartRefusal}
 use Rattle.omega_budget.proofs.Observed.{none_observed, spares, observed_alike, observed_as}

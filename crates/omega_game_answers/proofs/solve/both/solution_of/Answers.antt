@@ -2,7 +2,7 @@
 use Rattle.std.proofs.Common.{◌≡◌, None, rules}
 use Rattle.omega_text.specs.declared.refusal.Refusal.TheVariants.{Memory}
 use Rattle.omega_game_answers.specs.declared.solve.asked.Asked.TheVariants.{Both}
-use Rattle.omega_game_answers.specs.private.steps.SolveGameRefusal.{IsSolveGameRefusal}
+use Rattle.omega_game_answers.specs.solve.Refusing.{IsSolveGameRefusal}
 use Rattle.omega_game_answers.proofs.Solving.{refused-wide}
 use Rattle.omega_budget.proofs.Observed.{none_observed, spares, observed_alike}
 use Rattle.omega_game_answers.proofs.solve.both.solution_of.Goals as goal

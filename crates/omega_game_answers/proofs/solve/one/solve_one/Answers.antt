@@ -4,7 +4,7 @@ use Rattle.std.proofs.Common.{◌≡◌, None, Some, Ok, Err, List, Bool, refl, 
 use Rattle.std.specs.List.{slice_get}
 use Rattle.std.proofs.lemmas.Result.{IfOk-weaker}
 use Rattle.omega_game_answers.specs.declared.solve.asked.Asked.TheVariants as way
-use Rattle.omega_game_answers.specs.private.steps.SolveGameRefusal.{IsSolveGameRefusal}
+use Rattle.omega_game_answers.specs.solve.Refusing.{IsSolveGameRefusal}
 use Rattle.omega_game_answers.proofs.Solving.{found_for, narrow_for, refused-solving, right_answer, solving_for, reported_for, won_within}
 use Rattle.omega_game_answers.proofs.Observing.{game_refused}
 use Rattle.omega_text.specs.declared.refusal.Refusal.TheVariants.{Memory}
