@@ -1,4 +1,4 @@
-ghost use Rattle.std.specs.Prelude.{◌≡◌, ◌++◌, IfOk, IsOkUnless, OnOk};
+ghost use Rattle.std.specs.Prelude.{◌≡◌, ◌++◌, IfOk, IsOkUnless, OnErr, OnOk};
 ghost use Rattle.omega_canon.specs.Canonical.{canonical_automaton as text_of};
 
 use crate::body::write_body;
@@ -17,18 +17,20 @@ pub fn canonical(alloc: Global, automaton: &Automaton) -> Result<Vec<u8>, Refusa
     ensures text { IfOk result (λ text. text.items ≡ text_of automaton.now) }
     ensures memory { IsOkUnless result Refusal.Memory }
 {
-    let mut out = Vec::with_capacity(alloc, 128)?;
-    write_canonical(automaton, &mut out)?;
-    Ok(out)
+    let mut text = Vec::with_capacity(alloc, 128)?;
+    write_header(automaton, &mut text)?;
+    write_body(automaton.defined(), &mut text)?;
+    Ok(text)
 }
 
-/// Appends the canonical text of `automaton`, as `canonical` returns it. After [Refusal::Memory] a part of the text may
-/// have been appended.
+/// Appends the canonical text of `automaton`, as `canonical` returns it. After [Refusal::Memory] the vector is as
+/// before.
 pub fn write_canonical(automaton: &Automaton, out: &mut Vec<u8>) -> Result<(), Refusal>
     ensures ok { OnOk result (out.new.items ≡ out.old.items ++ text_of automaton.now) }
+    ensures kept { OnErr result (out.new.items ≡ out.old.items) }
     ensures memory { IsOkUnless result Refusal.Memory }
 {
-    write_header(automaton, out)?;
-    write_body(automaton.defined(), out)?;
+    let text = canonical(*out.allocator(), automaton)?;
+    out.extend_from_slice(text.as_slice())?;
     Ok(())
 }

@@ -1,4 +1,5 @@
 ghost use Rattle.std.specs.Prelude.{◌≡◌, ◌++◌, ◌+◌, ◌-◌, ◌^◌, ◌<◌, IfOk, IfErr, OnOk, IsOkUnless};
+ghost use Rattle.std.specs.Io.{StartsWith};
 ghost use Rattle.omega_io.specs.Failures.{failures_of};
 ghost use Rattle.omega_io.specs.Reading.{ReadsWhole};
 ghost use Rattle.omega_stream_answers.specs.Refusing.{RefusesStream};
@@ -29,16 +30,33 @@ impl ItemText for LineOfItem {
     ghost text = { item_line };
 
     fn append(number: usize, item: &Item, out: &mut Vec<u8>) -> Result<(), Refusal> {
-        write_number(number as u128, out)?;
-        out.extend_from_slice(b" ")?;
-        append_item(item, out)?;
-        out.extend_from_slice(b"\n")?;
-        Ok(())
+        let before = out.len();
+        match append_line(number, item, out) {
+            Ok(()) => Ok(()),
+            Err(wanting) => {
+                out.truncate(before);
+                Err(wanting)
+            }
+        }
     }
+}
+
+/// Appends the line of the item with this number, or a beginning of it if memory is refused.
+fn append_line(number: usize, item: &Item, out: &mut Vec<u8>) -> Result<(), Refusal>
+    ensures text { OnOk result (out.new.items ≡ out.old.items ++ item_line number item.now) }
+    ensures kept { StartsWith out.new.items out.old.items }
+    ensures memory { IsOkUnless result Refusal.Memory }
+{
+    write_number(number as u128, out)?;
+    out.extend_from_slice(b" ")?;
+    append_item(item, out)?;
+    out.extend_from_slice(b"\n")?;
+    Ok(())
 }
 
 fn append_item(item: &Item, out: &mut Vec<u8>) -> Result<(), Refusal>
     ensures text { OnOk result (out.new.items ≡ out.old.items ++ item_text item.now) }
+    ensures kept { StartsWith out.new.items out.old.items }
     ensures memory { IsOkUnless result Refusal.Memory }
 {
     match item {
@@ -49,6 +67,7 @@ fn append_item(item: &Item, out: &mut Vec<u8>) -> Result<(), Refusal>
 
 fn append_sizes(automaton: &Automaton, out: &mut Vec<u8>) -> Result<(), Refusal>
     ensures text { OnOk result (out.new.items ≡ out.old.items ++ sizes_text automaton.now) }
+    ensures kept { StartsWith out.new.items out.old.items }
     ensures memory { IsOkUnless result Refusal.Memory }
 {
     append_count(b"automaton states ", automaton.state_count() as usize, out)?;
@@ -61,6 +80,7 @@ fn append_sizes(automaton: &Automaton, out: &mut Vec<u8>) -> Result<(), Refusal>
 
 fn append_count(what: &[u8], count: usize, out: &mut Vec<u8>) -> Result<(), Refusal>
     ensures text { OnOk result (out.new.items ≡ out.old.items ++ count_text what.now count) }
+    ensures kept { StartsWith out.new.items out.old.items }
     ensures memory { IsOkUnless result Refusal.Memory }
 {
     out.extend_from_slice(what)?;
@@ -69,6 +89,7 @@ fn append_count(what: &[u8], count: usize, out: &mut Vec<u8>) -> Result<(), Refu
 
 fn append_acceptance(formula: &Acc, out: &mut Vec<u8>) -> Result<(), Refusal>
     ensures text { OnOk result (out.new.items ≡ out.old.items ++ acceptance_text formula.now) }
+    ensures kept { StartsWith out.new.items out.old.items }
     ensures memory { IsOkUnless result Refusal.Memory }
 {
     out.extend_from_slice(b" acceptance ")?;

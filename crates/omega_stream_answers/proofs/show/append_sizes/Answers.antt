@@ -1,5 +1,6 @@
--- `append_sizes`: its parts are written one after the other.
+-- `append_sizes`: its parts are written one after the other, and what stood before stays in front.
 use Rattle.std.proofs.Common.{◌++◌, ap, codes, length, ◌∙◌}
+use Rattle.std.proofs.Transfers.{starts_with_trans}
 use Rattle.omega_formula.specs.Writing.{acc_text}
 use Rattle.omega_canon.proofs.Lines.{following}
 use Rattle.omega_stream_answers.specs.Show.{count_text}
@@ -22,3 +23,27 @@ returns-clause-text c =
     (following third (count_text (codes " sets ") a.sets) (codes " acceptance " ++ (acc_text a.acceptance).bytes)
     (c.in_ok-append_count-4.ensures.text ∙ ap (λ count. third ++ count_text (codes " sets ") count) c.set_count.ensures)
     (c.in_ok-append_acceptance.ensures.text ∙ ap (λ formula. fourth ++ (codes " acceptance " ++ (acc_text formula).bytes)) c.acceptance.ensures))))
+
+pub returns-in_err-append_count-2-clause-kept : goal.returns-in_err-append_count-2-clause-kept
+returns-in_err-append_count-2-clause-kept c = starts_with_trans _ _ _ c.append_count-2.ensures.kept c.append_count.ensures.kept
+
+pub returns-in_err-append_count-3-clause-kept : goal.returns-in_err-append_count-3-clause-kept
+returns-in_err-append_count-3-clause-kept c = starts_with_trans _ _ _ c.append_count-3.ensures.kept
+    (starts_with_trans _ _ _ c.append_count-2.ensures.kept c.append_count.ensures.kept)
+
+pub returns-in_err-append_count-4-clause-kept : goal.returns-in_err-append_count-4-clause-kept
+returns-in_err-append_count-4-clause-kept c = starts_with_trans _ _ _ c.append_count-4.ensures.kept
+    (starts_with_trans _ _ _ c.append_count-3.ensures.kept
+    (starts_with_trans _ _ _ c.append_count-2.ensures.kept c.append_count.ensures.kept))
+
+pub returns-in_err-append_acceptance-clause-kept : goal.returns-in_err-append_acceptance-clause-kept
+returns-in_err-append_acceptance-clause-kept c = starts_with_trans _ _ _ c.append_acceptance.ensures.kept
+    (starts_with_trans _ _ _ c.append_count-4.ensures.kept
+    (starts_with_trans _ _ _ c.append_count-3.ensures.kept
+    (starts_with_trans _ _ _ c.append_count-2.ensures.kept c.append_count.ensures.kept)))
+
+pub returns-clause-kept : goal.returns-clause-kept
+returns-clause-kept c = starts_with_trans _ _ _ c.append_acceptance.ensures.kept
+    (starts_with_trans _ _ _ c.append_count-4.ensures.kept
+    (starts_with_trans _ _ _ c.append_count-3.ensures.kept
+    (starts_with_trans _ _ _ c.append_count-2.ensures.kept c.append_count.ensures.kept)))
