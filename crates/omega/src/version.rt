@@ -4,7 +4,7 @@ ghost use Rattle.omega_arrays.specs.Room.{laid_over};
 use omega_arrays::copied;
 
 /// The version of the library, which is that of the program.
-const VERSION: &str = "1.5.0";
+const VERSION: &str = "1.6.0";
 
 /// Writes the version of the library, as many bytes as there is room for, and returns how many it has.
 #[unsafe(no_mangle)]

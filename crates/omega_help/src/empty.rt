@@ -8,16 +8,20 @@ use clap::Command;
 use std::alloc::{AllocError, Global};
 
 const DETAILS: &str = "\
-Use it to find out whether an automaton accepts anything. It reads one automaton in the Hanoi format from
-FILE, or from standard input if there is no FILE or it is -. It writes `empty` if the automaton accepts
-nothing, and else an accepting lasso. The stem of a lasso is edges that lead from a start to a state, and
-its cycle is edges that lead from there back to it. The run that takes the stem once and the cycle for
-ever is accepted, since the acceptance formula holds of the marks of the cycle. Each edge of a lasso has
-a label that some set of propositions makes true, or no label.
+Use it to find out whether an automaton accepts anything. Take --search, which is fast and decides every
+acceptance. Without it emptiness is decided by lifting: take that if you need a bound on the work. Lifting
+may take far longer than there is time for.
+
+The command reads one automaton in the Hanoi format from FILE, or from standard input if there is no FILE
+or it is -. It writes `empty` if the automaton accepts nothing, and else an accepting lasso. The stem of a
+lasso is edges that lead from a start to a state, and its cycle is edges that lead from there back to it.
+The run that takes the stem once and the cycle for ever is accepted, since the acceptance formula holds of
+the marks of the cycle. Each edge of a lasso has a label that some set of propositions makes true, or no
+label.
 
   $ echo 'HOA: v1 States: 2 Start: 0 acc-name: co-Buchi Acceptance: 1 Fin(0)
     --BODY-- State: 0 [t] 0 {0} [t] 1 State: 1 [t] 1 --END--' > automaton.hoa
-  $ omega empty automaton.hoa
+  $ omega empty --search automaton.hoa
   stem 1
   cycle 2
 
@@ -29,8 +33,8 @@ such a text, whoever made it.
 --word writes a third line after a lasso: the word that it accepts, as Spot writes words. The letters of
 the stem come first, each with a semicolon after it. Then come those of the cycle in braces; they come
 again and again. The letter of an edge is its label, with names in place of numbers, 1 for t and 0 for f.
-A name that is no identifier stands in double quotes. An edge without label has the letter of its
-valuation.
+A name that is no identifier stands in double quotes, and so does one that Spot would not read as a
+name, such as true, xor or GoLeft. An edge without label has the letter of its valuation.
 
   $ echo 'HOA: v1 States: 2 Start: 0 AP: 2 \"a\" \"b\" acc-name: Buchi Acceptance: 1 Inf(0)
     --BODY-- State: 0 [0&!1] 1 State: 1 [1] 1 {0} --END--' | omega empty --word
@@ -66,8 +70,7 @@ generalized Rabin, its time is polynomial in automaton and formula. Where Fin st
 it may grow with two to the number of different Fin. Its answers are proved as those of lifting are, but
 the lasso may be another one. With --search, 13 and 40 do not come, and 42 comes only where a label
 mentions over 12 propositions and 4194304 steps do not decide it. The search makes no lifts. So it goes
-neither with --budget nor with --progress, and 50 and 51 do not come. Use it for large automata, and
-where lifting takes long.
+neither with --budget nor with --progress, and 50 and 51 do not come.
 
 Faults of the text come first; `omega check --help` lists them. A text with --ABORT--, with no automaton
 or with several is not one automaton, and is refused as 3 Syntax. Then 13, 40, 41 and 42 come in this

@@ -8,14 +8,17 @@ use clap::Command;
 use std::alloc::{AllocError, Global};
 
 const DETAILS: &str = "\
-Use it to find out who wins a game, and how. It reads a game from FILE, or from standard input if there is
-no FILE or it is -, and writes a header with the greatest identifier, then a line for each node in rising
-order of identifiers, with the player who wins from it. If that player owns the node, a successor
-follows. A player who always moves there wins from all the nodes that the solution gives to that player,
-whatever the other does.
+Use it to find out who wins a game, and how. Take --search, which is fast. Without it the game is solved
+by lifting: take that if you need a bound on the work, which `omega show` writes beforehand. Lifting may
+take far longer than there is time for.
+
+The command reads a game from FILE, or from standard input if there is no FILE or it is -. It writes a
+header with the greatest identifier, then a line for each node in rising order of identifiers, with the
+player who wins from it. If that player owns the node, a successor follows. A player who always moves
+there wins from all the nodes that the solution gives to that player, whatever the other does.
 
   $ echo '0 0 0 1,2; 1 1 1 0; 2 2 1 0;' > game.pg
-  $ omega solve game.pg
+  $ omega solve --search game.pg
   paritysol 2;
   0 0 2;
   1 0;
@@ -48,10 +51,9 @@ the exit status are the same without it, even if standard error cannot be writte
 --search finds winners and choices with Zielonka's recursive algorithm. It is not proved that this finds
 the right ones. So what it finds is written only after it has passed the proved check of `omega verify`:
 for each player the choices win from all the nodes given to that player. No node is won by both players,
-so the winners that pass the check are right. Take --search for large games, and lifting for a bound that
-is known before the run. The choices may differ from those of lifting. Where the search finds nothing,
-the game is solved by lifting, within the budget; --progress reports on that lifting alone. --search
-solves for both players, so it does not go with --player.
+so the winners that pass the check are right. The choices may differ from those of lifting. Where the
+search finds nothing, the game is solved by lifting, within the budget; --progress reports on that
+lifting alone. --search solves for both players, so it does not go with --player.
 
 --from ID solves the part of the game that is reached from the node with that identifier, and writes
 lines for those nodes alone. Who wins them depends on nothing else in the game. If no node has the

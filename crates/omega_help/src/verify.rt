@@ -63,7 +63,7 @@ searched for.
   the cycle does not accept
 
 With --explain a line follows `no` that says what is wrong with the lasso: the first edge that is not
-there, or that can't be taken where it stands; or else that the cycle does not accept.
+there, or that can't be taken where it stands; or that the cycle does not close, or does not accept.
 
 A lasso text is what `omega empty` writes without --word: `stem` and numbers of edges, then `cycle` and
 at least one, with white space between them. The edges of the body are numbered from 0 in the order of
