@@ -1,7 +1,5 @@
 //! What is answered to texts.
-use crate::texts::meaning;
 use omega_text::Refusal;
-use std::alloc::Global;
 use std::process::Abort;
 
 /// The number of a refusal, or 0, and its place.
@@ -32,18 +30,5 @@ pub(crate) fn is_text(made: Result<Vec<u8>, Refusal>, want: &str) -> bool {
     match made {
         Ok(made) => made.as_slice() == want.as_bytes(),
         Err(_) => false,
-    }
-}
-
-/// Returns the number of the refusal of a text, or 0 if it means an automaton.
-pub(crate) fn outcome(alloc: Global, text: &[u8]) -> u32 {
-    number_of(meaning(alloc, text))
-}
-
-/// Returns the same for a text that has yet to be made.
-pub(crate) fn outcome_of(alloc: Global, made: Result<Vec<u8>, Refusal>) -> u32 {
-    match made {
-        Ok(text) => outcome(alloc, text.as_slice()),
-        Err(refusal) => refusal.number(),
     }
 }

@@ -10,6 +10,8 @@ mod drawings;
 #[cfg(test)]
 mod emptiness;
 #[cfg(test)]
+mod rows;
+#[cfg(test)]
 mod satisfying;
 #[cfg(test)]
 mod texts;

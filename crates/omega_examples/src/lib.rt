@@ -1,10 +1,10 @@
-//! What a program of one's own can do with these libraries: three examples, which docs/library.md explains.
+//! What a program of one's own can do with these libraries: three examples, which docs/library.md explains. They are
+//! read with their tests alone, so that they are proved once.
 #![tactic(auto)]
 
+#[cfg(test)]
 mod emptiness;
+#[cfg(test)]
 mod refuting;
+#[cfg(test)]
 mod solving;
-
-pub use emptiness::lasso_in;
-pub use refuting::report;
-pub use solving::{solved_for, three_nodes};

@@ -1,6 +1,7 @@
 //! Tables of measures.
 ghost use Rattle.std.specs.Prelude.{◌≡◌, ◌<◌, ◌^◌, length, IfOk};
 
+use crate::samples::assert_row;
 use omega_game::{Game, GameBuilder, Player, Refusal, TaskFault};
 use omega_measure::{MeasureTable, PackedTable, PlainTable};
 use std::alloc::Global;
@@ -63,15 +64,26 @@ fn lift<T: MeasureTable>(table: &mut T, places: u32, v: u32, w: u32) -> bool
 /// the first compares with it there; and whether the first is then at top.
 type Step = ((u32, u32), bool, (u32, u32), Ordering, bool);
 
+/// Takes a table over `places` places through a step. Whether it is as the step says.
+fn holds<T: MeasureTable>(table: &mut T, places: u32, step: &Step) -> bool
+    requires { length (T.content table.old).measures ≡ places }
+    ensures { length (T.content table.new).measures ≡ places }
+{
+    let ((v, w), due, (other, p), order, top) = *step;
+    v < places
+        && w < places
+        && other < places
+        && lift(table, places, v, w) == due
+        && table.compare(v, other, p) == order
+        && table.is_top(v) == top
+}
+
 /// Takes a table over `places` places through the steps.
 fn follow<T: MeasureTable, R: Abort>(rt: &R, table: &mut T, places: u32, steps: &[Step])
     requires { length (T.content table.old).measures ≡ places }
 {
-    for ((v, w), due, (other, p), order, top) in steps {
-        assert!(rt; *v < places && *w < places && *other < places);
-        assert_eq!(rt; lift(table, places, *v, *w), *due);
-        assert_eq!(rt; table.compare(*v, *other, *p), *order);
-        assert_eq!(rt; table.is_top(*v), *top);
+    for (row, step) in steps.iter().enumerate() {
+        assert_row(rt, row, holds(table, places, step));
     }
 }
 
@@ -193,36 +205,50 @@ fn packed_lifts(rt: HostRuntime) -> Result<(), Fail> {
     Ok(())
 }
 
-/// Returns why a player has no table over an odd game, or `None` if the player has one.
-fn refusal_of<T: MeasureTable>(
+/// Whether the table of a player over a game is too wide, or nothing if there is none for another reason.
+fn is_too_wide<T: MeasureTable>(
     alloc: Global,
-    nodes: u16,
-    most: u16,
+    built: Result<Game, Refusal>,
     player: Player,
-) -> Result<Option<Refusal>, Refusal> {
-    let game = odd_game(alloc, nodes, most)?;
-    Ok(T::prepare(alloc, &game, player).err())
+) -> Option<bool> {
+    match built {
+        Ok(game) => is_refused(T::prepare(alloc, &game, player)),
+        Err(_) => None,
+    }
 }
 
-// 8,192 times 8,192 is the limit, and 8,321 times 8,065 one more.
+fn is_refused<T: MeasureTable>(prepared: Result<T, Refusal>) -> Option<bool> {
+    match prepared {
+        Ok(_) => Some(false),
+        Err(Refusal::Task(TaskFault::TooWide)) => Some(true),
+        Err(_) => None,
+    }
+}
+
+/// Nodes and `most` of an odd game, a player, and whether the player's table is too wide.
+type Width = (u16, u16, Player, bool);
+
+/// 8,192 times 8,192 is the limit, and 8,321 times 8,065 one more.
+static PACKED_WIDTHS: [Width; 2] = [
+    (8192, 8191, Player::Zero, false),
+    (8321, 8064, Player::Zero, true),
+];
+
+static PLAIN_WIDTHS: [Width; 2] = [
+    (8321, 8064, Player::Zero, true),
+    (8321, 8064, Player::One, false),
+];
+
+/// Asserts that the tables over these games are too wide or not, as the rows say.
+fn assert_widths<T: MeasureTable, R: Abort>(rt: &R, alloc: Global, widths: &[Width]) {
+    for (row, (nodes, most, player, wide)) in widths.iter().enumerate() {
+        let found = is_too_wide::<T>(alloc, odd_game(alloc, *nodes, *most), *player);
+        assert_row(rt, row, found == Some(*wide));
+    }
+}
+
 #[test]
-fn too_wide_by_one(rt: HostRuntime) -> Result<(), Fail> {
-    let wide = Some(Refusal::Task(TaskFault::TooWide));
-    assert_eq!(rt;
-        refusal_of::<PackedTable>(rt.alloc(), 8192, 8191, Player::Zero)?,
-        None
-    );
-    assert_eq!(rt;
-        refusal_of::<PlainTable>(rt.alloc(), 8321, 8064, Player::Zero)?,
-        wide
-    );
-    assert_eq!(rt;
-        refusal_of::<PackedTable>(rt.alloc(), 8321, 8064, Player::Zero)?,
-        wide
-    );
-    assert_eq!(rt;
-        refusal_of::<PlainTable>(rt.alloc(), 8321, 8064, Player::One)?,
-        None
-    );
-    Ok(())
+fn too_wide_by_one(rt: HostRuntime) {
+    assert_widths::<PackedTable, HostRuntime>(&rt, rt.alloc(), &PACKED_WIDTHS);
+    assert_widths::<PlainTable, HostRuntime>(&rt, rt.alloc(), &PLAIN_WIDTHS);
 }

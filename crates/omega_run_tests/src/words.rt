@@ -136,7 +136,7 @@ static FAULTS: [(&str, &str); 4] = [
 /// Requests for help or the version, and what the text says.
 static HELP: [(&str, &str); 3] = [
     ("omega --help", "Usage: omega <COMMAND>"),
-    ("omega --version", "omega 1.5.0\\nproved in logic"),
+    ("omega --version", "omega 1.6.0\\nproved in logic"),
     ("omega check -h", "see more with '--help'"),
 ];
 

@@ -1,58 +1,7 @@
-use super::{are_both, counts, is_one};
+use super::{counts, is_one};
 use crate::automaton::values::counts as sizes;
-use crate::outcomes::assert_row;
 use omega_hoa::{read_one, read_stream};
 use std::alloc::Global;
-
-// Texts of one segment, and what each is answered alone and as a stream.
-static SEGMENTS: [(&str, u32); 14] = [
-    ("HOA: v2 --BODY-- --END--", 20),
-    ("HOA: v1 States: 1 States: 1 --BODY-- --END--", 21),
-    ("HOA: v1 Foo: 1 --BODY-- --END--", 22),
-    ("HOA: v1 Acceptance: 0 t Foo: 1 foo: 1 --BODY-- --END--", 23),
-    ("HOA: v1 Acceptance: 0 t foo: 1 --BODY-- --END--", 0),
-    (
-        "HOA: v1 Start: 2147483647 Acceptance: 0 t --BODY-- --END--",
-        24,
-    ),
-    ("HOA: v1 Acceptance: 1 Inf(1) --BODY-- --END--", 25),
-    (
-        "HOA: v1 States: 1 Start: 0 AP: 1 \"a\" Acceptance: 0 t --BODY-- State: 0 0 0 --END--",
-        0,
-    ),
-    (
-        "HOA: v1 States: 1 Start: 0 AP: 1 \"a\" Acceptance: 0 t --BODY-- State: 0 0 0 0 --END--",
-        30,
-    ),
-    (
-        "HOA: v1 States: 2 Start: 0 acc-name: all Acceptance: 0 t --BODY-- State: 0 [t] 0&1 State: 1 --END--",
-        0,
-    ),
-    (
-        "HOA: v1 States: 2147483647 Acceptance: 0 t --BODY-- --END--",
-        0,
-    ),
-    (
-        "HOA: v1 Acceptance: 2147483647 t --BODY-- State: 0 {2147483646} --END--",
-        0,
-    ),
-    (
-        "HOA: v1 Acceptance: 2147483647 t --BODY-- State: 0 {2147483647} --END--",
-        25,
-    ),
-    ("HOA: v1 Acceptance: 1 Foo(0) --BODY-- --END--", 31),
-];
-
-#[test]
-fn segments_are_judged_alone_and_in_streams(rt: HostRuntime) {
-    for (row, (text, number)) in SEGMENTS.iter().enumerate() {
-        assert_row(
-            &rt,
-            row,
-            are_both(rt.alloc(), text.as_bytes(), (*number, None)),
-        );
-    }
-}
 
 // An aborted segment, then an automaton.
 pub(super) const ABORTED_FIRST: &str =

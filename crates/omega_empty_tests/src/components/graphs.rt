@@ -1,11 +1,10 @@
-//! Graphs by their edges, and small ones with their components by hand.
+//! Graphs by their edges, and small ones whose components, reached states and walks are known by hand.
 ghost use Rattle.std.specs.Prelude.{◌≡◌, ◌≤◌, IfOk};
 ghost use Rattle.omega_components.specs.Graph.{AreEdges, AreStates};
 
+use crate::rows::assert_row;
 use omega_components::{EdgeComponents, Graph, Refusal, Scratch, components, path, reached};
 use std::alloc::Global;
-use std::process::Abort;
-use std::test::Fail;
 
 /// The entry for no component.
 const NONE: u32 = u32::MAX;
@@ -21,17 +20,6 @@ fn graph_of(alloc: Global, states: u32, edges: &[(u32, u32)]) -> Result<Graph, R
         }
     }
     Ok(graph)
-}
-
-/// Returns all edges of a graph.
-fn all_edges(alloc: Global, graph: &Graph) -> Result<Vec<u32>, Refusal>
-    ensures { IfOk result (λ edges. AreEdges graph.now edges.items) }
-{
-    let mut edges = Vec::new(alloc);
-    for edge in 0..graph.len() as u32 {
-        edges.push(edge)?;
-    }
-    Ok(edges)
 }
 
 /// Returns those of the numbers that are numbers of edges of a graph.
@@ -60,60 +48,6 @@ fn states_in(alloc: Global, graph: &Graph, listed: &[u32]) -> Result<Vec<u32>, R
     Ok(states)
 }
 
-/// Returns which states these edges reach from these states.
-fn reached_by(
-    alloc: Global,
-    graph: &Graph,
-    edges: &[u32],
-    sources: &[u32],
-) -> Result<Vec<bool>, Refusal> {
-    let edges = edges_in(alloc, graph, edges)?;
-    let sources = states_in(alloc, graph, sources)?;
-    reached(alloc, graph, &edges, &sources)
-}
-
-/// Returns a walk of these edges from one of these states to another, or none if that is no state.
-fn path_by(
-    alloc: Global,
-    graph: &Graph,
-    edges: &[u32],
-    sources: &[u32],
-    target: u32,
-) -> Result<Option<Vec<u32>>, Refusal> {
-    let edges = edges_in(alloc, graph, edges)?;
-    let sources = states_in(alloc, graph, sources)?;
-    if target >= graph.states() {
-        return Ok(None);
-    }
-    path(alloc, graph, &edges, &sources, target)
-}
-
-/// Returns the components of these edges.
-fn components_by(
-    alloc: Global,
-    scratch: &mut Scratch,
-    graph: &Graph,
-    edges: &[u32],
-) -> Result<EdgeComponents, Refusal>
-    requires { graph.now.states ≤ scratch.old }
-    ensures { scratch.new ≡ scratch.old }
-{
-    let edges = edges_in(alloc, graph, edges)?;
-    components(alloc, scratch, graph, &edges)
-}
-
-/// Returns the components of all edges of a graph.
-fn components_of(
-    alloc: Global,
-    states: u32,
-    edges: &[(u32, u32)],
-) -> Result<EdgeComponents, Refusal> {
-    let graph = graph_of(alloc, states, edges)?;
-    let all = all_edges(alloc, &graph)?;
-    let mut scratch = Scratch::new(alloc, states)?;
-    components(alloc, &mut scratch, &graph, &all)
-}
-
 /// Returns for each edge the least edge of its component, or `NONE`.
 fn least_of(
     alloc: Global,
@@ -122,136 +56,196 @@ fn least_of(
 ) -> Result<Vec<u32>, Refusal> {
     let mut least = vec![in alloc; NONE; edges]?;
     for index in 0..edge_components.len() {
-        let mut first = NONE;
-        for edge in edge_components.edge_component(index) {
-            first = first.min(*edge);
-        }
-        for edge in edge_components.edge_component(index) {
-            if let Some(entry) = least.get_mut(*edge as usize) {
-                *entry = first;
-            }
-        }
+        note_least(edge_components.edge_component(index), &mut least);
     }
     Ok(least)
 }
 
-/// Compares the components of all edges of a graph: for each edge the least edge of its component is wanted.
-fn has_edge_components(
-    rt: &impl Abort,
-    alloc: Global,
-    states: u32,
-    edges: &[(u32, u32)],
-    wanted: &[u32],
-) -> Result<(), Refusal> {
-    let edge_components = components_of(alloc, states, edges)?;
-    let least = least_of(alloc, edges.len(), &edge_components)?;
-    assert_eq!(rt; least.as_slice(), wanted);
-    Ok(())
+/// Notes at each edge of a component the least of them.
+fn note_least(component: &[u32], least: &mut [u32]) {
+    let mut first = NONE;
+    for edge in component {
+        first = first.min(*edge);
+    }
+    for edge in component {
+        if let Some(entry) = least.get_mut(*edge as usize) {
+            *entry = first;
+        }
+    }
 }
 
-#[test]
-fn small_graphs_have_their_components(rt: HostRuntime) -> Result<(), Fail> {
-    let alloc = rt.alloc();
-    // No edges, and edges on no closed walk.
-    has_edge_components(&rt, alloc, 0, &[], &[])?;
-    has_edge_components(
-        &rt,
-        alloc,
-        3,
-        &[(0, 1), (1, 2), (0, 2)],
-        &[NONE, NONE, NONE],
-    )?;
-    // An edge from a state to itself, twice, and one away from it.
-    has_edge_components(&rt, alloc, 2, &[(0, 0), (0, 1), (0, 0)], &[0, NONE, 0])?;
-    // Two components joined by one edge.
-    let two = [(0, 1), (1, 0), (1, 2), (2, 3), (3, 2)];
-    has_edge_components(&rt, alloc, 4, &two, &[0, 0, NONE, 3, 3])?;
-    // Two circles through one state.
-    has_edge_components(
-        &rt,
-        alloc,
-        3,
-        &[(0, 1), (1, 0), (0, 2), (2, 0)],
-        &[0, 0, 0, 0],
-    )?;
-    Ok(())
+/// Returns the same for the components of some edges of a graph.
+fn least_in(alloc: Global, graph: &Graph, edges: &[u32]) -> Result<Vec<u32>, Refusal> {
+    let edges = edges_in(alloc, graph, edges)?;
+    let mut scratch = Scratch::new(alloc, graph.states())?;
+    least_again(alloc, &mut scratch, graph, edges.as_slice())
 }
 
-/// Compares the components of some edges of a graph.
-fn has_edge_components_among(
-    rt: &impl Abort,
+/// Returns the same, once the scratch space has served another call.
+fn least_again(
     alloc: Global,
     scratch: &mut Scratch,
     graph: &Graph,
     edges: &[u32],
-    wanted: &[u32],
-) -> Result<(), Refusal>
-    requires { graph.now.states ≤ scratch.old }
-    ensures { scratch.new ≡ scratch.old }
+) -> Result<Vec<u32>, Refusal>
+    requires scratch { graph.now.states ≤ scratch.old }
+    requires edges { AreEdges graph.now edges.now }
 {
-    let edge_components = components_by(alloc, scratch, graph, edges)?;
-    let least = least_of(alloc, graph.len(), &edge_components)?;
-    assert_eq!(rt; least.as_slice(), wanted);
-    Ok(())
+    let _first = components(alloc, scratch, graph, edges)?;
+    match components(alloc, scratch, graph, edges) {
+        Ok(edge_components) => least_of(alloc, graph.len(), &edge_components),
+        Err(refusal) => Err(refusal),
+    }
+}
+
+/// Whether the components of some edges of a graph are these.
+fn are_components(alloc: Global, graph: &Graph, edges: &[u32], wanted: &[u32]) -> bool {
+    match least_in(alloc, graph, edges) {
+        Ok(least) => least.as_slice() == wanted,
+        Err(_) => false,
+    }
+}
+
+/// Two states with an edge each way between them, and a third joined to the second so.
+const CHAIN: [(u32, u32); 4] = [(0, 1), (1, 0), (1, 2), (2, 1)];
+
+/// How many states, the edges, which of them are asked for, and for each edge the least edge of its component.
+type Grouped = (u32, &'static [(u32, u32)], &'static [u32], &'static [u32]);
+
+/// No edges, and edges on no closed walk; an edge from a state to itself, twice, and one away from it; two components
+/// joined by one edge; two circles through one state; and some edges of a graph.
+static GROUPED: [Grouped; 8] = [
+    (0, &[], &[], &[]),
+    (
+        3,
+        &[(0, 1), (1, 2), (0, 2)],
+        &[0, 1, 2],
+        &[NONE, NONE, NONE],
+    ),
+    (2, &[(0, 0), (0, 1), (0, 0)], &[0, 1, 2], &[0, NONE, 0]),
+    (
+        4,
+        &[(0, 1), (1, 0), (1, 2), (2, 3), (3, 2)],
+        &[0, 1, 2, 3, 4],
+        &[0, 0, NONE, 3, 3],
+    ),
+    (
+        3,
+        &[(0, 1), (1, 0), (0, 2), (2, 0)],
+        &[0, 1, 2, 3],
+        &[0, 0, 0, 0],
+    ),
+    (3, &CHAIN, &[2, 3], &[NONE, NONE, 2, 2]),
+    (3, &CHAIN, &[0, 3, 1], &[0, 0, NONE, NONE]),
+    (3, &CHAIN, &[3, 0], &[NONE, NONE, NONE, NONE]),
+];
+
+/// Whether a row holds.
+fn is_grouped(alloc: Global, row: &Grouped) -> bool {
+    let (states, edges, asked, wanted) = *row;
+    match graph_of(alloc, states, edges) {
+        Ok(graph) => are_components(alloc, &graph, asked, wanted),
+        Err(_) => false,
+    }
 }
 
 #[test]
-fn some_edges_have_their_components(rt: HostRuntime) -> Result<(), Fail> {
-    let alloc = rt.alloc();
-    let graph = graph_of(alloc, 3, &[(0, 1), (1, 0), (1, 2), (2, 1)])?;
-    let mut scratch = Scratch::new(alloc, 3)?;
-    // The scratch space serves one call after another.
-    has_edge_components_among(
-        &rt,
-        alloc,
-        &mut scratch,
-        &graph,
-        &[2, 3],
-        &[NONE, NONE, 2, 2],
-    )?;
-    has_edge_components_among(
-        &rt,
-        alloc,
-        &mut scratch,
-        &graph,
-        &[0, 3, 1],
-        &[0, 0, NONE, NONE],
-    )?;
-    has_edge_components_among(
-        &rt,
-        alloc,
-        &mut scratch,
-        &graph,
-        &[3, 0],
-        &[NONE, NONE, NONE, NONE],
-    )?;
-    Ok(())
+fn edges_have_their_components(rt: HostRuntime) {
+    for (row, grouped) in GROUPED.iter().enumerate() {
+        assert_row(&rt, row, is_grouped(rt.alloc(), grouped));
+    }
+}
+
+/// A circle through three states, with a short cut, and a state alone.
+static FOUR: [(u32, u32); 5] = [(0, 1), (1, 2), (0, 2), (2, 0), (3, 3)];
+
+/// Returns which states some edges reach from some states.
+fn reached_by(
+    alloc: Global,
+    graph: &Graph,
+    edges: &[u32],
+    sources: &[u32],
+) -> Result<Vec<bool>, Refusal> {
+    let edges = edges_in(alloc, graph, edges)?;
+    let sources = states_in(alloc, graph, sources)?;
+    reached(alloc, graph, edges.as_slice(), sources.as_slice())
+}
+
+/// Whether these states are reached.
+fn are_reached(found: Result<Vec<bool>, Refusal>, wanted: &[bool]) -> bool {
+    match found {
+        Ok(marks) => marks.as_slice() == wanted,
+        Err(_) => false,
+    }
+}
+
+/// Edges, sources, and which of the four states these edges reach from these sources.
+static REACHED: [(&[u32], &[u32], &[bool]); 3] = [
+    (&[0, 1, 2, 3, 4], &[0], &[true, true, true, false]),
+    (&[1, 4], &[1], &[false, true, true, false]),
+    (&[0, 1, 2, 3, 4], &[], &[false, false, false, false]),
+];
+
+/// Returns the first row of the reached states that does not hold.
+fn wrong_reach(alloc: Global, graph: &Graph) -> Option<usize> {
+    for (row, (edges, sources, wanted)) in REACHED.iter().enumerate() {
+        if !are_reached(reached_by(alloc, graph, edges, sources), wanted) {
+            return Some(row);
+        }
+    }
+    None
+}
+
+/// Returns a walk of some edges from one of some states to another, or none if that is no state.
+fn path_by(
+    alloc: Global,
+    graph: &Graph,
+    edges: &[u32],
+    sources: &[u32],
+    target: u32,
+) -> Result<Option<Vec<u32>>, Refusal> {
+    if target >= graph.states() {
+        return Ok(None);
+    }
+    let edges = edges_in(alloc, graph, edges)?;
+    let sources = states_in(alloc, graph, sources)?;
+    path(alloc, graph, edges.as_slice(), sources.as_slice(), target)
+}
+
+/// Whether this walk was found, or none.
+fn is_walk(found: Result<Option<Vec<u32>>, Refusal>, wanted: Option<&[u32]>) -> bool {
+    match found {
+        Ok(Some(walk)) => wanted == Some(walk.as_slice()),
+        Ok(None) => wanted.is_none(),
+        Err(_) => false,
+    }
+}
+
+/// Edges, sources, a target, and the only shortest walk of these edges, or none.
+static WALKS: [(&[u32], &[u32], u32, Option<&[u32]>); 4] = [
+    (&[0, 1, 2, 3, 4], &[0], 2, Some(&[2])),
+    (&[0, 1, 3, 4], &[3, 0], 2, Some(&[0, 1])),
+    (&[0, 1, 2, 3, 4], &[2], 2, Some(&[])),
+    (&[0, 1, 2, 3, 4], &[0], 3, None),
+];
+
+/// Returns the first row of the walks that does not hold.
+fn wrong_walk(alloc: Global, graph: &Graph) -> Option<usize> {
+    for (row, (edges, sources, target, wanted)) in WALKS.iter().enumerate() {
+        if !is_walk(path_by(alloc, graph, edges, sources, *target), *wanted) {
+            return Some(row);
+        }
+    }
+    None
 }
 
 #[test]
-fn states_are_reached(rt: HostRuntime) -> Result<(), Fail> {
-    let alloc = rt.alloc();
-    let graph = graph_of(alloc, 4, &[(0, 1), (1, 2), (0, 2), (2, 0), (3, 3)])?;
-    let marks = reached_by(alloc, &graph, &[0, 1, 2, 3, 4], &[0])?;
-    assert_eq!(rt; marks.as_slice(), [true, true, true, false].as_slice());
-    let marks = reached_by(alloc, &graph, &[1, 4], &[1])?;
-    assert_eq!(rt; marks.as_slice(), [false, true, true, false].as_slice());
-    let marks = reached_by(alloc, &graph, &[0, 1, 2, 3, 4], &[])?;
-    assert_eq!(rt; marks.as_slice(), [false, false, false, false].as_slice());
-    Ok(())
-}
-
-#[test]
-fn walks_are_found(rt: HostRuntime) -> Result<(), Fail> {
-    let alloc = rt.alloc();
-    let graph = graph_of(alloc, 4, &[(0, 1), (1, 2), (0, 2), (2, 0), (3, 3)])?;
-    let all = [0, 1, 2, 3, 4];
-    let walk = path_by(alloc, &graph, &all, &[0], 2)?.ok_or("a walk")?;
-    assert_eq!(rt; walk.as_slice(), [2].as_slice());
-    let walk = path_by(alloc, &graph, &[0, 1, 3, 4], &[3, 0], 2)?.ok_or("a walk")?;
-    assert_eq!(rt; walk.as_slice(), [0, 1].as_slice());
-    let walk = path_by(alloc, &graph, &all, &[2], 2)?.ok_or("a walk")?;
-    assert!(rt; walk.is_empty());
-    assert!(rt; path_by(alloc, &graph, &all, &[0], 3)?.is_none());
-    Ok(())
+fn states_are_reached_and_walks_found(rt: HostRuntime) {
+    match graph_of(rt.alloc(), 4, &FOUR) {
+        Ok(graph) => {
+            assert!(rt; wrong_reach(rt.alloc(), &graph).is_none());
+            assert!(rt; wrong_walk(rt.alloc(), &graph).is_none());
+        }
+        Err(_) => assert!(rt; false, "a graph"),
+    }
 }
