@@ -22,7 +22,7 @@ extern "C" {
 #endif
 
 /* The version of this header, as omega_version writes that of the library. */
-#define OMEGA_VERSION "1.5.0"
+#define OMEGA_VERSION "1.6.0"
 
 /* The numbers of refusals. */
 enum {
@@ -135,7 +135,7 @@ omega_ran omega_run(const uint8_t *words, size_t word_bytes, const uint8_t *inpu
                     const uint8_t *file, size_t file_bytes, uint8_t *output, size_t output_room, uint8_t *errors,
                     size_t error_room);
 
-/* Writes the version, as "1.5.0", without a NUL, as far as there is room for it, and gives its length. */
+/* Writes the version, as "1.6.0", without a NUL, as far as there is room for it, and gives its length. */
 size_t omega_version(uint8_t *room, size_t room_bytes);
 
 #ifdef __cplusplus

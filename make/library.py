@@ -1,10 +1,12 @@
-"""Proves and builds the library for C and Python, `out/libomega.a` and `out/libomega.so`, where that is needed.
+"""Proves and builds the library for C and Python, `out/libomega.a` and `out/libomega.so.1`, to which `out/libomega.so`
+leads, where that is needed.
 
     python3 make/library.py                 crates side by side, as make/build.py does it; what `make` proved is kept
     python3 make/library.py --left-by-ci    over the statements that `rt ci`, which ran just before, left of the crates
 
-The archive has what it needs of the toolchain inside. `LIBRARY=FILE python3 make/library.py` packs an archive that was
-built elsewhere.
+The archive has what it needs of the toolchain inside, as one object of which only the names `omega_*` are seen, so that
+it can be linked beside another library of the toolchain. `LIBRARY=FILE python3 make/library.py` packs an archive that
+was built elsewhere.
 """
 
 import os
@@ -22,7 +24,11 @@ from progress import say
 
 NAME = "omega"
 OUT = os.path.join(ROOT, "out")
-ARCHIVE, SHARED = os.path.join(OUT, "libomega.a"), os.path.join(OUT, "libomega.so")
+# The number rises when a program that was linked with the library would not run with the next.
+SONAME = f"lib{NAME}.so.1"
+ARCHIVE, SHARED = os.path.join(OUT, f"lib{NAME}.a"), os.path.join(OUT, SONAME)
+# What a linker looks for.
+LINK = os.path.join(OUT, f"lib{NAME}.so")
 
 
 def ran_well(words: list[str], folder: str) -> str:
@@ -67,21 +73,36 @@ def built_over(kit: Kit, top: Crate, libraries: str, into: str) -> str:
     return made
 
 
+def objects_of(archives: tuple[str, ...], folder: str) -> list[str]:
+    """The names of the objects of archives, which are unpacked into a new folder. No two may have one name, as one
+    would be lost."""
+    os.mkdir(folder)
+    names = [name for archive in archives for name in ran_well(["ar", "t", archive], folder).split()]
+    twice = sorted({name for name in names if names.count(name) > 1})
+    if twice:
+        raise NotBuilt(f"two objects are named {twice[0]}, so {NAME} is not packed")
+    for archive in archives:
+        ran_well(["ar", "x", archive], folder)
+    return names
+
+
 def pack(allocation: str, made: str, room: str) -> None:
-    """The archive with the toolchain's allocation inside, and the shared library. Only the exports are seen from it."""
+    """The archive with the toolchain's allocation inside, and the shared library. Both show only the exports."""
     os.makedirs(OUT, exist_ok=True)
-    whole, shared, names = (os.path.join(room, it) for it in ("whole.a", "whole.so", "names"))
-    ran_well(["ar", "x", made], room)
-    ran_well(["ar", "x", allocation], room)
-    objects = sorted(it for it in os.listdir(room) if it.endswith(".o"))
-    ran_well(["ar", "rcsD", whole, *objects], room)
+    one, whole, shared, names, parts = (os.path.join(room, it)
+                                        for it in (f"{NAME}.o", "whole.a", "whole.so", "names", "parts"))
+    ran_well(["ld", "-r", "-o", one, *objects_of((made, allocation), parts)], parts)
+    ran_well(["objcopy", "--wildcard", f"--keep-global-symbol={NAME}_*", one], room)
+    ran_well(["ar", "rcsD", whole, one], room)
     with open(names, "w", encoding="ascii") as out:
-        out.write("{ global: omega_*; local: *; };\n")
-    ran_well(["cc", "-shared", "-o", shared, *objects, f"-Wl,--version-script={names}", "-Wl,-soname,libomega.so",
+        out.write(f"{{ global: {NAME}_*; local: *; }};\n")
+    ran_well(["cc", "-shared", "-o", shared, one, f"-Wl,--version-script={names}", f"-Wl,-soname,{SONAME}",
               "-Wl,-z,defs", "-Wl,-z,noexecstack"], room)
     for file, target in ((whole, ARCHIVE), (shared, SHARED)):
         shutil.copyfile(file, f"{target}.new")
         os.replace(f"{target}.new", target)
+    os.symlink(SONAME, f"{LINK}.new")
+    os.replace(f"{LINK}.new", LINK)
 
 
 def build(is_left_by_ci: bool) -> None:
@@ -110,7 +131,7 @@ def main() -> int:
         say(str(why))
         return FAILED
     print(ARCHIVE)
-    print(SHARED)
+    print(LINK)
     return 0
 
 

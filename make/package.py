@@ -1,12 +1,16 @@
-"""Installs the built program with its manual and completions, or packs them.
+"""Installs the built program with its manual and completions, or the library for C, or packs them.
 
     python3 make/package.py install --program FILE --prefix /usr/local --root /
+    python3 make/package.py install-lib --library FOLDER --prefix /usr/local --root /
     python3 make/package.py dist --program FILE --into FOLDER
+    python3 make/package.py dist-lib --library FOLDER --into FOLDER
 
-The archive and the Debian package are byte for byte the same each time they are made of the same program.
+The folder of the library is `out/`, where `make libomega` puts it. `dist-lib` packs a Debian package for C, and a wheel
+for Python. All that is packed is byte for byte the same each time it is made of the same program or library.
 """
 
 import argparse
+import contextlib
 import gzip
 import hashlib
 import io
@@ -16,8 +20,10 @@ import subprocess
 import sys
 import tarfile
 import tempfile
+from collections.abc import Mapping
 from typing import IO, cast
 
+import wheel
 from completions import bash_completions, fish_completions, subcommands_of, zsh_completions
 
 ROOT = os.path.dirname(os.path.dirname(os.path.abspath(__file__)))
@@ -36,18 +42,38 @@ A solver and referee of parity games and omega-automata, proved to answer rightl
 Try: echo '0 1 0 1; 1 2 1 0;' | bin/omega solve
 """
 CONTROL = """\
-Package: omega
+Package: {package}
 Version: {version}
 Architecture: amd64
 Maintainer: the authors of omega <omega@localhost>
 Installed-Size: {size}
-Depends: libc6
-Section: math
+Depends: {depends}
+Section: {section}
 Priority: optional
-Description: proved solver and referee of parity games and omega-automata
- Reads parity games in PGSolver's text and automata in the Hanoi format, solves
- and judges them, and decides emptiness. Its answers are proved to be right.
+Description: {description}
 """
+PROGRAM = {"package": "omega", "depends": "libc6", "section": "math", "description": """\
+proved solver and referee of parity games and omega-automata
+ Reads parity games in PGSolver's text and automata in the Hanoi format, solves
+ and judges them, and decides emptiness. Its answers are proved to be right."""}
+LIBRARY = {"package": "libomega-dev", "depends": "libc6-dev", "section": "libdevel", "description": """\
+proved solver and referee of parity games, as a library for C
+ Header, archive, shared library and pkg-config file: solves, judges and bounds
+ parity games that are given as arrays, and has the program omega as a function."""}
+# What pkg-config says of the library. Whoever links the archive needs nothing else.
+CONFIG = """\
+prefix={prefix}
+libdir=${{prefix}}/{libraries}
+includedir=${{prefix}}/include
+
+Name: omega
+Description: proved solver and referee of parity games
+Version: {version}
+Libs: -L${{libdir}} -lomega
+Cflags: -I${{includedir}}
+"""
+# The folder of libraries below /usr in a Debian package.
+DEBIAN_LIBRARIES = "lib/x86_64-linux-gnu"
 
 
 def version_of(program: str) -> str:
@@ -67,18 +93,36 @@ def installed(program: str) -> dict[str, tuple[int, bytes]]:
     return files
 
 
+def installed_library(folder: str, prefix: str, libraries: str) -> dict[str, tuple[int, bytes | str]]:
+    """What is installed of the library: by path below the prefix, the mode and the bytes, or where a link leads."""
+    shared = os.path.join(folder, wheel.SHARED)
+    config = CONFIG.format(prefix=prefix, libraries=libraries, version=wheel.version())
+    return {
+        "include/omega.h": (0o644, bytes_of(os.path.join(ROOT, "include", "omega.h"))),
+        f"{libraries}/libomega.a": (0o644, bytes_of(os.path.join(folder, "libomega.a"))),
+        f"{libraries}/{wheel.SHARED}": (0o644, bytes_of(shared)),
+        f"{libraries}/libomega.so": (0o644, wheel.SHARED),
+        f"{libraries}/pkgconfig/omega.pc": (0o644, config.encode()),
+    }
+
+
 def bytes_of(file: str) -> bytes:
     with open(file, "rb") as source:
         return source.read()
 
 
-def write_below(folder: str, files: dict[str, tuple[int, bytes]]) -> None:
+def write_below(folder: str, files: Mapping[str, tuple[int, bytes | str]]) -> None:
     for path, (mode, held) in files.items():
         target = os.path.join(folder, path)
         os.makedirs(os.path.dirname(target), exist_ok=True)
-        with open(f"{target}.new", "wb") as out:
-            out.write(held)
-        os.chmod(f"{target}.new", mode)
+        with contextlib.suppress(FileNotFoundError):
+            os.unlink(f"{target}.new")
+        if isinstance(held, str):
+            os.symlink(held, f"{target}.new")
+        else:
+            with open(f"{target}.new", "wb") as out:
+                out.write(held)
+            os.chmod(f"{target}.new", mode)
         os.replace(f"{target}.new", target)
 
 
@@ -96,24 +140,39 @@ def archive(top: str, files: dict[str, tuple[int, bytes]]) -> bytes:
     return packed.getvalue()
 
 
-def debian_package(version: str, files: dict[str, tuple[int, bytes]], target: str) -> None:
+def debian_package(kind: dict[str, str], version: str, files: Mapping[str, tuple[int, bytes | str]],
+                   target: str) -> None:
+    """A package of files below /usr, with the licence."""
     with tempfile.TemporaryDirectory() as room:
         os.chmod(room, 0o755)
-        whole = {f"usr/{path}": entry for path, entry in files.items() if "man1" not in path}
-        manual = gzip.compress(files["share/man/man1/omega.1"][1], mtime=0)
-        whole["usr/share/man/man1/omega.1.gz"] = (0o644, manual)
-        whole["usr/share/doc/omega/copyright"] = (0o644, bytes_of(os.path.join(ROOT, "LICENSE")))
+        whole = {f"usr/{path}": entry for path, entry in files.items()}
+        whole[f"usr/share/doc/{kind['package']}/copyright"] = (0o644, bytes_of(os.path.join(ROOT, "LICENSE")))
         size = sum(len(held) for _, held in whole.values()) // 1024 + 1
-        whole["DEBIAN/control"] = (0o644, CONTROL.format(version=version, size=size).encode())
+        whole["DEBIAN/control"] = (0o644, CONTROL.format(version=version, size=size, **kind).encode())
         write_below(room, whole)
-        for at, folders, names in os.walk(room):
-            for name in [*folders, *names]:
-                path = os.path.join(at, name)
-                if os.path.isdir(path):
-                    os.chmod(path, 0o755)
+        for at, folders, _ in os.walk(room):
+            for name in folders:
+                os.chmod(os.path.join(at, name), 0o755)
         words = ["dpkg-deb", "--root-owner-group", "-Zgzip", "--build", room, target]
         how = {**os.environ, "SOURCE_DATE_EPOCH": str(WHEN)}
         subprocess.run(words, env=how, check=True, stdout=subprocess.DEVNULL)
+
+
+def has_debian_tools() -> bool:
+    """Whether a Debian package can be made here. Says so if not."""
+    if shutil.which("dpkg-deb"):
+        return True
+    print("omega: no Debian package, since dpkg-deb is not in PATH", file=sys.stderr)
+    return False
+
+
+def tell_sums(into: str, made: list[str], name: str) -> None:
+    """Writes the sums of the files that were made, and prints where all are."""
+    with open(os.path.join(into, name), "w", encoding="ascii") as sums:
+        for file in made:
+            sums.write(f"{hashlib.sha256(bytes_of(os.path.join(into, file))).hexdigest()}  {file}\n")
+    for file in [*made, name]:
+        print(os.path.join(into, file))
 
 
 def dist(program: str, into: str) -> None:
@@ -125,32 +184,56 @@ def dist(program: str, into: str) -> None:
     made = [f"{top}.tar.gz"]
     with open(os.path.join(into, made[0]), "wb") as out:
         out.write(archive(top, packed))
-    if shutil.which("dpkg-deb"):
+    if has_debian_tools():
         made.append(f"omega_{version}_amd64.deb")
-        debian_package(version, files, os.path.join(into, made[1]))
-    else:
-        print("omega: no Debian package, since dpkg-deb is not in PATH", file=sys.stderr)
-    with open(os.path.join(into, "SHA256SUMS"), "w", encoding="ascii") as sums:
-        for name in made:
-            sums.write(f"{hashlib.sha256(bytes_of(os.path.join(into, name))).hexdigest()}  {name}\n")
-    for name in [*made, "SHA256SUMS"]:
-        print(os.path.join(into, name))
+        manual = "share/man/man1/omega.1"
+        of_debian: dict[str, tuple[int, bytes | str]] = {path: it for path, it in files.items() if path != manual}
+        of_debian[f"{manual}.gz"] = (0o644, gzip.compress(files[manual][1], mtime=0))
+        debian_package(PROGRAM, version, of_debian, os.path.join(into, made[1]))
+    tell_sums(into, made, "SHA256SUMS")
+
+
+def dist_library(library: str, into: str) -> None:
+    os.makedirs(into, exist_ok=True)
+    made = [wheel.pack(library, into)]
+    if has_debian_tools():
+        version = wheel.version()
+        made.append(f"{LIBRARY['package']}_{version}_amd64.deb")
+        files = installed_library(library, "/usr", DEBIAN_LIBRARIES)
+        debian_package(LIBRARY, version, files, os.path.join(into, made[1]))
+    tell_sums(into, made, "SHA256SUMS.libomega")
+
+
+def words_of() -> argparse.Namespace:
+    words = argparse.ArgumentParser(description=__doc__, formatter_class=argparse.RawDescriptionHelpFormatter)
+    tasks = words.add_subparsers(dest="task", required=True)
+    for task, what in (("install", "program"), ("dist", "program"), ("install-lib", "library"),
+                       ("dist-lib", "library")):
+        of_task = tasks.add_parser(task)
+        of_task.add_argument(f"--{what}", required=True)
+        if task.startswith("install"):
+            of_task.add_argument("--prefix", default="/usr/local")
+            of_task.add_argument("--root", default="/")
+        else:
+            of_task.add_argument("--into", default="dist")
+    return words.parse_args()
+
+
+def below(asked: argparse.Namespace) -> str:
+    """The folder of the prefix, below another root."""
+    return os.path.join(asked.root, asked.prefix.lstrip("/"))
 
 
 def main() -> int:
-    words = argparse.ArgumentParser(description=__doc__, formatter_class=argparse.RawDescriptionHelpFormatter)
-    tasks = words.add_subparsers(dest="task", required=True)
-    for task in ("install", "dist"):
-        tasks.add_parser(task).add_argument("--program", required=True)
-    tasks.choices["install"].add_argument("--prefix", default="/usr/local")
-    tasks.choices["install"].add_argument("--root", default="/")
-    tasks.choices["dist"].add_argument("--into", default="dist")
-    asked = words.parse_args()
-    program = os.path.abspath(asked.program)
+    asked = words_of()
     if asked.task == "dist":
-        dist(program, asked.into)
+        dist(os.path.abspath(asked.program), asked.into)
+    elif asked.task == "dist-lib":
+        dist_library(asked.library, asked.into)
+    elif asked.task == "install":
+        write_below(below(asked), installed(os.path.abspath(asked.program)))
     else:
-        write_below(os.path.join(asked.root, asked.prefix.lstrip("/")), installed(program))
+        write_below(below(asked), installed_library(asked.library, asked.prefix, "lib"))
     return 0
 
 
