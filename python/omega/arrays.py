@@ -1,25 +1,7 @@
-"""Parity games solved and judged by `libomega`, whose answers are proved to be right. This module, which hands arrays
-to the library, is tested and not proved.
+"""Games as arrays, and the program as a function: what the library's five exports take and give, over `ctypes`.
 
-    import omega
-
-    answer = omega.solve([0, 1, 2], [0, 1, 1], [[1, 2], [0], [0]])
-    answer.winner                                   # [0, 0, 0]
-    answer.choice                                   # [2, None, None]
-    omega.verify([0, 1, 2], [0, 1, 1], [[1, 2], [0], [0]], answer.winner, answer.choice)    # None: it is right
-
-A game of n nodes is given by the priority of each node, its owner, 0 or 1, and its successors, which are numbers of
-nodes from 0 to n - 1: a list for each node, or a pair of flat arrays, where the successors of each node begin (n + 1
-entries, the last the number of all) and the successors. Each array may be a list of integers, or anything of one
-dimension with the buffer protocol. Arrays are copied, so that nothing changes while the library reads them. With
-`copy=False` an aligned array of 32-bit unsigned numbers, or of bytes for owners and winners, is read where it is: then
-no other thread may write to it during the call. The library trusts what it has judged.
-
-Calls may be made from several threads at once, and run side by side. A call can't be stopped: Ctrl-C is seen when it
-has ended, and a budget bounds the lifts alone. A process that may be ended, as one of `multiprocessing`, is the way to
-bound a call by time; a `Refusal` can be sent between processes.
-
-The library is sought in `LIBOMEGA`, then beside this file, then in `out/` of the repository, then by the system.
+The library is sought in `LIBOMEGA`, then beside this file, where a wheel has it, then in `out/` of the repository,
+then by the system. One whose version begins with another number has other arrays, and is an OSError.
 """
 from __future__ import annotations
 
@@ -27,11 +9,14 @@ import ctypes
 import ctypes.util
 import operator
 import os
+from array import array
+from bisect import bisect_left
+from collections.abc import Iterable, Iterator, Mapping, Sequence
 from dataclasses import dataclass
-from typing import Any, Iterable, Sequence, Union
+from typing import Any, NamedTuple, Union
 
-__all__ = ["Bounds", "Counterexample", "Ran", "Refusal", "Solution", "bound", "run", "solve", "verify", "version"]
-
+# The first number of the versions of the library that have these arrays.
+INTERFACE = "1"
 NO_CHOICE = 0xFFFF_FFFF
 MOST_LIFTS = 2**40
 MOST_ENTRY = 2**32 - 1
@@ -46,25 +31,74 @@ Successors = Union[Sequence[Sequence[int]], "tuple[Numbers, Numbers]"]
 
 
 class Refusal(Exception):
-    """Why a call gave no answer: its `number` and `name`; for 57 which `array` has a wrong entry, and its `place`."""
+    """Why a call gave no answer: its `number` and `name`. For 57 `array` says which array has a wrong entry, and
+    `place` where; for 1 to 3 `place` is that of a byte in the text, and for 56 that of a state."""
 
-    def __init__(self, number: int, array: str | None = None, place: int | None = None) -> None:
-        self.number, self.name, self.array, self.place = number, NAMES.get(number, "Refused"), array, place
+    def __init__(self, number: int, array: str | None = None, place: int | None = None,
+                 name: str | None = None) -> None:
+        self.number, self.array, self.place = number, array, place
+        self.name = name or NAMES.get(number, "Refused")
         # The arguments that make it again where it comes from another process.
-        super().__init__(number, array, place)
+        super().__init__(number, array, place, name)
 
     def __str__(self) -> str:
-        at = f" in {self.array} at {self.place}" if self.array is not None else ""
-        return f"{self.number} {self.name}{at}"
+        inside = f" in {self.array}" if self.array is not None else ""
+        return f"{self.number} {self.name}{inside}" + (f" at {self.place}" if self.place is not None else "")
 
 
-@dataclass(frozen=True)
-class Solution:
-    """For each node the player who wins it, and the winner's choice, or None where the winner does not own it; and how
-    many lifts the run for each player made."""
-    winner: list[int]
-    choice: list[int | None]
-    lifts: tuple[int, int]
+class Answer(NamedTuple):
+    """Who wins a node, and the successor that the winner chooses, or None where the winner does not own the node."""
+    winner: int
+    choice: int | None
+
+
+class Solution(Mapping[int, Answer]):
+    """A solution: for each node, by its identifier, who wins it and by which choice. Where a game came as arrays, an
+    identifier is a place.
+
+    `winners` and `choices` are the same by place, as arrays (of bytes, and of 32-bit numbers, `NO_CHOICE` for none),
+    which numpy takes without a copy; `winner` and `choice` are lists, with None for no choice. `lifts` says how many
+    lifts the run for each player made. `str` gives the text of the solution."""
+
+    def __init__(self, winners: array[int], choices: array[int], lifts: tuple[int, int] = (0, 0),
+                 identifiers: Sequence[int] | None = None) -> None:
+        self.winners, self.choices, self.lifts = winners, choices, lifts
+        self.identifiers: Sequence[int] = range(len(winners)) if identifiers is None else identifiers
+
+    @property
+    def winner(self) -> list[int]:
+        return self.winners.tolist()
+
+    @property
+    def choice(self) -> list[int | None]:
+        return [None if place == NO_CHOICE else place for place in self.choices]
+
+    def __len__(self) -> int:
+        return len(self.winners)
+
+    def __iter__(self) -> Iterator[int]:
+        return iter(self.identifiers)
+
+    def __getitem__(self, identifier: int) -> Answer:
+        place = place_in(self.identifiers, identifier)
+        chosen = self.choices[place]
+        return Answer(self.winners[place], None if chosen == NO_CHOICE else self.identifiers[chosen])
+
+    def __str__(self) -> str:
+        lines = (f"{it} {winner};\n" if choice is None else f"{it} {winner} {choice};\n"
+                 for it, (winner, choice) in self.items())
+        return f"paritysol {self.identifiers[-1]};\n" + "".join(lines)
+
+    def __repr__(self) -> str:
+        return f"<solution of {len(self)} nodes, {self.winners.count(0)} of them won by player 0>"
+
+
+def place_in(identifiers: Sequence[int], identifier: int) -> int:
+    """The place of an identifier among those of a game, which rise. Raises KeyError if it is none of them."""
+    place = bisect_left(identifiers, identifier)
+    if place == len(identifiers) or identifiers[place] != identifier:
+        raise KeyError(identifier)
+    return place
 
 
 @dataclass(frozen=True)
@@ -126,13 +160,13 @@ class _Ran(ctypes.Structure):
 def _found() -> str:
     """The path of the library."""
     here = os.path.dirname(os.path.abspath(__file__))
-    for path in (os.environ.get("LIBOMEGA"), os.path.join(here, "libomega.so"),
-                 os.path.join(here, os.pardir, "out", "libomega.so")):
+    for path in (os.environ.get("LIBOMEGA"), os.path.join(here, "libomega.so.1"),
+                 os.path.join(here, os.pardir, os.pardir, "out", "libomega.so.1")):
         if path and os.path.exists(path):
             return path
     found = ctypes.util.find_library("omega")
     if not found:
-        raise OSError("libomega.so is not found: make it by `make libomega`, or name it in LIBOMEGA")
+        raise OSError("libomega.so.1 is not found: make it by `make libomega`, or name it in LIBOMEGA")
     return found
 
 
@@ -150,10 +184,15 @@ def _loaded(path: str) -> ctypes.CDLL:
     library.omega_run.restype = _Ran
     library.omega_version.argtypes = [*room]
     library.omega_version.restype = ctypes.c_size_t
+    if _version_of(library).partition(".")[0] != INTERFACE:
+        raise OSError(f"{path} has version {_version_of(library)}, and this package is for version {INTERFACE}")
     return library
 
 
-_LIBRARY = _loaded(_found())
+def _version_of(library: ctypes.CDLL) -> str:
+    room = (ctypes.c_uint8 * 64)()
+    length = library.omega_version(*_room(room))
+    return bytes(room[:length]).decode()
 
 
 def _viewed(numbers: Any) -> memoryview | None:
@@ -197,11 +236,18 @@ def _flat(successors: Successors) -> tuple[Numbers, Numbers]:
 
 
 def _room(array: Any) -> tuple[Any, int]:
-    """An array as a pointer and a length."""
+    """An array of C as a pointer and a length."""
     return ctypes.addressof(array), len(array)
 
 
-class _Arrays:
+def _made(kind: str, count: int) -> array[int]:
+    """An array of Python with room for as many entries, and for one at least, since no pointer may be null."""
+    made = array(kind)
+    made.frombytes(bytes(made.itemsize * max(1, count)))
+    return made
+
+
+class Arrays:
     """A game in the form of C. It keeps the arrays alive."""
 
     def __init__(self, priorities: Numbers, owners: Numbers, successors: Successors, copy: bool = True) -> None:
@@ -237,11 +283,16 @@ def solve(priorities: Numbers, owners: Numbers, successors: Successors, search: 
     With `search` a fast search is tried first, whose answer is checked; it makes no lifts. Else, or where it gives no
     answer, the game is solved by lifting, with at most `budget` lifts for each player (at most 2**40, and that where
     none is given). Raises `Refusal` 57, 13, 14, 50, 51 or 60, and ValueError if the budget is below 0."""
-    most = _lifts_within(budget)
-    arrays, lifts = _Arrays(priorities, owners, successors, copy), _Lifts()
-    winners, choices = (ctypes.c_uint8 * arrays.nodes)(), (ctypes.c_uint32 * arrays.nodes)()
-    _judge(_LIBRARY.omega_solve(arrays.game, bool(search), most, *_room(winners), *_room(choices), lifts))
-    return Solution(list(winners), [None if it == NO_CHOICE else it for it in choices], (lifts.zero, lifts.one))
+    return solved(Arrays(priorities, owners, successors, copy), search, budget)
+
+
+def solved(arrays: Arrays, search: bool, budget: int | None, identifiers: Sequence[int] | None = None) -> Solution:
+    """The solution of a game in the form of C, by these identifiers."""
+    most, lifts = _lifts_within(budget), _Lifts()
+    winners, choices, count = _made("B", arrays.nodes), _made("I", arrays.nodes), arrays.nodes
+    _judge(_LIBRARY.omega_solve(arrays.game, bool(search), most, winners.buffer_info()[0], count,
+                                choices.buffer_info()[0], count, lifts))
+    return Solution(winners, choices, (lifts.zero, lifts.one), identifiers)
 
 
 def verify(priorities: Numbers, owners: Numbers, successors: Successors, winner: Numbers,
@@ -250,11 +301,14 @@ def verify(priorities: Numbers, owners: Numbers, successors: Successors, winner:
 
     A choice has to stand exactly where the winner owns the node, and to be one of its successors. Raises `Refusal` 57,
     13, 14, 53 where the solution is none of the game, or 60."""
-    arrays = _Arrays(priorities, owners, successors, copy)
-    winners = _array(winner, ctypes.c_uint8, 255, copy)
+    arrays = Arrays(priorities, owners, successors, copy)
     if _viewed(choice) is None:
         choice = [NO_CHOICE if it is None else it for it in choice]
-    choices = _array(choice, ctypes.c_uint32, MOST_ENTRY, copy)
+    return judged(arrays, _array(winner, ctypes.c_uint8, 255, copy), _array(choice, ctypes.c_uint32, MOST_ENTRY, copy))
+
+
+def judged(arrays: Arrays, winners: Any, choices: Any) -> Counterexample | None:
+    """What is said of a solution whose winners and choices are arrays of C."""
     room = arrays.nodes
     while True:
         verdict, stem, cycle = _Verdict(), (ctypes.c_uint32 * room)(), (ctypes.c_uint32 * room)()
@@ -269,7 +323,12 @@ def verify(priorities: Numbers, owners: Numbers, successors: Successors, winner:
 
 def bound(priorities: Numbers, owners: Numbers, successors: Successors, *, copy: bool = True) -> Bounds:
     """The most lifts that lifting makes for each player. Raises `Refusal` 57, 13, 14 or 60."""
-    arrays, bounds = _Arrays(priorities, owners, successors, copy), _Bounds()
+    return bounded(Arrays(priorities, owners, successors, copy))
+
+
+def bounded(arrays: Arrays) -> Bounds:
+    """The bounds of a game in the form of C."""
+    bounds = _Bounds()
     _judge(_LIBRARY.omega_bound(arrays.game, bounds))
     zero, one = [(it.high << 64) + it.low if it.fits else None for it in (bounds.zero, bounds.one)]
     return Bounds(zero, one)
@@ -295,6 +354,7 @@ def run(words: Sequence[str], input: bytes = b"", file: bytes = b"") -> Ran:
 
 def version() -> str:
     """The version of the library."""
-    room = (ctypes.c_uint8 * 64)()
-    length = _LIBRARY.omega_version(*_room(room))
-    return bytes(room[:length]).decode()
+    return _version_of(_LIBRARY)
+
+
+_LIBRARY = _loaded(_found())
