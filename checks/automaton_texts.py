@@ -1,6 +1,7 @@
 """Texts of automata: each is read, or refused by its refusal at its place, as a slow reader in Python says. Four are
 cut short at every byte or have a byte replaced; others have one fault or two, or a limit's size, a million signs, a
-hundred thousand segments; 600 are random streams. The canonical text reads back.
+hundred thousand segments; 600 are random streams. The canonical text reads back. Of 217 short texts the refusals were
+found by hand.
 
 The slow reader is checks/automata.py. Most of the texts that are read are written as the canonical text too. There is a
 text for each fault of an automaton and one for each two of them, and texts at both sides of each limit. The canonical
@@ -13,6 +14,7 @@ from collections.abc import Iterator
 from functools import partial
 
 from automata import Refused, canonical_stream, read_one, read_stream, shown_items
+from automaton_rows import row_checks
 from program import Cases, Fault, fault_of, output_of, refusal_fault, shown
 from texts import damaged
 
@@ -426,6 +428,7 @@ def automaton_text_checks() -> Cases:
             yield f"the text {shown(one)}", partial(fault_of_stream, one)
     for text in itertools.chain(FAULTY, joined_faults()):
         yield f"the text {shown(text)}", partial(fault_of_stream, text)
+    yield from row_checks()
     yield from limit_checks()
     yield from whole_checks()
     yield from huge_checks()

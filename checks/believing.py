@@ -23,6 +23,14 @@ RESPOND = "omega_run.specs.Respond"
 # What one text is answered, and what the texts of a file and of the input are.
 TABLES = ("Answers", "AnswersBeside")
 HEADLINE = ("omega_solve.specs.Headline", "Headline")
+# The row of the headline, and what stands beside it.
+HEADLINE_ROW = "the headline, `Headline` of `omega_solve`"
+BESIDE_HEADLINE = "; that the program keeps the bound and answers exactly is in the row `omega solve`"
+# The laws on containment, and the answers from which they conclude. What the answers are need not be read: the program
+# gives them, by its contract, and what they mean is what the laws say.
+CONTAINMENT = "omega_language_laws.specs.Containment"
+CONTAINMENT_LAWS = ("EmptyMeansContained", "LassosMeanNotContained")
+CONTAINMENT_ANSWERS = frozenset({"IsComplementAnswer", "IsMeetAnswer", "IsEmptyAnswer", "IsEmptySearchAnswer"})
 
 # Each promise, with the beginnings of the rows that are its own.
 COMMANDS = {
@@ -62,6 +70,8 @@ PART = re.compile(r"  (?:pub )?([^\s:(]+)\s*:")
 WORD = re.compile(r"[^\s(){}\[\],;:=λ×→↔¬⊎]+")
 
 
+CONTAINED = "containment, the laws `empty_means_contained` and `lassos_mean_not_contained`"
+
 FRONT = """# What to read to believe it
 
 A proof shows that the code does what the definitions say. It does not show that the definitions say what is meant:
@@ -77,10 +87,16 @@ part of the next.
 
 """
 
-BEHIND = """The row of `read_words` is its contract, by which the words of the command line say what is to be done. The row
-of `obey` is all that the program does once its words are read: it contains every subcommand, the exit statuses, the
-lines of refusals, progress, and streams that fail. The last four rows are the contracts of what the library for C
-exports; that of `omega_run` is about the whole program.
+BEHIND = """The first row is a law of the solvers of the library. The program's row says the same of its answers in
+words of its own, and the law `answers_are_of_solvers` of `omega_budget` joins the two. The row of `read_words` is its
+contract, by which the words of the command line say what is to be done. The row of `obey` is all that the program does
+once its words are read: it contains every subcommand, the exit statuses, the lines of refusals, progress, and streams
+that fail. The last four rows are the contracts of what the library for C exports; that of `omega_run` is about the
+whole program.
+
+The row of containment is what the answers of `complement`, `meet` and `empty` say of two texts, one after the other. It
+counts what texts, runs and words are. What a product and a complement are is not among it, since the laws say what the
+answers mean.
 
 **How to read one.** Each section below lists the files of `crates/CRATE/specs/` in an order in which nothing is cited
 before it was read, and how many lines of each file are needed. `checks/believing.py check --format pg` prints just
@@ -102,8 +118,8 @@ leads from each promise to its clause.
 - for the library, what `include/omega.h` asks of its callers: each pointer leads to as many entries as the length
   beside it says, what a call writes overlaps nothing else, and nobody writes what a call reads while it runs. No proof
   sees the caller;
-- `python/omega.py`, which turns Python's values into such arrays and back. It is not proved; `checks/run libomega` and
-  `checks/run python` test it.
+- the package in `python/omega/`, which turns Python's values into such arrays and back. It is not proved;
+  `checks/run libomega` and `checks/run python` test it.
 
 """
 
@@ -255,14 +271,14 @@ class Sources:
             elif not found and is_of_repository(place[0]) and place[0] != definition.module:
                 raise ValueError(f"{file_of(definition.module)}: {word} is used and is not in {file_of(place[0])}")
 
-    def reached(self, begun: Iterable[Believed]) -> list[Believed]:
-        """All that is cited from these on."""
+    def reached(self, begun: Iterable[Believed], without: frozenset[str] = frozenset()) -> list[Believed]:
+        """All that is cited from these on, without the definitions of some names and what they alone cite."""
         found: dict[Place, Believed] = {}
         waiting = list(begun)
         while waiting:
             one = waiting.pop()
             key = (one.module, one.name) if isinstance(one, Definition) else one
-            if key not in found:
+            if key not in found and key[1] not in without:
                 found[key] = one
                 waiting += self.cited(one) if isinstance(one, Definition) else []
         return [one for one in found.values()]
@@ -368,9 +384,11 @@ def promises(sources: Sources) -> Iterator[tuple[str, list[Believed]]]:
     """Each promise with all that it rests on."""
     for table in TABLES:
         check_rows(sources.held[RESPOND, table])
-    yield "the headline, `Headline` of `omega_solve`", sources.reached([sources.held[HEADLINE]])
+    yield HEADLINE_ROW, sources.reached([sources.held[HEADLINE]])
     for label, arguments in COMMANDS.items():
         yield f"`omega {label}`", sources.reached(sources.rows_cite(arguments))
+    laws = [sources.held[CONTAINMENT, law] for law in CONTAINMENT_LAWS]
+    yield CONTAINED, sources.reached(laws, CONTAINMENT_ANSWERS)
     read_words = clause_words("crates/omega_command_line/src/words.rt", "read_words")
     yield "the words of the command line, `read_words`", sources.reached(sources.cited(read_words))
     obey = clause_words("crates/omega_run/src/obeying.rt", "obey")
@@ -417,7 +435,8 @@ def page() -> Iterator[str]:
     yield "| Promise | Definitions | Lines | Files |\n|---|---|---|---|\n"
     for label, believed in found:
         definitions, lines, files = sizes_of(believed)
-        yield f"| {label} | {definitions} | {lines:,} | {files} |\n"
+        beside = BESIDE_HEADLINE if label == HEADLINE_ROW else ""
+        yield f"| {label}{beside} | {definitions} | {lines:,} | {files} |\n"
     yield "\n" + unwrapped(BEHIND)
     for label, believed in found:
         yield from section_of(sources, label, believed)

@@ -1,7 +1,9 @@
-/* Each call of the library once, on exact allocations, with its answer compared. With an argument a request for memory
- * may be refused: each call then ends with 60 and everything as before, or as with ample memory. */
+/* Each call of the library once, on exact allocations, with its answer compared. With the argument `refused` a request
+ * for memory may be refused: each call then ends with 60 and everything as before, or as with ample memory. With
+ * `threads`, four threads make all calls side by side, again and again. */
 #include "omega.h"
 
+#include <pthread.h>
 #include <stdio.h>
 #include <stdlib.h>
 #include <string.h>
@@ -109,7 +111,7 @@ static void run(size_t room) {
 static void version(void) {
     uint8_t *room = held("xxxxxxxx", 8);
     size_t length = omega_version(room, 5);
-    WANT(length == 5 && memcmp(room, "1.5.0xxx", 8) == 0);
+    WANT(length == 5 && memcmp(room, "1.6.0xxx", 8) == 0);
     WANT(omega_version(room, 0) == 5);
 }
 
@@ -129,8 +131,7 @@ static void shape(void) {
     WANT(outcome.number == 57 && outcome.array == OMEGA_WINNERS && outcome.place == 2);
 }
 
-int main(int count, char **words) {
-    may_be_refused = count > 1 && words[1] != NULL;
+static void every(void) {
     solve(1);
     solve(0);
     verify(2, 3);
@@ -141,5 +142,24 @@ int main(int count, char **words) {
     run(4);
     version();
     shape();
+}
+
+static void *again_and_again(void *unused) {
+    for (int times = 0; times < 50; times++) every();
+    return unused;
+}
+
+static void side_by_side(void) {
+    pthread_t threads[4];
+    for (int number = 0; number < 4; number++) WANT(pthread_create(&threads[number], NULL, again_and_again, NULL) == 0);
+    for (int number = 0; number < 4; number++) WANT(pthread_join(threads[number], NULL) == 0);
+}
+
+int main(int count, char **words) {
+    may_be_refused = count > 1 && strcmp(words[1], "refused") == 0;
+    if (count > 1 && strcmp(words[1], "threads") == 0)
+        side_by_side();
+    else
+        every();
     return 0;
 }

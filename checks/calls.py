@@ -97,6 +97,7 @@ RUNS: list[tuple[str, bytes, bytes, int, bytes]] = [
     ("judge_lasso", TWO_SETS, b"stem cycle 1 2 0", 0, b"accepts"),
     ("judge_lasso", TWO_SETS, b"stem cycle 0", 0, b"the cycle does not accept"),
     ("judge_lasso", TWO_SETS, b"stem 0 cycle 2", 0, b"edge 2 does not follow"),
+    ("judge_lasso", TWO_SETS, b"stem 0 cycle 1", 0, b"the cycle does not close"),
     ("judge_lasso", TWO_SETS, b"stem cycle 3", 0, b"edge 3 is not there"),
     ("judge_lasso", TWO_SETS, b"stem cycle 00", 2, b""),
     ("edge_places", TWO_SETS, b"", 0, b"0 0 0 1 1 0 "),

@@ -14,7 +14,7 @@ CRATES = os.path.join(ROOT, "crates")
 GATE, OTHERS = "must-fail", "wrong"
 TIERS = (GATE, OTHERS)
 # What the gate tries, at most: each crate that has such edits is proved twice.
-MOST_EDITS, MOST_CRATES = 90, 14
+MOST_EDITS, MOST_CRATES = 50, 12
 NAME = re.compile(r"[a-z][a-z0-9_]*\.edit")
 # The page that lists them, and a row of its table: the crate, or nothing where it is that of the row above, and names.
 PAGE = os.path.join(ROOT, "docs", "testing.md")

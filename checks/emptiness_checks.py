@@ -1,7 +1,7 @@
 """The emptiness games of 536 automata of each acceptance kind, byte for byte, or their refusals, at both sides of the
 limits. Player 0 wins a start's node, and `empty` and `empty --search` write a lasso, exactly where a slow reader finds
 one. Lassos are judged edge by edge. The search decides at once what would take millions of lifts, a ring of 100,000
-states, and labels with 1,000 propositions.
+states, and labels with 1,000 propositions. It goes round a ring once, whatever the order of the sets on it.
 
 The automata are made by hand and at random. The slow reader uses neither priorities nor games. Where it finds no lasso,
 both commands say `empty`.
@@ -227,6 +227,21 @@ def long_graph(states: int, is_ring: bool) -> bytes:
             % (states, b"\n".join(lines), last))
 
 
+def ring_of_sets(states: int, sets: int) -> bytes:
+    """A ring with as many sets to be met, each on one edge, at equal distances, and against the formula's order."""
+    marks = {number * states // sets: sets - 1 - number for number in range(sets)}
+    edges = [b"State: %d [t] %d%s" % (state, (state + 1) % states, b" {%d}" % marks[state] if state in marks else b"")
+             for state in range(states)]
+    formula = b"&".join(b"Inf(%d)" % number for number in range(sets))
+    return (b"HOA: v1 States: %d Start: 0 Acceptance: %d %s --BODY--\n%s\n--END--"
+            % (states, sets, formula, b"\n".join(edges)))
+
+
+def round_once(states: int) -> bytes:
+    """The lasso that goes round a ring once, from the first state."""
+    return b"stem\ncycle " + b" ".join(b"%d" % edge for edge in range(states)) + b"\n"
+
+
 def large_checks() -> Cases:
     """Labels with many propositions, and graphs on which neither the machine's stack nor the time may grow beyond the
     linear."""
@@ -236,10 +251,13 @@ def large_checks() -> Cases:
         yield f"empty --search of {label}", partial(fault_of, search, wide(1000, written), 0, wanted)
     yield "empty --search of too many choices", partial(
         refusal_fault, search, wide(1000, fruitless(21)), "42 TooManyPropositions")
-    ring = b"stem\ncycle " + b" ".join(b"%d" % edge for edge in range(100_000)) + b"\n"
     yield "empty --search of a chain of 100,000 states", partial(
         fault_of, search, long_graph(100_000, False), 0, b"empty\n")
-    yield "empty --search of a ring of 100,000 states", partial(fault_of, search, long_graph(100_000, True), 0, ring)
+    yield "empty --search of a ring of 100,000 states", partial(
+        fault_of, search, long_graph(100_000, True), 0, round_once(100_000))
+    # From each set to the next one is nine tenths of the ring; what is passed on the way is not sought again.
+    yield "empty --search of a ring of 3,000 states and 10 sets", partial(
+        fault_of, search, ring_of_sets(3_000, 10), 0, round_once(3_000))
 
 
 def searching_checks() -> Cases:

@@ -34,6 +34,8 @@ GAMES = 2000
 MOST_NODES = 200
 # Enough for nearly all of these games.
 MOST_LIFTS = 3_000_000
+# What runs the examples of the page for Python.
+DOCTEST = ["-m", "doctest", os.path.join(ROOT, "docs", "python.md")]
 # Options with a value that names no file, and the status of a file that cannot be read.
 VALUED, UNREAD = ("--format", "--player", "--from", "--budget"), 5
 # The name of a file after an option.
@@ -198,11 +200,11 @@ def shape_faults(omega: Any) -> Cases:
 
 def unwritten_fault(omega: Any, game: Any, number: int, search: int = 1, budget: int = 2**40) -> Fault:
     """What is wrong where `omega_solve` has to refuse a game, with each array as it was, or nothing."""
-    arrays = omega._Arrays(*game)
+    arrays = omega.arrays.Arrays(*game)
     winners = (ctypes.c_uint8 * arrays.nodes)(*[7] * arrays.nodes)
     choices = (ctypes.c_uint32 * arrays.nodes)(*[7] * arrays.nodes)
-    lifts, rooms = omega._Lifts(7, 7), [*omega._room(winners), *omega._room(choices)]
-    outcome = omega._LIBRARY.omega_solve(arrays.game, search, budget, *rooms, lifts)
+    lifts, rooms = omega.arrays._Lifts(7, 7), [*omega.arrays._room(winners), *omega.arrays._room(choices)]
+    outcome = omega.arrays._LIBRARY.omega_solve(arrays.game, search, budget, *rooms, lifts)
     if outcome.number != number:
         return f"number {outcome.number} for {number}"
     if set(winners) - {7} or set(choices) - {7} or (lifts.zero, lifts.one) != (7, 7):
@@ -250,7 +252,8 @@ def run_checks(omega: Any) -> Cases:
     yield "an output that is longer than the first room", differs((ran.status, ran.output), (0, program.stdout))
     broken_line = (ctypes.c_uint8 * 2)(255, 0)
     none, room = (ctypes.c_uint8 * 0)(), (ctypes.c_uint8 * 99)()
-    ran = omega._LIBRARY.omega_run(*[part for it in (broken_line, none, none, none, room) for part in omega._room(it)])
+    rooms = [part for it in (broken_line, none, none, none, room) for part in omega.arrays._room(it)]
+    ran = omega.arrays._LIBRARY.omega_run(*rooms)
     fault = b"error: the command line is not UTF-8\n\nFor more information, try '--help'.\n"
     yield "words that are not UTF-8", differs((ran.status, bytes(room[:ran.errors])), (FAULT, fault))
 
@@ -309,9 +312,10 @@ def example_checks(folder: str) -> Cases:
         shared, said = compiled(folder, f"shared{number}", source, "-L", BUILT, "-lomega", f"-Wl,-rpath,{BUILT}")
         yield f"example {number} in C, over the shared library", said or ran_fault([shared], wanted[0])
     yield "the header in C++", partial(cplusplus_fault, folder)
+    env = {**os.environ, "LIBOMEGA": SHARED, "PYTHONPATH": os.path.join(ROOT, "python")}
     for number, source in enumerate(blocks_of(page, "python")):
-        env = {**os.environ, "LIBOMEGA": SHARED, "PYTHONPATH": os.path.join(ROOT, "python")}
         yield f"example {number} in Python", partial(ran_fault, [sys.executable, "-c", source], wanted[1], env)
+    yield "the examples of docs/python.md", partial(ran_fault, [sys.executable, *DOCTEST], b"", env)
 
 
 def cplusplus_fault(folder: str) -> Fault:
@@ -327,7 +331,8 @@ def cplusplus_fault(folder: str) -> Fault:
 
 
 def sanitized_checks(folder: str) -> Cases:
-    """The C side of all calls under AddressSanitizer, where the compiler has it."""
+    """The C side of all calls under AddressSanitizer, and from four threads under ThreadSanitizer, where the compiler
+    has them."""
     made, said = compiled(folder, "sanitized", source_of("calls.c"), "-g", "-fsanitize=address,undefined", STATIC)
     if "cannot find" in said or "unsupported" in said:
         yield "AddressSanitizer is not there", None
@@ -335,27 +340,42 @@ def sanitized_checks(folder: str) -> Cases:
     # What the calls are given is not freed.
     env = {**os.environ, "ASAN_OPTIONS": "detect_leaks=0"}
     yield "all calls under AddressSanitizer", said or ran_fault([made], env=env)
+    made, said = compiled(folder, "threads", source_of("calls.c"), "-g", "-fsanitize=thread", STATIC)
+    if "cannot find" in said or "unsupported" in said:
+        yield "ThreadSanitizer is not there", None
+        return
+    yield "all calls from four threads under ThreadSanitizer", said or ran_fault([made, "threads"])
 
 
 def refused_memory(folder: str) -> Cases:
-    """Each request for memory during `omega_solve` and `omega_verify` refused: 60, and every array as it was."""
+    """Each request for memory during all calls in C refused: 60, every array as it was, and every block given back."""
     shim = os.path.join(folder, "refusing.so")
     subprocess.run(["cc", "-O2", "-shared", "-fPIC", "-o", shim, os.path.join(HERE, "refusing.c"), "-ldl"], check=True)
     made, said = compiled(folder, "calls", source_of("calls.c"), STATIC)
     yield "the calls in C compile", said or None
-    count = os.path.join(folder, "count")
-    env = {"LD_PRELOAD": shim, "REFUSE_COUNT": count}
+    env = {"LD_PRELOAD": shim, "REFUSE_COUNT": os.path.join(folder, "count")}
     yield "all calls in C", partial(ran_fault, [made])
+    yield "all calls in C from four threads", partial(ran_fault, [made, "threads"])
     # This run counts the requests that are refused below.
-    fault = ran_fault([made, "refused"], env=env)
-    yield "all calls in C, none refused", fault
-    with open(count) as file:
-        requests = int(file.read())
+    yield "all calls in C, none refused", leak_fault([made, "refused"], env, folder)
+    requests = number_in(env["REFUSE_COUNT"])
     for number in range(1, requests + 1):
         for to in (number, 2**60):
             refused = {**env, "REFUSE_FROM": str(number), "REFUSE_TO": str(to)}
             yield (f"request {number} of {requests}{'' if to == number else ' and all behind it'}",
-                   partial(ran_fault, [made, "refused"], env=refused))
+                   partial(leak_fault, [made, "refused"], refused, folder))
+
+
+def number_in(file: str) -> int:
+    with open(file) as held:
+        return int(held.read())
+
+
+def leak_fault(words: list[str], env: dict[str, str], folder: str) -> Fault:
+    """What is wrong with a run that asks for memory in the library alone: its end, or blocks that it keeps."""
+    live = os.path.join(folder, "live")
+    fault, left = ran_fault(words, env={**env, "REFUSE_LIVE": live}), number_in(live)
+    return fault or (f"{left} blocks are not given back" if left else None)
 
 
 def leak_checks(omega: Any) -> Cases:

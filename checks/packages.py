@@ -37,9 +37,9 @@ def bytes_of(*path: str) -> bytes:
         return file.read()
 
 
-def sums_fault(folder: str) -> Fault:
-    """What SHA256SUMS says of the files beside it."""
-    for line in bytes_of(folder, "SHA256SUMS").decode().splitlines():
+def sums_fault(folder: str, sums: str = "SHA256SUMS") -> Fault:
+    """What a file of sums says of the files beside it."""
+    for line in bytes_of(folder, sums).decode().splitlines():
         wanted, name = line.split()
         if hashlib.sha256(bytes_of(folder, name)).hexdigest() != wanted:
             return f"the sum of {name} is another"

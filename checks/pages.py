@@ -145,8 +145,8 @@ def example_checks() -> Cases:
 
 
 def version_checks() -> Cases:
-    """The version that the program writes is that of the newest changes, and the logic below it is the one of TOOLCHAIN.
-    The toolchain in PATH may have another: then `make` has said so."""
+    """The version that the program writes is that of the newest changes, and the logic below it that of TOOLCHAIN. The
+    toolchain in PATH may have another: then `make` has said so."""
     texts, said = dict(pages()), output_of(["--version"], b"").decode()
     lines = said.splitlines()
     newest = re.findall(r"^## (\S+),", texts["CHANGELOG.md"], re.MULTILINE)[0]
@@ -159,10 +159,10 @@ def version_checks() -> Cases:
 
 
 def header_checks(newest: str) -> Cases:
-    """The header for C names the newest version, and the numbers of refusals that `python/omega.py` names."""
+    """The header for C names the newest version, and the numbers of refusals that the package for Python names."""
     with open(os.path.join(ROOT, "include", "omega.h")) as file:
         header = file.read()
-    with open(os.path.join(ROOT, "python", "omega.py")) as file:
+    with open(os.path.join(ROOT, "python", "omega", "arrays.py")) as file:
         names = re.search(r"^NAMES = \{(.*?)\}", file.read(), re.MULTILINE | re.DOTALL)
     named = re.findall(r'^#define OMEGA_VERSION "(.*)"$', header, re.MULTILINE)
     yield "the version of include/omega.h", None if named == [newest] else f"it is {named} for {newest}"

@@ -1,6 +1,7 @@
 """What `meet`, `complement` and `empty --word` write, against a plain judge of words. Five known languages, their
 complements and products are compared on all words of up to 3 letters of 2 propositions; 2,000 random pairs follow, with
-the states of products in order, 400 lines `word`, and refusal 56. Two products are at the limit of states.
+the states of products in order, 400 lines `word`, and refusal 56; 13 more lines `word` have names that Spot reads as
+something else. Two products are at the limit of states.
 
 The products of the five are made in both orders; the stem and the cycle of a word have up to 3 letters together. The
 random pairs are deterministic and not, with propositions in the same order and in another, labels of states and of
@@ -52,6 +53,12 @@ WORDS = list(words_over([b"a", b"b"], 3))
 NO_STARTS = b'HOA: v1 States: 1 AP: 1 "a" Acceptance: 1 Inf(0) --BODY-- State: 0 [t] 0 {0} --END--'
 NO_STATES = b"HOA: v1 States: 0 Acceptance: 0 t --BODY-- --END--"
 SETLESS = HEAD % (1, 1, b'"a"', b"all", b"0 t", b"State: 0 [0] 0")
+
+# Names that Spot reads as something else, each with names that are like it; and a name with a line feed.
+RESERVED = [[b"true", b"True", b"truth"], [b"false", b"FALSE", b"fals"], [b"xor", b"Xor", b"xor_"],
+            [b"Fa", b"aF", b"f"], [b"GoLeft", b"goLeft", b"G"], [b"Xb", b"X0", b"x0"], [b"U", b"Up", b"u"],
+            [b"W", b"M", b"V"], [b"R", b"t", b"tt"], [b"first_match", b"first", b"F_"],
+            [b"cycle", b"Cycle", b"cycles"], [b"0", b"1", b"_1"], [b"a\nb", b"a\\nb", b"anb"]]
 
 
 class Paired(Emptied):
@@ -157,12 +164,13 @@ def word_of_lasso_fault(text: bytes) -> Fault:
         return f"status {ran.returncode}: {shown(ran.stderr)}"
     if ran.stdout == b"empty\n":
         return None
-    lines = ran.stdout.splitlines(True)
-    lasso = read_lasso(b"".join(lines[:2]))
+    *lines, line = ran.stdout.split(b"\n", 2)
+    written = b"".join(one + b"\n" for one in lines)
+    lasso = read_lasso(written)
     if lasso is None:
         return f"no lasso: {shown(ran.stdout)}"
-    wanted = b"".join(lines[:2]) + word_line(automaton, *lasso)
-    return admitted_fault(automaton, lines[2]) if ran.stdout == wanted else f"{shown(ran.stdout)} for {shown(wanted)}"
+    wanted = written + word_line(automaton, *lasso)
+    return admitted_fault(automaton, line) if ran.stdout == wanted else f"{shown(ran.stdout)} for {shown(wanted)}"
 
 
 def admitted_fault(automaton: Automaton, line: bytes) -> Fault:
@@ -197,6 +205,14 @@ def known_checks() -> Cases:
         yield f"the complement of {shown(text)}", partial(complement_fault, text, WORDS)
 
 
+def name_checks() -> Cases:
+    """The words of automata whose names Spot reads as something else, or nearly."""
+    for names in RESERVED:
+        text = HEAD % (2, 3, b" ".join(b'"%s"' % name for name in names), b"all", b"0 t",
+                       b"State: 0 [0&(1|!2)] 1 State: 1 [!(0|1)&2|0&!0] 0")
+        yield f"the word over {names!r}", partial(word_of_lasso_fault, text)
+
+
 def limit_checks() -> Cases:
     """At both sides of 55: rings whose numbers of states have no common divisor meet in all pairs."""
     ran = meet(chain(1023, b'"a"'), chain(1024, b'"b"'))
@@ -222,5 +238,6 @@ def random_checks() -> Cases:
 
 def product_checks() -> Cases:
     yield from known_checks()
+    yield from name_checks()
     yield from random_checks()
     yield from limit_checks()

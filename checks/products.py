@@ -90,9 +90,11 @@ def is_deterministic(automaton: Automaton) -> bool:
 
 
 def named(name: bytes) -> bytes:
-    """A name as a letter of a word has it: in quotes where it is no identifier."""
+    """A name as a letter of a word has it: in quotes where it is no identifier, or where Spot reads no name."""
     text = name.decode()
-    return name if text.isidentifier() and text.isascii() else b'"' + name + b'"'
+    words, signs = ("true", "false", "xor", "first_match", "cycle"), ("M", "R", "U", "V", "W", "t", "f")
+    reserved = text.lower() in words or text in signs or text.startswith(("F", "G", "X"))
+    return name if text.isidentifier() and text.isascii() and not reserved else b'"' + name + b'"'
 
 
 def letter_of(move: Move, names: list[bytes]) -> bytes:

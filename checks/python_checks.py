@@ -12,7 +12,7 @@ from functools import partial
 from program import ROOT, SECONDS, Cases, Fault
 
 # Two folders may have modules of one name, so `mypy` has a run for each.
-FOLDERS = (".", "make", "checks", "python", "bench")
+FOLDERS = (".", "make", "checks", "python/omega", "bench")
 
 
 def is_python(path: str) -> bool:

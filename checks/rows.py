@@ -1,6 +1,7 @@
 """The rows of `checks/rows.txt`: command lines, and the status, output and standard error that each leaves, found by
 hand. They also say what help and faults of the command line have. The texts of a few are made here: bounds about 2^128,
-a game too wide for one player, which `solve --search` solves all the same, and aliases that double.
+a game too wide for one player, which `solve --search` solves all the same, aliases that double, and complements as deep
+as can be.
 """
 import os
 import subprocess
@@ -152,6 +153,32 @@ def doubling() -> Cases:
         yield long_row("check --format hoa", text, status, output, error)
 
 
+def nested(atom: str, sign: str, count: int) -> str:
+    """An expression with so many parentheses. It is twice as deep, and 2 more."""
+    return f"{atom}{sign}(" * count + f"{atom}{sign}{atom}" + ")" * count
+
+
+def deep_complements() -> Cases:
+    """Complements whose label or acceptance is as deep as can be with the parentheses that it needs."""
+    too_large = b"omega: 55 TooLarge\n"
+    # A label 254 deep has a rest 256 deep; of one 256 deep the rest is 130 deep, and 258 with its parentheses.
+    labelled = 'HOA: v1 States: 1 Start: 0 AP: 1 "a" Acceptance: 0 t --BODY-- State: 0 [{}] 0 --END--'
+    label = nested("0", "&", 126)
+    output = (f'HOA: v1\nStates: 2\nStart: 0\nAP: 1 "a"\nAcceptance: 1 f|Inf(0)\n--BODY--\n'
+              f"State: 0\n[{label}] 0\n[!({label})] 1\nState: 1\n[t] 1 {{0}}\n--END--\n")
+    yield long_row("complement", labelled.format(label), output=output.encode())
+    yield long_row("complement | complement | check --format hoa", labelled.format(label), output=b"accepted\n")
+    yield long_row("complement", labelled.format(nested("0", "&", 127)), 1, error=too_large)
+    # A formula 254 deep leaves room for a further set; one 256 deep, 129 without its parentheses, leaves none.
+    accepting = "HOA: v1 States: 1 Start: 0 AP: 0 Acceptance: 1 {} --BODY-- State: 0 [t] 0 --END--"
+    output = (f"HOA: v1\nStates: 1\nStart: 0\nAP: 0\nAcceptance: 1 {nested('Fin(0)', '|', 126)}\n"
+              f"--BODY--\nState: 0\n[t] 0\n--END--\n")
+    formula = nested("Inf(0)", "&", 126)
+    yield long_row("complement", accepting.format(formula), output=output.encode())
+    yield long_row("complement | complement | check --format hoa", accepting.format(formula), output=b"accepted\n")
+    yield long_row("complement", accepting.format(nested("Inf(0)", "&", 127)), 1, error=too_large)
+
+
 def row_checks() -> Cases:
     with open(ROWS) as file:
         for row in rows_of(file.read()):
@@ -160,3 +187,4 @@ def row_checks() -> Cases:
     yield from odd_loops()
     yield from wide_for_one()
     yield from doubling()
+    yield from deep_complements()

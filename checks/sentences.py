@@ -25,7 +25,8 @@ WORDS = {
     "'asked' or 'told'": re.compile(r"\basked\b|\btold\b"),
     "'so many'": re.compile(r"\bso many\b", re.IGNORECASE),
     "'of which'": re.compile(r"\bof which\b"),
-    "a refusal as a bare number": re.compile(r"\b[1-6]\d(?:, [1-6]\d)*(?: or [1-6]\d)? alone\b|(?:^|\. )[1-6]\d where\b"),
+    "a refusal as a bare number": re.compile(r"\b[1-6]\d(?:, [1-6]\d)*(?: or [1-6]\d)? alone\b"
+                                             r"|(?:^|\. )[1-6]\d where\b"),
 }
 NOT_A_VERB = "a function's first word is no verb"
 LONG_SENTENCE = f"a sentence over {MOST_WORDS} words"
@@ -93,7 +94,8 @@ def main() -> None:
         counts = crate_habits(crate)
         total += counts
         if options.by_crate:
-            print(f"{crate.name}: " + (", ".join(f"{counts[habit]} {habit}" for habit in HABITS if counts[habit]) or "none"))
+            found = ", ".join(f"{counts[habit]} {habit}" for habit in HABITS if counts[habit])
+            print(f"{crate.name}: {found or 'none'}")
     for habit in HABITS:
         print(f"{total[habit]:6} {habit}")
 

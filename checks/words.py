@@ -1,6 +1,7 @@
 """Reads the line `word` of `empty --word` as Spot writes words: letters with `;` between them, those of the cycle in
 `cycle{..}`. A letter is a formula over names with `!`, `&`, `|`, parentheses, `0` and `1`. A name stands in quotes, or
-bare if it is an identifier. Nothing is shared with the program, nor with what writes such a line in `products.py`.
+bare if it is an identifier that Spot reads as a name. Nothing is shared with the program, nor with what writes such a
+line in `products.py`.
 """
 import re
 from collections.abc import Callable, Iterator
@@ -12,6 +13,9 @@ from products import Letter, Word
 Formula = Callable[[Letter], bool]
 TOKEN = re.compile(rb'\s*(?:(?P<cycle>cycle\{)|(?P<sign>[;{}!&|()])|(?P<constant>[01])'
                    rb'|"(?P<quoted>(?:[^"\\]|\\.)*)"|(?P<name>[A-Za-z_][A-Za-z0-9_]*))', re.DOTALL)
+
+# Identifiers that Spot reads as something else, and those that are quoted to be safe.
+NO_NAME = re.compile(rb"[FGX].*|[MRUVWtf]|(?i:true|false|xor|first_match|cycle)", re.DOTALL)
 
 
 class NoWord(Exception):
@@ -64,6 +68,8 @@ class Reader:
         token = self.tokens.pop(0)
         if token.kind == "constant":
             return lambda _: token.text == b"1"
+        if token.kind == "name" and NO_NAME.fullmatch(token.text):
+            raise NoWord(f"{token.text!r} stands bare")
         if token.kind in ("quoted", "name"):
             return lambda letter: token.text in letter
         raise NoWord(f"{token.text!r} begins no formula")

@@ -1,5 +1,5 @@
-"""What `python/omega.py` makes of what it is given, before and after the library: numbers that are no integers, arrays
-of two dimensions or at odd addresses, budgets, choices from anywhere; refusals that cross a process, and threads.
+"""What the package for Python makes of what it is given, before and after the library: numbers that are no integers,
+arrays of two dimensions or at odd addresses, budgets, choices from anywhere; refusals that cross a process; threads.
 """
 import pickle
 import random
@@ -111,12 +111,12 @@ class Counting:
 
 def runs_fault(omega: Any, text: bytes, wanted: int) -> Fault:
     """What is wrong with how often `canon` of a text runs, or nothing."""
-    library = omega._LIBRARY
-    counting = omega._LIBRARY = Counting(library)
+    library = omega.arrays._LIBRARY
+    counting = omega.arrays._LIBRARY = Counting(library)
     try:
         omega.run(["canon", "--format", "pg"], text)
     finally:
-        omega._LIBRARY = library
+        omega.arrays._LIBRARY = library
     return differs(counting.runs, wanted)
 
 
