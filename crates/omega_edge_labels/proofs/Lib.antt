@@ -1,3 +1,4 @@
 pub mod Depths
+pub mod NewNumbers
 pub mod Refusals
 pub mod Valuations

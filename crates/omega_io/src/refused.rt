@@ -22,12 +22,12 @@ pub struct Refused {
 }
 
 impl Refused {
-    /// Makes `refusal` one of `text`, unless it is [Refusal::Memory], which is about no text.
+    /// Makes `refusal` one of `text`, unless it is [Refusal::Memory] or [Refusal::Io], which are about no text.
     pub fn of(text: Which, refusal: Refusal) -> Refused
         ensures { result ≡ about text refusal }
     {
         match refusal {
-            Refusal::Memory => Refused::from(refusal),
+            Refusal::Memory | Refusal::Io => Refused::from(refusal),
             _ => Refused {
                 refusal,
                 text: Some(text),

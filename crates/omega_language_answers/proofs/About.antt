@@ -26,4 +26,4 @@ module _ (file input : List ℕ) where
       go (Automaton fault) h = record { second = second; second_read = read; refused = h }
       go (Task fault) h = record { second = second; second_read = read; refused = h }
       go Memory h = inl refl
-      go Io h = record { second = second; second_read = read; refused = h }
+      go Io h = absurd h

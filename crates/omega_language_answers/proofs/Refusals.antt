@@ -1,19 +1,20 @@
 -- A refusal of one of two texts, or want of memory, which is about none; and why a text is refused.
-use Rattle.std.proofs.Common.{refl}
+use Rattle.std.proofs.Common.{inl, inr, ℕ, List, refl}
 use Rattle.omega_text.specs.Cases.{or_memory}
 use Rattle.omega_text.specs.declared.refusal.Refusal.{Refusal}
 use Rattle.omega_text.specs.declared.refusal.Refusal.TheVariants.{Automaton, Game, Io, Memory, Task, Text}
 use Rattle.omega_io.specs.Refused.{IsRefusedOf, about}
 use Rattle.omega_io.specs.declared.refused.Which.TheVariants.{File}
+use Rattle.omega_language_answers.specs.Verify.{RefusesFileFirst}
 
-pub of_file : (own file input : Refusal → Type 0) → ((refusal : Refusal) → own refusal → file refusal) → (refusal : Refusal)
+pub of_file : (own file input : Refusal → Type 0) → ((refusal : Refusal) → own refusal → file refusal) → ¬ own Io → (refusal : Refusal)
     → or_memory own refusal → IsRefusedOf file input (about File refusal)
-of_file own file input then (Text fault) is = then (Text fault) is
-of_file own file input then (Game fault) is = then (Game fault) is
-of_file own file input then (Automaton fault) is = then (Automaton fault) is
-of_file own file input then (Task fault) is = then (Task fault) is
-of_file own file input then Memory is = refl
-of_file own file input then Io is = then Io is
+of_file own file input then not_io (Text fault) is = then (Text fault) is
+of_file own file input then not_io (Game fault) is = then (Game fault) is
+of_file own file input then not_io (Automaton fault) is = then (Automaton fault) is
+of_file own file input then not_io (Task fault) is = then (Task fault) is
+of_file own file input then not_io Memory is = refl
+of_file own file input then not_io Io is = absurd (not_io is)
 
 -- another reason for the same refusal
 pub memory_or : (own other : Refusal → Type 0) → ((refusal : Refusal) → own refusal → other refusal) → (refusal : Refusal)
@@ -24,3 +25,8 @@ memory_or own other then (Automaton fault) is = then (Automaton fault) is
 memory_or own other then (Task fault) is = then (Task fault) is
 memory_or own other then Memory is = is
 memory_or own other then Io is = then Io is
+
+-- before the input is read, no file is refused for a failed read
+pub file_is_read : (file : List ℕ) → ¬ RefusesFileFirst file Io
+file_is_read file (inl is) = is
+file_is_read file (inr is) = absurd is.refused

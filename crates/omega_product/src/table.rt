@@ -1,4 +1,5 @@
-ghost use Rattle.std.specs.Prelude.{◌≡◌, ◌∷◌, [], ◌++◌, get_or, IfErr, IfOk, IsOkUnless, OnOk};
+ghost use Rattle.std.specs.Prelude.{◌≡◌, ◌∷◌, [], ◌++◌, false, get_or, nat_eq, IfErr, IfOk, IsOkUnless, OnOk};
+ghost use Rattle.std.specs.List.{list_any};
 ghost use Rattle.omega_product.specs.Refusing.{HasUnfitLabel};
 ghost use Rattle.omega_product.specs.private.Tables.{AreEdgesIn, IsTableOf, view_of};
 ghost use Rattle.omega_edge_labels.specs.Fitting.{IsLarge};
@@ -34,6 +35,7 @@ impl Table {
             numbers: IndexSet::new(alloc),
             rows: Vec::new(alloc),
         };
+        automaton.keeps_limits();
         for state in automaton.defined() {
             let row = transitions_of(alloc, state, renumbering)?;
             table.add(state.number, row)?;
@@ -41,16 +43,14 @@ impl Table {
         Ok(table)
     }
 
-    /// Appends the edges of a state. Also fails with [Refusal::Memory] if the table already has a state of that number,
-    /// which can't happen for an automaton.
+    /// Appends the edges of a state, of whose number the table has none yet.
     fn add(&mut self, number: u32, row: Seq<Transition>) -> Result<(), Refusal>
+        requires further { list_any (nat_eq number) self.old.numbers.keys ≡ false }
         ensures numbers { OnOk result (self.new.numbers.keys ≡ self.old.numbers.keys ++ number ∷ []) }
         ensures rows { OnOk result (self.new.rows.items ≡ self.old.rows.items ++ row ∷ []) }
         ensures memory { IsOkUnless result Refusal.Memory }
     {
-        if !self.numbers.insert(number)? {
-            return Err(Refusal::Memory);
-        }
+        self.numbers.insert(number)?;
         self.rows.push(row)?;
         Ok(())
     }

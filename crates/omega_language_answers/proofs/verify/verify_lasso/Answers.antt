@@ -4,7 +4,7 @@ use Rattle.omega_io.specs.declared.refused.Refused.{Refused}
 use Rattle.omega_io.specs.Refused.{IsRefusedOf}
 use Rattle.omega_lasso_judge.specs.Refusing.{RefusesToJudge}
 use Rattle.omega_language_answers.specs.Verify.{RefusesAutomaton, RefusesFileFirst, RefusesLasso}
-use Rattle.omega_language_answers.proofs.Refusals.{of_file}
+use Rattle.omega_language_answers.proofs.Refusals.{file_is_read, of_file}
 use Rattle.omega_language_answers.proofs.verify.verify_lasso.Goals as goal
 
 pub returns-in-Err-clause-refused : goal.returns-in-Err-clause-refused
@@ -12,7 +12,7 @@ returns-in-Err-clause-refused c =
     subst (λ (refused : Refused). IsRefusedOf (RefusesAutomaton c.args.file.items c.args.input.items) (RefusesLasso c.args.file.items c.args.input.items) refused)
     (sym c.of.ensures)
     (of_file (RefusesFileFirst c.args.file.items) (RefusesAutomaton c.args.file.items c.args.input.items) (RefusesLasso c.args.file.items c.args.input.items)
-    (λ refusal is. inl is) c.in-Err.refusal c.in-Err.ensures.refused)
+    (λ refusal is. inl is) (file_is_read c.args.file.items) c.in-Err.refusal c.in-Err.ensures.refused)
 
 pub returns-clause-refused : goal.returns-clause-refused
 returns-clause-refused c =
@@ -28,4 +28,5 @@ returns-clause-refused c =
       read = c.in-Ok-lasso_in.ensures.lasso;
       refused = is;
     }))
+    (λ is. is)
     c.in-Err-verdict_on.refusal c.in-Err-verdict_on.ensures.refused)
