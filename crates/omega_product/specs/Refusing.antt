@@ -10,7 +10,6 @@ use Rattle.omega_text.specs.declared.refusal.task.TaskFault.TheVariants.{BadSolu
 use Rattle.omega_expression.specs.Limits.{most_depth}
 use Rattle.omega_formula.specs.Writing.{acc_written}
 use Rattle.omega_formula.specs.Raw.{raw_acc_depth}
-use Rattle.omega_formula.specs.Acceptance as acc
 use Rattle.omega_label.specs.Label.{conjunction}
 use Rattle.omega_satisfying.specs.Undecided.{IsHardLabel}
 use Rattle.omega_label.specs.Shape.{FitsALabel}

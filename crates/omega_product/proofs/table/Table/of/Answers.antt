@@ -23,5 +23,5 @@ add-requires c =
     let below : c.loop-state.state-index < length c.args.automaton.now.defined = omega (arith, ap length c.defined-state-items.ensures) in
     record {
       further = rw c.loop-state.invariant.numbers_are
-        (number_is_new (λ (state : State). state.number) c.args.automaton.now.defined c.loop-state.state-index c.state-item.result below here c.keeps_limits.ensures.once);
+          (number_is_new (λ (state : State). state.number) c.args.automaton.now.defined c.loop-state.state-index c.state-item.result below here c.keeps_limits.ensures.once);
     }
