@@ -30,3 +30,23 @@ IsSyntax IsNone tokens length fault = ⊥
 -- the refusals of reading, if nothing is read
 abbrev pub IsUnread : (List (Lexeme HoaKind) → Type 0) → List (Lexeme HoaKind) → ℕ → Refusal → Type 0
 IsUnread IsNone tokens length = or_text (IsSyntax IsNone tokens length) (or_memory never)
+
+-- This is the first place at which it is seen that nothing is read: what is before it begins something that is read, and
+-- nothing is read of any tokens that agree with these through the one at this place. At the length of the text, after
+-- the last of them, nothing is read of these.
+pub record IsFirstUnread (IsNone IsBegun : List (Lexeme HoaKind) → Type 0) (tokens : List (Lexeme HoaKind)) (length place : ℕ) : Type 0 where
+  pub before : List (Lexeme HoaKind)
+  pub left : List (Lexeme HoaKind)
+  pub split : tokens ≡ before ++ left
+  pub there : place ≡ next_place left length
+  pub begun : IsBegun before
+  pub unread : (others : List (Lexeme HoaKind)) → AgreeThroughNext left others → IsNone (before ++ others)
+
+-- the fault of a syntax, at the first place at which it is seen
+abbrev pub IsSyntaxAt : (IsNone IsBegun : List (Lexeme HoaKind) → Type 0) → List (Lexeme HoaKind) → ℕ → TextFault → Type 0
+IsSyntaxAt IsNone IsBegun tokens length (Syntax at) = IsFirstUnread IsNone IsBegun tokens length at
+IsSyntaxAt IsNone IsBegun tokens length fault = ⊥
+
+-- the refusals of reading, if nothing is read
+abbrev pub IsUnreadAt : (IsNone IsBegun : List (Lexeme HoaKind) → Type 0) → List (Lexeme HoaKind) → ℕ → Refusal → Type 0
+IsUnreadAt IsNone IsBegun tokens length = or_text (IsSyntaxAt IsNone IsBegun tokens length) (or_memory never)

@@ -2,12 +2,13 @@
 use Rattle.std.proofs.Common.{◌≡◌, ℕ, ◌<◌, Bool, true, false, List, [], ◌∷◌, MatchBool, length, ap, refl, sym, ◌∙◌, subst, arith}
 use Rattle.std.proofs.lemmas.List.{length-append, length-map}
 use Rattle.omega_expression.specs.Symbols.{ExpressionSymbol, number, seen_as, sign, expression_symbol_of}
-use Rattle.omega_formula.specs.private.layout.States.{IsStuck, PassesSet, barred, entered, named, numbered}
+use Rattle.omega_formula.specs.private.layout.States.{BeginsSet, IsStuck, PassesSet, barred, entered, named, numbered}
 use Rattle.omega_expression.specs.Passing.{IsMissing, NextIsNot, Passed, PassesNumber, PassesOne}
+use Rattle.omega_formula.proofs.BeginLemmas.{begun_barred, begun_barred_number, begun_entered, begun_following, begun_numbered, begun_unentered}
 use Rattle.omega_formula.proofs.Unread.{IsStuck-barred, IsStuck-entered, IsStuck-named, IsStuck-numbered, unread_following}
 use Rattle.omega_expression.proofs.PassingLemmas.{passed_then}
-use Rattle.omega_expression.proofs.UnreadLemmas.{not_through, through_next, unread_missing}
-use Rattle.omega_expression.specs.Unread.{IsUnread}
+use Rattle.omega_expression.proofs.UnreadLemmas.{first_missing, first_next, not_through}
+use Rattle.omega_expression.specs.Unread.{IsUnreadAt}
 use Rattle.omega_text.specs.Cursor.{next_place}
 use Rattle.omega_text.specs.Lexeme.{Lexeme}
 use Rattle.omega_text.specs.declared.hoa.kind.HoaKind.{HoaKind}
@@ -19,36 +20,40 @@ abbrev IsBarred : Bool → (one two : List (Lexeme HoaKind)) → Type 0
 IsBarred negated one two = MatchBool negated (PassesOne kind.Not one two) (two ≡ one)
 
 unread_entered : (old one : List (Lexeme HoaKind)) (length : ℕ) (refusal : Refusal) → PassesOne kind.OpenParenthesis old one
-    → IsUnread (IsStuck entered) one length refusal → IsUnread (IsStuck named) old length refusal
+    → IsUnreadAt (IsStuck entered) (BeginsSet (sign kind.OpenParenthesis ∷ [])) one length refusal → IsUnreadAt (IsStuck named) (BeginsSet []) old length refusal
 unread_entered old one length refusal passes =
-    unread_following old one passes.lexeme (sign kind.OpenParenthesis) named entered length refusal passes.next
-    (ap (λ k. seen_as k passes.lexeme.value passes.lexeme.text) passes.is) (λ count. refl)
+    let is = ap (λ k. seen_as k passes.lexeme.value passes.lexeme.text) passes.is in
+    unread_following (BeginsSet []) (BeginsSet (sign kind.OpenParenthesis ∷ [])) old one passes.lexeme (sign kind.OpenParenthesis) named entered length refusal passes.next is (λ count. refl)
+    (λ front. begun_following [] (sign kind.OpenParenthesis) passes.lexeme front is)
 
 unread_barred : (one two : List (Lexeme HoaKind)) (length : ℕ) (refusal : Refusal) → PassesOne kind.Not one two
-    → IsUnread (IsStuck barred) two length refusal → IsUnread (IsStuck entered) one length refusal
+    → IsUnreadAt (IsStuck barred) (BeginsSet (sign kind.OpenParenthesis ∷ sign kind.Not ∷ [])) two length refusal
+    → IsUnreadAt (IsStuck entered) (BeginsSet (sign kind.OpenParenthesis ∷ [])) one length refusal
 unread_barred one two length refusal bar =
-    unread_following one two bar.lexeme (sign kind.Not) entered barred length refusal bar.next
-    (ap (λ k. seen_as k bar.lexeme.value bar.lexeme.text) bar.is) (λ count. refl)
+    let is = ap (λ k. seen_as k bar.lexeme.value bar.lexeme.text) bar.is in
+    unread_following (BeginsSet (sign kind.OpenParenthesis ∷ [])) (BeginsSet (sign kind.OpenParenthesis ∷ sign kind.Not ∷ [])) one two bar.lexeme (sign kind.Not) entered barred length refusal bar.next is (λ count. refl)
+    (λ front. begun_following (sign kind.OpenParenthesis ∷ []) (sign kind.Not) bar.lexeme front is)
 
 -- neither `!` nor a set follows `(`
 neither_unread : (one : List (Lexeme HoaKind)) (length : ℕ) (refusal : Refusal) → NextIsNot kind.Not one → IsMissing kind.Int one length refusal
-    → IsUnread (IsStuck entered) one length refusal
+    → IsUnreadAt (IsStuck entered) (BeginsSet (sign kind.OpenParenthesis ∷ [])) one length refusal
 neither_unread one length refusal other missing =
-    subst (IsUnread (IsStuck entered) one length) (sym missing.is)
-    (through_next (IsStuck entered) one [] one length (next_place one length) refl refl
+    subst (IsUnreadAt (IsStuck entered) (BeginsSet (sign kind.OpenParenthesis ∷ [])) one length) (sym missing.is)
+    (first_next (IsStuck entered) (BeginsSet (sign kind.OpenParenthesis ∷ [])) one [] one length (next_place one length) refl refl begun_entered
     (λ others agree. IsStuck-entered others (not_through kind.Not one others agree other) (not_through kind.Int one others agree missing.missing)))
 
 -- no `(` follows the name of an atom
-pub unentered_unread : (old : List (Lexeme HoaKind)) (length : ℕ) (refusal : Refusal) → IsMissing kind.OpenParenthesis old length refusal → IsUnread (IsStuck named) old length refusal
-unentered_unread old length refusal missing = unread_missing (IsStuck named) kind.OpenParenthesis old length refusal IsStuck-named missing
+pub unentered_unread : (old : List (Lexeme HoaKind)) (length : ℕ) (refusal : Refusal) → IsMissing kind.OpenParenthesis old length refusal → IsUnreadAt (IsStuck named) (BeginsSet []) old length refusal
+unentered_unread old length refusal missing = first_missing (IsStuck named) (BeginsSet []) kind.OpenParenthesis old length refusal begun_unentered IsStuck-named missing
 
 -- neither `!` nor a set follows `(`, or no set follows `!`
 pub unset_unread : (old one two : List (Lexeme HoaKind)) (negated : Bool) (length : ℕ) (refusal : Refusal)
     → PassesOne kind.OpenParenthesis old one → IsBarred negated one two → MatchBool negated (Unit {0}) (NextIsNot kind.Not one)
-    → IsMissing kind.Int two length refusal → IsUnread (IsStuck named) old length refusal
+    → IsMissing kind.Int two length refusal → IsUnreadAt (IsStuck named) (BeginsSet []) old length refusal
 unset_unread old one two true length refusal passes bar other missing =
     unread_entered old one length refusal passes
-    (unread_barred one two length refusal bar (unread_missing (IsStuck barred) kind.Int two length refusal IsStuck-barred missing))
+    (unread_barred one two length refusal bar
+    (first_missing (IsStuck barred) (BeginsSet (sign kind.OpenParenthesis ∷ sign kind.Not ∷ [])) kind.Int two length refusal begun_barred IsStuck-barred missing))
 unset_unread old one two false length refusal passes bar other missing =
     unread_entered old one length refusal passes
     (neither_unread one length refusal other (subst (λ tokens. IsMissing kind.Int tokens length refusal) bar missing))
@@ -56,18 +61,24 @@ unset_unread old one two false length refusal passes bar other missing =
 -- no `)` follows the set
 pub unclosed_unread : (old one two three : List (Lexeme HoaKind)) (negated : Bool) (set length : ℕ) (refusal : Refusal)
     → PassesOne kind.OpenParenthesis old one → IsBarred negated one two → PassesNumber set two three
-    → IsMissing kind.CloseParenthesis three length refusal → IsUnread (IsStuck named) old length refusal
+    → IsMissing kind.CloseParenthesis three length refusal → IsUnreadAt (IsStuck named) (BeginsSet []) old length refusal
 unclosed_unread old one two three true set length refusal passes bar counts missing =
+    let value = counts.lexeme.value in
+    let is = ap (λ k. seen_as k value counts.lexeme.text) counts.is in
+    let begun = BeginsSet (sign kind.OpenParenthesis ∷ sign kind.Not ∷ number value ∷ []) in
     unread_entered old one length refusal passes
     (unread_barred one two length refusal bar
-    (unread_following two three counts.lexeme (number counts.lexeme.value) barred numbered length refusal counts.next
-    (ap (λ k. seen_as k counts.lexeme.value counts.lexeme.text) counts.is) (λ count. refl)
-    (unread_missing (IsStuck numbered) kind.CloseParenthesis three length refusal IsStuck-numbered missing)))
+    (unread_following (BeginsSet (sign kind.OpenParenthesis ∷ sign kind.Not ∷ [])) begun two three counts.lexeme (number value) barred numbered length refusal counts.next is (λ count. refl)
+    (λ front. begun_following (sign kind.OpenParenthesis ∷ sign kind.Not ∷ []) (number value) counts.lexeme front is)
+    (first_missing (IsStuck numbered) begun kind.CloseParenthesis three length refusal (begun_barred_number value) IsStuck-numbered missing)))
 unclosed_unread old one two three false set length refusal passes bar counts missing =
+    let value = counts.lexeme.value in
+    let is = ap (λ k. seen_as k value counts.lexeme.text) counts.is in
+    let begun = BeginsSet (sign kind.OpenParenthesis ∷ number value ∷ []) in
     unread_entered old one length refusal passes
-    (unread_following one three counts.lexeme (number counts.lexeme.value) entered numbered length refusal (sym bar ∙ counts.next)
-    (ap (λ k. seen_as k counts.lexeme.value counts.lexeme.text) counts.is) (λ count. refl)
-    (unread_missing (IsStuck numbered) kind.CloseParenthesis three length refusal IsStuck-numbered missing))
+    (unread_following (BeginsSet (sign kind.OpenParenthesis ∷ [])) begun one three counts.lexeme (number value) entered numbered length refusal (sym bar ∙ counts.next) is (λ count. refl)
+    (λ front. begun_following (sign kind.OpenParenthesis ∷ []) (number value) counts.lexeme front is)
+    (first_missing (IsStuck numbered) begun kind.CloseParenthesis three length refusal (begun_numbered value) IsStuck-numbered missing))
 
 -- a sign is passed
 sign_passed : (old new : List (Lexeme HoaKind)) (lexeme : Lexeme HoaKind) (symbol : ExpressionSymbol)

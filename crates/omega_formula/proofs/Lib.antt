@@ -1,6 +1,7 @@
 -- Lemmas on acceptance formulas: building, meaning, kinds, comparing, and their texts.
 pub mod AccLemmas
 pub mod AtomLemmas
+pub mod BeginLemmas
 pub mod BelowLemmas
 pub mod ChainLemmas
 pub mod Equality

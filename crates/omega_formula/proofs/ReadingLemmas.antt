@@ -13,6 +13,7 @@ use Rattle.omega_expression.specs.Passing.{NextIsNot, Passed, PassesOne}
 use Rattle.omega_formula.specs.private.layout.Raw.{atom_names, raw_acc_postfix}
 use Rattle.omega_expression.proofs.PassingLemmas.{enclosed_list, end_others, followed_lists, joined_lists, passed_next, passed_same, passed_then}
 use Rattle.omega_expression.proofs.PendingLemmas.{IsBar, IsConjunct, IsDisjunct, IsFree, IsLoose, IsNothing, IsParenthesis, below, free_open, kept, top}
+use Rattle.omega_formula.proofs.BeginLemmas.{conjunctive_is, fits_unary, unary_is}
 use Rattle.omega_text.specs.Lexeme.{Lexeme}
 use Rattle.omega_text.specs.declared.hoa.kind.HoaKind.{HoaKind}
 use Rattle.omega_text.specs.declared.hoa.kind.HoaKind.TheVariants as kind
@@ -60,13 +61,6 @@ leaf_capped (atom name negated set) leaf = refl
 leaf_capped (conjunction left right) leaf = absurd leaf
 leaf_capped (disjunction left right) leaf = absurd leaf
 leaf_capped (group part) leaf = absurd leaf
-
--- a unary part may stand anywhere
-fits_unary : (before : Before) → FitsAfter unary before
-fits_unary start = tt
-fits_unary (opened before) = tt
-fits_unary (anded before left) = tt
-fits_unary (ored before left) = tt
 
 -- a constant or an atom is passed
 pub has_leaf : (whole middle left : List (Lexeme HoaKind)) (lexeme : Lexeme HoaKind) (nodes : List RawAccNode) (names : List ℕ) (pending : List Pending)
@@ -148,21 +142,6 @@ pub has_disjoined : (whole left : List (Lexeme HoaKind)) (depth other deeper : �
 has_disjoined whole left depth other deeper nodes all names pending rest waits ended more has =
     subst (λ final. Has disjunctive whole left deeper final names rest) (sym ended)
     (disjoined_before has.before whole left depth other deeper nodes names rest has.part has.is has.sound has.deep more has.flat has.named (sym waits ∙ has.pends) has.passed)
-
--- a unary part is an and-expression, and an and-expression an or-expression
-unary_is : (tree : RawAccTree) (rank : Rank) → IsAccOf unary tree → IsAccOf rank tree
-unary_is (constant value) rank is = tt
-unary_is (atom name negated set) rank is = tt
-unary_is (group part) rank is = is
-unary_is (conjunction left right) rank is = absurd is.0
-unary_is (disjunction left right) rank is = absurd is.0
-
-conjunctive_is : (tree : RawAccTree) → IsAccOf conjunctive tree → IsAccOf disjunctive tree
-conjunctive_is (constant value) is = tt
-conjunctive_is (atom name negated set) is = tt
-conjunctive_is (group part) is = is
-conjunctive_is (conjunction left right) is = is
-conjunctive_is (disjunction left right) is = absurd is.0
 
 fits_loose : (before : Before) → IsLoose (before_pending before) → FitsAfter conjunctive before
 fits_loose start loose = tt

@@ -1,20 +1,21 @@
 -- Where no acceptance formula is read.
 use Rattle.std.proofs.Common.{◌≡◌, ℕ, suc, true, false, List, [], ◌∷◌, ◌++◌, map, ap, refl, sym, ◌∙◌, subst}
 use Rattle.std.proofs.lemmas.List.{map-append}
-use Rattle.omega_formula.specs.Reading.{ReadsAcc, ReadsNoAcc, formula_symbols}
+use Rattle.omega_formula.specs.Reading.{BeginsAcc, ReadsAcc, ReadsNoAcc, formula_symbols}
 use Rattle.omega_formula.specs.Raw.{RawAccTree, atom, conjunction, constant, disjunction, group}
 use Rattle.omega_expression.specs.Symbols.{EndsThere, IsNoOperator, ExpressionSymbol, disjunctive, seen_as, sign, expression_symbol_of, word}
 use Rattle.omega_expression.specs.declared.pending.Pending.{Pending}
 use Rattle.omega_expression.specs.declared.pending.Pending.TheVariants.{Open}
 use Rattle.omega_formula.specs.declared.raw.RawAccNode.{RawAccNode}
 use Rattle.omega_formula.specs.private.layout.Building.{Before, Has, Wants, anded, before_pending, before_symbols, opened, ored, start}
-use Rattle.omega_formula.specs.private.layout.States.{IsStuck, IsThrough, NameState, barred, ended, entered, failed, go, had, named, numbered, run, wanted}
+use Rattle.omega_formula.specs.private.layout.States.{BeginsSet, IsStuck, IsThrough, NameState, barred, ended, entered, failed, go, had, named, numbered, run, wanted}
 use Rattle.omega_expression.specs.Passing.{NextIsNot, Passed}
+use Rattle.omega_formula.proofs.BeginLemmas.{begun_had, begun_named, begun_wanted, opens}
 use Rattle.omega_formula.proofs.ReadingLemmas.{has_is_free}
 use Rattle.omega_expression.proofs.PassingLemmas.{GoOnNone, GoesOnNone, go_on_others}
 use Rattle.omega_expression.proofs.PendingLemmas.{IsFree, IsParenthesis, free_open, top}
-use Rattle.omega_expression.proofs.UnreadLemmas.{through_next, unread_after}
-use Rattle.omega_expression.specs.Unread.{AgreeThroughNext, IsUnread, IsUnreadThrough}
+use Rattle.omega_expression.proofs.UnreadLemmas.{first_after, first_next}
+use Rattle.omega_expression.specs.Unread.{AgreeThroughNext, IsFirstUnread, IsUnreadAt}
 use Rattle.omega_text.specs.Cursor.{next_place}
 use Rattle.omega_text.specs.Lexeme.{Lexeme}
 use Rattle.omega_text.specs.declared.hoa.kind.HoaKind.{HoaKind}
@@ -48,13 +49,6 @@ run-formula count (disjunction left right) =
 run-formula count (group part) =
     run-append (wanted (suc count)) (formula_symbols part) (sign kind.CloseParenthesis ∷ [])
     ∙ ap (λ state. run state (sign kind.CloseParenthesis ∷ [])) (run-formula (suc count) part)
-
--- how many parentheses are open
-abbrev opens : Before → ℕ
-opens start = 0
-opens (opened before) = suc (opens before)
-opens (anded before left) = opens before
-opens (ored before left) = opens before
 
 run-before : (before : Before) → run (wanted 0) (before_symbols before) ≡ wanted (opens before)
 run-before start = refl
@@ -159,9 +153,10 @@ begin_through (lexeme ∷ rest) others agree none = subst BeginNone (sym agree.1
 
 -- where a part is wanted and none begins, nothing is read through the next token
 pub none_wanted : (whole left : List (Lexeme HoaKind)) (nodes : List RawAccNode) (names : List ℕ) (pending : List Pending) (length place : ℕ)
-    → place ≡ next_place left length → Wants whole left nodes names pending → BeginNone left → IsUnreadThrough ReadsNoAcc whole length place
+    → place ≡ next_place left length → Wants whole left nodes names pending → BeginNone left → IsFirstUnread ReadsNoAcc BeginsAcc whole length place
 none_wanted whole left nodes names pending length place there wants none =
-    through_next ReadsNoAcc whole wants.passed.front left length place wants.passed.split there
+    first_next ReadsNoAcc BeginsAcc whole wants.passed.front left length place wants.passed.split there
+    (begun_wanted wants.before wants.passed.front wants.sound wants.passed.spells)
     (λ others agree. stuck_wanted (wants.passed.front ++ others) others nodes names pending (wants_before whole left others nodes names pending wants)
     (λ count. not-through-wanted others count (begin_through left others agree none)))
 
@@ -185,9 +180,10 @@ go_through (lexeme ∷ rest) others agree none = subst GoOnNone (sym agree.1) no
 
 -- where a parenthesis is open and neither an operator nor `)` follows, nothing is read through the next token
 none_closed : (whole left : List (Lexeme HoaKind)) (depth : ℕ) (nodes : List RawAccNode) (names : List ℕ) (rest : List Pending) (length place : ℕ)
-    → place ≡ next_place left length → Has disjunctive whole left depth nodes names (Open ∷ rest) → GoOnNone left → IsUnreadThrough ReadsNoAcc whole length place
+    → place ≡ next_place left length → Has disjunctive whole left depth nodes names (Open ∷ rest) → GoOnNone left → IsFirstUnread ReadsNoAcc BeginsAcc whole length place
 none_closed whole left depth nodes names rest length place there has none =
-    through_next ReadsNoAcc whole has.passed.front left length place has.passed.split there
+    first_next ReadsNoAcc BeginsAcc whole has.passed.front left length place has.passed.split there
+    (begun_had has.before disjunctive has.part has.passed.front has.is has.fits has.sound has.passed.spells)
     (λ others agree. unclosed_before has.before (has.passed.front ++ others) others rest has.part has.pends
     (record { front = has.passed.front; split = refl; spells = has.passed.spells }) (go_through left others agree none))
 
@@ -202,7 +198,7 @@ begins_others other a b c d = tt
 -- a parenthesis waits, and nothing that goes on follows
 pub unclosed_none : (whole old same left final : List (Lexeme HoaKind)) (depth : ℕ) (nodes : List RawAccNode) (names : List ℕ) (pending : List Pending) (first : Pending) (rest : List Pending) (length long place : ℕ)
     → same ≡ old → NextIsNot kind.And old → left ≡ same → NextIsNot kind.Or same → final ≡ left → NextIsNot kind.CloseParenthesis left → pending ≡ first ∷ rest
-    → long ≡ length → place ≡ next_place final long → Has disjunctive whole old depth nodes names pending → IsUnreadThrough ReadsNoAcc whole length place
+    → long ≡ length → place ≡ next_place final long → Has disjunctive whole old depth nodes names pending → IsFirstUnread ReadsNoAcc BeginsAcc whole length place
 unclosed_none whole old same left final depth nodes names pending first rest length long place stays not_and rests not_or ends not_close waits text there has =
     let free = subst IsFree waits (has_is_free whole old depth nodes names pending has) in
     none_closed whole old depth nodes names rest length place
@@ -265,19 +261,22 @@ IsStuck-following lexeme others symbol before following is goes stuck count thro
     stuck count
     (subst IsThrough (ap (λ one. run (go (before count) one) (map expression_symbol_of others)) is ∙ ap (λ state. run state (map expression_symbol_of others)) (goes count)) through)
 
--- and through the same place
-pub unread_following : (old new : List (Lexeme HoaKind)) (lexeme : Lexeme HoaKind) (symbol : ExpressionSymbol) (before following : ℕ → NameState) (length : ℕ) (refusal : Refusal)
+-- and it is first seen at the same place
+pub unread_following : (IsBegun IsMoreBegun : List (Lexeme HoaKind) → Type 0) (old new : List (Lexeme HoaKind)) (lexeme : Lexeme HoaKind) (symbol : ExpressionSymbol) (before following : ℕ → NameState) (length : ℕ) (refusal : Refusal)
     → old ≡ lexeme ∷ new → expression_symbol_of lexeme ≡ symbol → ((count : ℕ) → go (before count) symbol ≡ following count)
-    → IsUnread (IsStuck following) new length refusal → IsUnread (IsStuck before) old length refusal
-unread_following old new lexeme symbol before following length refusal next is goes unread =
-    unread_after (IsStuck before) (IsStuck following) old (lexeme ∷ []) new length refusal next
-    (λ others. IsStuck-following lexeme others symbol before following is goes) unread
+    → ((front : List (Lexeme HoaKind)) → IsMoreBegun front → IsBegun (lexeme ∷ front))
+    → IsUnreadAt (IsStuck following) IsMoreBegun new length refusal → IsUnreadAt (IsStuck before) IsBegun old length refusal
+unread_following IsBegun IsMoreBegun old new lexeme symbol before following length refusal next is goes begins unread =
+    first_after (IsStuck before) (IsStuck following) IsBegun IsMoreBegun old (lexeme ∷ []) new length refusal next
+    (λ others. IsStuck-following lexeme others symbol before following is goes) begins unread
 
 -- where the name of an atom is passed and no set in parentheses follows, nothing is read
 pub unread_named : (whole old left : List (Lexeme HoaKind)) (lexeme : Lexeme HoaKind) (text : List ℕ) (nodes : List RawAccNode) (names : List ℕ) (pending : List Pending) (length : ℕ) (refusal : Refusal)
     → Wants whole old nodes names pending → old ≡ lexeme ∷ left → expression_symbol_of lexeme ≡ word text
-    → IsUnread (IsStuck named) left length refusal → IsUnread ReadsNoAcc whole length refusal
+    → IsUnreadAt (IsStuck named) (BeginsSet []) left length refusal → IsUnreadAt ReadsNoAcc BeginsAcc whole length refusal
 unread_named whole old left lexeme text nodes names pending length refusal wants next is unread =
-    unread_after ReadsNoAcc (IsStuck wanted) whole wants.passed.front old length refusal wants.passed.split
+    first_after ReadsNoAcc (IsStuck wanted) BeginsAcc (λ before. BeginsAcc (wants.passed.front ++ before)) whole wants.passed.front old length refusal wants.passed.split
     (λ others. stuck_wanted (wants.passed.front ++ others) others nodes names pending (wants_before whole old others nodes names pending wants))
-    (unread_following old left lexeme (word text) wanted named length refusal next is (λ count. refl) unread)
+    (λ before begun. begun)
+    (unread_following (λ before. BeginsAcc (wants.passed.front ++ before)) (BeginsSet []) old left lexeme (word text) wanted named length refusal next is (λ count. refl)
+    (λ front. begun_named wants.before wants.passed.front front lexeme text wants.sound wants.passed.spells is) unread)

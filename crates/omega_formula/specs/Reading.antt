@@ -46,6 +46,10 @@ pub record ReadsAcc (tokens : List (Lexeme HoaKind)) (tree : RawAccTree) (rest :
 abbrev pub ReadsNoAcc : List (Lexeme HoaKind) → Type 0
 ReadsNoAcc tokens = (tree : RawAccTree) (rest : List (Lexeme HoaKind)) → ReadsAcc tokens tree rest → ⊥
 
+-- a formula begins with the tokens: they and some more are one
+abbrev pub BeginsAcc : List (Lexeme HoaKind) → Type 0
+BeginsAcc tokens = (more : List (Lexeme HoaKind)) × (tree : RawAccTree) × ReadsAcc (tokens ++ more) tree []
+
 -- of all tokens at most one formula is read, and at most one rest is left
 abbrev pub FormulasAreOne : Type 0
 FormulasAreOne = (tokens : List (Lexeme HoaKind)) (one other : RawAccTree) (rest left : List (Lexeme HoaKind))

@@ -1,12 +1,12 @@
 //! Acceptance formulas read from tokens.
 
-ghost use Rattle.std.specs.Prelude.{◌≡◌, ◌<◌, List, length, IfErr, IfOk, MatchBool, OnOk};
+ghost use Rattle.std.specs.Prelude.{◌≡◌, ◌<◌, [], List, length, IfErr, IfOk, MatchBool, OnOk};
 ghost use Rattle.omega_formula.specs.Meaning.{IsUnreadAcc, ReadsMeant};
-ghost use Rattle.omega_formula.specs.Reading.{ReadsAcc, ReadsNoAcc};
+ghost use Rattle.omega_formula.specs.Reading.{BeginsAcc, ReadsAcc, ReadsNoAcc};
 ghost use Rattle.omega_expression.specs.Symbols.{conjunctive, unary};
-ghost use Rattle.omega_expression.specs.Unread.{IsUnread};
+ghost use Rattle.omega_expression.specs.Unread.{IsUnreadAt};
 ghost use Rattle.omega_formula.specs.private.layout.Building.{HasIn, IsWhole, WantsIn};
-ghost use Rattle.omega_formula.specs.private.layout.States.{IsStuck, PassesSet, named};
+ghost use Rattle.omega_formula.specs.private.layout.States.{BeginsSet, IsStuck, PassesSet, named};
 ghost use Rattle.omega_text.specs.Lexeme.{Lexeme};
 ghost use Rattle.omega_text.specs.declared.hoa.kind.HoaKind.{HoaKind as Kind};
 
@@ -21,14 +21,13 @@ use std::alloc::Global;
 /// and has neither `&` nor `|` after it. Linear time, without recursion.
 ///
 /// Refused with [TextFault::Syntax] if there is none, at the first token with which no formula goes on, else at the
-/// length of the text. It is proved that no formula begins with the tokens through that place; that it is the first
-/// such place is tested.
+/// length of the text.
 pub fn read_raw_acc<'a, S: TokenSource<'a, HoaKind>>(
     alloc: Global,
     source: &mut S,
 ) -> Result<RawAcc, Refusal>
     ensures ok { IfOk result (λ formula. ReadsAcc (S.left source.old) formula (S.left source.new)) }
-    ensures err { IfErr result (IsUnread ReadsNoAcc (S.left source.old) (S.length source.old)) }
+    ensures err { IfErr result (IsUnreadAt ReadsNoAcc BeginsAcc (S.left source.old) (S.length source.old)) }
     ensures length { S.length source.new ≡ S.length source.old }
 {
     let mut unfinished = UnfinishedAcc::new(alloc);
@@ -62,7 +61,8 @@ fn operand<'a, S: TokenSource<'a, HoaKind>>(
     ensures ok { OnOk result ((whole : List (Lexeme Kind)) → WantsIn whole (S.left source.old) unfinished.old →
         HasIn conjunctive whole (S.left source.new) unfinished.new) }
     ensures err { IfErr result (λ refusal. (whole : List (Lexeme Kind)) →
-        WantsIn whole (S.left source.old) unfinished.old → IsUnread ReadsNoAcc whole (S.length source.old) refusal) }
+        WantsIn whole (S.left source.old) unfinished.old
+        → IsUnreadAt ReadsNoAcc BeginsAcc whole (S.length source.old) refusal) }
     ensures less { OnOk result (length (S.left source.new) < length (S.left source.old)) }
     ensures length { S.length source.new ≡ S.length source.old }
 {
@@ -79,7 +79,8 @@ fn read_prefix<'a, S: TokenSource<'a, HoaKind>>(
         → MatchBool more (WantsIn whole (S.left source.new) unfinished.new)
         (HasIn unary whole (S.left source.new) unfinished.new)) }
     ensures err { IfErr result (λ refusal. (whole : List (Lexeme Kind)) →
-        WantsIn whole (S.left source.old) unfinished.old → IsUnread ReadsNoAcc whole (S.length source.old) refusal) }
+        WantsIn whole (S.left source.old) unfinished.old
+        → IsUnreadAt ReadsNoAcc BeginsAcc whole (S.length source.old) refusal) }
     ensures less { OnOk result (length (S.left source.new) < length (S.left source.old)) }
     ensures length { S.length source.new ≡ S.length source.old }
 {
@@ -119,7 +120,7 @@ fn read_infix<'a, S: TokenSource<'a, HoaKind>>(
         (IsWhole whole (S.left source.new) unfinished.new)) }
     ensures err { IfErr result (λ refusal. (whole : List (Lexeme Kind)) →
         HasIn conjunctive whole (S.left source.old) unfinished.old
-        → IsUnread ReadsNoAcc whole (S.length source.old) refusal) }
+        → IsUnreadAt ReadsNoAcc BeginsAcc whole (S.length source.old) refusal) }
     ensures less { IfOk result (λ more. MatchBool more (length (S.left source.new) < length (S.left source.old))
         (Unit {0})) }
     ensures length { S.length source.new ≡ S.length source.old }
@@ -151,7 +152,7 @@ fn read_infix<'a, S: TokenSource<'a, HoaKind>>(
 /// Passes the set of an atom in parentheses. Returns whether `!` precedes it, and the set.
 fn set<'a, S: TokenSource<'a, HoaKind>>(source: &mut S) -> Result<(bool, u32), Refusal>
     ensures ok { IfOk result (λ set. PassesSet set.0 set.1 (S.left source.old) (S.left source.new)) }
-    ensures err { IfErr result (IsUnread (IsStuck named) (S.left source.old) (S.length source.old)) }
+    ensures err { IfErr result (IsUnreadAt (IsStuck named) (BeginsSet []) (S.left source.old) (S.length source.old)) }
     ensures less { OnOk result (length (S.left source.new) < length (S.left source.old)) }
     ensures length { S.length source.new ≡ S.length source.old }
 {

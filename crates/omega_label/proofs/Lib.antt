@@ -1,6 +1,7 @@
 -- Lemmas on labels: building, aliases, expanding, comparing, and their texts.
 pub mod AliasLemmas
 pub mod BareLemmas
+pub mod BeginLemmas
 pub mod BelowLemmas
 pub mod CodeLemmas
 pub mod EmitLemmas

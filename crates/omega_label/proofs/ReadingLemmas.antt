@@ -3,7 +3,7 @@ use Rattle.std.proofs.Common.{◌≡◌, ℕ, ◌+◌, zero, suc, Bool, true, fa
 use Rattle.std.proofs.lemmas.List.{map-append}
 use Rattle.omega_expression.specs.Limits.{past_depth}
 use Rattle.omega_label.specs.Raw.{RawLabelTree, alias, conjunction, constant, disjunction, group, negation, proposition}
-use Rattle.omega_label.specs.Reading.{IsOf, Reads, ReadsNoLabel, label_symbols}
+use Rattle.omega_label.specs.Reading.{BeginsLabel, IsOf, Reads, ReadsNoLabel, label_symbols}
 use Rattle.omega_expression.specs.Symbols.{EndsThere, IsNoOperator, Rank, ExpressionSymbol, conjunctive, disjunctive, name, number, seen_as, sign, expression_symbol_of, truth_kind, unary}
 use Rattle.omega_expression.specs.declared.pending.Pending.{Pending}
 use Rattle.omega_expression.specs.declared.pending.Pending.TheVariants.{And, Not, Open, Or}
@@ -14,8 +14,9 @@ use Rattle.omega_expression.specs.Passing.{NextIsNot, Passed, PassesNumber, Pass
 use Rattle.omega_label.specs.private.layout.Raw.{alias_names, raw_postfix}
 use Rattle.omega_expression.proofs.PassingLemmas.{GoOnNone, GoesOnNone, enclosed_list, end_others, followed_lists, go_on_others, joined_lists, passed_next, passed_same}
 use Rattle.omega_expression.proofs.PendingLemmas.{IsBar, IsConjunct, IsDisjunct, IsFree, IsLoose, IsNothing, IsParenthesis, below, free_open, kept, top}
-use Rattle.omega_expression.proofs.UnreadLemmas.{through_next}
-use Rattle.omega_expression.specs.Unread.{AgreeThroughNext, IsUnreadThrough}
+use Rattle.omega_expression.proofs.UnreadLemmas.{first_next}
+use Rattle.omega_expression.specs.Unread.{AgreeThroughNext, IsFirstUnread}
+use Rattle.omega_label.proofs.BeginLemmas.{begun_had, begun_wanted, conjunctive_is, fits_unary, opens, unary_is}
 use Rattle.omega_text.specs.Cursor.{next_place}
 use Rattle.omega_text.specs.Lexeme.{Lexeme}
 use Rattle.omega_text.specs.declared.hoa.kind.HoaKind.{HoaKind}
@@ -83,14 +84,6 @@ atom_capped : (tree : RawLabelTree) (symbol : ExpressionSymbol) → IsAtom tree 
 atom_capped tree symbol (truth value) = refl
 atom_capped tree symbol (numbered value) = refl
 atom_capped tree symbol (called text) = refl
-
--- a unary part may stand anywhere
-fits_unary : (before : Before) → FitsAfter unary before
-fits_unary start = tt
-fits_unary (opened before) = tt
-fits_unary (denied before) = tt
-fits_unary (anded before left) = tt
-fits_unary (ored before left) = tt
 
 -- an atom is passed
 pub has_atom : (whole old left : List (Lexeme HoaKind)) (lexeme : Lexeme HoaKind) (nodes : List LabelNode) (names : List ℕ) (pending : List Pending)
@@ -201,25 +194,6 @@ pub has_disjoined : (whole left : List (Lexeme HoaKind)) (depth other deeper : �
 has_disjoined whole left depth other deeper nodes all names pending rest waits ended more has =
     subst (λ final. Has disjunctive whole left deeper final names rest) (sym ended)
     (disjoined_before has.before whole left depth other deeper nodes names rest has.part has.is has.sound has.deep more has.flat has.named (sym waits ∙ has.pends) has.passed)
-
--- a unary part is an and-expression, and an and-expression an or-expression
-unary_is : (tree : RawLabelTree) (rank : Rank) → IsOf unary tree → IsOf rank tree
-unary_is (constant value) rank is = tt
-unary_is (proposition value) rank is = tt
-unary_is (alias text) rank is = tt
-unary_is (negation part) rank is = is
-unary_is (group part) rank is = is
-unary_is (conjunction left right) rank is = absurd is.0
-unary_is (disjunction left right) rank is = absurd is.0
-
-conjunctive_is : (tree : RawLabelTree) → IsOf conjunctive tree → IsOf disjunctive tree
-conjunctive_is (constant value) is = tt
-conjunctive_is (proposition value) is = tt
-conjunctive_is (alias text) is = tt
-conjunctive_is (negation part) is = is
-conjunctive_is (group part) is = is
-conjunctive_is (conjunction left right) is = is
-conjunctive_is (disjunction left right) is = absurd is.0
 
 fits_loose : (before : Before) → IsLoose (before_pending before) → FitsAfter conjunctive before
 fits_loose start loose = tt
@@ -432,14 +406,6 @@ run-label count (group part) =
     run-append (wanted (suc count)) (label_symbols part) (sign kind.CloseParenthesis ∷ [])
     ∙ ap (λ state. run state (sign kind.CloseParenthesis ∷ [])) (run-label (suc count) part)
 
--- how many parentheses are open
-abbrev opens : Before → ℕ
-opens start = 0
-opens (opened before) = suc (opens before)
-opens (denied before) = opens before
-opens (anded before left) = opens before
-opens (ored before left) = opens before
-
 run-before : (before : Before) → run (wanted 0) (before_symbols before) ≡ wanted (opens before)
 run-before start = refl
 run-before (opened before) =
@@ -556,9 +522,10 @@ begin_through (lexeme ∷ rest) others agree none = subst BeginNone (sym agree.1
 
 -- and it is seen at the next token
 pub none_wanted : (whole left : List (Lexeme HoaKind)) (nodes : List LabelNode) (names : List ℕ) (pending : List Pending) (length place : ℕ)
-    → place ≡ next_place left length → Wants whole left nodes names pending → BeginNone left → IsUnreadThrough ReadsNoLabel whole length place
+    → place ≡ next_place left length → Wants whole left nodes names pending → BeginNone left → IsFirstUnread ReadsNoLabel BeginsLabel whole length place
 none_wanted whole left nodes names pending length place there wants none =
-    through_next ReadsNoLabel whole wants.passed.front left length place wants.passed.split there
+    first_next ReadsNoLabel BeginsLabel whole wants.passed.front left length place wants.passed.split there
+    (begun_wanted wants.before wants.passed.front wants.sound wants.passed.spells)
     (λ others agree. nothing_wanted (wants.passed.front ++ others) others nodes names pending (wants_before whole left others nodes names pending wants) (begin_through left others agree none))
 
 unclosed_before : (before : Before) (whole left : List (Lexeme HoaKind)) (rest : List Pending) (part : RawLabelTree)
@@ -582,9 +549,10 @@ go_through (lexeme ∷ rest) others agree none = subst GoOnNone (sym agree.1) no
 
 -- where a parenthesis is open and neither an operator nor `)` follows, nothing is read through the next token
 none_closed : (whole left : List (Lexeme HoaKind)) (depth : ℕ) (nodes : List LabelNode) (names : List ℕ) (rest : List Pending) (length place : ℕ)
-    → place ≡ next_place left length → Has disjunctive whole left depth nodes names (Open ∷ rest) → GoOnNone left → IsUnreadThrough ReadsNoLabel whole length place
+    → place ≡ next_place left length → Has disjunctive whole left depth nodes names (Open ∷ rest) → GoOnNone left → IsFirstUnread ReadsNoLabel BeginsLabel whole length place
 none_closed whole left depth nodes names rest length place there has none =
-    through_next ReadsNoLabel whole has.passed.front left length place has.passed.split there
+    first_next ReadsNoLabel BeginsLabel whole has.passed.front left length place has.passed.split there
+    (begun_had has.before disjunctive has.part has.passed.front has.is has.fits has.sound has.passed.spells)
     (λ others agree. unclosed_before has.before (has.passed.front ++ others) others rest has.part has.pends
     (record { front = has.passed.front; split = refl; spells = has.passed.spells }) (go_through left others agree none))
 
@@ -625,7 +593,7 @@ whole_read whole old same left depth nodes names pending stays not_and rests not
 -- a parenthesis waits, and nothing that goes on follows
 pub unclosed_none : (whole old same left final : List (Lexeme HoaKind)) (depth : ℕ) (nodes : List LabelNode) (names : List ℕ) (pending : List Pending) (first : Pending) (rest : List Pending) (length long place : ℕ)
     → same ≡ old → NextIsNot kind.And old → left ≡ same → NextIsNot kind.Or same → final ≡ left → NextIsNot kind.CloseParenthesis left → pending ≡ first ∷ rest
-    → long ≡ length → place ≡ next_place final long → Has disjunctive whole old depth nodes names pending → IsUnreadThrough ReadsNoLabel whole length place
+    → long ≡ length → place ≡ next_place final long → Has disjunctive whole old depth nodes names pending → IsFirstUnread ReadsNoLabel BeginsLabel whole length place
 unclosed_none whole old same left final depth nodes names pending first rest length long place stays not_and rests not_or ends not_close waits text there has =
     let free = subst IsFree waits (has_is_free whole old depth nodes names pending has) in
     none_closed whole old depth nodes names rest length place

@@ -1,10 +1,10 @@
 -- Steps one after another, and where nothing is read.
 use Rattle.std.proofs.Common.{◌≡◌, ℕ, List, [], ◌∷◌, ◌++◌, ap, append_assoc, refl, sym, ◌∙◌, subst, Result, Ok, Err}
 use Rattle.std.specs.Prelude.{IfErr, IfOk, IsErrAnd}
-use Rattle.omega_expression.proofs.UnreadLemmas.{through_next, unread_after, unread_missing, unread_same}
+use Rattle.omega_expression.proofs.UnreadLemmas.{through_next, unread_after, unread_missing, unread_of_first, unread_same}
 use Rattle.omega_expression.specs.Passing.{IsMissing}
 use Rattle.omega_expression.specs.Symbols.{EndsThere}
-use Rattle.omega_expression.specs.Unread.{AgreeThroughNext, IsUnread, IsUnreadThrough}
+use Rattle.omega_expression.specs.Unread.{AgreeThroughNext, IsUnread, IsUnreadAt, IsUnreadThrough}
 use Rattle.omega_formula.specs.Raw.{RawAccTree}
 use Rattle.omega_formula.specs.Reading.{ReadsAcc}
 use Rattle.omega_label.specs.Raw.{RawLabelTree}
@@ -148,15 +148,15 @@ pub expression_found : {X : Type 0} (R : Tokens → X → Tokens → Type 0) (ro
     → ((tokens : Tokens) (one other : X) (rest left : Tokens) → R tokens one rest → R tokens other left → (one ≡ other) × (rest ≡ left))
     → ((old : Tokens) (it : X) (new : Tokens) → R old it new → Passes (λ tokens left. R tokens it left) old new)
     → (result : Result X Refusal) (old new : Tokens) (length : ℕ) → IfOk result (λ it. R old it new)
-    → IfErr result (IsUnread (λ tokens. (it : X) (rest : Tokens) → R tokens it rest → ⊥) old length) → Finds IsAny row Anything old new length result
-expression_found {X} R row begins one again (Ok it) old new length reads none =
+    → (IsBegun : Tokens → Type 0) → IfErr result (IsUnreadAt (λ tokens. (it : X) (rest : Tokens) → R tokens it rest → ⊥) IsBegun old length) → Finds IsAny row Anything old new length result
+expression_found {X} R row begins one again (Ok it) old new length reads IsBegun none =
     passes_then (λ tokens left. R tokens it left) (IsWritten IsAny row Anything it) old new (again old it new reads)
     (λ tokens left read wanted others rest valid follow spells.
     let splits = begins tokens wanted others rest spells in
     let same = one tokens it wanted left splits.middle read splits.front in
     (same.0, subst (λ here. ReadsSymbols here others rest) (sym same.1) splits.back))
-expression_found {X} R row begins one again (Err refusal) old new length reads none =
-    unread_then (λ tokens. (it : X) (rest : Tokens) → R tokens it rest → ⊥) (IsUnwritten IsAny row Anything) old length refusal none
+expression_found {X} R row begins one again (Err refusal) old new length reads IsBegun none =
+    unread_then (λ tokens. (it : X) (rest : Tokens) → R tokens it rest → ⊥) (IsUnwritten IsAny row Anything) old length refusal (unread_of_first _ IsBegun old length refusal none)
     (λ tokens none_read wanted others rest valid follow spells.
     let splits = begins tokens wanted others rest spells in
     none_read wanted splits.middle splits.front)

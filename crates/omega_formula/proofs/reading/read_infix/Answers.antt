@@ -1,8 +1,8 @@
 -- What follows a part is passed, or the whole is read, or nothing is.
 use Rattle.std.proofs.Common.{◌∙◌}
-use Rattle.omega_formula.specs.Reading.{ReadsNoAcc}
+use Rattle.omega_formula.specs.Reading.{BeginsAcc, ReadsNoAcc}
 use Rattle.omega_expression.proofs.PassingLemmas.{error_then}
-use Rattle.omega_expression.proofs.UnreadLemmas.{unread_same}
+use Rattle.omega_expression.proofs.UnreadLemmas.{first_same}
 use Rattle.omega_formula.proofs.ReadingLemmas.{after_and, after_close, after_or, whole_read}
 use Rattle.omega_formula.proofs.Unread.{unclosed_none}
 use Rattle.omega_formula.proofs.reading.read_infix.Goals as goal
@@ -37,12 +37,12 @@ returns-clause-more g c whole has =
 pub returns-in_err-operand-clause-err : goal.returns-in_err-operand-clause-err
 returns-in_err-operand-clause-err g c =
     error_then c.from_residual-in_err-operand.result _ _ c.from_residual-in_err-operand.ensures.1
-    (λ e is whole has. unread_same ReadsNoAcc whole _ _ _ e is c.if-is_passed.ensures.length
+    (λ e is whole has. first_same ReadsNoAcc BeginsAcc whole _ _ _ e is c.if-is_passed.ensures.length
     (c.in_err-operand.ensures.err whole (after_and whole _ _ _ _ _ _ _ c.if-is_passed.ensures.passed c.in_ok-push.ensures.ok has)))
 
 pub returns-in_err-operand-2-clause-err : goal.returns-in_err-operand-2-clause-err
 returns-in_err-operand-2-clause-err g c =
     error_then c.from_residual-in_err-operand-2.result _ _ c.from_residual-in_err-operand-2.ensures.1
-    (λ e is whole has. unread_same ReadsNoAcc whole _ _ _ e is (c.if-is_passed-2.ensures.length ∙ c.if-is_passed.ensures.length)
+    (λ e is whole has. first_same ReadsNoAcc BeginsAcc whole _ _ _ e is (c.if-is_passed-2.ensures.length ∙ c.if-is_passed.ensures.length)
     (c.in_err-operand-2.ensures.err whole
     (after_or whole _ _ _ _ _ _ _ _ c.if-is_passed.ensures.passed c.if-is_passed-2.ensures.passed c.in_ok-push-2.ensures.ok (c.in_ok-bind_loosely.ensures.ok whole _ has))))

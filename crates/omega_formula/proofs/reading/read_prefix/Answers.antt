@@ -1,6 +1,6 @@
 -- What begins a part is passed, and where nothing does nothing is read.
 use Rattle.std.proofs.Common.{true, false, [], ◌∷◌, ap, append-nil, subst, sym, ◌∙◌}
-use Rattle.omega_formula.specs.Reading.{ReadsNoAcc}
+use Rattle.omega_formula.specs.Reading.{BeginsAcc, ReadsNoAcc}
 use Rattle.omega_formula.specs.Raw.{atom, constant}
 use Rattle.omega_expression.specs.Symbols.{seen_as}
 use Rattle.omega_formula.specs.private.layout.Building.{Wants}
@@ -9,7 +9,7 @@ use Rattle.omega_expression.specs.Passing.{Passed}
 use Rattle.omega_formula.proofs.ReadingLemmas.{has_leaf, wants_opened}
 use Rattle.omega_formula.proofs.Unread.{BeginNone, begins_others, none_wanted, unread_named}
 use Rattle.omega_expression.proofs.PassingLemmas.{error_then, nothing_passed}
-use Rattle.omega_expression.proofs.UnreadLemmas.{unread_same}
+use Rattle.omega_expression.proofs.UnreadLemmas.{first_same}
 use Rattle.omega_formula.proofs.reading.read_prefix.Goals as goal
 use Rattle.omega_formula.proofs.reading.read_prefix.Goals.{in-True+in_ok-push-in-True, in-False+in_ok-push-in-False, in-Identifier+in_ok-negated-in-Identifier+in_ok-push-in-Identifier+in_ok-extend_from_slice-in-Identifier}
 
@@ -24,7 +24,7 @@ returns-in-OpenParenthesis-clause-wants g c whole wants =
 pub returns-in_err-negated-in-Identifier-clause-err : goal.returns-in_err-negated-in-Identifier-clause-err
 returns-in_err-negated-in-Identifier-clause-err g c =
     error_then c.from_residual-in_err-negated-in-Identifier.result _ _ c.from_residual-in_err-negated-in-Identifier.ensures.1
-    (λ e is whole wants. unread_same ReadsNoAcc whole _ _ _ e is c.in-Some.ensures.length
+    (λ e is whole wants. first_same ReadsNoAcc BeginsAcc whole _ _ _ e is c.in-Some.ensures.length
     (unread_named whole _ _ _ _ _ _ _ _ _ wants c.in-Some.ensures.some (ap (λ k. seen_as k c.in-Some.token.value c.in-Some.token.text.now) c.in-Identifier.is)
     c.in_err-negated-in-Identifier.ensures.err))
 

@@ -1,5 +1,5 @@
 -- How far an acceptance formula has been gone through, symbol by symbol.
-use Rattle.std.specs.Prelude.{ℕ, zero, suc, List, [], ◌∷◌, ◌++◌, map, Bool}
+use Rattle.std.specs.Prelude.{◌≡◌, ℕ, zero, suc, List, [], ◌∷◌, ◌++◌, map, Bool}
 use Rattle.omega_formula.specs.Reading.{mark_symbols}
 use Rattle.omega_expression.specs.Symbols.{ExpressionSymbol, number, sign, expression_symbol_of, word}
 use Rattle.omega_expression.specs.Passing.{Passed}
@@ -65,3 +65,8 @@ set_symbols negated set = sign kind.OpenParenthesis ∷ (mark_symbols negated se
 -- the set of an atom is passed, with its parentheses
 abbrev pub PassesSet : Bool → ℕ → (old new : List (Lexeme HoaKind)) → Type 0
 PassesSet negated set old new = Passed old (set_symbols negated set) new
+
+-- after these symbols the tokens begin an atom's set, with its parentheses: they and some more are the rest of one
+abbrev pub BeginsSet : List ExpressionSymbol → List (Lexeme HoaKind) → Type 0
+BeginsSet passed tokens =
+    (more : List (Lexeme HoaKind)) × (negated : Bool) × (set : ℕ) × (passed ++ map expression_symbol_of (tokens ++ more) ≡ set_symbols negated set)

@@ -1,8 +1,8 @@
 -- What follows a part is passed, or the whole is read, or nothing is.
 use Rattle.std.proofs.Common.{◌∙◌}
-use Rattle.omega_label.specs.Reading.{ReadsNoLabel}
+use Rattle.omega_label.specs.Reading.{BeginsLabel, ReadsNoLabel}
 use Rattle.omega_expression.proofs.PassingLemmas.{error_then}
-use Rattle.omega_expression.proofs.UnreadLemmas.{unread_same}
+use Rattle.omega_expression.proofs.UnreadLemmas.{first_same}
 use Rattle.omega_label.proofs.ReadingLemmas.{after_close, after_or, unclosed_none, whole_read}
 use Rattle.omega_label.proofs.reading.read_infix.Goals as goal
 
@@ -35,11 +35,11 @@ returns-clause-more g c whole has =
 pub returns-in_err-conjunct-clause-err : goal.returns-in_err-conjunct-clause-err
 returns-in_err-conjunct-clause-err g c =
     error_then c.from_residual.result _ _ c.from_residual.ensures.1
-    (λ e is whole has. unread_same ReadsNoLabel whole _ _ _ e is c.if-is_passed.ensures.length (c.in_err-conjunct.ensures.err whole _ c.if-is_passed.ensures.passed has))
+    (λ e is whole has. first_same ReadsNoLabel BeginsLabel whole _ _ _ e is c.if-is_passed.ensures.length (c.in_err-conjunct.ensures.err whole _ c.if-is_passed.ensures.passed has))
 
 pub returns-in_err-operand-clause-err : goal.returns-in_err-operand-clause-err
 returns-in_err-operand-clause-err g c =
     error_then c.from_residual-in_err-operand.result _ _ c.from_residual-in_err-operand.ensures.1
-    (λ e is whole has. unread_same ReadsNoLabel whole _ _ _ e is (c.if-is_passed-2.ensures.length ∙ c.if-is_passed.ensures.length)
+    (λ e is whole has. first_same ReadsNoLabel BeginsLabel whole _ _ _ e is (c.if-is_passed-2.ensures.length ∙ c.if-is_passed.ensures.length)
     (c.in_err-operand.ensures.err whole
     (after_or whole _ _ _ _ _ _ _ _ c.if-is_passed.ensures.passed c.if-is_passed-2.ensures.passed c.in_ok-push.ensures.ok (c.in_ok-bind_loosely.ensures.ok whole _ has))))

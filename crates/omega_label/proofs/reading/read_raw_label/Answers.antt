@@ -1,10 +1,10 @@
 -- The whole is read.
 use Rattle.std.proofs.Common.{refl, subst, sym, ◌∙◌}
 use Rattle.std.proofs.lemmas.Result.{IfOk-weaker}
-use Rattle.omega_label.specs.Reading.{Reads, ReadsNoLabel}
+use Rattle.omega_label.specs.Reading.{BeginsLabel, Reads, ReadsNoLabel}
 use Rattle.omega_label.proofs.RawLemmas.{IsRawLabel-of, raw_tree-is}
 use Rattle.omega_expression.proofs.PassingLemmas.{error_then}
-use Rattle.omega_expression.proofs.UnreadLemmas.{unread_same}
+use Rattle.omega_expression.proofs.UnreadLemmas.{first_same}
 use Rattle.omega_label.proofs.reading.read_raw_label.Goals as goal
 
 pub of_nodes-requires : goal.of_nodes-requires
@@ -36,11 +36,11 @@ returns-then-as_slice-gt-MOST_IN_PLACE-clause-ok g c =
 pub returns-in_err-operand-clause-err : goal.returns-in_err-operand-clause-err
 returns-in_err-operand-clause-err g c =
     error_then c.from_residual.result _ _ c.from_residual.ensures.1
-    (λ e is. unread_same ReadsNoLabel (g.S.TokenSource.left c.args.source.now) _ _ _ e is refl
+    (λ e is. first_same ReadsNoLabel BeginsLabel (g.S.TokenSource.left c.args.source.now) _ _ _ e is refl
     (c.in_err-operand.ensures.err (g.S.TokenSource.left c.args.source.now) (c.new-unfinished.ensures (g.S.TokenSource.left c.args.source.now))))
 
 pub returns-in_err-read_infix-clause-err : goal.returns-in_err-read_infix-clause-err
 returns-in_err-read_infix-clause-err g c =
     error_then c.from_residual-in_err-read_infix.result _ _ c.from_residual-in_err-read_infix.ensures.1
-    (λ e is. unread_same ReadsNoLabel (g.S.TokenSource.left c.args.source.now) _ _ _ e is c.loop-unfinished.invariant.text
+    (λ e is. first_same ReadsNoLabel BeginsLabel (g.S.TokenSource.left c.args.source.now) _ _ _ e is c.loop-unfinished.invariant.text
     (c.in_err-read_infix.ensures.err (g.S.TokenSource.left c.args.source.now) c.loop-unfinished.invariant.has))

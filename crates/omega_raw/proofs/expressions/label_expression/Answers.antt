@@ -1,9 +1,9 @@
 -- The label that is read is the one that was written.
-use Rattle.omega_label.specs.Reading.{Reads}
+use Rattle.omega_label.specs.Reading.{BeginsLabel, Reads}
 use Rattle.omega_raw.proofs.StepLemmas.{expression_found, label_again}
 use Rattle.omega_raw.specs.private.steps.Rows.{expression_row}
 use Rattle.omega_raw.proofs.expressions.label_expression.Goals as goal
 
 pub returns-clause-finds : goal.returns-clause-finds
 returns-clause-finds g c =
-    expression_found Reads expression_row (λ tokens it others rest spells. spells) c.labels_are_one.ensures label_again c.read_raw_label.result _ _ _ c.read_raw_label.ensures.ok c.read_raw_label.ensures.err
+    expression_found Reads expression_row (λ tokens it others rest spells. spells) c.labels_are_one.ensures label_again c.read_raw_label.result _ _ _ c.read_raw_label.ensures.ok BeginsLabel c.read_raw_label.ensures.err
