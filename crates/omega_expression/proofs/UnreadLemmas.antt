@@ -1,7 +1,7 @@
--- Where nothing is read, and where it is seen.
+-- Where nothing is read, and where it is first seen.
 use Rattle.std.proofs.Common.{◌≡◌, ℕ, List, [], ◌∷◌, ◌++◌, ap, append_assoc, refl, sym, ◌∙◌, subst}
 use Rattle.omega_expression.specs.Passing.{IsMissing, NextIsNot}
-use Rattle.omega_expression.specs.Unread.{AgreeThroughNext, IsFirstUnread, IsUnread, IsUnreadAt, IsUnreadThrough}
+use Rattle.omega_expression.specs.Unread.{AgreeThroughNext, IsFirstUnread, IsUnread}
 use Rattle.omega_text.specs.Cursor.{next_place}
 use Rattle.omega_text.specs.Lexeme.{Lexeme}
 use Rattle.omega_text.specs.declared.hoa.kind.HoaKind.{HoaKind}
@@ -19,46 +19,6 @@ pub not_through : (sort : HoaKind) (tokens others : List (Lexeme HoaKind)) → A
 not_through sort [] others agree not = subst (NextIsNot sort) (sym agree) tt
 not_through sort (next ∷ rest) others agree not = subst (NextIsNot sort) (sym agree.1) not
 
--- nothing is read through a token if nothing is read of what comes after some before it
-pub through_after : (IsNone IsMore : List (Lexeme HoaKind) → Type 0) (whole front left : List (Lexeme HoaKind)) (length place : ℕ) → whole ≡ front ++ left
-    → ((others : List (Lexeme HoaKind)) → IsMore others → IsNone (front ++ others)) → IsUnreadThrough IsMore left length place → IsUnreadThrough IsNone whole length place
-through_after IsNone IsMore whole front left length place split follows is = record {
-  before = front ++ is.before;
-  left = is.left;
-  split = split ∙ (ap (λ rest. front ++ rest) is.split ∙ sym (append_assoc front is.before is.left));
-  there = is.there;
-  unread = λ others agree. subst IsNone (sym (append_assoc front is.before others)) (follows (is.before ++ others) (is.unread others agree));
-}
-
--- nothing is read through the next token
-pub through_next : (IsNone : List (Lexeme HoaKind) → Type 0) (whole front left : List (Lexeme HoaKind)) (length place : ℕ) → whole ≡ front ++ left → place ≡ next_place left length
-    → ((others : List (Lexeme HoaKind)) → AgreeThroughNext left others → IsNone (front ++ others)) → IsUnreadThrough IsNone whole length place
-through_next IsNone whole front left length place split there unread = record { before = front; left = left; split = split; there = there; unread = unread }
-
--- the same of a refusal
-pub unread_after : (IsNone IsMore : List (Lexeme HoaKind) → Type 0) (whole front left : List (Lexeme HoaKind)) (length : ℕ) (refusal : Refusal) → whole ≡ front ++ left
-    → ((others : List (Lexeme HoaKind)) → IsMore others → IsNone (front ++ others)) → IsUnread IsMore left length refusal → IsUnread IsNone whole length refusal
-unread_after IsNone IsMore whole front left length (refusals.Text (faults.Syntax at)) split follows is = through_after IsNone IsMore whole front left length at split follows is
-unread_after IsNone IsMore whole front left length (refusals.Text other) split follows is = is
-unread_after IsNone IsMore whole front left length (refusals.Game fault) split follows is = is
-unread_after IsNone IsMore whole front left length (refusals.Automaton fault) split follows is = is
-unread_after IsNone IsMore whole front left length (refusals.Task fault) split follows is = is
-unread_after IsNone IsMore whole front left length refusals.Memory split follows is = is
-unread_after IsNone IsMore whole front left length refusals.Io split follows is = is
-
--- where a token of a kind is missing nothing is read, if nothing is read of any tokens that do not begin with one
-pub unread_missing : (IsNone : List (Lexeme HoaKind) → Type 0) (sort : HoaKind) (tokens : List (Lexeme HoaKind)) (length : ℕ) (refusal : Refusal)
-    → ((others : List (Lexeme HoaKind)) → NextIsNot sort others → IsNone others) → IsMissing sort tokens length refusal → IsUnread IsNone tokens length refusal
-unread_missing IsNone sort tokens length refusal follows missing =
-    subst (IsUnread IsNone tokens length) (sym missing.is)
-    (through_next IsNone tokens [] tokens length (next_place tokens length) refl refl (λ others agree. follows others (not_through sort tokens others agree missing.missing)))
-
--- the same refusal of a text of the same length
-pub unread_same : (IsNone : List (Lexeme HoaKind) → Type 0) (tokens : List (Lexeme HoaKind)) (length long : ℕ) (refusal error : Refusal) → error ≡ refusal → long ≡ length
-    → IsUnread IsNone tokens long refusal → IsUnread IsNone tokens length error
-unread_same IsNone tokens length long refusal error is same unread =
-    subst (IsUnread IsNone tokens length) (sym is) (subst (λ l. IsUnread IsNone tokens l refusal) same unread)
-
 -- that nothing is read is first seen at the next token
 pub first_next : (IsNone IsBegun : List (Lexeme HoaKind) → Type 0) (whole front left : List (Lexeme HoaKind)) (length place : ℕ) → whole ≡ front ++ left → place ≡ next_place left length
     → IsBegun front → ((others : List (Lexeme HoaKind)) → AgreeThroughNext left others → IsNone (front ++ others)) → IsFirstUnread IsNone IsBegun whole length place
@@ -67,7 +27,7 @@ first_next IsNone IsBegun whole front left length place split there begun unread
 -- it is first seen where it is seen of what comes after some tokens, if what begins that begins with these something that is read
 pub first_after : (IsNone IsMore IsBegun IsMoreBegun : List (Lexeme HoaKind) → Type 0) (whole front left : List (Lexeme HoaKind)) (length : ℕ) (refusal : Refusal) → whole ≡ front ++ left
     → ((others : List (Lexeme HoaKind)) → IsMore others → IsNone (front ++ others)) → ((before : List (Lexeme HoaKind)) → IsMoreBegun before → IsBegun (front ++ before))
-    → IsUnreadAt IsMore IsMoreBegun left length refusal → IsUnreadAt IsNone IsBegun whole length refusal
+    → IsUnread IsMore IsMoreBegun left length refusal → IsUnread IsNone IsBegun whole length refusal
 first_after IsNone IsMore IsBegun IsMoreBegun whole front left length (refusals.Text (faults.Syntax at)) split follows begins is = record {
   before = front ++ is.before;
   left = is.left;
@@ -85,27 +45,16 @@ first_after IsNone IsMore IsBegun IsMoreBegun whole front left length refusals.I
 
 -- it is first seen where a token of a kind is missing, if nothing is read of any tokens that do not begin with one, and something is of some
 pub first_missing : (IsNone IsBegun : List (Lexeme HoaKind) → Type 0) (sort : HoaKind) (tokens : List (Lexeme HoaKind)) (length : ℕ) (refusal : Refusal) → IsBegun []
-    → ((others : List (Lexeme HoaKind)) → NextIsNot sort others → IsNone others) → IsMissing sort tokens length refusal → IsUnreadAt IsNone IsBegun tokens length refusal
+    → ((others : List (Lexeme HoaKind)) → NextIsNot sort others → IsNone others) → IsMissing sort tokens length refusal → IsUnread IsNone IsBegun tokens length refusal
 first_missing IsNone IsBegun sort tokens length refusal begun follows missing =
-    subst (IsUnreadAt IsNone IsBegun tokens length) (sym missing.is)
+    subst (IsUnread IsNone IsBegun tokens length) (sym missing.is)
     (first_next IsNone IsBegun tokens [] tokens length (next_place tokens length) refl refl begun (λ others agree. follows others (not_through sort tokens others agree missing.missing)))
 
 -- the same refusal of a text of the same length
 pub first_same : (IsNone IsBegun : List (Lexeme HoaKind) → Type 0) (tokens : List (Lexeme HoaKind)) (length long : ℕ) (refusal error : Refusal) → error ≡ refusal → long ≡ length
-    → IsUnreadAt IsNone IsBegun tokens long refusal → IsUnreadAt IsNone IsBegun tokens length error
+    → IsUnread IsNone IsBegun tokens long refusal → IsUnread IsNone IsBegun tokens length error
 first_same IsNone IsBegun tokens length long refusal error is same unread =
-    subst (IsUnreadAt IsNone IsBegun tokens length) (sym is) (subst (λ l. IsUnreadAt IsNone IsBegun tokens l refusal) same unread)
-
--- nothing is read through the first place at which that is seen
-pub unread_of_first : (IsNone IsBegun : List (Lexeme HoaKind) → Type 0) (tokens : List (Lexeme HoaKind)) (length : ℕ) (refusal : Refusal) → IsUnreadAt IsNone IsBegun tokens length refusal
-    → IsUnread IsNone tokens length refusal
-unread_of_first IsNone IsBegun tokens length (refusals.Text (faults.Syntax at)) is = record { before = is.before; left = is.left; split = is.split; there = is.there; unread = is.unread }
-unread_of_first IsNone IsBegun tokens length (refusals.Text other) is = is
-unread_of_first IsNone IsBegun tokens length (refusals.Game fault) is = is
-unread_of_first IsNone IsBegun tokens length (refusals.Automaton fault) is = is
-unread_of_first IsNone IsBegun tokens length (refusals.Task fault) is = is
-unread_of_first IsNone IsBegun tokens length refusals.Memory is = is
-unread_of_first IsNone IsBegun tokens length refusals.Io is = is
+    subst (IsUnread IsNone IsBegun tokens length) (sym is) (subst (λ l. IsUnread IsNone IsBegun tokens l refusal) same unread)
 
 -- of two parts of the same tokens one goes through the token after the other, or they are the same
 sides : (Wanted : List (Lexeme HoaKind) → List (Lexeme HoaKind) → List (Lexeme HoaKind) → List (Lexeme HoaKind) → Type 0)

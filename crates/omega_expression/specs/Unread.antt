@@ -1,4 +1,4 @@
--- What it means that nothing is read of tokens: at which of them that is seen.
+-- What it means that nothing is read of tokens: at which of them that is first seen.
 use Rattle.std.specs.Prelude.{◌≡◌, ℕ, List, [], ◌∷◌, ◌++◌}
 use Rattle.omega_text.specs.Cases.{never, or_memory, or_text}
 use Rattle.omega_text.specs.Cursor.{next_place}
@@ -13,24 +13,6 @@ abbrev pub AgreeThroughNext : (tokens others : List (Lexeme HoaKind)) → Type 0
 AgreeThroughNext [] others = others ≡ []
 AgreeThroughNext (next ∷ rest) others = (more : List (Lexeme HoaKind)) × (others ≡ next ∷ more)
 
--- Nothing is read of any tokens that agree with these through the one at this place. At the length of the text, after
--- the last of them, nothing is read of these.
-pub record IsUnreadThrough (IsNone : List (Lexeme HoaKind) → Type 0) (tokens : List (Lexeme HoaKind)) (length place : ℕ) : Type 0 where
-  pub before : List (Lexeme HoaKind)
-  pub left : List (Lexeme HoaKind)
-  pub split : tokens ≡ before ++ left
-  pub there : place ≡ next_place left length
-  pub unread : (others : List (Lexeme HoaKind)) → AgreeThroughNext left others → IsNone (before ++ others)
-
--- the fault of a syntax, at the place of a token through which nothing is read
-abbrev pub IsSyntax : (List (Lexeme HoaKind) → Type 0) → List (Lexeme HoaKind) → ℕ → TextFault → Type 0
-IsSyntax IsNone tokens length (Syntax at) = IsUnreadThrough IsNone tokens length at
-IsSyntax IsNone tokens length fault = ⊥
-
--- the refusals of reading, if nothing is read
-abbrev pub IsUnread : (List (Lexeme HoaKind) → Type 0) → List (Lexeme HoaKind) → ℕ → Refusal → Type 0
-IsUnread IsNone tokens length = or_text (IsSyntax IsNone tokens length) (or_memory never)
-
 -- This is the first place at which it is seen that nothing is read: what is before it begins something that is read, and
 -- nothing is read of any tokens that agree with these through the one at this place. At the length of the text, after
 -- the last of them, nothing is read of these.
@@ -43,10 +25,10 @@ pub record IsFirstUnread (IsNone IsBegun : List (Lexeme HoaKind) → Type 0) (to
   pub unread : (others : List (Lexeme HoaKind)) → AgreeThroughNext left others → IsNone (before ++ others)
 
 -- the fault of a syntax, at the first place at which it is seen
-abbrev pub IsSyntaxAt : (IsNone IsBegun : List (Lexeme HoaKind) → Type 0) → List (Lexeme HoaKind) → ℕ → TextFault → Type 0
-IsSyntaxAt IsNone IsBegun tokens length (Syntax at) = IsFirstUnread IsNone IsBegun tokens length at
-IsSyntaxAt IsNone IsBegun tokens length fault = ⊥
+abbrev pub IsSyntax : (IsNone IsBegun : List (Lexeme HoaKind) → Type 0) → List (Lexeme HoaKind) → ℕ → TextFault → Type 0
+IsSyntax IsNone IsBegun tokens length (Syntax at) = IsFirstUnread IsNone IsBegun tokens length at
+IsSyntax IsNone IsBegun tokens length fault = ⊥
 
 -- the refusals of reading, if nothing is read
-abbrev pub IsUnreadAt : (IsNone IsBegun : List (Lexeme HoaKind) → Type 0) → List (Lexeme HoaKind) → ℕ → Refusal → Type 0
-IsUnreadAt IsNone IsBegun tokens length = or_text (IsSyntaxAt IsNone IsBegun tokens length) (or_memory never)
+abbrev pub IsUnread : (IsNone IsBegun : List (Lexeme HoaKind) → Type 0) → List (Lexeme HoaKind) → ℕ → Refusal → Type 0
+IsUnread IsNone IsBegun tokens length = or_text (IsSyntax IsNone IsBegun tokens length) (or_memory never)

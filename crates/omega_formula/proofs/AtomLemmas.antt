@@ -8,7 +8,7 @@ use Rattle.omega_formula.proofs.BeginLemmas.{begun_barred, begun_barred_number, 
 use Rattle.omega_formula.proofs.Unread.{IsStuck-barred, IsStuck-entered, IsStuck-named, IsStuck-numbered, unread_following}
 use Rattle.omega_expression.proofs.PassingLemmas.{passed_then}
 use Rattle.omega_expression.proofs.UnreadLemmas.{first_missing, first_next, not_through}
-use Rattle.omega_expression.specs.Unread.{IsUnreadAt}
+use Rattle.omega_expression.specs.Unread.{IsUnread}
 use Rattle.omega_text.specs.Cursor.{next_place}
 use Rattle.omega_text.specs.Lexeme.{Lexeme}
 use Rattle.omega_text.specs.declared.hoa.kind.HoaKind.{HoaKind}
@@ -20,15 +20,15 @@ abbrev IsBarred : Bool → (one two : List (Lexeme HoaKind)) → Type 0
 IsBarred negated one two = MatchBool negated (PassesOne kind.Not one two) (two ≡ one)
 
 unread_entered : (old one : List (Lexeme HoaKind)) (length : ℕ) (refusal : Refusal) → PassesOne kind.OpenParenthesis old one
-    → IsUnreadAt (IsStuck entered) (BeginsSet (sign kind.OpenParenthesis ∷ [])) one length refusal → IsUnreadAt (IsStuck named) (BeginsSet []) old length refusal
+    → IsUnread (IsStuck entered) (BeginsSet (sign kind.OpenParenthesis ∷ [])) one length refusal → IsUnread (IsStuck named) (BeginsSet []) old length refusal
 unread_entered old one length refusal passes =
     let is = ap (λ k. seen_as k passes.lexeme.value passes.lexeme.text) passes.is in
     unread_following (BeginsSet []) (BeginsSet (sign kind.OpenParenthesis ∷ [])) old one passes.lexeme (sign kind.OpenParenthesis) named entered length refusal passes.next is (λ count. refl)
     (λ front. begun_following [] (sign kind.OpenParenthesis) passes.lexeme front is)
 
 unread_barred : (one two : List (Lexeme HoaKind)) (length : ℕ) (refusal : Refusal) → PassesOne kind.Not one two
-    → IsUnreadAt (IsStuck barred) (BeginsSet (sign kind.OpenParenthesis ∷ sign kind.Not ∷ [])) two length refusal
-    → IsUnreadAt (IsStuck entered) (BeginsSet (sign kind.OpenParenthesis ∷ [])) one length refusal
+    → IsUnread (IsStuck barred) (BeginsSet (sign kind.OpenParenthesis ∷ sign kind.Not ∷ [])) two length refusal
+    → IsUnread (IsStuck entered) (BeginsSet (sign kind.OpenParenthesis ∷ [])) one length refusal
 unread_barred one two length refusal bar =
     let is = ap (λ k. seen_as k bar.lexeme.value bar.lexeme.text) bar.is in
     unread_following (BeginsSet (sign kind.OpenParenthesis ∷ [])) (BeginsSet (sign kind.OpenParenthesis ∷ sign kind.Not ∷ [])) one two bar.lexeme (sign kind.Not) entered barred length refusal bar.next is (λ count. refl)
@@ -36,20 +36,20 @@ unread_barred one two length refusal bar =
 
 -- neither `!` nor a set follows `(`
 neither_unread : (one : List (Lexeme HoaKind)) (length : ℕ) (refusal : Refusal) → NextIsNot kind.Not one → IsMissing kind.Int one length refusal
-    → IsUnreadAt (IsStuck entered) (BeginsSet (sign kind.OpenParenthesis ∷ [])) one length refusal
+    → IsUnread (IsStuck entered) (BeginsSet (sign kind.OpenParenthesis ∷ [])) one length refusal
 neither_unread one length refusal other missing =
-    subst (IsUnreadAt (IsStuck entered) (BeginsSet (sign kind.OpenParenthesis ∷ [])) one length) (sym missing.is)
+    subst (IsUnread (IsStuck entered) (BeginsSet (sign kind.OpenParenthesis ∷ [])) one length) (sym missing.is)
     (first_next (IsStuck entered) (BeginsSet (sign kind.OpenParenthesis ∷ [])) one [] one length (next_place one length) refl refl begun_entered
     (λ others agree. IsStuck-entered others (not_through kind.Not one others agree other) (not_through kind.Int one others agree missing.missing)))
 
 -- no `(` follows the name of an atom
-pub unentered_unread : (old : List (Lexeme HoaKind)) (length : ℕ) (refusal : Refusal) → IsMissing kind.OpenParenthesis old length refusal → IsUnreadAt (IsStuck named) (BeginsSet []) old length refusal
+pub unentered_unread : (old : List (Lexeme HoaKind)) (length : ℕ) (refusal : Refusal) → IsMissing kind.OpenParenthesis old length refusal → IsUnread (IsStuck named) (BeginsSet []) old length refusal
 unentered_unread old length refusal missing = first_missing (IsStuck named) (BeginsSet []) kind.OpenParenthesis old length refusal begun_unentered IsStuck-named missing
 
 -- neither `!` nor a set follows `(`, or no set follows `!`
 pub unset_unread : (old one two : List (Lexeme HoaKind)) (negated : Bool) (length : ℕ) (refusal : Refusal)
     → PassesOne kind.OpenParenthesis old one → IsBarred negated one two → MatchBool negated (Unit {0}) (NextIsNot kind.Not one)
-    → IsMissing kind.Int two length refusal → IsUnreadAt (IsStuck named) (BeginsSet []) old length refusal
+    → IsMissing kind.Int two length refusal → IsUnread (IsStuck named) (BeginsSet []) old length refusal
 unset_unread old one two true length refusal passes bar other missing =
     unread_entered old one length refusal passes
     (unread_barred one two length refusal bar
@@ -61,7 +61,7 @@ unset_unread old one two false length refusal passes bar other missing =
 -- no `)` follows the set
 pub unclosed_unread : (old one two three : List (Lexeme HoaKind)) (negated : Bool) (set length : ℕ) (refusal : Refusal)
     → PassesOne kind.OpenParenthesis old one → IsBarred negated one two → PassesNumber set two three
-    → IsMissing kind.CloseParenthesis three length refusal → IsUnreadAt (IsStuck named) (BeginsSet []) old length refusal
+    → IsMissing kind.CloseParenthesis three length refusal → IsUnread (IsStuck named) (BeginsSet []) old length refusal
 unclosed_unread old one two three true set length refusal passes bar counts missing =
     let value = counts.lexeme.value in
     let is = ap (λ k. seen_as k value counts.lexeme.text) counts.is in

@@ -15,7 +15,7 @@ use Rattle.omega_formula.proofs.ReadingLemmas.{has_is_free}
 use Rattle.omega_expression.proofs.PassingLemmas.{GoOnNone, GoesOnNone, go_on_others}
 use Rattle.omega_expression.proofs.PendingLemmas.{IsFree, IsParenthesis, free_open, top}
 use Rattle.omega_expression.proofs.UnreadLemmas.{first_after, first_next}
-use Rattle.omega_expression.specs.Unread.{AgreeThroughNext, IsFirstUnread, IsUnreadAt}
+use Rattle.omega_expression.specs.Unread.{AgreeThroughNext, IsFirstUnread, IsUnread}
 use Rattle.omega_text.specs.Cursor.{next_place}
 use Rattle.omega_text.specs.Lexeme.{Lexeme}
 use Rattle.omega_text.specs.declared.hoa.kind.HoaKind.{HoaKind}
@@ -265,7 +265,7 @@ IsStuck-following lexeme others symbol before following is goes stuck count thro
 pub unread_following : (IsBegun IsMoreBegun : List (Lexeme HoaKind) → Type 0) (old new : List (Lexeme HoaKind)) (lexeme : Lexeme HoaKind) (symbol : ExpressionSymbol) (before following : ℕ → NameState) (length : ℕ) (refusal : Refusal)
     → old ≡ lexeme ∷ new → expression_symbol_of lexeme ≡ symbol → ((count : ℕ) → go (before count) symbol ≡ following count)
     → ((front : List (Lexeme HoaKind)) → IsMoreBegun front → IsBegun (lexeme ∷ front))
-    → IsUnreadAt (IsStuck following) IsMoreBegun new length refusal → IsUnreadAt (IsStuck before) IsBegun old length refusal
+    → IsUnread (IsStuck following) IsMoreBegun new length refusal → IsUnread (IsStuck before) IsBegun old length refusal
 unread_following IsBegun IsMoreBegun old new lexeme symbol before following length refusal next is goes begins unread =
     first_after (IsStuck before) (IsStuck following) IsBegun IsMoreBegun old (lexeme ∷ []) new length refusal next
     (λ others. IsStuck-following lexeme others symbol before following is goes) begins unread
@@ -273,7 +273,7 @@ unread_following IsBegun IsMoreBegun old new lexeme symbol before following leng
 -- where the name of an atom is passed and no set in parentheses follows, nothing is read
 pub unread_named : (whole old left : List (Lexeme HoaKind)) (lexeme : Lexeme HoaKind) (text : List ℕ) (nodes : List RawAccNode) (names : List ℕ) (pending : List Pending) (length : ℕ) (refusal : Refusal)
     → Wants whole old nodes names pending → old ≡ lexeme ∷ left → expression_symbol_of lexeme ≡ word text
-    → IsUnreadAt (IsStuck named) (BeginsSet []) left length refusal → IsUnreadAt ReadsNoAcc BeginsAcc whole length refusal
+    → IsUnread (IsStuck named) (BeginsSet []) left length refusal → IsUnread ReadsNoAcc BeginsAcc whole length refusal
 unread_named whole old left lexeme text nodes names pending length refusal wants next is unread =
     first_after ReadsNoAcc (IsStuck wanted) BeginsAcc (λ before. BeginsAcc (wants.passed.front ++ before)) whole wants.passed.front old length refusal wants.passed.split
     (λ others. stuck_wanted (wants.passed.front ++ others) others nodes names pending (wants_before whole old others nodes names pending wants))

@@ -7,7 +7,7 @@ use Rattle.omega_formula.specs.Acceptance as acc
 use Rattle.omega_formula.specs.Reading.{BeginsAcc, ReadsAcc, ReadsNoAcc}
 use Rattle.omega_expression.specs.Limits.{most_depth}
 use Rattle.omega_formula.specs.Raw.{RawAccTree, atom, conjunction, constant, disjunction, group, raw_acc_depth}
-use Rattle.omega_expression.specs.Unread.{IsSyntaxAt}
+use Rattle.omega_expression.specs.Unread.{IsSyntax}
 use Rattle.omega_text.specs.Cases.{never, or_automaton, or_memory, or_text}
 use Rattle.omega_text.specs.Lexeme.{Lexeme}
 use Rattle.omega_text.specs.declared.hoa.kind.HoaKind.{HoaKind}
@@ -77,4 +77,4 @@ pub record ReadsFaulty (tokens : List (Lexeme HoaKind)) (fault : AutomatonFault)
 -- the refusals of reading a formula of tokens, after which the rest is left: there is none, or one with a fault
 abbrev pub IsUnreadAcc : (tokens rest : List (Lexeme HoaKind)) → ℕ → Refusal → Type 0
 IsUnreadAcc tokens rest length =
-    or_text (IsSyntaxAt ReadsNoAcc BeginsAcc tokens length) (or_automaton (λ fault. ReadsFaulty tokens fault rest) (or_memory never))
+    or_text (IsSyntax ReadsNoAcc BeginsAcc tokens length) (or_automaton (λ fault. ReadsFaulty tokens fault rest) (or_memory never))

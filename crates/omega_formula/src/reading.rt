@@ -4,7 +4,7 @@ ghost use Rattle.std.specs.Prelude.{◌≡◌, ◌<◌, [], List, length, IfErr,
 ghost use Rattle.omega_formula.specs.Meaning.{IsUnreadAcc, ReadsMeant};
 ghost use Rattle.omega_formula.specs.Reading.{BeginsAcc, ReadsAcc, ReadsNoAcc};
 ghost use Rattle.omega_expression.specs.Symbols.{conjunctive, unary};
-ghost use Rattle.omega_expression.specs.Unread.{IsUnreadAt};
+ghost use Rattle.omega_expression.specs.Unread.{IsUnread};
 ghost use Rattle.omega_formula.specs.private.layout.Building.{HasIn, IsWhole, WantsIn};
 ghost use Rattle.omega_formula.specs.private.layout.States.{BeginsSet, IsStuck, PassesSet, named};
 ghost use Rattle.omega_text.specs.Lexeme.{Lexeme};
@@ -27,7 +27,7 @@ pub fn read_raw_acc<'a, S: TokenSource<'a, HoaKind>>(
     source: &mut S,
 ) -> Result<RawAcc, Refusal>
     ensures ok { IfOk result (λ formula. ReadsAcc (S.left source.old) formula (S.left source.new)) }
-    ensures err { IfErr result (IsUnreadAt ReadsNoAcc BeginsAcc (S.left source.old) (S.length source.old)) }
+    ensures err { IfErr result (IsUnread ReadsNoAcc BeginsAcc (S.left source.old) (S.length source.old)) }
     ensures length { S.length source.new ≡ S.length source.old }
 {
     let mut unfinished = UnfinishedAcc::new(alloc);
@@ -62,7 +62,7 @@ fn operand<'a, S: TokenSource<'a, HoaKind>>(
         HasIn conjunctive whole (S.left source.new) unfinished.new) }
     ensures err { IfErr result (λ refusal. (whole : List (Lexeme Kind)) →
         WantsIn whole (S.left source.old) unfinished.old
-        → IsUnreadAt ReadsNoAcc BeginsAcc whole (S.length source.old) refusal) }
+        → IsUnread ReadsNoAcc BeginsAcc whole (S.length source.old) refusal) }
     ensures less { OnOk result (length (S.left source.new) < length (S.left source.old)) }
     ensures length { S.length source.new ≡ S.length source.old }
 {
@@ -80,7 +80,7 @@ fn read_prefix<'a, S: TokenSource<'a, HoaKind>>(
         (HasIn unary whole (S.left source.new) unfinished.new)) }
     ensures err { IfErr result (λ refusal. (whole : List (Lexeme Kind)) →
         WantsIn whole (S.left source.old) unfinished.old
-        → IsUnreadAt ReadsNoAcc BeginsAcc whole (S.length source.old) refusal) }
+        → IsUnread ReadsNoAcc BeginsAcc whole (S.length source.old) refusal) }
     ensures less { OnOk result (length (S.left source.new) < length (S.left source.old)) }
     ensures length { S.length source.new ≡ S.length source.old }
 {
@@ -120,7 +120,7 @@ fn read_infix<'a, S: TokenSource<'a, HoaKind>>(
         (IsWhole whole (S.left source.new) unfinished.new)) }
     ensures err { IfErr result (λ refusal. (whole : List (Lexeme Kind)) →
         HasIn conjunctive whole (S.left source.old) unfinished.old
-        → IsUnreadAt ReadsNoAcc BeginsAcc whole (S.length source.old) refusal) }
+        → IsUnread ReadsNoAcc BeginsAcc whole (S.length source.old) refusal) }
     ensures less { IfOk result (λ more. MatchBool more (length (S.left source.new) < length (S.left source.old))
         (Unit {0})) }
     ensures length { S.length source.new ≡ S.length source.old }
@@ -152,7 +152,7 @@ fn read_infix<'a, S: TokenSource<'a, HoaKind>>(
 /// Passes the set of an atom in parentheses. Returns whether `!` precedes it, and the set.
 fn set<'a, S: TokenSource<'a, HoaKind>>(source: &mut S) -> Result<(bool, u32), Refusal>
     ensures ok { IfOk result (λ set. PassesSet set.0 set.1 (S.left source.old) (S.left source.new)) }
-    ensures err { IfErr result (IsUnreadAt (IsStuck named) (BeginsSet []) (S.left source.old) (S.length source.old)) }
+    ensures err { IfErr result (IsUnread (IsStuck named) (BeginsSet []) (S.left source.old) (S.length source.old)) }
     ensures less { OnOk result (length (S.left source.new) < length (S.left source.old)) }
     ensures length { S.length source.new ≡ S.length source.old }
 {

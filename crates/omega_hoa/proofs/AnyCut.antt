@@ -1,5 +1,5 @@
 -- How a text is cut into pieces changes nothing.
-use Rattle.std.proofs.Common.{◌≡◌, ℕ, Option, Some, None, List, [], ◌∷◌, ◌++◌, ◌∙◌, sym, ap, subst, inl, inr, append-nil, append_assoc}
+use Rattle.std.proofs.Common.{◌≡◌, ℕ, Option, Some, None, List, [], ◌∷◌, ◌++◌, ◌∙◌, sym, ap, subst, inl, inr, append-nil, append_assoc, refl}
 use Rattle.std.specs.Prelude.{MatchOption}
 use Rattle.omega_text.specs.Cut.{CutsAreOne}
 use Rattle.omega_text.specs.Format.{GoesOneWay}
@@ -9,7 +9,7 @@ use Rattle.omega_text.specs.declared.refusal.Refusal.TheVariants.{Text}
 use Rattle.omega_text.specs.declared.refusal.text.TextFault.TheVariants.{TooLong}
 use Rattle.omega_hoa.specs.Feeding.{IsFed, IsRefusedSoFar, IsTaken}
 use Rattle.omega_hoa.specs.Kept.{Kept}
-use Rattle.omega_hoa.specs.Laws.{AnswersAreAlike, CutsChangeNothing, IsAnsweredAtEnd, PiecesAreFed, PiecesChangeNothing, TakesPieces, bytes_of}
+use Rattle.omega_hoa.specs.Laws.{CutsChangeNothing, IsAnsweredAtEnd, PiecesAreFed, PiecesChangeNothing, TakesPieces, bytes_of}
 use Rattle.omega_hoa.specs.Stream.{IsStream, IsStreamFault, IsStreamText}
 use Rattle.omega_hoa.specs.declared.item.Item.{Item}
 use Rattle.omega_hoa.proofs.OneStream.{stream_faults_one, stream_unrefused, streams_one}
@@ -55,18 +55,19 @@ pub pieces_are_fed : PiecesAreFed
 pieces_are_fed pieces items kept fed = taken_after pieces fed.empty kept [] [] items fed.fresh fed.taken
 
 module _ (readings : Readings) (exact : GoesOneWay hoa_format) (cuts_one : CutsAreOne hoa_format) (seen : List ℕ) where
-  ends_one : (items others : List Item) (one other : Option Refusal) → IsEnd seen items one → IsEnd seen others other → (items ≡ others) × AnswersAreAlike seen one other
+  ends_one : (items others : List Item) (one other : Option Refusal) → IsEnd seen items one → IsEnd seen others other → (items ≡ others) × (one ≡ other)
   ends_one items others None None here there = (
     streams_one readings there.lexemes items others (subst (λ ls. IsStream ls items) (cuts_one seen here.lexemes there.lexemes here.cut there.cut) here.stream) there.stream,
-    tt,
+    refl,
   )
   ends_one items others None (Some other) here there = absurd (stream_unrefused readings exact seen here.lexemes items others other here.cut here.stream there)
   ends_one items others (Some one) None here there = absurd (stream_unrefused readings exact seen there.lexemes others items one there.cut there.stream here)
-  ends_one items others (Some one) (Some other) here there = stream_faults_one readings exact seen items others one other here there
+  ends_one items others (Some one) (Some other) here there =
+      let same = stream_faults_one readings exact seen items others one other here there in (same.0, ap (λ said. Some said) same.1)
 
   pub cuts_change_nothing : (items others : List Item) (kept left : Kept) (one other : Option Refusal) → IsFed seen items kept → IsFed seen others left
       → (one ≡ Some (Text TooLong) → ⊥) → (other ≡ Some (Text TooLong) → ⊥) → IsAnsweredAtEnd seen items kept one → IsAnsweredAtEnd seen others left other
-      → (items ≡ others) × AnswersAreAlike seen one other
+      → (items ≡ others) × (one ≡ other)
   cuts_change_nothing items others kept left one other fed feeds within short here there =
       ends_one items others one other (ended seen items kept one within fed here) (ended seen others left other short feeds there)
 

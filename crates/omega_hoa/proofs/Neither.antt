@@ -72,12 +72,13 @@ module _ (first : Lexeme HoaKind) (rest : List (Lexeme HoaKind)) (opens : Opens 
 -- a segment that is no automaton and has no fault is none
 module _ (there : MeaningsAreThere) (lexemes : List (Lexeme HoaKind)) (whole : IsSegment End lexemes) where
   judged : ((automaton : Description) → IsAutomatonOf lexemes automaton → ⊥) → ((refusal : Refusal) → IsSegmentFault lexemes refusal → ⊥) → ⊥
-  judged no_automaton no_fault = no_fault (Text (Syntax whole.last.span.start)) (segment_refused lexemes whole
+  judged no_automaton no_fault = segment_refused lexemes whole
       (λ raw written.
       (elim (automaton_fault_of raw) as (λ said. automaton_fault_of raw ≡ said → ⊥) [
         | None ↦ λ none. let means = there raw none in no_automaton means.0 (record { raw = raw; written = written; means = means.1 })
         | Some fault ↦ λ has. no_fault (AutomatonRefusal fault) (record { raw = raw; written = written; has = has })
-      ]) refl))
+      ]) refl)
+      (λ place first. no_fault (Text (Syntax place)) first)
 
 -- a text within the limit is that of an automaton or refused
 module _ (there : MeaningsAreThere) (source : List ℕ) (short : length source ≤ most_text)
@@ -88,23 +89,21 @@ module _ (there : MeaningsAreThere) (source : List ℕ) (short : length source �
 
     -- a segment that others follow
     followed : (segment more : List (Lexeme HoaKind)) (next : Lexeme HoaKind) → IsSegment End segment → lexemes ≡ segment ++ next ∷ more → ⊥
-    followed segment more next whole split = tokens_refused (Text (Syntax whole.last.span.start)) (inr (record {
-      segment = segment;
-      rest = next ∷ more;
-      split = split;
-      whole = whole;
-      refused = inl (
-        segment_refused segment whole
-            (λ raw written. tokens_refused (Text (Syntax next.span.start)) (inr (record {
-              segment = segment;
-              rest = next ∷ more;
-              split = split;
-              whole = whole;
-              refused = inr ((raw, written), (next, more, refl, refl));
-            }))),
-        inl refl,
-      );
-    }))
+    followed segment more next whole split = segment_refused segment whole
+        (λ raw written. tokens_refused (Text (Syntax next.span.start)) (inr (record {
+          segment = segment;
+          rest = next ∷ more;
+          split = split;
+          whole = whole;
+          refused = inr ((raw, written), (next, more, refl, refl));
+        })))
+        (λ place first. tokens_refused (Text (Syntax place)) (inr (record {
+          segment = segment;
+          rest = next ∷ more;
+          split = split;
+          whole = whole;
+          refused = inl (first, inl refl);
+        })))
 
     -- a segment alone
     alone : (segment : List (Lexeme HoaKind)) → IsSegment End segment → lexemes ≡ segment ++ [] → ⊥

@@ -11,7 +11,6 @@ use Rattle.omega_text.specs.declared.refusal.Refusal.{Refusal}
 use Rattle.omega_text.specs.declared.refusal.Refusal.TheVariants.{Text}
 use Rattle.omega_text.specs.declared.refusal.text.TextFault.{TextFault}
 use Rattle.omega_text.specs.declared.refusal.text.TextFault.TheVariants.{Lex, Number, Syntax, TooLong}
-use Rattle.omega_hoa.specs.Laws.{AreAlike, AreOfSegment}
 use Rattle.omega_hoa.specs.Segment.{IsSegmentFault}
 use Rattle.omega_hoa.specs.Stream.{IsFaultInside, IsFaultOutside, IsItemOf, IsOpen, IsRefusedAfter, IsSegment, IsStream, IsStreamFault, Opens, is_end}
 use Rattle.omega_hoa.specs.declared.item.Item.{Item}
@@ -122,10 +121,6 @@ module _ (exact : GoesOneWay hoa_format) (source : List ℕ) where
         | inr goes ↦ inr (record { more = goes.more; is = ap (λ it. it ∷ ones) same ∙ ap (λ all. other ∷ all) goes.is; cuts = goes.cuts })
       ]
 
--- two refusals after these tokens are the same, or both are `Syntax` and of these as one segment
-abbrev Agree : List (Lexeme HoaKind) → Refusal → Refusal → Type 0
-Agree left one other = (one ≡ other) ⊎ AreOfSegment left one other
-
 -- the tokens after whole segments are none, or those of a segment so far
 abbrev IsPart : List (Lexeme HoaKind) → Type 0
 IsPart rest = (rest ≡ []) ⊎ IsOpen rest
@@ -230,10 +225,10 @@ module _ (readings : Readings) (exact : GoesOneWay hoa_format) (source : List �
 
   -- a fault of tokens, and another refusal there
   alike_lexical : (rest left : List (Lexeme HoaKind)) (from to : ℕ) (one other : Refusal) (fault : TextFault) → IsPart rest → one ≡ Text fault → hoa_format.faults source from fault
-      → Why source left to other → from ≡ to → rest ≡ left → Agree left one other
+      → Why source left to other → from ≡ to → rest ≡ left → one ≡ other
   alike_lexical rest left from to one other fault part is faults (lexical another said equal there) here same =
       let agree : fault ≡ said = exact.one_fault source from fault said faults (subst (λ n. hoa_format.faults source n said) (sym here) there) in
-      inl (is ∙ ap (λ it. Text it) agree ∙ sym equal)
+      is ∙ ap (λ it. Text it) agree ∙ sym equal
   alike_lexical rest left from to one other fault part is faults (stray empty lexeme follows closed three) here same =
       absurd (exact.no_token_and_fault source from lexeme fault (subst (λ n. hoa_format.follows source n lexeme) (sym here) follows) faults)
   alike_lexical rest left from to one other fault part is faults (short begun ends three) here same =
@@ -243,7 +238,7 @@ module _ (readings : Readings) (exact : GoesOneWay hoa_format) (source : List �
 
   -- a token other than `HOA:`
   alike_stray : (more left : List (Lexeme HoaKind)) (from to : ℕ) (one other : Refusal) (lexeme : Lexeme HoaKind) → hoa_format.follows source from lexeme → (Opens lexeme → ⊥) → one ≡ Text (Syntax lexeme.span.start)
-      → Why source left to other → Cuts hoa_format source from more to → more ≡ left → Agree left one other
+      → Why source left to other → Cuts hoa_format source from more to → more ≡ left → one ≡ other
   alike_stray more left from to one other lexeme follows closed three (lexical part fault is faults) cuts same = elim part [
     | inl none ↦ absurd (elim more as (λ ls. ls ≡ left → Cuts hoa_format source from ls to → ⊥) [
       | [] ↦ λ same cuts. exact.no_token_and_fault source from lexeme fault follows (subst (λ n. hoa_format.faults source n fault) (sym cuts) faults)
@@ -254,7 +249,7 @@ module _ (readings : Readings) (exact : GoesOneWay hoa_format) (source : List �
   alike_stray more left from to one other lexeme follows closed three (stray empty another there also third) cuts same =
       let place = nothing_cut from to more (same ∙ empty) cuts in
       let token = exact.one_token source from lexeme another follows (subst (λ n. hoa_format.follows source n another) (sym place) there) in
-      inl (three ∙ ap (λ it. Text (Syntax it.span.start)) token ∙ sym third)
+      three ∙ ap (λ it. Text (Syntax it.span.start)) token ∙ sym third
   alike_stray more left from to one other lexeme follows closed three (short begun ends third) cuts same =
       absurd (stray_begins from to more lexeme begun.first begun.rest follows closed cuts (same ∙ begun.split) begun.opens)
   alike_stray more left from to one other lexeme follows closed three (faulty whole fault) cuts same =
@@ -263,28 +258,25 @@ module _ (readings : Readings) (exact : GoesOneWay hoa_format) (source : List �
 
   -- a segment without end
   alike_short : (rest left : List (Lexeme HoaKind)) (from to : ℕ) (one other : Refusal) → IsOpen rest → hoa_format.ends source from → one ≡ Text (Syntax (length source))
-      → Why source left to other → from ≡ to → rest ≡ left → Agree left one other
+      → Why source left to other → from ≡ to → rest ≡ left → one ≡ other
   alike_short rest left from to one other begun ends three (lexical part fault is faults) here same =
       absurd (exact.no_fault_at_end source to fault faults (subst (hoa_format.ends source) here ends))
   alike_short rest left from to one other begun ends three (stray empty lexeme follows closed third) here same = absurd (open_is_some rest begun (same ∙ empty))
-  alike_short rest left from to one other begun ends three (short begins there third) here same = inl (three ∙ sym third)
+  alike_short rest left from to one other begun ends three (short begins there third) here same = three ∙ sym third
   alike_short rest left from to one other begun ends three (faulty whole fault) here same = absurd (open_or_whole left [] rest begun whole (append-nil left ∙ sym same))
 
   -- a segment that is no automaton
-  alike_faulty : (rest more left : List (Lexeme HoaKind)) (to : ℕ) (one other : Refusal) → IsSegment End rest → IsSegmentFault rest one → Why source left to other → rest ++ more ≡ left → Agree left one other
+  alike_faulty : (rest more left : List (Lexeme HoaKind)) (to : ℕ) (one other : Refusal) → IsSegment End rest → IsSegmentFault rest one → Why source left to other → rest ++ more ≡ left → one ≡ other
   alike_faulty rest more left to one other whole fault (lexical part said is faults) same = absurd (part_or_whole rest more left part whole same)
   alike_faulty rest more left to one other whole fault (stray empty lexeme follows closed third) same = absurd (segment_is_some End rest more whole (same ∙ empty))
   alike_faulty rest more left to one other whole fault (short begun ends third) same = absurd (open_or_whole rest more left begun whole same)
   alike_faulty rest more left to one other whole fault (faulty ended said) same =
       let parts = segments_one End End rest left more [] refl refl whole ended (same ∙ sym (append-nil left)) in
-      elim (readings.fault_one left one other (subst (λ ls. IsSegmentFault ls one) parts.same fault) said) [
-        | inl equal ↦ inl equal
-        | inr unread ↦ inr (unread ended)
-      ]
+      readings.fault_one left one other (subst (λ ls. IsSegmentFault ls one) parts.same fault) said
 
-  -- two refusals at one place are alike
+  -- two refusals at one place are one
   alike : (rest more left : List (Lexeme HoaKind)) (from to : ℕ) (one other : Refusal) → Why source rest from one → Why source left to other → Cuts hoa_format source from more to → rest ++ more ≡ left
-      → Agree left one other
+      → one ≡ other
   alike rest more left from to one other (lexical part fault is faults) there cuts same =
       let none = none_at from to more (λ lexeme follows. exact.no_token_and_fault source from lexeme fault follows faults) cuts in
       alike_lexical rest left from to one other fault part is faults there none.1 (self_append rest more left none.0 same)
@@ -297,7 +289,7 @@ module _ (readings : Readings) (exact : GoesOneWay hoa_format) (source : List �
 
   -- of two refusals, the second where the first is or after
   faults_alike : (items others : List Item) (one other : Refusal) → (here : IsStreamFault source items one) → (there : IsStreamFault source others other)
-      → GoesOn source (here.front ++ here.rest) (there.front ++ there.rest) here.from there.from → (items ≡ others) × AreAlike source one other
+      → GoesOn source (here.front ++ here.rest) (there.front ++ there.rest) here.from there.from → (items ≡ others) × (one ≡ other)
   faults_alike items others one other here there goes =
       let reason = why source here.rest here.from one here.refused in
       let another = why source there.rest there.from other there.refused in
@@ -305,27 +297,14 @@ module _ (readings : Readings) (exact : GoesOneWay hoa_format) (source : List �
       let none : NoItem there.rest = subst NoItem (append-nil there.rest) (refused_none there.rest [] there.from there.from other another refl) in
       let parts = items_one readings here.front there.front (here.rest ++ goes.more) there.rest items others here.before there.before
       (refused_none here.rest goes.more here.from there.from one reason goes.cuts) none same in
-      let agree = alike here.rest goes.more there.rest here.from there.from one other reason another goes.cuts parts.following in (
-        parts.same,
-        elim agree [
-          | inl equal ↦ inl equal
-          | inr unread ↦ inr (there.front, there.rest, there.from, there.cuts, unread)
-        ],
-      )
-
-  -- alike the other way round
-  flipped : (one other : Refusal) → AreAlike source one other → AreAlike source other one
-  flipped one other both = elim both [
-    | inl same ↦ inl (sym same)
-    | inr (front, segment, end, cuts, are) ↦ inr (front, segment, end, cuts, record { whole = are.whole; first = are.second; second = are.first })
-  ]
+      (parts.same, alike here.rest goes.more there.rest here.from there.from one other reason another goes.cuts parts.following)
 
   -- a text is refused in one way, after the same items
-  pub stream_faults_one : (items others : List Item) (one other : Refusal) → IsStreamFault source items one → IsStreamFault source others other → (items ≡ others) × AreAlike source one other
+  pub stream_faults_one : (items others : List Item) (one other : Refusal) → IsStreamFault source items one → IsStreamFault source others other → (items ≡ others) × (one ≡ other)
   stream_faults_one items others one other here there =
       elim (one_goes_on exact source 0 here.from there.from (here.front ++ here.rest) (there.front ++ there.rest) here.cuts there.cuts) [
         | inl goes ↦ faults_alike items others one other here there goes
-        | inr goes ↦ let back = faults_alike others items other one there here goes in (sym back.0, flipped other one back.1)
+        | inr goes ↦ let back = faults_alike others items other one there here goes in (sym back.0, sym back.1)
       ]
 
   -- if a text is refused its tokens are not all

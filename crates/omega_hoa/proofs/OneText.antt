@@ -1,6 +1,6 @@
 -- A text is that of one automaton, or is refused in one way.
 use Rattle.std.proofs.Common.{◌≡◌, ℕ, ◌<◌, ◌≤◌, ◌⊎◌, List, [], ◌∷◌, ◌++◌, length, refl, sym, ap, subst, ◌∙◌, inl, inr, arith, append-nil}
-use Rattle.omega_text.specs.Cut.{Cuts, CutsAreOne, CutsHaveNoFault, FaultsAreOne, IsCut, IsFault}
+use Rattle.omega_text.specs.Cut.{CutsAreOne, CutsHaveNoFault, FaultsAreOne, IsCut, IsFault}
 use Rattle.omega_text.specs.Lexeme.{Lexeme}
 use Rattle.omega_text.specs.Limits.{most_text}
 use Rattle.omega_text.specs.Refusal.{automaton_number, number_of}
@@ -15,14 +15,12 @@ use Rattle.omega_text.specs.declared.refusal.text.TextFault.{TextFault}
 use Rattle.omega_text.specs.declared.refusal.text.TextFault.TheVariants.{Syntax, TooLong}
 use Rattle.omega_automaton.specs.Automaton.{Description}
 use Rattle.omega_hoa.specs.Alone.{AreRefused, HasNoSegmentAt, IsAutomatonRefusal, IsAutomatonText, IsSegmentRefused}
-use Rattle.omega_hoa.specs.Laws.{AreAlike, AreOfSegment}
 use Rattle.omega_hoa.proofs.Places.{through_none}
 use Rattle.omega_hoa.specs.Segment.{IsAutomatonOf, IsNoRaw, IsRawOf, IsSegmentFault}
 use Rattle.omega_hoa.specs.Stream.{IsOpen, IsSegment, Opens, is_end}
 use Rattle.omega_hoa.proofs.FirstEnds.{first_end, never_ended, open_is_no_segment, open_unended, segment_opens, segment_split, segments_one}
 use Rattle.omega_hoa.proofs.OneStream.{segment_is_some}
 use Rattle.omega_hoa.proofs.Readings.{Readings}
-use Rattle.omega_text.proofs.formats.Cutting.{cuts_split}
 
 -- tokens that begin with a segment ended by `--END--` are not without one
 has_segment : (count at : ℕ) (lexemes segment rest : List (Lexeme HoaKind)) → HasNoSegmentAt count lexemes at → IsSegment End segment → lexemes ≡ segment ++ rest → ⊥
@@ -129,21 +127,14 @@ place_one count lexemes at place (aborted inside last rest is begun kind here) (
     let parts = first_end inside front rest more last mark (open_unended inside begun) (open_unended front begins) (ap is_end kind) (ap is_end sort) (sym is ∙ same) in
     here ∙ ap (λ it. it.span.start) parts.mark ∙ sym there
 
--- two refusals of tokens are the same, or both are `Syntax` and of the segment with which they begin
-abbrev Agree : List (Lexeme HoaKind) → Refusal → Refusal → Type 0
-Agree lexemes one other = (one ≡ other) ⊎ ((segment : List (Lexeme HoaKind)) × (rest : List (Lexeme HoaKind)) × (lexemes ≡ segment ++ rest) × AreOfSegment segment one other)
-
 module _ (readings : Readings) where
   -- a segment and what follows it are refused in one way
-  segment_refused_one : (lexemes : List (Lexeme HoaKind)) (one other : Refusal) → IsSegmentRefused lexemes one → IsSegmentRefused lexemes other → Agree lexemes one other
+  segment_refused_one : (lexemes : List (Lexeme HoaKind)) (one other : Refusal) → IsSegmentRefused lexemes one → IsSegmentRefused lexemes other → one ≡ other
   segment_refused_one lexemes one other here there =
       let parts = segments_one End End here.segment there.segment here.rest there.rest refl refl here.whole there.whole (sym here.split ∙ there.split) in
       elim here.refused [
         | inl mine ↦ elim there.refused [
-          | inl theirs ↦ elim (readings.fault_one there.segment one other (subst (λ ls. IsSegmentFault ls one) parts.same mine.0) theirs.0) [
-            | inl equal ↦ inl equal
-            | inr unread ↦ inr (there.segment, there.rest, there.split, unread there.whole)
-          ]
+          | inl theirs ↦ readings.fault_one there.segment one other (subst (λ ls. IsSegmentFault ls one) parts.same mine.0) theirs.0
           | inr follows ↦ elim mine.1 [
             | inl is ↦ absurd (three_unread here.segment one is mine.0 follows.0.0 (subst (λ ls. IsRawOf ls follows.0.0) (sym parts.same) follows.0.1))
             | inr none ↦ absurd (clashes here.rest follows.1.1 follows.1.0 none (parts.following ∙ follows.1.2))
@@ -157,17 +148,17 @@ module _ (readings : Readings) where
           | inr others ↦
               let equal : follows.1.0 ∷ follows.1.1 ≡ others.1.0 ∷ others.1.1 = sym follows.1.2 ∙ parts.following ∙ others.1.2 in
               let head : follows.1.0 ≡ others.1.0 = cc in
-              inl (follows.1.3 ∙ ap (λ it. Text (Syntax it.span.start)) head ∙ sym others.1.3)
+              follows.1.3 ∙ ap (λ it. Text (Syntax it.span.start)) head ∙ sym others.1.3
         ]
       ]
 
   -- tokens are refused in one way
-  tokens_refused_one : (count : ℕ) (lexemes : List (Lexeme HoaKind)) (one other : Refusal) → AreRefused count lexemes one → AreRefused count lexemes other → Agree lexemes one other
+  tokens_refused_one : (count : ℕ) (lexemes : List (Lexeme HoaKind)) (one other : Refusal) → AreRefused count lexemes one → AreRefused count lexemes other → one ≡ other
   tokens_refused_one count lexemes one other here there = elim here [
     | inl none ↦ elim there [
       | inl nothing ↦
           let same = place_one count lexemes none.0 nothing.0 (unsegmented count lexemes none.0 none.2) (unsegmented count lexemes nothing.0 nothing.2) in
-          inl (none.1 ∙ ap (λ place. Text (Syntax place)) same ∙ sym nothing.1)
+          none.1 ∙ ap (λ place. Text (Syntax place)) same ∙ sym nothing.1
       | inr segment ↦ absurd (has_segment count none.0 lexemes segment.segment segment.rest none.2 segment.whole segment.split)
     ]
     | inr segment ↦ elim there [
@@ -213,24 +204,19 @@ module _ (readings : Readings) (cuts_one : CutsAreOne hoa_format) (source : List
       readings.automaton_one there.lexemes one other (subst (λ ls. IsAutomatonOf ls one) (cuts_one source here.lexemes there.lexemes here.cut there.cut) here.value) there.value
 
   -- one refusal
-  refused_one : FaultsAreOne hoa_format → CutsHaveNoFault hoa_format → (one other : Refusal) → Why source one → Why source other → AreAlike source one other
-  refused_one faults_one no_fault one other (long is over) (long equal beyond) = inl (is ∙ sym equal)
+  refused_one : FaultsAreOne hoa_format → CutsHaveNoFault hoa_format → (one other : Refusal) → Why source one → Why source other → one ≡ other
+  refused_one faults_one no_fault one other (long is over) (long equal beyond) = is ∙ sym equal
   refused_one faults_one no_fault one other (long is over) (lexical short fault equal faults) = absurd (omega (arith, over, short))
   refused_one faults_one no_fault one other (long is over) (tokens short lexemes cut refused) = absurd (omega (arith, over, short))
   refused_one faults_one no_fault one other (lexical short fault is faults) (long equal over) = absurd (omega (arith, over, short))
-  refused_one faults_one no_fault one other (lexical short fault is faults) (lexical within said equal there) = inl (is ∙ ap (λ it. Text it) (faults_one source fault said faults there) ∙ sym equal)
+  refused_one faults_one no_fault one other (lexical short fault is faults) (lexical within said equal there) = is ∙ ap (λ it. Text it) (faults_one source fault said faults there) ∙ sym equal
   refused_one faults_one no_fault one other (lexical short fault is faults) (tokens within lexemes cut refused) = absurd (no_fault source lexemes fault cut faults)
   refused_one faults_one no_fault one other (tokens short lexemes cut refused) (long equal over) = absurd (omega (arith, over, short))
   refused_one faults_one no_fault one other (tokens short lexemes cut refused) (lexical within fault equal faults) = absurd (no_fault source lexemes fault cut faults)
   refused_one faults_one no_fault one other (tokens short lexemes cut refused) (tokens within others there another) =
-      elim (tokens_refused_one readings (length source) others one other (subst (λ ls. AreRefused (length source) ls one) (cuts_one source lexemes others cut there) refused) another) [
-        | inl equal ↦ inl equal
-        | inr (segment, rest, split, unread) ↦
-            let parts = cuts_split hoa_format source 0 there.end segment rest (subst (λ ls. Cuts hoa_format source 0 ls there.end) split there.cuts) in
-            inr ([], segment, parts.0, parts.1, unread)
-      ]
+      tokens_refused_one readings (length source) others one other (subst (λ ls. AreRefused (length source) ls one) (cuts_one source lexemes others cut there) refused) another
 
-  pub refusals_one : FaultsAreOne hoa_format → CutsHaveNoFault hoa_format → (one other : Refusal) → IsAutomatonRefusal source one → IsAutomatonRefusal source other → AreAlike source one other
+  pub refusals_one : FaultsAreOne hoa_format → CutsHaveNoFault hoa_format → (one other : Refusal) → IsAutomatonRefusal source one → IsAutomatonRefusal source other → one ≡ other
   refusals_one faults_one no_fault one other here there = refused_one faults_one no_fault one other (why source one here) (why source other there)
 
   -- not both

@@ -17,7 +17,7 @@ use Rattle.omega_text.specs.declared.refusal.text.TextFault.TheVariants.{Syntax}
 use Rattle.omega_hoa.specs.Alone.{AreRefused, HasNoSegmentAt, IsAutomatonRefusal, IsAutomatonText, IsInGrammar}
 use Rattle.omega_raw.specs.declared.raw_automaton.RawAutomaton.{RawAutomaton}
 use Rattle.omega_automaton.specs.Automaton.{Description}
-use Rattle.omega_hoa.specs.Segment.{IsAutomatonOf, IsRawOf, IsSegmentFault, IsUnwrittenThrough}
+use Rattle.omega_hoa.specs.Segment.{IsAutomatonOf, IsRawOf, IsSegmentFault, IsFirstUnwritten}
 use Rattle.omega_hoa.specs.private.Places.{IsPartUnread, counted_from}
 use Rattle.omega_hoa.proofs.Places.{unread_here}
 use Rattle.omega_hoa.specs.Stream.{IsOpen, IsSegment}
@@ -120,7 +120,7 @@ whole_refused source end refusal has short fault = tokens_refused source has.lex
 
 -- the refusal of a segment that others follow, by its syntax
 pub own_refused : (source : List ℕ) (end at : ℕ) (refusal : Refusal) → (has : HasFollowed source end at) → length source ≤ most_text
-    → ((place : ℕ) → IsUnwrittenThrough (map (counted_from 0) (map (moved 0) has.is.front)) place → IsUnwrittenThrough has.is.front place) → IsPartUnread 0 (map (moved 0) has.is.front) refusal → or_memory (IsAutomatonRefusal source) refusal
+    → ((place : ℕ) → IsFirstUnwritten (map (counted_from 0) (map (moved 0) has.is.front)) place → IsFirstUnwritten has.is.front place) → IsPartUnread 0 (map (moved 0) has.is.front) refusal → or_memory (IsAutomatonRefusal source) refusal
 own_refused source end at Memory has short back unread = tt
 own_refused source end at (Text (Syntax place)) has short back unread = tokens_refused source has.lexemes (Text (Syntax place)) short has.cut (inr (record {
   segment = has.is.front;

@@ -1,8 +1,7 @@
 -- What the tokens of a segment are is one.
-use Rattle.std.proofs.Common.{◌≡◌, ◌⊎◌, Some, None, List, [], sym, ap, subst, ◌∙◌, inl, inr}
+use Rattle.std.proofs.Common.{◌≡◌, Some, None, List, [], sym, ap, subst, ◌∙◌}
 use Rattle.omega_text.specs.Lexeme.{Lexeme}
 use Rattle.omega_text.specs.declared.hoa.kind.HoaKind.{HoaKind}
-use Rattle.omega_text.specs.declared.hoa.kind.HoaKind.TheVariants.{End}
 use Rattle.omega_text.specs.declared.refusal.Refusal.{Refusal}
 use Rattle.omega_text.specs.declared.refusal.Refusal.TheVariants.{Automaton as AutomatonRefusal, Game, Io, Memory, Task, Text}
 use Rattle.omega_text.specs.declared.refusal.text.TextFault.TheVariants.{Lex, Number, Syntax, TooLong}
@@ -13,10 +12,8 @@ use Rattle.omega_automaton.specs.Automaton.{Description}
 use Rattle.omega_automaton.specs.Faults.{automaton_fault_of}
 use Rattle.omega_automaton.specs.Laws.{MeaningsAreOne}
 use Rattle.omega_automaton.specs.Meaning.{Means}
-use Rattle.omega_hoa.proofs.Places.{through_none}
-use Rattle.omega_hoa.specs.Laws.{AreOfSegment}
+use Rattle.omega_hoa.proofs.Places.{first_one, through_none}
 use Rattle.omega_hoa.specs.Segment.{HasMeaningFault, IsAutomatonOf, IsRawOf, IsSegmentFault}
-use Rattle.omega_hoa.specs.Stream.{IsSegment}
 
 module _ (raws_one : RawsAreOne) (lexemes : List (Lexeme HoaKind)) where
   -- one automaton as it is written
@@ -34,11 +31,11 @@ module _ (raws_one : RawsAreOne) (lexemes : List (Lexeme HoaKind)) where
       let same : Some one ≡ Some other = sym here.has ∙ ap automaton_fault_of (raw_one here.raw there.raw here.written there.written) ∙ there.has in
       cc
 
-  pub fault_one : (one other : Refusal) → IsSegmentFault lexemes one → IsSegmentFault lexemes other → (one ≡ other) ⊎ (IsSegment End lexemes → AreOfSegment lexemes one other)
-  fault_one (Text (Syntax at)) (Text (Syntax place)) here there = inr (λ whole. record { whole = whole; first = here; second = there })
+  pub fault_one : (one other : Refusal) → IsSegmentFault lexemes one → IsSegmentFault lexemes other → one ≡ other
+  fault_one (Text (Syntax at)) (Text (Syntax place)) here there = ap (λ n. Text (Syntax n)) (first_one lexemes at place here there)
   fault_one (Text (Syntax at)) (AutomatonRefusal fault) here there = absurd (through_none lexemes at here there.raw there.written)
   fault_one (AutomatonRefusal fault) (Text (Syntax at)) here there = absurd (through_none lexemes at there here.raw here.written)
-  fault_one (AutomatonRefusal fault) (AutomatonRefusal other) here there = inl (ap (λ said. AutomatonRefusal said) (meaning_fault_one fault other here there))
+  fault_one (AutomatonRefusal fault) (AutomatonRefusal other) here there = ap (λ said. AutomatonRefusal said) (meaning_fault_one fault other here there)
   fault_one (Text (Lex at)) other here there = absurd here
   fault_one (Text (Number at)) other here there = absurd here
   fault_one (Text TooLong) other here there = absurd here
@@ -66,11 +63,10 @@ module _ (raws_one : RawsAreOne) (lexemes : List (Lexeme HoaKind)) where
   automaton_has_no_fault automaton Memory is fault = fault
   automaton_has_no_fault automaton Io is fault = fault
 
--- of the tokens of a segment at most one automaton is read, its faults are alike, and it does not have both
+-- of the tokens of a segment at most one automaton is read, they have at most one fault, and not both
 pub record Readings : Type 0 where
   pub automaton_one : (lexemes : List (Lexeme HoaKind)) (one other : Description) → IsAutomatonOf lexemes one → IsAutomatonOf lexemes other → one ≡ other
-  pub fault_one : (lexemes : List (Lexeme HoaKind)) (one other : Refusal) → IsSegmentFault lexemes one → IsSegmentFault lexemes other
-      → (one ≡ other) ⊎ (IsSegment End lexemes → AreOfSegment lexemes one other)
+  pub fault_one : (lexemes : List (Lexeme HoaKind)) (one other : Refusal) → IsSegmentFault lexemes one → IsSegmentFault lexemes other → one ≡ other
   pub not_both : (lexemes : List (Lexeme HoaKind)) (automaton : Description) (refusal : Refusal) → IsAutomatonOf lexemes automaton → IsSegmentFault lexemes refusal → ⊥
 
 pub readings_of : RawsAreOne → MeaningsAreOne → Readings

@@ -6,8 +6,8 @@ use Rattle.omega_text.specs.declared.refusal.Refusal.{Refusal}
 use Rattle.omega_text.specs.declared.refusal.Refusal.TheVariants.{Automaton as AutomatonRefusal, Memory, Text}
 use Rattle.omega_text.specs.declared.refusal.text.TextFault.{TextFault}
 use Rattle.omega_text.specs.declared.refusal.text.TextFault.TheVariants.{Syntax}
-use Rattle.omega_expression.specs.Unread.{IsUnread, IsUnreadThrough}
-use Rattle.omega_raw.specs.Grammar.{ReadsAutomaton, ReadsNoAutomaton}
+use Rattle.omega_expression.specs.Unread.{IsFirstUnread, IsUnread}
+use Rattle.omega_raw.specs.Grammar.{BeginsAutomaton, ReadsAutomaton, ReadsNoAutomaton}
 use Rattle.omega_raw.specs.declared.raw_automaton.RawAutomaton.{RawAutomaton}
 use Rattle.omega_automaton.specs.Meaning.{IsMeaningless}
 use Rattle.omega_hoa.specs.Segment.{IsRawOf}
@@ -19,12 +19,12 @@ use Rattle.omega_hoa.proofs.Writing.{nothing_left}
 pub all_read : (tokens lexemes rest : List (Lexeme HoaKind)) (raw : RawAutomaton) (mark : HoaKind) → tokens ≡ lexemes → ReadsAutomaton tokens raw rest → IsSegment mark lexemes → IsRawOf lexemes raw
 all_read tokens lexemes rest raw mark same reads segment = nothing_left lexemes rest raw mark segment (subst (λ ls. ReadsAutomaton ls raw rest) same reads)
 
--- if none is read, nothing is through a place
+-- if none is read, that is first seen at a place
 pub none_read : (tokens lexemes : List (Lexeme HoaKind)) (refusal : Refusal) (fault : TextFault) (at length long : ℕ) → tokens ≡ lexemes → long ≡ length → refusal ≡ Text fault → fault ≡ Syntax at
-    → IsUnread ReadsNoAutomaton tokens long refusal → IsUnreadThrough ReadsNoAutomaton lexemes length at
+    → IsUnread ReadsNoAutomaton BeginsAutomaton tokens long refusal → IsFirstUnread ReadsNoAutomaton BeginsAutomaton lexemes length at
 none_read tokens lexemes refusal fault at length long same text is syntax unread =
-    let through : IsUnreadThrough ReadsNoAutomaton tokens long at = subst (IsUnread ReadsNoAutomaton tokens long) (is ∙ ap (λ said. Text said) syntax) unread in
-    subst (λ l. IsUnreadThrough ReadsNoAutomaton lexemes l at) text (subst (λ ls. IsUnreadThrough ReadsNoAutomaton ls long at) same through)
+    let first : IsFirstUnread ReadsNoAutomaton BeginsAutomaton tokens long at = subst (IsUnread ReadsNoAutomaton BeginsAutomaton tokens long) (is ∙ ap (λ said. Text said) syntax) unread in
+    subst (λ l. IsFirstUnread ReadsNoAutomaton BeginsAutomaton lexemes l at) text (subst (λ ls. IsFirstUnread ReadsNoAutomaton BeginsAutomaton ls long at) same first)
 
 -- a segment that is not read has a fault
 pub unread_fault : (begins : ℕ) (lexemes : List (Lexeme HoaKind)) (refusal : Refusal) → IsPartUnread begins lexemes refusal → IsPartFault begins lexemes refusal

@@ -1,8 +1,6 @@
 -- Laws of texts of one automaton, of streams, of streams in pieces, and of automata in tokens, whatever the code does.
-use Rattle.std.specs.Prelude.{◌≡◌, ℕ, ◌⊎◌, List, [], ◌∷◌, ◌++◌, Option, Some, None, MatchOption}
+use Rattle.std.specs.Prelude.{◌≡◌, ℕ, List, [], ◌∷◌, ◌++◌, Option, Some, None, MatchOption}
 use Rattle.std.specs.List.{AllByRecursion, flat_map}
-use Rattle.omega_text.specs.Cases.{never, or_text}
-use Rattle.omega_text.specs.Cut.{Cuts}
 use Rattle.omega_text.specs.Lexeme.{Lexeme}
 use Rattle.omega_text.specs.Reading.{IsTokenOf}
 use Rattle.omega_text.specs.hoa.Format.{hoa_format}
@@ -17,21 +15,9 @@ use Rattle.omega_automaton.specs.Automaton.{Description}
 use Rattle.omega_hoa.specs.Alone.{IsAutomatonRefusal, IsAutomatonText}
 use Rattle.omega_hoa.specs.Feeding.{IsFed, TakesPiece}
 use Rattle.omega_hoa.specs.Kept.{Kept}
-use Rattle.omega_hoa.specs.Segment.{IsRawOf, IsSyntaxWithin}
+use Rattle.omega_hoa.specs.Segment.{IsRawOf}
 use Rattle.omega_hoa.specs.Stream.{IsSegment, IsStreamFault, IsStreamRefusal, IsStreamText}
 use Rattle.omega_hoa.specs.declared.item.Item.{Item}
-
--- two refusals `Syntax` of the tokens of one whole segment: each is at a token through which no automaton begins; only
--- tests show that it is the first such
-pub record AreOfSegment (segment : List (Lexeme HoaKind)) (one other : Refusal) : Type 0 where
-  pub whole : IsSegment End segment
-  pub first : or_text (IsSyntaxWithin segment) never one
-  pub second : or_text (IsSyntaxWithin segment) never other
-
--- two refusals of a text are the same, or both are `Syntax` and of one segment of it that ends with `--END--`
-abbrev pub AreAlike : List ℕ → Refusal → Refusal → Type 0
-AreAlike source one other = (one ≡ other)
-    ⊎ ((front : List (Lexeme HoaKind)) × (segment : List (Lexeme HoaKind)) × (end : ℕ) × Cuts hoa_format source 0 (front ++ segment) end × AreOfSegment segment one other)
 
 -- a text is that of at most one automaton
 abbrev pub AutomataAreOne : Type 0
@@ -43,7 +29,7 @@ AutomataAreOne =
 abbrev pub RefusalsAreOne : Type 0
 RefusalsAreOne =
     (source : List ℕ) (one other : Refusal) → IsAutomatonRefusal source one → IsAutomatonRefusal source other
-    → AreAlike source one other
+    → one ≡ other
 
 -- the text of an automaton has no refusal
 abbrev pub AutomataAreUnrefused : Type 0
@@ -67,7 +53,7 @@ abbrev pub StreamFaultsAreOne : Type 0
 StreamFaultsAreOne =
     (source : List ℕ) (items others : List Item) (one other : Refusal) → IsStreamFault source items one
     → IsStreamFault source others other
-    → (items ≡ others) × AreAlike source one other
+    → (items ≡ others) × (one ≡ other)
 
 -- a stream has no refusal
 abbrev pub StreamsAreUnrefused : Type 0
@@ -88,14 +74,7 @@ IsAnsweredAtEnd seen items kept None = IsStreamText seen items
 IsAnsweredAtEnd seen items kept (Some refusal) =
     MatchOption kept.refused (IsStreamFault seen items refusal) (λ before. refusal ≡ before)
 
--- two answers about a text are the same, except for the place of `Syntax` inside a segment
-abbrev pub AnswersAreAlike : List ℕ → Option Refusal → Option Refusal → Type 0
-AnswersAreAlike source None None = Unit {0}
-AnswersAreAlike source None (Some other) = ⊥
-AnswersAreAlike source (Some one) None = ⊥
-AnswersAreAlike source (Some one) (Some other) = AreAlike source one other
-
--- two streams that were fed with the same bytes, in any pieces, gave the same items and answer alike at their ends,
+-- two streams that were fed with the same bytes, in any pieces, gave the same items and answer the same at their ends,
 -- unless one passed the limit
 abbrev pub CutsChangeNothing : Type 0
 CutsChangeNothing =
@@ -103,7 +82,7 @@ CutsChangeNothing =
     → IsFed seen others left
     → (one ≡ Some (Text TooLong) → ⊥) → (other ≡ Some (Text TooLong) → ⊥) → IsAnsweredAtEnd seen items kept one
     → IsAnsweredAtEnd seen others left other
-    → (items ≡ others) × AnswersAreAlike seen one other
+    → (items ≡ others) × (one ≡ other)
 
 -- the bytes of pieces, one piece after the other
 abbrev pub bytes_of : List (List ℕ) → List ℕ
@@ -130,7 +109,7 @@ PiecesAreFed =
     → IsFed (bytes_of pieces) items kept
 
 -- two lists of pieces with the same bytes, each fed to a stream that did not pass the limit, gave the same items,
--- and the streams answer alike at their ends
+-- and the streams answer the same at their ends
 abbrev pub PiecesChangeNothing : Type 0
 PiecesChangeNothing =
     (pieces recut : List (List ℕ)) (items others : List Item) (kept left : Kept) (one other : Option Refusal)
@@ -138,7 +117,7 @@ PiecesChangeNothing =
     → IsFedIn pieces items kept → IsFedIn recut others left → (one ≡ Some (Text TooLong) → ⊥)
     → (other ≡ Some (Text TooLong) → ⊥)
     → IsAnsweredAtEnd (bytes_of pieces) items kept one → IsAnsweredAtEnd (bytes_of recut) others left other
-    → (items ≡ others) × AnswersAreAlike (bytes_of pieces) one other
+    → (items ≡ others) × (one ≡ other)
 
 -- the first of the tokens are a whole segment, which ends with `--END--` and is that of this automaton as it is
 -- written, and then come the rest

@@ -7,7 +7,7 @@ use Rattle.omega_text.specs.declared.refusal.Refusal.{Refusal}
 use Rattle.omega_text.specs.declared.refusal.automaton.AutomatonFault.{AutomatonFault}
 use Rattle.omega_text.specs.declared.refusal.text.TextFault.{TextFault}
 use Rattle.omega_text.specs.declared.refusal.text.TextFault.TheVariants.{Syntax}
-use Rattle.omega_raw.specs.Grammar.{ReadsAutomaton}
+use Rattle.omega_raw.specs.Grammar.{BeginsAutomaton, ReadsAutomaton}
 use Rattle.omega_raw.specs.declared.raw_automaton.RawAutomaton.{RawAutomaton}
 use Rattle.omega_automaton.specs.Automaton.{Description}
 use Rattle.omega_automaton.specs.Faults.{automaton_fault_of}
@@ -33,20 +33,22 @@ pub record HasMeaningFault (lexemes : List (Lexeme HoaKind)) (fault : AutomatonF
   pub written : IsRawOf lexemes raw
   pub has : automaton_fault_of raw ≡ Some fault
 
--- a token begins at this place, and no automaton as it is written begins with the tokens through it
-pub record IsUnwrittenThrough (lexemes : List (Lexeme HoaKind)) (place : ℕ) : Type 0 where
+-- this is the place of the first token through which none begins: an automaton begins with the tokens before it, and
+-- none, as it is written, with the tokens through it
+pub record IsFirstUnwritten (lexemes : List (Lexeme HoaKind)) (place : ℕ) : Type 0 where
   pub before : List (Lexeme HoaKind)
   pub token : Lexeme HoaKind
   pub rest : List (Lexeme HoaKind)
   pub split : lexemes ≡ before ++ token ∷ rest
   pub there : place ≡ token.span.start
+  pub begun : BeginsAutomaton before
   pub unwritten : (more : List (Lexeme HoaKind)) → IsNoRaw (before ++ token ∷ more)
 
--- a fault of syntax, at a token through which no automaton begins
+-- a fault of syntax, at the first token through which no automaton begins
 abbrev pub IsSyntaxWithin : List (Lexeme HoaKind) → TextFault → Type 0
-IsSyntaxWithin lexemes (Syntax at) = IsUnwrittenThrough lexemes at
+IsSyntaxWithin lexemes (Syntax at) = IsFirstUnwritten lexemes at
 IsSyntaxWithin lexemes fault = ⊥
 
--- why the tokens are not an automaton's: `Syntax` at one of them through which none begins, else a fault of meaning
+-- why the tokens are not an automaton's: `Syntax` at the first of them through which none begins, else a fault of meaning
 abbrev pub IsSegmentFault : List (Lexeme HoaKind) → Refusal → Type 0
 IsSegmentFault lexemes = or_text (IsSyntaxWithin lexemes) (or_automaton (HasMeaningFault lexemes) never)

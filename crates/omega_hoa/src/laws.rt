@@ -16,8 +16,7 @@ pub fn automata_are_one()
     meanings_are_one();
 }
 
-/// States that a text that is not that of one automaton has at most one refusal, except for the place of
-/// [TextFault::Syntax] inside its segment.
+/// States that a text that is not that of one automaton has at most one refusal.
 pub fn refusals_are_one()
     ensures { RefusalsAreOne }
 {
@@ -55,8 +54,7 @@ pub fn streams_are_one()
     meanings_are_one();
 }
 
-/// States that a text that is no stream is refused after at most one list of items, and has at most one refusal, except
-/// for the place of [TextFault::Syntax] inside a segment.
+/// States that a text that is no stream is refused after at most one list of items, and has at most one refusal.
 pub fn stream_faults_are_one()
     ensures { StreamFaultsAreOne }
 {
@@ -84,8 +82,7 @@ pub fn streams_or_refused()
 }
 
 /// States that the pieces in which a text within the limit is fed to a `Stream` change nothing. Its items are the same,
-/// and the answers at its end are alike: nothing, or the same refusal, except for the place of [TextFault::Syntax]
-/// inside a segment.
+/// and so is the answer at its end: nothing, or the same refusal.
 ///
 /// This holds of streams that are known to be fed with the same bytes (`fed`), and of every two lists of pieces with
 /// the same bytes (`pieces`), since feeding pieces one after the other feeds their bytes (`together`).

@@ -1,15 +1,15 @@
-ghost use Rattle.std.specs.Prelude.{◌≡◌, ◌+◌, ◌<◌, ◌^◌, [], List, length, IfErr, IfOk};
+ghost use Rattle.std.specs.Prelude.{◌+◌, ◌<◌, ◌^◌, List, length, IfErr, IfOk};
 ghost use Rattle.omega_text.specs.Cut.{IsCut};
 ghost use Rattle.omega_text.specs.Lexeme.{Lexeme};
 ghost use Rattle.omega_text.specs.hoa.Format.{hoa_format};
 ghost use Rattle.omega_text.specs.declared.hoa.kind.HoaKind.{HoaKind};
 ghost use Rattle.omega_hoa.specs.Segment.{IsAutomatonOf, IsRawOf};
-ghost use Rattle.omega_hoa.specs.private.Places.{IsPartFault, IsPartUnread, IsStartFrom, OfSegment};
+ghost use Rattle.omega_hoa.specs.private.Places.{IsPartFault, IsPartUnread, OfSegment};
 
 use omega_automaton::{Automaton, automaton_of};
 use omega_raw::{RawAutomaton, read_raw};
 use omega_text::laws::cuts_are_one;
-use omega_text::{HoaKind, Refusal, TextCursor, TextFault, TokenKind, TokenSource};
+use omega_text::{HoaKind, Refusal, TextCursor, TextFault, TokenKind};
 use std::alloc::Global;
 
 /// Reads the automaton of a segment that ends with `--END--`. Its `bytes` begin at the place `begins` of a longer text.
@@ -17,7 +17,7 @@ use std::alloc::Global;
 /// Refused with its [TextFault::Syntax] or `AutomatonFault`, or with [Refusal::Memory]. The place of
 /// [TextFault::Syntax] counts from the first byte of that text.
 ///
-/// The bytes are read once, and up to the place of that fault once more.
+/// The bytes are read once.
 pub(crate) fn read_segment(alloc: Global, bytes: &[u8], begins: usize) -> Result<Automaton, Refusal>
     requires cut { (lexemes : List (Lexeme HoaKind)) × IsCut hoa_format bytes.now lexemes }
     requires room { begins + length bytes.now < 2 ^ 64 }
@@ -46,26 +46,8 @@ pub(crate) fn read_written(
     match read_raw(alloc, &mut tokens) {
         Ok(raw) => Ok(raw),
         Err(Refusal::Text(TextFault::Syntax { at })) => Err(Refusal::Text(TextFault::Syntax {
-            at: begins.saturating_add(token_start(bytes, at)),
+            at: begins.saturating_add(at),
         })),
         Err(refusal) => Err(refusal),
     }
-}
-
-/// Returns the place of the first token of `bytes` that begins at `at` or after it, or of the last token if none does.
-fn token_start(bytes: &[u8], at: usize) -> usize
-    requires { (lexemes : List (Lexeme HoaKind)) × IsCut hoa_format bytes.now lexemes }
-    ensures { (lexemes : List (Lexeme HoaKind))
-        → IsCut hoa_format bytes.now lexemes → (lexemes ≡ [] → ⊥) → IsStartFrom at lexemes result }
-{
-    cuts_are_one::<HoaKind>();
-    let mut tokens = TextCursor::<HoaKind>::new(bytes);
-    let mut start = 0;
-    while let Some(token) = tokens.take() {
-        start = token.span.start;
-        if start >= at {
-            return start;
-        }
-    }
-    start
 }

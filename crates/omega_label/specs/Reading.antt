@@ -4,7 +4,7 @@ use Rattle.std.specs.Prelude.{◌≡◌, ℕ, ◌<◌, List, [], ◌∷◌, ◌+
 use Rattle.omega_label.specs.Raw.{RawLabelTree, alias, conjunction, constant, disjunction, group, negation, proposition, raw_depth}
 use Rattle.omega_expression.specs.Limits.{most_depth}
 use Rattle.omega_expression.specs.Symbols.{EndsThere, Rank, ExpressionSymbol, TakesAnd, TakesOr, conjunctive, disjunctive, name, number, sign, expression_symbol_of, truth_kind, unary}
-use Rattle.omega_expression.specs.Unread.{IsSyntaxAt}
+use Rattle.omega_expression.specs.Unread.{IsSyntax}
 use Rattle.omega_text.specs.Cases.{never, or_automaton, or_memory, or_text}
 use Rattle.omega_text.specs.Lexeme.{Lexeme}
 use Rattle.omega_text.specs.declared.hoa.kind.HoaKind.{HoaKind}
@@ -59,7 +59,7 @@ pub record ReadsDeep (tokens rest : List (Lexeme HoaKind)) : Type 0 where
 -- the refusals of reading a label of tokens, after which the rest is left: there is none, or one that is too deep
 abbrev pub IsUnreadLabel : (tokens rest : List (Lexeme HoaKind)) → ℕ → Refusal → Type 0
 IsUnreadLabel tokens rest length =
-    or_text (IsSyntaxAt ReadsNoLabel BeginsLabel tokens length) (or_automaton (λ fault. (fault ≡ TooDeep) × ReadsDeep tokens rest) (or_memory never))
+    or_text (IsSyntax ReadsNoLabel BeginsLabel tokens length) (or_automaton (λ fault. (fault ≡ TooDeep) × ReadsDeep tokens rest) (or_memory never))
 
 -- of all tokens at most one label is read, and at most one rest is left
 abbrev pub LabelsAreOne : Type 0

@@ -3,7 +3,7 @@
 ghost use Rattle.std.specs.Prelude.{◌≡◌, ◌<◌, ◌≤◌, List, length, IfErr, IfOk, MatchBool, OnOk};
 ghost use Rattle.omega_label.specs.Reading.{BeginsLabel, IsUnreadLabel, Reads, ReadsNoLabel};
 ghost use Rattle.omega_expression.specs.Symbols.{conjunctive, unary};
-ghost use Rattle.omega_expression.specs.Unread.{IsUnreadAt};
+ghost use Rattle.omega_expression.specs.Unread.{IsUnread};
 ghost use Rattle.omega_expression.specs.Limits.{most_depth};
 ghost use Rattle.omega_label.specs.Raw.{raw_depth};
 ghost use Rattle.omega_label.specs.private.layout.Building.{HasIn, IsWhole, WantsIn};
@@ -30,7 +30,7 @@ pub fn read_raw_label<'a, S: TokenSource<'a, HoaKind>>(
     source: &mut S,
 ) -> Result<RawLabel, Refusal>
     ensures ok { IfOk result (λ label. Reads (S.left source.old) label (S.left source.new)) }
-    ensures err { IfErr result (IsUnreadAt ReadsNoLabel BeginsLabel (S.left source.old) (S.length source.old)) }
+    ensures err { IfErr result (IsUnread ReadsNoLabel BeginsLabel (S.left source.old) (S.length source.old)) }
     ensures length { S.length source.new ≡ S.length source.old }
 {
     let mut unfinished = Unfinished::new(alloc);
@@ -75,7 +75,7 @@ fn operand<'a, S: TokenSource<'a, HoaKind>>(
         HasIn conjunctive whole (S.left source.new) unfinished.new) }
     ensures err { IfErr result (λ refusal. (whole : List (Lexeme Kind)) →
         WantsIn whole (S.left source.old) unfinished.old
-        → IsUnreadAt ReadsNoLabel BeginsLabel whole (S.length source.old) refusal) }
+        → IsUnread ReadsNoLabel BeginsLabel whole (S.length source.old) refusal) }
     ensures less { OnOk result (length (S.left source.new) < length (S.left source.old)) }
     ensures length { S.length source.new ≡ S.length source.old }
 {
@@ -93,7 +93,7 @@ fn read_prefix<'a, S: TokenSource<'a, HoaKind>>(
         (HasIn unary whole (S.left source.new) unfinished.new)) }
     ensures err { IfErr result (λ refusal. (whole : List (Lexeme Kind)) →
         WantsIn whole (S.left source.old) unfinished.old
-        → IsUnreadAt ReadsNoLabel BeginsLabel whole (S.length source.old) refusal) }
+        → IsUnread ReadsNoLabel BeginsLabel whole (S.length source.old) refusal) }
     ensures less { OnOk result (length (S.left source.new) < length (S.left source.old)) }
     ensures length { S.length source.new ≡ S.length source.old }
 {
@@ -136,7 +136,7 @@ fn read_infix<'a, S: TokenSource<'a, HoaKind>>(
         (IsWhole whole (S.left source.new) unfinished.new)) }
     ensures err { IfErr result (λ refusal. (whole : List (Lexeme Kind)) →
         HasIn conjunctive whole (S.left source.old) unfinished.old
-        → IsUnreadAt ReadsNoLabel BeginsLabel whole (S.length source.old) refusal) }
+        → IsUnread ReadsNoLabel BeginsLabel whole (S.length source.old) refusal) }
     ensures less { IfOk result (λ more. MatchBool more (length (S.left source.new) < length (S.left source.old))
         (Unit {0})) }
     ensures length { S.length source.new ≡ S.length source.old }
@@ -175,7 +175,7 @@ fn conjunct<'a, S: TokenSource<'a, HoaKind>>(
         HasIn conjunctive whole (S.left source.new) unfinished.new) }
     ensures err { IfErr result (λ refusal. (whole : List (Lexeme Kind)) (before : List (Lexeme Kind)) →
         PassesOne kinds.And before (S.left source.old) → HasIn conjunctive whole before unfinished.old →
-        IsUnreadAt ReadsNoLabel BeginsLabel whole (S.length source.old) refusal) }
+        IsUnread ReadsNoLabel BeginsLabel whole (S.length source.old) refusal) }
     ensures less { OnOk result (length (S.left source.new) < length (S.left source.old)) }
     ensures length { S.length source.new ≡ S.length source.old }
 {

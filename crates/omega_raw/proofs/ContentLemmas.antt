@@ -6,15 +6,16 @@ use Rattle.omega_formula.specs.Raw.{RawAccTree}
 use Rattle.omega_label.specs.Raw.{RawLabelTree}
 use Rattle.omega_formula.specs.declared.name.AccName.{AccName}
 use Rattle.omega_formula.specs.declared.name.Parameter.{Parameter}
-use Rattle.omega_expression.proofs.UnreadLemmas.{through_next, unread_after, unread_missing}
+use Rattle.omega_expression.proofs.UnreadLemmas.{first_after, first_missing, first_next}
 use Rattle.omega_expression.specs.Passing.{IsMissing}
-use Rattle.omega_expression.specs.Unread.{AgreeThroughNext, IsUnread, IsUnreadThrough}
+use Rattle.omega_expression.specs.Unread.{AgreeThroughNext, IsFirstUnread, IsUnread}
+use Rattle.omega_raw.proofs.BegunLemmas.{headed, header_first}
 use Rattle.omega_raw.proofs.SpellingLemmas.{missing_symbol, token_taken}
 use Rattle.omega_raw.specs.private.steps.Contents.{FindsContent, FindsUnknown, FindsWhere, GivesContent, GivesUnknown, IsUnknownItem}
 use Rattle.omega_raw.specs.Grammar.{IsRawItem, content_row, header_named, item_name, item_row}
 use Rattle.omega_raw.specs.private.steps.Rows.{item_header}
 use Rattle.omega_raw.specs.private.steps.Parts.{EndsItem}
-use Rattle.omega_raw.specs.private.steps.Reading.{Finds, GivesRow, IsUnwritten}
+use Rattle.omega_raw.specs.private.steps.Reading.{Finds, GivesRow, IsBegun, IsUnwritten}
 use Rattle.omega_raw.specs.Symbols.{ReadsSymbols, AutomatonSymbol, Tokens, header, without_last}
 use Rattle.omega_raw.specs.First.{FirstIs}
 use Rattle.omega_raw.specs.declared.header.name.HeaderKind.{HeaderKind}
@@ -155,47 +156,77 @@ unknown_given name old mid new lexeme (Ok it) next sort is given = record {
 }
 unknown_given name old mid new lexeme (Err refusal) next sort is given = tt
 
+-- an item begins after its header
+item_begun_after : (Is : RawItem → Type 0) (lexeme : Lexeme HoaKind) → ((it : RawItem) → Is it → header (item_name it) ≡ header (without_last lexeme.text)) → lexeme.kind ≡ kind.HeaderName
+    → (before : Tokens) → IsBegun (λ it. Is it × IsRawItem it) content_row before → IsBegun IsRawItem item_row (lexeme ∷ before)
+item_begun_after Is lexeme called sort before begun = record {
+  more = begun.more;
+  it = begun.it;
+  is = begun.is.1;
+  spells = λ left others rest ends spells.
+      subst (λ symbol. ReadsSymbols (lexeme ∷ ((before ++ begun.more) ++ left)) (symbol ∷ content_row begun.it others) rest) (sym (called begun.it begun.is.0))
+      (record {
+        middle = (before ++ begun.more) ++ left;
+        front = record { lexeme = lexeme; next = refl; shows = (sort, refl) };
+        back = begun.spells left others rest ends spells;
+      });
+}
+
+-- the shortest item
+no_words : IsBegun IsRawItem item_row []
+no_words = record {
+  more = headed (codes "properties") ∷ [];
+  it = item.Properties [];
+  is = tt;
+  spells = λ left others rest ends spells. header_first (codes "properties") left others rest spells;
+}
+
 -- what is found after a header is found with it, if what holds of an item of that name is what is found
 item_where : (Is : RawItem → Type 0) (old mid new : Tokens) (lexeme : Lexeme HoaKind) (length long : ℕ) (result : Result RawItem Refusal) → old ≡ lexeme ∷ mid → long ≡ length
-    → ((it : RawItem) → IsRawItem it → without_last lexeme.text ≡ item_name it → Is it) → FindsWhere Is mid new long result
-    → Finds IsRawItem item_row (FirstIs EndsItem) old new length result
-item_where Is old mid new lexeme length long (Ok it) next same holds finds = record {
+    → ((it : RawItem) → IsRawItem it → without_last lexeme.text ≡ item_name it → Is it) → ((it : RawItem) → Is it → header (item_name it) ≡ header (without_last lexeme.text)) → lexeme.kind ≡ kind.HeaderName
+    → FindsWhere Is mid new long result → Finds IsRawItem item_row (FirstIs EndsItem) old new length result
+item_where Is old mid new lexeme length long (Ok it) next same holds called sort finds = record {
   front = lexeme ∷ finds.front;
   split = next ∙ ap (λ tokens. lexeme ∷ tokens) finds.split;
   holds = λ others agree wanted more rest valid follow spells.
       let taken = token_taken (header (item_name wanted)) (content_row wanted more) rest (lexeme ∷ (finds.front ++ others)) (finds.front ++ others) lexeme refl spells in
       finds.holds others agree wanted more rest (holds wanted valid taken.0.1, valid) follow taken.1;
 }
-item_where Is old mid new lexeme length long (Err refusal) next same holds finds =
-    unread_after (IsUnwritten IsRawItem item_row (FirstIs EndsItem)) (IsUnwritten (λ it. Is it × IsRawItem it) content_row (FirstIs EndsItem)) old (lexeme ∷ []) mid length refusal next
+item_where Is old mid new lexeme length long (Err refusal) next same holds called sort finds =
+    first_after (IsUnwritten IsRawItem item_row (FirstIs EndsItem)) (IsUnwritten (λ it. Is it × IsRawItem it) content_row (FirstIs EndsItem)) (IsBegun IsRawItem item_row) (IsBegun (λ it. Is it × IsRawItem it) content_row)
+    old (lexeme ∷ []) mid length refusal next
     (λ others none wanted more rest valid follow spells.
     let taken = token_taken (header (item_name wanted)) (content_row wanted more) rest (lexeme ∷ others) others lexeme refl spells in
     none wanted more rest (holds wanted valid taken.0.1, valid) follow taken.1)
-    (subst (λ l. IsUnread (IsUnwritten (λ it. Is it × IsRawItem it) content_row (FirstIs EndsItem)) mid l refusal) same finds)
+    (λ before. item_begun_after Is lexeme called sort before)
+    (subst (λ l. IsUnread (IsUnwritten (λ it. Is it × IsRawItem it) content_row (FirstIs EndsItem)) (IsBegun (λ it. Is it × IsRawItem it) content_row) mid l refusal) same finds)
 
-pub item_found : (which : HeaderKind) (old mid new : Tokens) (lexeme : Lexeme HoaKind) (length long : ℕ) (result : Result RawItem Refusal) → old ≡ lexeme ∷ mid → long ≡ length
-    → header_named (without_last lexeme.text) ≡ which → FindsContent which mid new long result → Finds IsRawItem item_row (FirstIs EndsItem) old new length result
-item_found which old mid new lexeme length long result next same is finds =
+pub item_found : (which : HeaderKind) (old mid new : Tokens) (lexeme : Lexeme HoaKind) (length long : ℕ) (result : Result RawItem Refusal) → old ≡ lexeme ∷ mid → lexeme.kind ≡ kind.HeaderName → long ≡ length
+    → header_named (without_last lexeme.text) ≡ which → IsKnown which → FindsContent which mid new long result → Finds IsRawItem item_row (FirstIs EndsItem) old new length result
+item_found which old mid new lexeme length long result next sort same is known finds =
     item_where (λ it. item_header it ≡ which) old mid new lexeme length long result next same
-    (λ it valid called. sym (header_named-item_name it valid) ∙ (ap header_named (sym called) ∙ is)) finds
+    (λ it valid called. sym (header_named-item_name it valid) ∙ (ap header_named (sym called) ∙ is))
+    (λ it has. ap header (item_named it (without_last lexeme.text) (subst IsKnown (sym has) known) (subst (λ h. IsName h (without_last lexeme.text)) (is ∙ sym has) (name_is (without_last lexeme.text))))) sort finds
 
-pub unknown_found : (name : List ℕ) (old mid new : Tokens) (lexeme : Lexeme HoaKind) (length long : ℕ) (result : Result RawItem Refusal) → old ≡ lexeme ∷ mid → long ≡ length
+pub unknown_found : (name : List ℕ) (old mid new : Tokens) (lexeme : Lexeme HoaKind) (length long : ℕ) (result : Result RawItem Refusal) → old ≡ lexeme ∷ mid → lexeme.kind ≡ kind.HeaderName → long ≡ length
     → name ≡ without_last lexeme.text → header_named name ≡ named.Unknown → FindsUnknown name mid new long result → Finds IsRawItem item_row (FirstIs EndsItem) old new length result
-unknown_found name old mid new lexeme length long result next same is unknown finds =
+unknown_found name old mid new lexeme length long result next sort same is unknown finds =
     item_where (IsUnknownItem name) old mid new lexeme length long result next same
-    (λ it valid called. record { unknown = sym (header_named-item_name it valid) ∙ (ap header_named (sym called ∙ sym is) ∙ unknown); called = sym called ∙ sym is }) finds
+    (λ it valid called. record { unknown = sym (header_named-item_name it valid) ∙ (ap header_named (sym called ∙ sym is) ∙ unknown); called = sym called ∙ sym is })
+    (λ it has. ap header (has.called ∙ is)) sort finds
 
 -- no item begins without a header
-pub unheaded : (old : Tokens) (length : ℕ) (refusal : Refusal) → IsMissing kind.HeaderName old length refusal → IsUnread (IsUnwritten IsRawItem item_row (FirstIs EndsItem)) old length refusal
+pub unheaded : (old : Tokens) (length : ℕ) (refusal : Refusal) → IsMissing kind.HeaderName old length refusal
+    → IsUnread (IsUnwritten IsRawItem item_row (FirstIs EndsItem)) (IsBegun IsRawItem item_row) old length refusal
 unheaded old length refusal missing =
-    unread_missing (IsUnwritten IsRawItem item_row (FirstIs EndsItem)) kind.HeaderName old length refusal
+    first_missing (IsUnwritten IsRawItem item_row (FirstIs EndsItem)) (IsBegun IsRawItem item_row) kind.HeaderName old length refusal no_words
     (λ tokens not wanted others rest valid follow spells. missing_symbol (header (item_name wanted)) kind.HeaderName (λ lexeme shows. shows.0) tokens not _ spells) missing
 
 -- no item has a header that is that of none
 pub none_found : (sort : HeaderKind) (old mid : Tokens) (lexeme : Lexeme HoaKind) (length place : ℕ) → old ≡ lexeme ∷ mid → header_named (without_last lexeme.text) ≡ sort
-    → ((it : RawItem) → item_header it ≡ sort → ⊥) → place ≡ next_place old length → IsUnreadThrough (IsUnwritten IsRawItem item_row (FirstIs EndsItem)) old length place
+    → ((it : RawItem) → item_header it ≡ sort → ⊥) → place ≡ next_place old length → IsFirstUnread (IsUnwritten IsRawItem item_row (FirstIs EndsItem)) (IsBegun IsRawItem item_row) old length place
 none_found sort old mid lexeme length place next is none there =
-    through_next (IsUnwritten IsRawItem item_row (FirstIs EndsItem)) old [] old length place refl there
+    first_next (IsUnwritten IsRawItem item_row (FirstIs EndsItem)) (IsBegun IsRawItem item_row) old [] old length place refl there no_words
     (λ others agree wanted more rest valid follow spells.
     let through = subst (λ tokens. AgreeThroughNext tokens others) next agree in
     let taken = token_taken (header (item_name wanted)) (content_row wanted more) rest others through.0 lexeme through.1 spells in

@@ -3,10 +3,13 @@ use Rattle.std.proofs.Common.{◌≡◌, ℕ, Bool, true, false, List, [], ◌�
 use Rattle.std.specs.Prelude.{IfOk, IfSome}
 use Rattle.std.specs.List.{AllByRecursion}
 use Rattle.omega_expression.specs.Unread.{IsUnread}
+use Rattle.omega_expression.specs.Symbols.{EndsThere}
+use Rattle.omega_raw.proofs.BegunLemmas.{regrouped, spelled}
 use Rattle.omega_raw.proofs.SpellingLemmas.{first_then, next_clash, next_is, next_may}
-use Rattle.omega_raw.proofs.StepLemmas.{is_through, may_through, none_after, passes_after, passes_here, passes_then, unread_then}
+use Rattle.omega_raw.proofs.StepLemmas.{after_step, is_through, may_through, passes_after, passes_here, passes_then, unread_then, with_next}
 use Rattle.omega_raw.specs.Grammar.{each, optional_row}
-use Rattle.omega_raw.specs.private.steps.Reading.{EndsList, Given, IsUnwritten, IsWritten, NextIs, NextMayBe, Passes}
+use Rattle.omega_raw.specs.private.steps.Joining.{Joins, each_joins}
+use Rattle.omega_raw.specs.private.steps.Reading.{EndsList, Given, IsBegun, IsUnwritten, IsWritten, NextIs, NextMayBe, Passes}
 use Rattle.omega_raw.specs.Symbols.{ReadsSymbols, AutomatonSymbol, Tokens}
 use Rattle.omega_raw.specs.First.{FirstIs}
 use Rattle.omega_text.specs.declared.hoa.kind.HoaKind.{HoaKind}
@@ -33,6 +36,7 @@ pub record IsReadTo {X : Type 0} (Is : X → Type 0) (row : X → List Automaton
 -- what is known of a part
 pub record IsPart {X : Type 0} (Is : X → Type 0) (row : X → List AutomatonSymbol → List AutomatonSymbol) (begins : HoaKind → Bool) (May : HoaKind → Type 0) : Type 0 where
   pub begun : (it : X) (others : List AutomatonSymbol) → Is it → FirstIs (λ kind. begins kind ≡ true) (row it others)
+  pub joins : (it : X) → Joins (row it)
   pub follows : (kind : HoaKind) → begins kind ≡ true → May kind
 
 -- nothing was read
@@ -135,17 +139,40 @@ nothing_goes_on {X} Is row begins May part middle all values others rest next no
     ])
     in through remains.more remains.are remains.spells
 
+-- the parts that were read, and one more that is begun, begin a list of parts
+parts_begun : {X : Type 0} (Is : X → Type 0) (row : X → List AutomatonSymbol → List AutomatonSymbol) (old now front : Tokens) (all : List X) → ((it : X) → Joins (row it)) → old ≡ front ++ now
+    → Given (AllByRecursion Is) (each row) old now all → (before left : Tokens) → now ≡ before ++ left → IsBegun Is row before → IsBegun (AllByRecursion Is) (each row) (front ++ before)
+parts_begun Is row old now front all joins split given [] left here begun = record {
+  more = [];
+  it = all;
+  is = given.is;
+  spells = λ left others rest ends spells.
+      subst (λ tokens. ReadsSymbols (tokens ++ left) (each row all others) rest) (sym (append-nil (front ++ []) ∙ append-nil front))
+      (spelled (each row all) old now front (each_joins row joins all) split given.spells left others rest (λ e. ends) spells);
+}
+parts_begun Is row old now front all joins split given (next ∷ before) left here begun = record {
+  more = begun.more;
+  it = all ++ begun.it ∷ [];
+  is = AllByRecursion-snoc Is all begun.it given.is begun.is;
+  spells = λ left others rest ends spells.
+      subst (λ symbols. ReadsSymbols (((front ++ next ∷ before) ++ begun.more) ++ left) symbols rest) (sym (each-append row all (begun.it ∷ []) others))
+      (subst (λ tokens. ReadsSymbols tokens (each row all (row begun.it others)) rest) (regrouped front (next ∷ before) begun.more left)
+      (spelled (each row all) old now front (each_joins row joins all) split given.spells (((next ∷ before) ++ begun.more) ++ left) (row begun.it others) rest
+      (λ e. subst EndsThere here e) (begun.spells left others rest ends spells)));
+}
+
 pub read_failed : {X : Type 0} (Is : X → Type 0) (row : X → List AutomatonSymbol → List AutomatonSymbol) (begins : HoaKind → Bool) (May : HoaKind → Type 0) → IsPart Is row begins May
     → (old now : Tokens) (all : List X) (length : ℕ) (refusal : Refusal) → IsReadTo Is row (EndsList begins May) old all now → NextIs (λ kind. begins kind ≡ true) now
-    → IsUnread (IsUnwritten Is row (FirstIs May)) now length refusal
-    → IsUnread (IsUnwritten (AllByRecursion Is) (each row) (FirstIs (EndsList begins May))) old length refusal
+    → IsUnread (IsUnwritten Is row (FirstIs May)) (IsBegun Is row) now length refusal
+    → IsUnread (IsUnwritten (AllByRecursion Is) (each row) (FirstIs (EndsList begins May))) (IsBegun (AllByRecursion Is) (each row)) old length refusal
 read_failed {X} Is row begins May part old now all length refusal read next none =
-    let begun = passes_here (NextIs (λ kind. begins kind ≡ true)) now (λ others. is_through (λ kind. begins kind ≡ true) now others next) in
-    unread_then _ (IsUnwritten (AllByRecursion Is) (each row) (FirstIs (EndsList begins May))) old length refusal
-    (none_after _ _ old now length refusal read.remains (none_after _ _ now now length refusal begun none))
+    unread_then _ (IsUnwritten (AllByRecursion Is) (each row) (FirstIs (EndsList begins May))) (IsBegun (AllByRecursion Is) (each row)) (IsBegun (AllByRecursion Is) (each row)) old length refusal
+    (after_step _ _ (IsBegun Is row) (IsBegun (AllByRecursion Is) (each row)) old now length refusal read.remains
+    (parts_begun Is row old now read.remains.front all part.joins read.remains.split read.given)
+    (with_next (λ kind. begins kind ≡ true) (IsUnwritten Is row (FirstIs May)) (IsBegun Is row) now length refusal next none))
     (λ tokens t values others rest are last spells.
-    nothing_goes_on Is row begins May part t.second.middle all values others rest t.second.first.1 t.second.second last
-    (subst (λ middle. Remains Is row values all middle others rest) t.second.first.0 (t.first values others rest are last spells)))
+    nothing_goes_on Is row begins May part t.middle all values others rest t.second.0 t.second.1 last (t.first values others rest are last spells))
+    (λ before begun. begun)
 
 -- no part follows
 part_absent : {X : Type 0} (Is : X → Type 0) (row : X → List AutomatonSymbol → List AutomatonSymbol) (begins : HoaKind → Bool) (May : HoaKind → Type 0) → IsPart Is row begins May
@@ -186,15 +213,16 @@ there_found {X} Is row begins May now new value next finds =
     it is (subst (λ here. ReadsSymbols here (optional_row row it others) rest) t.first.0 spells))
 
 pub there_unread : {X : Type 0} (Is : X → Type 0) (row : X → List AutomatonSymbol → List AutomatonSymbol) (begins : HoaKind → Bool) (May : HoaKind → Type 0)
-    → (now : Tokens) (length : ℕ) (refusal : Refusal) → NextIs (λ kind. begins kind ≡ true) now → IsUnread (IsUnwritten Is row (FirstIs May)) now length refusal
-    → IsUnread (IsUnwritten (λ it. IfSome it Is) (optional_row row) (FirstIs (EndsList begins May))) now length refusal
+    → (now : Tokens) (length : ℕ) (refusal : Refusal) → NextIs (λ kind. begins kind ≡ true) now → IsUnread (IsUnwritten Is row (FirstIs May)) (IsBegun Is row) now length refusal
+    → IsUnread (IsUnwritten (λ it. IfSome it Is) (optional_row row) (FirstIs (EndsList begins May))) (IsBegun (λ it. IfSome it Is) (optional_row row)) now length refusal
 there_unread {X} Is row begins May now length refusal next none =
-    unread_then _ (IsUnwritten (λ it. IfSome it Is) (optional_row row) (FirstIs (EndsList begins May))) now length refusal
-    (none_after _ _ now now length refusal (passes_here (NextIs (λ kind. begins kind ≡ true)) now (λ others. is_through (λ kind. begins kind ≡ true) now others next)) none)
+    unread_then _ (IsUnwritten (λ it. IfSome it Is) (optional_row row) (FirstIs (EndsList begins May))) (IsBegun Is row) (IsBegun (λ it. IfSome it Is) (optional_row row)) now length refusal
+    (with_next (λ kind. begins kind ≡ true) (IsUnwritten Is row (FirstIs May)) (IsBegun Is row) now length refusal next none)
     (λ tokens t it others rest is last spells.
-    part_there Is row begins May t.middle t.first.1 (λ it. ⊥) others rest last
-    (λ it is follow spells. t.second it others rest is follow spells)
-    it is (subst (λ here. ReadsSymbols here (optional_row row it others) rest) t.first.0 spells))
+    part_there Is row begins May tokens t.0 (λ it. ⊥) others rest last
+    (λ it is follow spells. t.1 it others rest is follow spells)
+    it is spells)
+    (λ before begun. record { more = begun.more; it = Some begun.it; is = begun.is; spells = begun.spells })
 
 -- what holds of what was read holds of it in another way
 pub given_then : {X : Type 0} (result : Result X Refusal) (Is Was : X → Type 0) → ((it : X) → Was it → Is it) → IfOk result Was → IfOk result Is

@@ -2,10 +2,10 @@
 use Rattle.std.proofs.Common.{◌≡◌, ℕ, List, [], ◌∷◌, Option, sym, ap, ◌∙◌, subst, arith, Result, Ok, Err}
 use Rattle.omega_label.specs.Raw.{RawLabelTree}
 use Rattle.std.specs.Prelude.{IfErr, IsErrAnd}
-use Rattle.omega_expression.proofs.UnreadLemmas.{agree_same, unread_same}
+use Rattle.omega_expression.proofs.UnreadLemmas.{agree_same, first_same}
 use Rattle.omega_expression.specs.Unread.{IsUnread}
 use Rattle.omega_raw.proofs.StepLemmas.{unread_then}
-use Rattle.omega_raw.specs.Grammar.{IsConj, ReadsAutomaton, ReadsNoAutomaton, ReadsNoOther, conj_row}
+use Rattle.omega_raw.specs.Grammar.{BeginsAutomaton, IsConj, ReadsAutomaton, ReadsNoAutomaton, ReadsNoOther, conj_row}
 use Rattle.omega_raw.specs.private.steps.Parts.{EndsConj}
 use Rattle.omega_raw.specs.private.steps.Reading.{Given, Passes}
 use Rattle.omega_raw.specs.Symbols.{ReadsSymbols, AutomatonSymbol, Tokens}
@@ -61,11 +61,12 @@ error_is (Ok value) said Wanted is follows = tt
 error_is (Err refusal) said Wanted is follows = follows refusal is
 
 -- no automaton is read where a step is not
-pub automaton_unread : {X : Type 0} (result : Result X Refusal) (tokens : Tokens) (length long : ℕ) (refusal : Refusal) (IsMore : Tokens → Type 0) → IsErrAnd result (λ error. error ≡ refusal) → long ≡ length
-    → IsUnread IsMore tokens long refusal → ((others : Tokens) → IsMore others → (raw : RawAutomaton) (rest : Tokens) → ReadsAutomaton others raw rest → ⊥) → IfErr result (IsUnread ReadsNoAutomaton tokens length)
-automaton_unread result tokens length long refusal IsMore is same unread follows =
-    error_is result _ (IsUnread ReadsNoAutomaton tokens length) is
-    (λ error e. unread_same ReadsNoAutomaton tokens length long refusal error e same (unread_then IsMore ReadsNoAutomaton tokens long refusal unread follows))
+pub automaton_unread : {X : Type 0} {IsMoreBegun : Tokens → Type 0} (result : Result X Refusal) (tokens : Tokens) (length long : ℕ) (refusal : Refusal) (IsMore : Tokens → Type 0) → IsErrAnd result (λ error. error ≡ refusal) → long ≡ length
+    → IsUnread IsMore IsMoreBegun tokens long refusal → ((others : Tokens) → IsMore others → (raw : RawAutomaton) (rest : Tokens) → ReadsAutomaton others raw rest → ⊥)
+    → ((before : Tokens) → IsMoreBegun before → BeginsAutomaton before) → IfErr result (IsUnread ReadsNoAutomaton BeginsAutomaton tokens length)
+automaton_unread {X} {IsMoreBegun} result tokens length long refusal IsMore is same unread follows begins =
+    error_is result _ (IsUnread ReadsNoAutomaton BeginsAutomaton tokens length) is
+    (λ error e. first_same ReadsNoAutomaton BeginsAutomaton tokens length long refusal error e same (unread_then IsMore ReadsNoAutomaton IsMoreBegun BeginsAutomaton tokens long refusal unread follows begins))
 
 -- what was found in steps is the one automaton that was written
 pub only_found : (raw : RawAutomaton) (old new : Tokens) {Held : Tokens → Tokens → Type 0} → Passes Held old new

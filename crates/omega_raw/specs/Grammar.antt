@@ -1,6 +1,6 @@
 -- The grammar of automata as a spelling: each definition gives the symbols of a row of the table in docs/formats.md,
 -- and then others (HOA v1).
-use Rattle.std.specs.Prelude.{◌≡◌, ℕ, ◌<◌, Bool, true, false, Option, Some, None, List, [], ◌∷◌, codes, if◌then◌else◌, length}
+use Rattle.std.specs.Prelude.{◌≡◌, ℕ, ◌<◌, Bool, true, false, Option, Some, None, List, [], ◌∷◌, ◌++◌, codes, if◌then◌else◌, length}
 use Rattle.std.specs.List.{AllByRecursion}
 use Rattle.std.specs.Str.{bytes_eq}
 use Rattle.omega_label.specs.Raw.{RawLabelTree}
@@ -165,3 +165,7 @@ ReadsNoOther tokens raw rest = (other : RawAutomaton) (left : Tokens) → ReadsA
 -- no front of the tokens is an automaton's
 abbrev pub ReadsNoAutomaton : Tokens → Type 0
 ReadsNoAutomaton tokens = (raw : RawAutomaton) (rest : Tokens) → ReadsAutomaton tokens raw rest → ⊥
+
+-- an automaton begins with the tokens: they and some more are one
+abbrev pub BeginsAutomaton : Tokens → Type 0
+BeginsAutomaton tokens = (more : Tokens) × (raw : RawAutomaton) × ReadsAutomaton (tokens ++ more) raw []

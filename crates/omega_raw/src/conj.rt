@@ -36,6 +36,8 @@ impl<'a, S: TokenSource<'a, HoaKind>> Part<'a, S> for Joined {
 
     ghost begun = { λ it others valid. refl };
 
+    ghost joins = { λ it others. refl };
+
     ghost follows = { λ kind is. tt };
 }
 

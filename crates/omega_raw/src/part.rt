@@ -11,7 +11,7 @@ use std::alloc::Global;
 
 /// A part of a text that is recognized by the kind of its first token.
 pub(crate) trait Part<'a, S: TokenSource<'a, HoaKind>> {
-    ghost use Rattle.std.specs.Prelude.{Bool, List};
+    ghost use Rattle.std.specs.Prelude.{◌≡◌, ◌++◌, [], Bool, List};
     ghost use Rattle.omega_raw.specs.Symbols.{AutomatonSymbol};
     ghost use Rattle.omega_text.specs.declared.hoa.kind.HoaKind.{HoaKind as Kind};
 
@@ -44,6 +44,10 @@ pub(crate) trait Part<'a, S: TokenSource<'a, HoaKind>> {
     /// The symbols of a value begin with a first kind.
     ghost begun: { (it : Self.Value) (others : List AutomatonSymbol)
         → valid it → FirstIs (λ kind. first kind ≡ true) (written it others) };
+
+    /// The symbols of a value are the same whatever follows them.
+    ghost joins: { (it : Self.Value) (others : List AutomatonSymbol)
+        → written it others ≡ written it [] ++ others };
 
     /// A part may follow another.
     ghost follows: { (kind : Kind) → first kind ≡ true → next kind };

@@ -1,7 +1,7 @@
 //! Automata read from tokens.
 
 ghost use Rattle.std.specs.Prelude.{◌≡◌, IfErr, IfOk};
-ghost use Rattle.omega_raw.specs.Grammar.{ReadsAutomaton, ReadsNoOther, ReadsNoAutomaton};
+ghost use Rattle.omega_raw.specs.Grammar.{BeginsAutomaton, ReadsAutomaton, ReadsNoOther, ReadsNoAutomaton};
 ghost use Rattle.omega_expression.specs.Unread.{IsUnread};
 
 use crate::body::State;
@@ -16,15 +16,14 @@ use std::alloc::Global;
 /// are left.
 ///
 /// Refused with [TextFault::Syntax] if the tokens begin with no automaton, at the first token with which no automaton
-/// goes on, else at the length of the text. It is proved that no automaton begins with the tokens through that place;
-/// that it is the first such place is tested. One pass, linear time, without recursion.
+/// goes on, else at the length of the text. One pass, linear time, without recursion.
 pub fn read_raw<'a, S: TokenSource<'a, HoaKind>>(
     alloc: Global,
     source: &mut S,
 ) -> Result<RawAutomaton, Refusal>
     ensures ok { IfOk result (λ raw. ReadsAutomaton (S.left source.old) raw (S.left source.new)) }
     ensures only { IfOk result (λ raw. ReadsNoOther (S.left source.old) raw (S.left source.new)) }
-    ensures err { IfErr result (IsUnread ReadsNoAutomaton (S.left source.old) (S.length source.old)) }
+    ensures err { IfErr result (IsUnread ReadsNoAutomaton BeginsAutomaton (S.left source.old) (S.length source.old)) }
     ensures length { S.length source.new ≡ S.length source.old }
 {
     take_header(source, b"HOA")?;

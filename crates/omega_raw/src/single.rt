@@ -3,6 +3,7 @@
 ghost use Rattle.omega_raw.specs.Grammar.{int_row, parameter_row, string_row, value_row, word_row};
 ghost use Rattle.omega_raw.specs.private.steps.Parts.{is_identifier, is_int, is_parameter, is_string, is_value};
 ghost use Rattle.omega_raw.specs.private.steps.Reading.{IsAny, IsKind};
+ghost use Rattle.omega_raw.specs.private.steps.Joining.{parameter_joins, value_joins};
 ghost use Rattle.omega_raw.specs.private.steps.Beginnings.{parameter_begun, value_begun};
 ghost use Rattle.std.specs.Prelude.{refl};
 
@@ -37,6 +38,8 @@ impl<'a, S: TokenSource<'a, HoaKind>> Part<'a, S> for Int {
 
     ghost begun = { λ it others valid. refl };
 
+    ghost joins = { λ it others. refl };
+
     ghost follows = { λ kind is. tt };
 }
 
@@ -64,6 +67,8 @@ impl<'a, S: TokenSource<'a, HoaKind>> Part<'a, S> for Word {
 
     ghost begun = { λ it others valid. refl };
 
+    ghost joins = { λ it others. refl };
+
     ghost follows = { λ kind is. tt };
 }
 
@@ -90,6 +95,8 @@ impl<'a, S: TokenSource<'a, HoaKind>> Part<'a, S> for Quoted {
     }
 
     ghost begun = { λ it others valid. refl };
+
+    ghost joins = { λ it others. refl };
 
     ghost follows = { λ kind is. tt };
 }
@@ -131,6 +138,8 @@ impl<'a, S: TokenSource<'a, HoaKind>> Part<'a, S> for NameParameter {
 
     ghost begun = { parameter_begun };
 
+    ghost joins = { parameter_joins };
+
     ghost follows = { λ kind is. tt };
 }
 
@@ -171,6 +180,8 @@ impl<'a, S: TokenSource<'a, HoaKind>> Part<'a, S> for UnknownValue {
     }
 
     ghost begun = { value_begun };
+
+    ghost joins = { value_joins };
 
     ghost follows = { λ kind is. tt };
 }

@@ -1,5 +1,5 @@
 -- The places of a segment that is read by itself, a part of a text.
-use Rattle.std.specs.Prelude.{◌≡◌, ℕ, ◌+◌, ◌≤◌, ◌⊎◌, List, [], ◌∷◌, ◌++◌, map}
+use Rattle.std.specs.Prelude.{ℕ, ◌+◌, List, map}
 use Rattle.omega_text.specs.Cases.{never, or_automaton, or_memory, or_text}
 use Rattle.omega_text.specs.Cut.{IsCut}
 use Rattle.omega_text.specs.Lexeme.{Lexeme}
@@ -27,25 +27,3 @@ IsPartFault begins lexemes =
 abbrev pub OfSegment : List ℕ → (List (Lexeme HoaKind) → Type 0) → Type 0
 OfSegment bytes Holds =
     (lexemes : List (Lexeme HoaKind)) → IsCut hoa_format bytes lexemes → IsSegment End lexemes → Holds lexemes
-
--- the last of the tokens begins at a place
-pub record IsLastAt (place : ℕ) (lexemes : List (Lexeme HoaKind)) : Type 0 where
-  pub before : List (Lexeme HoaKind)
-  pub token : Lexeme HoaKind
-  pub split : lexemes ≡ before ++ token ∷ []
-  pub there : place ≡ token.span.start
-
--- of some tokens these are left, and the last before them, if there is one, begins at a place
-pub record HasPassedTo (place : ℕ) (lexemes left : List (Lexeme HoaKind)) : Type 0 where
-  pub passed : List (Lexeme HoaKind)
-  pub split : lexemes ≡ passed ++ left
-  pub last : (passed ≡ []) ⊎ IsLastAt place passed
-
--- a token begins at a place, which is not before another one unless it is the last
-pub record IsStartFrom (at : ℕ) (lexemes : List (Lexeme HoaKind)) (place : ℕ) : Type 0 where
-  pub before : List (Lexeme HoaKind)
-  pub token : Lexeme HoaKind
-  pub rest : List (Lexeme HoaKind)
-  pub split : lexemes ≡ before ++ token ∷ rest
-  pub there : place ≡ token.span.start
-  pub from : (at ≤ place) ⊎ (rest ≡ [])

@@ -7,6 +7,7 @@ use Rattle.omega_raw.proofs.RowLemmas.{edge_same, state_same}
 use Rattle.omega_raw.proofs.uniqueness.Rows.{IsOne, each_one, int_one, optional_one, string_one}
 use Rattle.omega_raw.proofs.uniqueness.Tokens.{expression_one, sign_passed, token_one}
 use Rattle.omega_raw.specs.private.steps.Beginnings.{edge_begun, edge_follows, state_begun, state_follows}
+use Rattle.omega_raw.specs.private.steps.Joining.{edge_joins, sig_joins, state_joins}
 use Rattle.omega_raw.specs.Grammar.{IsConj, IsRawEdge, IsRawState, conj_row, each, edge_row, int_row, joined_row, label_row, optional_row, sig_row, state_row, string_row}
 use Rattle.omega_raw.specs.private.steps.Parts.{EndsConj, EndsEdge, EndsState, is_and, is_brace, is_bracket, is_edge, is_header, is_int, is_string}
 use Rattle.omega_raw.specs.private.steps.Reading.{IsAny, IsKind}
@@ -16,25 +17,25 @@ use Rattle.omega_raw.specs.declared.raw_state.RawState.{RawState}
 use Rattle.omega_text.specs.declared.hoa.kind.HoaKind.TheVariants as kind
 
 pub int_part : IsPart IsAny int_row is_int IsKind
-int_part = record { begun = λ it others is. refl; follows = λ kind is. tt }
+int_part = record { begun = λ it others is. refl; joins = λ it others. refl; follows = λ kind is. tt }
 
 pub string_part : IsPart IsAny string_row is_string IsKind
-string_part = record { begun = λ it others is. refl; follows = λ kind is. tt }
+string_part = record { begun = λ it others is. refl; joins = λ it others. refl; follows = λ kind is. tt }
 
 joined_part : IsPart IsAny joined_row is_and IsKind
-joined_part = record { begun = λ it others is. refl; follows = λ kind is. tt }
+joined_part = record { begun = λ it others is. refl; joins = λ it others. refl; follows = λ kind is. tt }
 
 label_part : IsPart IsAny label_row is_bracket IsKind
-label_part = record { begun = λ it others is. refl; follows = λ kind is. tt }
+label_part = record { begun = λ it others is. refl; joins = λ it others. refl; follows = λ kind is. tt }
 
 sig_part : IsPart IsAny sig_row is_brace IsKind
-sig_part = record { begun = λ it others is. refl; follows = λ kind is. tt }
+sig_part = record { begun = λ it others is. refl; joins = sig_joins; follows = λ kind is. tt }
 
 edge_part : IsPart IsRawEdge edge_row is_edge EndsEdge
-edge_part = record { begun = edge_begun; follows = edge_follows }
+edge_part = record { begun = edge_begun; joins = edge_joins; follows = edge_follows }
 
 pub state_part : IsPart IsRawState state_row is_header EndsState
-state_part = record { begun = state_begun; follows = state_follows }
+state_part = record { begun = state_begun; joins = state_joins; follows = state_follows }
 
 joined_one : IsOne IsAny joined_row (FirstIs IsKind)
 joined_one tokens x y others more rest left _ _ ends last spells reads =

@@ -13,6 +13,7 @@ use Rattle.omega_raw.proofs.uniqueness.Rows.{IsOne, each_one, optional_one, para
 use Rattle.omega_raw.proofs.uniqueness.Tokens.{Both, expression_one, token_one}
 use Rattle.omega_raw.specs.private.steps.Beginnings.{item_begun, item_follows, parameter_begun, value_begun}
 use Rattle.omega_raw.specs.Grammar.{IsRawItem, content_row, each, header_named, item_name, item_row, optional_row, parameter_row, string_row, value_row, word_row}
+use Rattle.omega_raw.specs.private.steps.Joining.{item_joins, parameter_joins, value_joins}
 use Rattle.omega_raw.specs.private.steps.Rows.{item_header}
 use Rattle.omega_raw.specs.private.steps.Parts.{EndsItem, is_header, is_identifier, is_parameter, is_string, is_value}
 use Rattle.omega_raw.specs.private.steps.Reading.{IsAny, IsKind}
@@ -23,16 +24,16 @@ use Rattle.omega_raw.specs.declared.raw_item.RawItem.{RawItem}
 use Rattle.omega_raw.specs.declared.raw_item.RawItem.TheVariants as item
 
 word_part : IsPart IsAny word_row is_identifier IsKind
-word_part = record { begun = λ it others is. refl; follows = λ kind is. tt }
+word_part = record { begun = λ it others is. refl; joins = λ it others. refl; follows = λ kind is. tt }
 
 parameter_part : IsPart IsAny parameter_row is_parameter IsKind
-parameter_part = record { begun = parameter_begun; follows = λ kind is. tt }
+parameter_part = record { begun = parameter_begun; joins = parameter_joins; follows = λ kind is. tt }
 
 value_part : IsPart IsAny value_row is_value IsKind
-value_part = record { begun = value_begun; follows = λ kind is. tt }
+value_part = record { begun = value_begun; joins = value_joins; follows = λ kind is. tt }
 
 pub item_part : IsPart IsRawItem item_row is_header EndsItem
-item_part = record { begun = item_begun; follows = item_follows }
+item_part = record { begun = item_begun; joins = item_joins; follows = item_follows }
 
 module _ (labels : LabelsAreOne) (formulas : FormulasAreOne) (tokens : Tokens) (others more : List AutomatonSymbol) (rest left : Tokens) (ends : FirstIs EndsItem others) (last : FirstIs EndsItem more) where
   -- an item that is read in place of another that is written is that item

@@ -2,6 +2,7 @@ ghost use Rattle.std.specs.Prelude.{◌≡◌};
 ghost use Rattle.std.specs.List.{AllByRecursion};
 ghost use Rattle.omega_raw.specs.First.{FirstIs};
 ghost use Rattle.omega_raw.specs.private.steps.Reading.{EndsList, Finds, GivesRow};
+ghost use Rattle.omega_raw.specs.private.steps.Joining.{edge_joins};
 ghost use Rattle.omega_raw.specs.private.steps.Beginnings.{edge_begun, edge_follows};
 ghost use Rattle.omega_raw.specs.Grammar.{IsRawEdge, each, edge_row};
 ghost use Rattle.omega_raw.specs.private.steps.Parts.{EndsEdge, is_edge};
@@ -46,6 +47,8 @@ impl<'a, S: TokenSource<'a, HoaKind>> Part<'a, S> for Edge {
     }
 
     ghost begun = { edge_begun };
+
+    ghost joins = { edge_joins };
 
     ghost follows = { edge_follows };
 }

@@ -38,5 +38,7 @@ impl<'a, S: TokenSource<'a, HoaKind>> Part<'a, S> for Guard {
 
     ghost begun = { λ it others valid. refl };
 
+    ghost joins = { λ it others. refl };
+
     ghost follows = { λ kind is. tt };
 }

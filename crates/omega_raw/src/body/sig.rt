@@ -2,6 +2,7 @@ ghost use Rattle.std.specs.Prelude.{◌≡◌, IfSome, refl};
 ghost use Rattle.omega_raw.specs.Grammar.{optional_row, sig_row};
 ghost use Rattle.omega_raw.specs.First.{FirstIs};
 ghost use Rattle.omega_raw.specs.private.steps.Parts.{is_brace};
+ghost use Rattle.omega_raw.specs.private.steps.Joining.{sig_joins};
 ghost use Rattle.omega_raw.specs.private.steps.Reading.{EndsList, Finds, GivesRow, IsAny, IsKind};
 
 use crate::part::{Part, read_if, read_numbers};
@@ -37,6 +38,8 @@ impl<'a, S: TokenSource<'a, HoaKind>> Part<'a, S> for Sig {
     }
 
     ghost begun = { λ it others valid. refl };
+
+    ghost joins = { sig_joins };
 
     ghost follows = { λ kind is. tt };
 }

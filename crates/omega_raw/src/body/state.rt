@@ -1,6 +1,7 @@
 ghost use Rattle.std.specs.Prelude.{◌≡◌, IfSome};
 ghost use Rattle.omega_raw.specs.First.{FirstIs};
 ghost use Rattle.omega_raw.specs.private.steps.Reading.{EndsList, Finds, GivesRow, IsAny, IsKind};
+ghost use Rattle.omega_raw.specs.private.steps.Joining.{state_joins};
 ghost use Rattle.omega_raw.specs.private.steps.Beginnings.{state_begun, state_follows};
 ghost use Rattle.omega_raw.specs.Grammar.{IsRawState, optional_row, state_row, string_row};
 ghost use Rattle.omega_raw.specs.private.steps.Parts.{EndsState, is_header, is_string};
@@ -51,6 +52,8 @@ impl<'a, S: TokenSource<'a, HoaKind>> Part<'a, S> for State {
     }
 
     ghost begun = { state_begun };
+
+    ghost joins = { state_joins };
 
     ghost follows = { state_follows };
 }

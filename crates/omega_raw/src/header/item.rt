@@ -1,3 +1,4 @@
+ghost use Rattle.omega_raw.specs.private.steps.Joining.{item_joins};
 ghost use Rattle.omega_raw.specs.private.steps.Beginnings.{item_begun, item_follows};
 ghost use Rattle.omega_raw.specs.Grammar.{IsRawItem, item_row};
 ghost use Rattle.omega_raw.specs.private.steps.Parts.{EndsItem, is_header};
@@ -31,6 +32,8 @@ impl<'a, S: TokenSource<'a, HoaKind>> Part<'a, S> for Item {
     }
 
     ghost begun = { item_begun };
+
+    ghost joins = { item_joins };
 
     ghost follows = { item_follows };
 }

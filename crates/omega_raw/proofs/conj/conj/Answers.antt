@@ -1,9 +1,9 @@
 -- The states of a conj are those that were written.
-use Rattle.std.proofs.Common.{ap, ◌∙◌, ◌∷◌, ◌≡◌, refl}
+use Rattle.std.proofs.Common.{ap, ◌∙◌, ◌∷◌, ◌≡◌, refl, [], arith}
 use Rattle.omega_raw.proofs.FollowLemmas.{all_any, joined_end}
 use Rattle.omega_raw.proofs.RowLemmas.{conj_known, conj_given}
-use Rattle.omega_raw.specs.Symbols.{ReadsSymbols}
-use Rattle.omega_raw.proofs.StepLemmas.{finds_error, finds_memory, none_after, passes_after, passes_then}
+use Rattle.omega_raw.specs.Symbols.{ReadsSymbols, number}
+use Rattle.omega_raw.proofs.StepLemmas.{finds_error, finds_memory, none_after, passes_after, passes_then, none_after_token}
 use Rattle.omega_raw.specs.Grammar.{each, joined_row}
 use Rattle.omega_raw.proofs.conj.conj.Goals as goal
 
@@ -13,14 +13,17 @@ returns-in_err-first-clause-finds g c =
     c.in_err-first.ensures.finds
     (λ tokens t. conj_known tokens (λ it others rest. ⊥) (λ first more others rest follow spells.
     t first (each joined_row more others) rest tt tt spells))
+    (λ before b. record { more = b.more; it = b.it ∷ []; is = omega arith; spells = b.spells })
 
 pub returns-in_err-others-clause-finds : goal.returns-in_err-others-clause-finds
 returns-in_err-others-clause-finds g c =
     finds_error c.from_residual-in_err-others.result _ _ _ _ _ _ _ _ _ c.from_residual-in_err-others.ensures.1 c.in_ok-first.ensures.length
-    (none_after _ _ _ _ _ _ c.in_ok-first.ensures.finds c.in_err-others.ensures.finds)
+    (none_after_token _ _ _ _ _ _ _ _ (number c.in_ok-first.first) (λ tokens others rest splits. splits) c.in_ok-first.ensures.finds
+    (c.in_ok-first.ensures.gives.spells [] _ refl) c.in_err-others.ensures.finds)
     (λ tokens t. conj_known tokens (λ it others rest. ⊥) (λ first more others rest follow spells.
     let s1 = t.first first (each joined_row more others) rest tt tt spells in
     t.second more others rest (all_any more) (joined_end others follow) s1.1))
+    (λ before b. record { more = b.more; it = c.in_ok-first.first ∷ b.it; is = omega arith; spells = b.spells })
 
 pub returns-in_err-states-clause-finds : goal.returns-in_err-states-clause-finds
 returns-in_err-states-clause-finds g c = finds_memory c.from_residual-in_err-states.result _ _ _ _ _ _ _ c.from_residual-in_err-states.ensures.1 c.in_err-states.ensures.err

@@ -1,4 +1,5 @@
 -- The formula that is read is the one that was written.
+use Rattle.omega_raw.proofs.BegunLemmas.{formula_begun}
 use Rattle.omega_formula.specs.Reading.{BeginsAcc, ReadsAcc}
 use Rattle.omega_raw.proofs.StepLemmas.{expression_found, formula_again}
 use Rattle.omega_raw.specs.private.steps.Rows.{formula_row}
@@ -6,4 +7,4 @@ use Rattle.omega_raw.proofs.expressions.acceptance_expression.Goals as goal
 
 pub returns-clause-finds : goal.returns-clause-finds
 returns-clause-finds g c =
-    expression_found ReadsAcc formula_row (λ tokens it others rest spells. spells) c.formulas_are_one.ensures formula_again c.read_raw_acc.result _ _ _ c.read_raw_acc.ensures.ok BeginsAcc c.read_raw_acc.ensures.err
+    expression_found ReadsAcc formula_row (λ tokens it others rest spells. spells) c.formulas_are_one.ensures formula_again c.read_raw_acc.result _ _ _ c.read_raw_acc.ensures.ok BeginsAcc formula_begun c.read_raw_acc.ensures.err

@@ -20,10 +20,10 @@ loop-alloc-init g c = record {
 
 pub returns-in_err-value-clause-finds : goal.returns-in_err-value-clause-finds
 returns-in_err-value-clause-finds g c =
-    let part : IsPart g.P.Part.valid g.P.Part.written g.P.Part.first g.P.Part.next = let met = g.met.P.Part c.lifetimes (search rules) in record { begun = met.begun; follows = met.follows } in
+    let part : IsPart g.P.Part.valid g.P.Part.written g.P.Part.first g.P.Part.next = let met = g.met.P.Part c.lifetimes (search rules) in record { begun = met.begun; joins = met.joins; follows = met.follows } in
     finds_error c.from_residual.result _ _ _ _ _ _ _ _ _ c.from_residual.ensures.1 c.loop-alloc.invariant.text
     (read_failed g.P.Part.valid g.P.Part.written g.P.Part.first g.P.Part.next part (g.S.TokenSource.left c.args.source.now) (g.S.TokenSource.left c.loop-alloc.source) c.loop-alloc.values.items _ _ c.loop-alloc.invariant.read c.loop-alloc-test.ensures c.in_err-value.ensures.finds)
-    (λ tokens none. none)
+    (λ tokens none. none) (λ before begun. begun)
 
 pub loop-alloc-smaller : goal.loop-alloc-smaller
 loop-alloc-smaller g c =
@@ -32,7 +32,7 @@ loop-alloc-smaller g c =
 
 pub loop-alloc-preserved : goal.loop-alloc-preserved
 loop-alloc-preserved g c =
-    let part : IsPart g.P.Part.valid g.P.Part.written g.P.Part.first g.P.Part.next = let met = g.met.P.Part c.lifetimes (search rules) in record { begun = met.begun; follows = met.follows } in
+    let part : IsPart g.P.Part.valid g.P.Part.written g.P.Part.first g.P.Part.next = let met = g.met.P.Part c.lifetimes (search rules) in record { begun = met.begun; joins = met.joins; follows = met.follows } in
     record {
       read =
           subst (λ all. IsReadTo g.P.Part.valid g.P.Part.written (EndsList g.P.Part.first g.P.Part.next) (g.S.TokenSource.left c.args.source.now) all (g.S.TokenSource.left c.read.new.source)) (sym c.in_ok-push.ensures.items)
@@ -46,6 +46,6 @@ returns-clause-gives g c = subst (λ all. Given (AllByRecursion g.P.Part.valid) 
 
 pub returns-clause-finds : goal.returns-clause-finds
 returns-clause-finds g c =
-    let part : IsPart g.P.Part.valid g.P.Part.written g.P.Part.first g.P.Part.next = let met = g.met.P.Part c.lifetimes (search rules) in record { begun = met.begun; follows = met.follows } in
+    let part : IsPart g.P.Part.valid g.P.Part.written g.P.Part.first g.P.Part.next = let met = g.met.P.Part c.lifetimes (search rules) in record { begun = met.begun; joins = met.joins; follows = met.follows } in
     subst (λ all. Passes (IsWritten (AllByRecursion g.P.Part.valid) (each g.P.Part.written) (FirstIs (EndsList g.P.Part.first g.P.Part.next)) all) (g.S.TokenSource.left c.args.source.now) (g.S.TokenSource.left c.loop-alloc.source)) (sym c.from_vec.ensures)
     (read_all g.P.Part.valid g.P.Part.written g.P.Part.first g.P.Part.next part (g.S.TokenSource.left c.args.source.now) (g.S.TokenSource.left c.loop-alloc.source) c.loop-alloc.values.items c.loop-alloc.invariant.read c.loop-alloc-test.ensures)

@@ -16,10 +16,10 @@ loop-alloc-init g c = record {
 
 pub returns-in_err-edge-clause-finds : goal.returns-in_err-edge-clause-finds
 returns-in_err-edge-clause-finds g c =
-    let part : IsPart g.P.Part.valid g.P.Part.written g.P.Part.first g.P.Part.next = let met = g.met.P.Part c.lifetimes (search rules) in record { begun = met.begun; follows = met.follows } in
+    let part : IsPart g.P.Part.valid g.P.Part.written g.P.Part.first g.P.Part.next = let met = g.met.P.Part c.lifetimes (search rules) in record { begun = met.begun; joins = met.joins; follows = met.follows } in
     finds_error c.from_residual.result _ _ _ _ _ _ _ _ _ c.from_residual.ensures.1 c.loop-alloc.invariant.text
     (read_failed g.P.Part.valid g.P.Part.written g.P.Part.first g.P.Part.next part (g.S.TokenSource.left c.args.source.now) (g.S.TokenSource.left c.loop-alloc.source) c.loop-alloc.edges _ _ c.loop-alloc.invariant.read c.loop-alloc-test.ensures c.in_err-edge.ensures.finds)
-    (λ tokens none. none)
+    (λ tokens none. none) (λ before begun. begun)
 
 pub loop-alloc-smaller : goal.loop-alloc-smaller
 loop-alloc-smaller g c =
@@ -28,7 +28,7 @@ loop-alloc-smaller g c =
 
 pub loop-alloc-preserved : goal.loop-alloc-preserved
 loop-alloc-preserved g c =
-    let part : IsPart g.P.Part.valid g.P.Part.written g.P.Part.first g.P.Part.next = let met = g.met.P.Part c.lifetimes (search rules) in record { begun = met.begun; follows = met.follows } in
+    let part : IsPart g.P.Part.valid g.P.Part.written g.P.Part.first g.P.Part.next = let met = g.met.P.Part c.lifetimes (search rules) in record { begun = met.begun; joins = met.joins; follows = met.follows } in
     record {
       read =
           subst (λ all. IsReadTo g.P.Part.valid g.P.Part.written (EndsList g.P.Part.first g.P.Part.next) (g.S.TokenSource.left c.args.source.now) all (g.S.TokenSource.left c.read.new.source)) (sym c.in_ok-push.ensures.ok)
@@ -42,5 +42,5 @@ returns-clause-gives g c = c.loop-alloc.invariant.read.given
 
 pub returns-clause-finds : goal.returns-clause-finds
 returns-clause-finds g c =
-    let part : IsPart g.P.Part.valid g.P.Part.written g.P.Part.first g.P.Part.next = let met = g.met.P.Part c.lifetimes (search rules) in record { begun = met.begun; follows = met.follows } in
+    let part : IsPart g.P.Part.valid g.P.Part.written g.P.Part.first g.P.Part.next = let met = g.met.P.Part c.lifetimes (search rules) in record { begun = met.begun; joins = met.joins; follows = met.follows } in
     read_all g.P.Part.valid g.P.Part.written g.P.Part.first g.P.Part.next part (g.S.TokenSource.left c.args.source.now) (g.S.TokenSource.left c.loop-alloc.source) c.loop-alloc.edges c.loop-alloc.invariant.read c.loop-alloc-test.ensures

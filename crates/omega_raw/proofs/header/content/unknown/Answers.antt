@@ -14,6 +14,7 @@ returns-in_err-values-clause-finds g c =
     c.in_err-values.ensures.finds
     (λ tokens t. unknown_known _ tokens (λ it others rest. ⊥) (λ name values others rest called follow spells.
     t values others rest (all_any values) (values_end others follow) spells))
+    (λ before b. record { more = b.more; it = item.Unknown c.in_ok-name.name b.it; is = (record { unknown = refl; called = c.in_ok-name.ensures.ok }, ap header_named c.in_ok-name.ensures.ok ∙ c.requires); spells = b.spells })
 
 pub returns-clause-gives : goal.returns-clause-gives
 returns-clause-gives g c = record {

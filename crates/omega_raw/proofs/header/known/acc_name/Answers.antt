@@ -1,9 +1,9 @@
 -- What is read after the header is what was written.
-use Rattle.std.proofs.Common.{refl, ◌≡◌}
+use Rattle.std.proofs.Common.{refl, ◌≡◌, []}
 use Rattle.omega_raw.proofs.ContentLemmas.{acc_name_known, acc_name_same}
 use Rattle.omega_raw.proofs.FollowLemmas.{all_any, parameters_end}
-use Rattle.omega_raw.specs.Symbols.{ReadsSymbols}
-use Rattle.omega_raw.proofs.StepLemmas.{finds_error, none_after, passes_after, passes_then}
+use Rattle.omega_raw.specs.Symbols.{ReadsSymbols, word}
+use Rattle.omega_raw.proofs.StepLemmas.{finds_error, none_after, passes_after, passes_then, none_after_token}
 use Rattle.omega_raw.specs.Grammar.{each, parameter_row}
 use Rattle.omega_raw.specs.declared.raw_item.RawItem.TheVariants as item
 use Rattle.omega_raw.proofs.header.known.acc_name.Goals as goal
@@ -14,14 +14,17 @@ returns-in_err-name-clause-finds g c =
     c.in_err-name.ensures.finds
     (λ tokens t. acc_name_known tokens (λ it others rest. ⊥) (λ name others rest follow spells.
     t name.name (each parameter_row name.parameters others) rest tt tt spells))
+    (λ before b. record { more = b.more; it = item.AccName (record { name = b.it; parameters = [] }); is = (refl, tt); spells = b.spells })
 
 pub returns-in_err-parameters-clause-finds : goal.returns-in_err-parameters-clause-finds
 returns-in_err-parameters-clause-finds g c =
     finds_error c.from_residual-in_err-parameters.result _ _ _ _ _ _ _ _ _ c.from_residual-in_err-parameters.ensures.1 c.in_ok-name.ensures.length
-    (none_after _ _ _ _ _ _ c.in_ok-name.ensures.finds c.in_err-parameters.ensures.finds)
+    (none_after_token _ _ _ _ _ _ _ _ (word c.in_ok-name.name) (λ tokens others rest splits. splits) c.in_ok-name.ensures.finds
+    (c.in_ok-name.ensures.gives.spells [] _ refl) c.in_err-parameters.ensures.finds)
     (λ tokens t. acc_name_known tokens (λ it others rest. ⊥) (λ name others rest follow spells.
     let s1 = t.first name.name (each parameter_row name.parameters others) rest tt tt spells in
     t.second name.parameters others rest (all_any name.parameters) (parameters_end others follow) s1.1))
+    (λ before b. record { more = b.more; it = item.AccName (record { name = c.in_ok-name.name; parameters = b.it }); is = (refl, tt); spells = b.spells })
 
 pub returns-clause-gives : goal.returns-clause-gives
 returns-clause-gives g c = record { is = (refl, tt); spells = λ others rest spells. c.in_ok-name.ensures.gives.spells _ rest (c.in_ok-parameters.ensures.gives.spells others rest spells) }

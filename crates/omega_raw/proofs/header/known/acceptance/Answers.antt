@@ -1,8 +1,12 @@
 -- What is read after the header is what was written.
-use Rattle.std.proofs.Common.{refl, ap, ◌∙◌, ◌∷◌, ◌≡◌}
+use Rattle.omega_formula.specs.Raw as acc
+use Rattle.omega_text.specs.declared.hoa.kind.HoaKind.TheVariants as kind
+use Rattle.omega_expression.proofs.ClosingLemmas.{plain}
+use Rattle.omega_raw.proofs.BegunLemmas.{completed, formula_first}
+use Rattle.std.proofs.Common.{refl, ap, ◌∙◌, ◌∷◌, ◌≡◌, [], true}
 use Rattle.omega_raw.proofs.ContentLemmas.{acceptance_known}
-use Rattle.omega_raw.proofs.StepLemmas.{finds_error, none_after, passes_after, passes_then}
-use Rattle.omega_raw.specs.Symbols.{ReadsSymbols, formula}
+use Rattle.omega_raw.proofs.StepLemmas.{finds_error, none_after, passes_after, passes_then, none_after_token}
+use Rattle.omega_raw.specs.Symbols.{ReadsSymbols, formula, number}
 use Rattle.omega_raw.specs.declared.raw_item.RawItem.TheVariants as item
 use Rattle.omega_raw.proofs.header.known.acceptance.Goals as goal
 
@@ -12,14 +16,19 @@ returns-in_err-count-clause-finds g c =
     c.in_err-count.ensures.finds
     (λ tokens t. acceptance_known tokens (λ it others rest. ⊥) (λ count tree others rest follow spells.
     t count (formula tree ∷ others) rest tt tt spells))
+    (λ before b.
+    let d = completed (λ others. formula (acc.constant true) ∷ others) (plain kind.True ∷ []) before tt (λ left others rest ends spells. formula_first left others rest ends spells) b in
+    record { more = d.more; it = item.Acceptance d.it (acc.constant true); is = (refl, tt); spells = d.spells })
 
 pub returns-in_err-formula-clause-finds : goal.returns-in_err-formula-clause-finds
 returns-in_err-formula-clause-finds g c =
     finds_error c.from_residual-in_err-formula.result _ _ _ _ _ _ _ _ _ c.from_residual-in_err-formula.ensures.1 c.in_ok-count.ensures.length
-    (none_after _ _ _ _ _ _ c.in_ok-count.ensures.finds c.in_err-formula.ensures.finds)
+    (none_after_token _ _ _ _ _ _ _ _ (number c.in_ok-count.count) (λ tokens others rest splits. splits) c.in_ok-count.ensures.finds
+    (c.in_ok-count.ensures.gives.spells [] _ refl) c.in_err-formula.ensures.finds)
     (λ tokens t. acceptance_known tokens (λ it others rest. ⊥) (λ count tree others rest follow spells.
     let s1 = t.first count (formula tree ∷ others) rest tt tt spells in
     t.second tree others rest tt tt s1.1))
+    (λ before b. record { more = b.more; it = item.Acceptance c.in_ok-count.count b.it; is = (refl, tt); spells = b.spells })
 
 pub returns-clause-gives : goal.returns-clause-gives
 returns-clause-gives g c = record { is = (refl, tt); spells = λ others rest spells. c.in_ok-count.ensures.gives.spells (formula c.in_ok-formula.formula ∷ others) rest (c.in_ok-formula.ensures.gives.spells others rest spells) }

@@ -13,6 +13,7 @@ returns-in_err-words-clause-finds g c =
     c.in_err-words.ensures.finds
     (λ tokens t. properties_known tokens (λ it others rest. ⊥) (λ words others rest follow spells.
     t words others rest (all_any words) (words_end others follow) spells))
+    (λ before b. record { more = b.more; it = item.Properties b.it; is = (refl, tt); spells = b.spells })
 
 pub returns-clause-gives : goal.returns-clause-gives
 returns-clause-gives g c = record { is = (refl, tt); spells = λ others rest spells. c.in_ok-words.ensures.gives.spells others rest spells }

@@ -13,6 +13,7 @@ returns-in_err-states-clause-finds g c =
     c.in_err-states.ensures.finds
     (λ tokens t. start_known tokens (λ it others rest. ⊥) (λ states others rest valid follow spells.
     t states others rest valid (start_ends others follow) spells))
+    (λ before b. record { more = b.more; it = item.Start b.it; is = (refl, b.is); spells = b.spells })
 
 pub returns-clause-gives : goal.returns-clause-gives
 returns-clause-gives g c = record { is = (refl, c.in_ok-states.ensures.gives.is); spells = λ others rest spells. c.in_ok-states.ensures.gives.spells others rest spells }

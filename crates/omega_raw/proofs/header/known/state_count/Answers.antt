@@ -10,6 +10,7 @@ pub returns-in_err-take_int-clause-finds : goal.returns-in_err-take_int-clause-f
 returns-in_err-take_int-clause-finds g c =
     finds_error c.from_residual.result _ _ _ _ _ _ _ _ _ c.from_residual.ensures.1 refl c.in_err-take_int.ensures.finds
     (λ tokens t. state_count_known tokens (λ it others rest. ⊥) (λ count others rest follow spells. t count others rest tt tt spells))
+    (λ before b. record { more = b.more; it = item.States b.it; is = (refl, tt); spells = b.spells })
 
 pub returns-clause-finds : goal.returns-clause-finds
 returns-clause-finds g c =

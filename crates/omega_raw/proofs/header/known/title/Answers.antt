@@ -10,6 +10,7 @@ pub returns-in_err-take_string-clause-finds : goal.returns-in_err-take_string-cl
 returns-in_err-take_string-clause-finds g c =
     finds_error c.from_residual.result _ _ _ _ _ _ _ _ _ c.from_residual.ensures.1 refl c.in_err-take_string.ensures.finds
     (λ tokens t. title_known tokens (λ it others rest. ⊥) (λ bytes others rest follow spells. t bytes others rest tt tt spells))
+    (λ before b. record { more = b.more; it = item.Name b.it; is = (refl, tt); spells = b.spells })
 
 pub returns-clause-finds : goal.returns-clause-finds
 returns-clause-finds g c =

@@ -1,9 +1,9 @@
 -- What is read after the header is what was written.
-use Rattle.std.proofs.Common.{refl, ap, ◌∙◌, ◌≡◌}
+use Rattle.std.proofs.Common.{refl, ap, ◌∙◌, ◌≡◌, [], None}
 use Rattle.omega_raw.proofs.ContentLemmas.{tool_known}
 use Rattle.omega_raw.proofs.FollowLemmas.{some_any, strings_end}
-use Rattle.omega_raw.specs.Symbols.{ReadsSymbols}
-use Rattle.omega_raw.proofs.StepLemmas.{finds_error, none_after, passes_after, passes_then}
+use Rattle.omega_raw.specs.Symbols.{ReadsSymbols, text}
+use Rattle.omega_raw.proofs.StepLemmas.{finds_error, none_after, passes_after, passes_then, none_after_token}
 use Rattle.omega_raw.specs.Grammar.{optional_row, string_row}
 use Rattle.omega_raw.specs.declared.raw_item.RawItem.TheVariants as item
 use Rattle.omega_raw.proofs.header.known.tool.Goals as goal
@@ -14,14 +14,17 @@ returns-in_err-first-clause-finds g c =
     c.in_err-first.ensures.finds
     (λ tokens t. tool_known tokens (λ it others rest. ⊥) (λ first second others rest follow spells.
     t first (optional_row string_row second others) rest tt tt spells))
+    (λ before b. record { more = b.more; it = item.Tool b.it None; is = (refl, tt); spells = b.spells })
 
 pub returns-in_err-second-clause-finds : goal.returns-in_err-second-clause-finds
 returns-in_err-second-clause-finds g c =
     finds_error c.from_residual-in_err-second.result _ _ _ _ _ _ _ _ _ c.from_residual-in_err-second.ensures.1 c.in_ok-first.ensures.length
-    (none_after _ _ _ _ _ _ c.in_ok-first.ensures.finds c.in_err-second.ensures.finds)
+    (none_after_token _ _ _ _ _ _ _ _ (text c.in_ok-first.first) (λ tokens others rest splits. splits) c.in_ok-first.ensures.finds
+    (c.in_ok-first.ensures.gives.spells [] _ refl) c.in_err-second.ensures.finds)
     (λ tokens t. tool_known tokens (λ it others rest. ⊥) (λ first second others rest follow spells.
     let s1 = t.first first (optional_row string_row second others) rest tt tt spells in
     t.second second others rest (some_any second) (strings_end others follow) s1.1))
+    (λ before b. record { more = b.more; it = item.Tool c.in_ok-first.first b.it; is = (refl, tt); spells = b.spells })
 
 pub returns-clause-gives : goal.returns-clause-gives
 returns-clause-gives g c = record { is = (refl, tt); spells = λ others rest spells. c.in_ok-first.ensures.gives.spells _ rest (c.in_ok-second.ensures.gives.spells others rest spells) }

@@ -1,4 +1,5 @@
 -- The value of a token is read, or no token of such a kind is next.
+use Rattle.omega_raw.proofs.BegunLemmas.{parameter_begun}
 use Rattle.omega_raw.proofs.StepLemmas.{token_absent, token_unshown, token_written}
 use Rattle.omega_raw.proofs.ValueLemmas.{parameter_begins, parameter_false, parameter_number, parameter_symbol, parameter_true, parameter_unshown, parameter_word}
 use Rattle.omega_raw.specs.Grammar.{parameter_row}
@@ -7,7 +8,7 @@ use Rattle.omega_formula.specs.declared.name.Parameter.TheVariants as parameter
 use Rattle.omega_raw.proofs.single.NameParameterPart.read.Goals as goal
 
 pub returns-in_default-clause-finds : goal.returns-in_default-clause-finds
-returns-in_default-clause-finds g c = token_absent parameter_row parameter_symbol _ _ _ parameter_begins c.in_default.ensures.none.0 c.place-at.ensures
+returns-in_default-clause-finds g c = token_absent parameter_row parameter_symbol _ _ _ parameter_begins parameter_begun c.in_default.ensures.none.0 c.place-at.ensures
 
 pub returns-in-True-clause-finds : goal.returns-in-True-clause-finds
 returns-in-True-clause-finds g c = token_written parameter_row parameter_symbol _ _ _ _ parameter_begins (parameter_true _ c.in-True.is) c.in-Some.ensures.some
@@ -24,4 +25,4 @@ returns-in_ok-copied-in-Identifier-clause-finds g c =
 
 pub returns-in_default-kind-clause-finds : goal.returns-in_default-kind-clause-finds
 returns-in_default-kind-clause-finds g c =
-    token_unshown parameter_row parameter_symbol _ _ _ _ _ parameter_begins (parameter_unshown _ c.in_default-kind.not-True c.in_default-kind.not-False c.in_default-kind.not-Int c.in_default-kind.not-Identifier) c.in-Some.ensures.some c.place-at.ensures
+    token_unshown parameter_row parameter_symbol _ _ _ _ _ parameter_begins (parameter_unshown _ c.in_default-kind.not-True c.in_default-kind.not-False c.in_default-kind.not-Int c.in_default-kind.not-Identifier) parameter_begun c.in-Some.ensures.some c.place-at.ensures

@@ -1,4 +1,5 @@
 -- The value of a token is read, or no token of such a kind is next.
+use Rattle.omega_raw.proofs.BegunLemmas.{value_begun}
 use Rattle.omega_raw.proofs.StepLemmas.{token_absent, token_unshown, token_written}
 use Rattle.omega_raw.proofs.ValueLemmas.{value_begins, value_false, value_number, value_symbol, value_text, value_true, value_unshown, value_word}
 use Rattle.omega_raw.specs.Grammar.{value_row}
@@ -7,7 +8,7 @@ use Rattle.omega_raw.specs.declared.header_value.HeaderValue.TheVariants as valu
 use Rattle.omega_raw.proofs.single.UnknownValuePart.read.Goals as goal
 
 pub returns-in_default-clause-finds : goal.returns-in_default-clause-finds
-returns-in_default-clause-finds g c = token_absent value_row value_symbol _ _ _ value_begins c.in_default.ensures.none.0 c.place-at.ensures
+returns-in_default-clause-finds g c = token_absent value_row value_symbol _ _ _ value_begins value_begun c.in_default.ensures.none.0 c.place-at.ensures
 
 pub returns-in-True-clause-finds : goal.returns-in-True-clause-finds
 returns-in-True-clause-finds g c = token_written value_row value_symbol _ _ _ _ value_begins (value_true _ c.in-True.is) c.in-Some.ensures.some
@@ -28,4 +29,4 @@ returns-in_ok-copied-in-Identifier-clause-finds g c =
 
 pub returns-in_default-kind-clause-finds : goal.returns-in_default-kind-clause-finds
 returns-in_default-kind-clause-finds g c =
-    token_unshown value_row value_symbol _ _ _ _ _ value_begins (value_unshown _ c.in_default-kind.not-True c.in_default-kind.not-False c.in_default-kind.not-Int c.in_default-kind.not-String c.in_default-kind.not-Identifier) c.in-Some.ensures.some c.place-at.ensures
+    token_unshown value_row value_symbol _ _ _ _ _ value_begins (value_unshown _ c.in_default-kind.not-True c.in_default-kind.not-False c.in_default-kind.not-Int c.in_default-kind.not-String c.in_default-kind.not-Identifier) value_begun c.in-Some.ensures.some c.place-at.ensures
