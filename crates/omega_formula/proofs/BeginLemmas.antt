@@ -1,5 +1,5 @@
 -- With which tokens acceptance formulas begin: what is pending, and a part of what is still to come, are completed.
-use Rattle.std.proofs.Common.{◌≡◌, ℕ, suc, Bool, true, false, List, [], ◌∷◌, ◌++◌, map, ap, append-nil, append_assoc, refl, sym, ◌∙◌}
+use Rattle.std.proofs.Common.{◌≡◌, ℕ, suc, true, false, List, [], ◌∷◌, ◌++◌, map, ap, append-nil, append_assoc, refl, sym, ◌∙◌}
 use Rattle.std.proofs.lemmas.List.{map-append}
 use Rattle.omega_formula.specs.Raw.{RawAccTree, atom, conjunction, constant, disjunction, group}
 use Rattle.omega_formula.specs.Reading.{BeginsAcc, IsAccOf, formula_symbols}
@@ -78,14 +78,17 @@ finished_is (ored before left) disjunctive part is fits sound = absurd fits
 -- tokens that are such a formula begin one
 begun_with : (before : Before) (rank : Rank) (part : RawAccTree) (front more : List (Lexeme HoaKind)) → IsAccOf rank part → FitsAfter rank before → IsOpenBefore before
     → map expression_symbol_of (front ++ more) ≡ before_symbols before ++ (formula_symbols part ++ closers (opens before)) → BeginsAcc front
-begun_with before rank part front more is fits sound spells =
-    (more, finished before part, record {
-      front = front ++ more;
-      split = sym (append-nil (front ++ more));
-      spells = spells ∙ sym (finished_spelled before part);
-      is = finished_is before rank part is fits sound;
-      ends = tt;
-    })
+begun_with before rank part front more is fits sound spells = (
+  more,
+  finished before part,
+  record {
+    front = front ++ more;
+    split = sym (append-nil (front ++ more));
+    spells = spells ∙ sym (finished_spelled before part);
+    is = finished_is before rank part is fits sound;
+    ends = tt;
+  },
+)
 
 -- where a part is wanted, a formula begins with what is before it
 pub begun_wanted : (before : Before) (front : List (Lexeme HoaKind)) → IsOpenBefore before → map expression_symbol_of front ≡ before_symbols before → BeginsAcc front
@@ -128,10 +131,13 @@ begun_named before front middle lexeme text sound spells is begun =
 -- a set begins with its first symbol too
 pub begun_following : (passed : List ExpressionSymbol) (symbol : ExpressionSymbol) (lexeme : Lexeme HoaKind) (middle : List (Lexeme HoaKind)) → expression_symbol_of lexeme ≡ symbol
     → BeginsSet (passed ++ symbol ∷ []) middle → BeginsSet passed (lexeme ∷ middle)
-begun_following passed symbol lexeme middle is begun =
-    (begun.0, begun.1, begun.2,
-      ap (λ one. passed ++ one ∷ map expression_symbol_of (middle ++ begun.0)) is
-      ∙ (sym (append_assoc passed (symbol ∷ []) (map expression_symbol_of (middle ++ begun.0))) ∙ begun.3))
+begun_following passed symbol lexeme middle is begun = (
+  begun.0,
+  begun.1,
+  begun.2,
+  ap (λ one. passed ++ one ∷ map expression_symbol_of (middle ++ begun.0)) is
+      ∙ (sym (append_assoc passed (symbol ∷ []) (map expression_symbol_of (middle ++ begun.0))) ∙ begun.3),
+)
 
 -- what a set begins with
 pub begun_unentered : BeginsSet [] []

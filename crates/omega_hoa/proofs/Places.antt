@@ -89,14 +89,14 @@ first_within lexemes length at segment is =
       | [] ↦ λ split there unread.
           absurd (unbegun lexemes segment (λ raw written. unread [] refl raw [] (subst (λ ls. IsRawOf ls raw) split written)) is.before (split ∙ append-nil is.before) is.begun)
       | token ∷ rest ↦ λ split there unread. record {
-          before = is.before;
-          token = token;
-          rest = rest;
-          split = split;
-          there = there;
-          begun = is.begun;
-          unwritten = λ more raw written. unread (token ∷ more) (more, refl) raw [] written;
-        }
+        before = is.before;
+        token = token;
+        rest = rest;
+        split = split;
+        there = there;
+        begun = is.begun;
+        unwritten = λ more raw written. unread (token ∷ more) (more, refl) raw [] written;
+      }
     ])
     in token_there is.left is.split is.there is.unread
 

@@ -1,5 +1,5 @@
 -- With which tokens labels begin: what is pending, and a part of what is still to come, are completed.
-use Rattle.std.proofs.Common.{◌≡◌, ℕ, suc, true, List, [], ◌∷◌, ◌++◌, map, ap, append-nil, append_assoc, refl, sym, ◌∙◌}
+use Rattle.std.proofs.Common.{◌≡◌, ℕ, suc, true, List, [], ◌∷◌, ◌++◌, map, ap, append-nil, append_assoc, sym, ◌∙◌}
 use Rattle.std.proofs.lemmas.List.{map-append}
 use Rattle.omega_label.specs.Raw.{RawLabelTree, alias, conjunction, constant, disjunction, group, negation, proposition}
 use Rattle.omega_label.specs.Reading.{BeginsLabel, IsOf, label_symbols}
@@ -89,14 +89,17 @@ finished_is (ored before left) disjunctive part is fits sound = absurd fits
 -- tokens that are such a label begin one
 begun_with : (before : Before) (rank : Rank) (part : RawLabelTree) (front more : List (Lexeme HoaKind)) → IsOf rank part → FitsAfter rank before → IsOpenBefore before
     → map expression_symbol_of (front ++ more) ≡ before_symbols before ++ (label_symbols part ++ closers (opens before)) → BeginsLabel front
-begun_with before rank part front more is fits sound spells =
-    (more, finished before part, record {
-      front = front ++ more;
-      split = sym (append-nil (front ++ more));
-      spells = spells ∙ sym (finished_spelled before part);
-      is = finished_is before rank part is fits sound;
-      ends = tt;
-    })
+begun_with before rank part front more is fits sound spells = (
+  more,
+  finished before part,
+  record {
+    front = front ++ more;
+    split = sym (append-nil (front ++ more));
+    spells = spells ∙ sym (finished_spelled before part);
+    is = finished_is before rank part is fits sound;
+    ends = tt;
+  },
+)
 
 -- where a part is wanted, a label begins with what is before it
 pub begun_wanted : (before : Before) (front : List (Lexeme HoaKind)) → IsOpenBefore before → map expression_symbol_of front ≡ before_symbols before → BeginsLabel front

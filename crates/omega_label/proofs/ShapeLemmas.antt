@@ -1,7 +1,6 @@
 -- Labels of trees of boxes: what makes nodes a label, and where one is too large.
-use Rattle.std.proofs.Common.{◌≡◌, ◌<◌, ◌≤◌, true, false, cond, ltb, List, Option, None, Some, Result, Ok, Err, IfOk, ap, refl, subst, sym, ◌∙◌, arith}
+use Rattle.std.proofs.Common.{◌≡◌, ◌<◌, ◌≤◌, cond, ltb, List, None, Some, Result, Ok, Err, IfOk, ap, sym, ◌∙◌, arith}
 use Rattle.std.proofs.lemmas.Bool.{le-ltb, lt-ltb}
-use Rattle.omega_text.specs.declared.refusal.automaton.AutomatonFault.{AutomatonFault}
 use Rattle.omega_text.specs.declared.refusal.automaton.AutomatonFault.TheVariants.{Expansion, TooDeep}
 use Rattle.omega_label.specs.Label.{LabelTree, label_depth, label_size}
 use Rattle.omega_label.specs.Shape.{fault_of_label}

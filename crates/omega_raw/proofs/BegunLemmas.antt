@@ -1,5 +1,5 @@
 -- With which tokens rows begin: what was read stands before what is still to come, whatever that is.
-use Rattle.std.proofs.Common.{◌≡◌, ℕ, ◌+◌, ◌-◌, ◌≤◌, true, false, List, [], ◌∷◌, ◌++◌, Option, Some, None, length, map, take, codes, ap, append-nil, append_assoc, refl, sym, ◌∙◌, subst, arith}
+use Rattle.std.proofs.Common.{◌≡◌, ℕ, ◌-◌, true, List, [], ◌∷◌, ◌++◌, Option, Some, None, length, map, take, codes, ap, append-nil, append_assoc, refl, sym, ◌∙◌, subst, arith}
 use Rattle.std.proofs.lemmas.List.{append_cancel_right, length-append, take-append-le, take_all}
 use Rattle.std.specs.List.{AllByRecursion}
 use Rattle.omega_expression.proofs.ClosingLemmas.{plain}
@@ -13,16 +13,14 @@ use Rattle.omega_label.specs.Raw as guard
 use Rattle.omega_label.specs.Reading.{BeginsLabel, Reads}
 use Rattle.omega_raw.proofs.SpellingLemmas.{next_is}
 use Rattle.omega_raw.specs.First.{FirstIs}
-use Rattle.omega_raw.specs.Grammar.{BeginsAutomaton, IsConj, IsRawEdge, IsRawItem, IsRawState, ReadsAutomaton, conj_row, each, edge_row, int_row, item_row, label_row, optional_row, parameter_row, sig_row, state_row, string_row, value_row, word_row}
-use Rattle.omega_raw.specs.Symbols.{AutomatonSymbol, IsNext, ReadsSymbols, Shows, Splits, Tokens, alias, formula, header, label, number, sign, text, without_last, word}
+use Rattle.omega_raw.specs.Grammar.{BeginsAutomaton, IsConj, IsRawEdge, IsRawItem, IsRawState, conj_row, each, edge_row, int_row, item_row, label_row, optional_row, parameter_row, sig_row, state_row, string_row, value_row, word_row}
+use Rattle.omega_raw.specs.Symbols.{AutomatonSymbol, IsNext, ReadsSymbols, Splits, Tokens, alias, formula, header, label, number, sign, text, without_last, word}
 use Rattle.omega_raw.specs.private.steps.Joining.{Joins}
 use Rattle.omega_raw.specs.private.steps.Reading.{IsAny, IsBegun, NextIs, Spells, symbol_row}
 use Rattle.omega_raw.specs.private.steps.Rows.{expression_row, formula_row}
 use Rattle.omega_raw.specs.declared.raw_automaton.RawAutomaton.{RawAutomaton}
 use Rattle.omega_raw.specs.declared.raw_edge.RawEdge.{RawEdge}
 use Rattle.omega_raw.specs.declared.header_value.HeaderValue.TheVariants as value
-use Rattle.omega_raw.specs.declared.raw_item.RawItem.{RawItem}
-use Rattle.omega_raw.specs.declared.raw_state.RawState.{RawState}
 use Rattle.omega_text.specs.Lexeme.{Lexeme}
 use Rattle.omega_text.specs.declared.hoa.kind.HoaKind.{HoaKind}
 use Rattle.omega_text.specs.declared.hoa.kind.HoaKind.TheVariants as kind

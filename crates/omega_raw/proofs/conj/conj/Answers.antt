@@ -3,7 +3,7 @@ use Rattle.std.proofs.Common.{ap, ◌∙◌, ◌∷◌, ◌≡◌, refl, [], ari
 use Rattle.omega_raw.proofs.FollowLemmas.{all_any, joined_end}
 use Rattle.omega_raw.proofs.RowLemmas.{conj_known, conj_given}
 use Rattle.omega_raw.specs.Symbols.{ReadsSymbols, number}
-use Rattle.omega_raw.proofs.StepLemmas.{finds_error, finds_memory, none_after, passes_after, passes_then, none_after_token}
+use Rattle.omega_raw.proofs.StepLemmas.{finds_error, finds_memory, passes_after, passes_then, none_after_token}
 use Rattle.omega_raw.specs.Grammar.{each, joined_row}
 use Rattle.omega_raw.proofs.conj.conj.Goals as goal
 

@@ -3,7 +3,7 @@ use Rattle.omega_text.specs.declared.hoa.kind.HoaKind.TheVariants as kind
 use Rattle.omega_expression.proofs.ClosingLemmas.{plain}
 use Rattle.omega_raw.proofs.BegunLemmas.{completed, number_first}
 use Rattle.std.proofs.Common.{◌∷◌, refl, []}
-use Rattle.omega_raw.proofs.StepLemmas.{finds_error, none_after, passes_after, passes_then, none_after_token}
+use Rattle.omega_raw.proofs.StepLemmas.{finds_error, passes_after, passes_then, none_after_token}
 use Rattle.omega_raw.specs.Symbols.{number, sign}
 use Rattle.omega_raw.specs.Grammar.{joined_row}
 use Rattle.omega_raw.proofs.conj.JoinedPart.read.Goals as goal

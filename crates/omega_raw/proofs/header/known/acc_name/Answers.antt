@@ -3,7 +3,7 @@ use Rattle.std.proofs.Common.{refl, ◌≡◌, []}
 use Rattle.omega_raw.proofs.ContentLemmas.{acc_name_known, acc_name_same}
 use Rattle.omega_raw.proofs.FollowLemmas.{all_any, parameters_end}
 use Rattle.omega_raw.specs.Symbols.{ReadsSymbols, word}
-use Rattle.omega_raw.proofs.StepLemmas.{finds_error, none_after, passes_after, passes_then, none_after_token}
+use Rattle.omega_raw.proofs.StepLemmas.{finds_error, passes_after, passes_then, none_after_token}
 use Rattle.omega_raw.specs.Grammar.{each, parameter_row}
 use Rattle.omega_raw.specs.declared.raw_item.RawItem.TheVariants as item
 use Rattle.omega_raw.proofs.header.known.acc_name.Goals as goal

@@ -5,7 +5,7 @@ use Rattle.omega_expression.proofs.ClosingLemmas.{plain}
 use Rattle.omega_raw.proofs.BegunLemmas.{completed, formula_first}
 use Rattle.std.proofs.Common.{refl, ap, ◌∙◌, ◌∷◌, ◌≡◌, [], true}
 use Rattle.omega_raw.proofs.ContentLemmas.{acceptance_known}
-use Rattle.omega_raw.proofs.StepLemmas.{finds_error, none_after, passes_after, passes_then, none_after_token}
+use Rattle.omega_raw.proofs.StepLemmas.{finds_error, passes_after, passes_then, none_after_token}
 use Rattle.omega_raw.specs.Symbols.{ReadsSymbols, formula, number}
 use Rattle.omega_raw.specs.declared.raw_item.RawItem.TheVariants as item
 use Rattle.omega_raw.proofs.header.known.acceptance.Goals as goal

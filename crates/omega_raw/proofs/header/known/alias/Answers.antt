@@ -5,7 +5,7 @@ use Rattle.omega_expression.proofs.ClosingLemmas.{plain}
 use Rattle.omega_raw.proofs.BegunLemmas.{alias_next, completed, label_first}
 use Rattle.std.proofs.Common.{◌≡◌, ap, refl, ◌∙◌, ◌∷◌, [], true}
 use Rattle.omega_raw.proofs.ContentLemmas.{alias_known}
-use Rattle.omega_raw.proofs.StepLemmas.{alias_missing, alias_passed, finds_error, none_after, passes_after, passes_then, none_after_token}
+use Rattle.omega_raw.proofs.StepLemmas.{alias_missing, alias_passed, finds_error, passes_after, passes_then, none_after_token}
 use Rattle.omega_raw.specs.Symbols.{ReadsSymbols, label, alias}
 use Rattle.omega_raw.specs.declared.raw_item.RawItem.TheVariants as item
 use Rattle.omega_raw.proofs.header.known.alias.Goals as goal

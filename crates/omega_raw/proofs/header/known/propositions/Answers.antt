@@ -3,7 +3,7 @@ use Rattle.std.proofs.Common.{refl, ap, ◌∙◌, ◌≡◌, []}
 use Rattle.omega_raw.proofs.ContentLemmas.{propositions_known}
 use Rattle.omega_raw.proofs.FollowLemmas.{all_any, strings_end}
 use Rattle.omega_raw.specs.Symbols.{ReadsSymbols, number}
-use Rattle.omega_raw.proofs.StepLemmas.{finds_error, none_after, passes_after, passes_then, none_after_token}
+use Rattle.omega_raw.proofs.StepLemmas.{finds_error, passes_after, passes_then, none_after_token}
 use Rattle.omega_raw.specs.Grammar.{each, string_row}
 use Rattle.omega_raw.specs.declared.raw_item.RawItem.TheVariants as item
 use Rattle.omega_raw.proofs.header.known.propositions.Goals as goal

@@ -3,7 +3,7 @@ use Rattle.std.proofs.Common.{refl, ap, ◌∙◌, ◌≡◌, [], None}
 use Rattle.omega_raw.proofs.ContentLemmas.{tool_known}
 use Rattle.omega_raw.proofs.FollowLemmas.{some_any, strings_end}
 use Rattle.omega_raw.specs.Symbols.{ReadsSymbols, text}
-use Rattle.omega_raw.proofs.StepLemmas.{finds_error, none_after, passes_after, passes_then, none_after_token}
+use Rattle.omega_raw.proofs.StepLemmas.{finds_error, passes_after, passes_then, none_after_token}
 use Rattle.omega_raw.specs.Grammar.{optional_row, string_row}
 use Rattle.omega_raw.specs.declared.raw_item.RawItem.TheVariants as item
 use Rattle.omega_raw.proofs.header.known.tool.Goals as goal
