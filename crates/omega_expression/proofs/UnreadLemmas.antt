@@ -24,7 +24,8 @@ pub first_next : (IsNone IsBegun : List (Lexeme HoaKind) → Type 0) (whole fron
     → IsBegun front → ((others : List (Lexeme HoaKind)) → AgreeThroughNext left others → IsNone (front ++ others)) → IsFirstUnread IsNone IsBegun whole length place
 first_next IsNone IsBegun whole front left length place split there begun unread = record { before = front; left = left; split = split; there = there; begun = begun; unread = unread }
 
--- it is first seen where it is seen of what comes after some tokens, if what begins that begins with these something that is read
+-- it is first seen where it is seen of what comes after some tokens, if what begins that, after these, begins something
+-- that is read
 pub first_after : (IsNone IsMore IsBegun IsMoreBegun : List (Lexeme HoaKind) → Type 0) (whole front left : List (Lexeme HoaKind)) (length : ℕ) (refusal : Refusal) → whole ≡ front ++ left
     → ((others : List (Lexeme HoaKind)) → IsMore others → IsNone (front ++ others)) → ((before : List (Lexeme HoaKind)) → IsMoreBegun before → IsBegun (front ++ before))
     → IsUnread IsMore IsMoreBegun left length refusal → IsUnread IsNone IsBegun whole length refusal
@@ -43,7 +44,8 @@ first_after IsNone IsMore IsBegun IsMoreBegun whole front left length (refusals.
 first_after IsNone IsMore IsBegun IsMoreBegun whole front left length refusals.Memory split follows begins is = is
 first_after IsNone IsMore IsBegun IsMoreBegun whole front left length refusals.Io split follows begins is = is
 
--- it is first seen where a token of a kind is missing, if nothing is read of any tokens that do not begin with one, and something is of some
+-- it is first seen where a token of a kind is missing, if nothing is read of any tokens that do not begin with one, and
+-- something is read of some
 pub first_missing : (IsNone IsBegun : List (Lexeme HoaKind) → Type 0) (sort : HoaKind) (tokens : List (Lexeme HoaKind)) (length : ℕ) (refusal : Refusal) → IsBegun []
     → ((others : List (Lexeme HoaKind)) → NextIsNot sort others → IsNone others) → IsMissing sort tokens length refusal → IsUnread IsNone IsBegun tokens length refusal
 first_missing IsNone IsBegun sort tokens length refusal begun follows missing =
@@ -72,7 +74,8 @@ sides Wanted same longer shorter (next ∷ more) left (first ∷ others) rest is
     subst (λ token. Wanted (next ∷ more) left (token ∷ others) rest) head
     (sides (λ a b c d. Wanted (next ∷ a) b (next ∷ c) d) (λ front l. same (next ∷ front) l) (λ front n m l. longer (next ∷ front) n m l) (λ front n m l. shorter (next ∷ front) n m l) more left others rest tail)
 
--- two places that are both the first at which it is seen that nothing is read are one, if what begins something is read with some more tokens
+-- two places that are both the first at which it is seen that nothing is read are one, if what begins something is read
+-- with some more tokens
 pub first_is_one : (IsNone IsBegun : List (Lexeme HoaKind) → Type 0) (tokens : List (Lexeme HoaKind)) (length one other : ℕ)
     → ((before : List (Lexeme HoaKind)) → IsBegun before → ((more : List (Lexeme HoaKind)) → IsNone (before ++ more)) → ⊥)
     → IsFirstUnread IsNone IsBegun tokens length one → IsFirstUnread IsNone IsBegun tokens length other → one ≡ other

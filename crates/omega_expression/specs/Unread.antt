@@ -13,9 +13,9 @@ abbrev pub AgreeThroughNext : (tokens others : List (Lexeme HoaKind)) → Type 0
 AgreeThroughNext [] others = others ≡ []
 AgreeThroughNext (next ∷ rest) others = (more : List (Lexeme HoaKind)) × (others ≡ next ∷ more)
 
--- This is the first place at which it is seen that nothing is read: what is before it begins something that is read, and
--- nothing is read of any tokens that agree with these through the one at this place. At the length of the text, after
--- the last of them, nothing is read of these.
+-- This is the first place at which it is seen that nothing is read. What is before it begins something that is read,
+-- and nothing is read of any tokens that agree with these through the one at this place. At the length of the text,
+-- after the last of them, nothing is read of these.
 pub record IsFirstUnread (IsNone IsBegun : List (Lexeme HoaKind) → Type 0) (tokens : List (Lexeme HoaKind)) (length place : ℕ) : Type 0 where
   pub before : List (Lexeme HoaKind)
   pub left : List (Lexeme HoaKind)

@@ -49,6 +49,7 @@ abbrev pub IsSyntaxWithin : List (Lexeme HoaKind) → TextFault → Type 0
 IsSyntaxWithin lexemes (Syntax at) = IsFirstUnwritten lexemes at
 IsSyntaxWithin lexemes fault = ⊥
 
--- why the tokens are not an automaton's: `Syntax` at the first of them through which none begins, else a fault of meaning
+-- why the tokens are not an automaton's: `Syntax` at the first of them through which none begins, else a fault of
+-- meaning
 abbrev pub IsSegmentFault : List (Lexeme HoaKind) → Refusal → Type 0
 IsSegmentFault lexemes = or_text (IsSyntaxWithin lexemes) (or_automaton (HasMeaningFault lexemes) never)
