@@ -1,0 +1,4 @@
+-- Controllers and counter-strategies: what public contracts cite.
+pub use Rattle.omega_text.specs.Cases
+pub use Rattle.omega_text.specs.Refusal
+pub mod Controllers

@@ -1,0 +1,1 @@
+//! Laws of controllers and of counter-strategies.

@@ -1,0 +1,5 @@
+//! Controllers of automata whose propositions are parted into the system's and the environment's, counter-strategies,
+//! and the laws of these.
+#![tactic(auto)]
+
+mod laws;
