@@ -2,3 +2,4 @@
 pub use Rattle.omega_text.specs.Cases
 pub use Rattle.omega_text.specs.Refusal
 pub mod Controllers
+pub mod Strategies
