@@ -10,8 +10,7 @@ use Rattle.omega_runs.specs.Words.{CanBeTaken}
 abbrev pub AgreeOnInputs : List ℕ → (ℕ → Bool) → (ℕ → Bool) → Type 0
 AgreeOnInputs controlled one other = (p : ℕ) → ¬ Contains controlled p → one p ≡ other p
 
--- an edge answers an environment's letter, of which the inputs alone count: the edge can be taken at some letter that
--- agrees with it on the inputs
+-- an edge answers an environment's letter: it can be taken at some letter that agrees with that one on the inputs
 pub record Answers (a : Description) (controlled : List ℕ) (number : ℕ) (given : ℕ → Bool) : Type 0 where
   pub letter : ℕ → Bool
   pub agrees : AgreeOnInputs controlled given letter
@@ -44,15 +43,15 @@ pub record HasAnswer (a : Description) (controlled kept : List ℕ) (state : ℕ
   pub step : IsStep a state number next
   pub answers : Answers a controlled number given
 
--- kept edges are a controller: there is a start, in each state that is met each environment's letter has an answer among
--- the kept edges, and each closed walk of kept edges in states that are met is accepted
+-- kept edges are a controller: there is a start, and in each state that is met each environment's letter has an answer
+-- among the kept edges. Each closed walk of kept edges in states that are met is accepted
 pub record IsController (a : Description) (controlled kept : List ℕ) : Type 0 where
   pub begins : (start : ℕ) × IsStart a start
   pub answered : (state : ℕ) (given : ℕ → Bool) → IsMet a kept state → HasAnswer a controlled kept state given
   pub accepted : (state : ℕ) (cycle : List ℕ) → IsKeptCycle a kept state cycle → IsTrue (is_accepted a cycle)
 
 -- kept edges and an environment's letter for each state are a counter-strategy: the kept edges of a state that is met
--- are all of its edges that answer its letter, and no closed walk of kept edges in states that are met is accepted
+-- are all of its edges that answer its letter. No closed walk of kept edges in states that are met is accepted
 pub record IsCounterStrategy (a : Description) (controlled kept : List ℕ) (letters : ℕ → ℕ → Bool) : Type 0 where
   pub answers_kept : (state number next : ℕ) → IsMet a kept state → IsStep a state number next
       → Answers a controlled number (letters state) → Contains kept number

@@ -3,3 +3,4 @@ pub use Rattle.omega_text.specs.Cases
 pub use Rattle.omega_text.specs.Refusal
 pub mod Controllers
 pub mod Strategies
+pub mod Laws

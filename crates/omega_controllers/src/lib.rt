@@ -3,3 +3,5 @@
 #![tactic(auto)]
 
 mod laws;
+
+pub use laws::controllers_exclude_counter_strategies;
