@@ -1,3 +1,7 @@
 -- Lemmas of runs of kept edges, and of the words and states that strategies lead to.
 pub mod Stretches
 pub mod Excluding
+pub mod Duals
+pub mod Accepting
+pub mod Letters
+pub mod Realizing

@@ -3,7 +3,8 @@
 use Rattle.std.specs.Prelude.{ℕ, zero, suc, Bool, ◌==◌, if◌then◌else◌, List, [], ◌∷◌, Contains}
 use Rattle.std.specs.List.{list_any}
 use Rattle.omega_automaton.specs.Automaton.{Description}
-use Rattle.omega_runs.specs.Words.{IsAccepted}
+use Rattle.omega_runs.specs.Runs.{IsRun}
+use Rattle.omega_runs.specs.Words.{CanBeTaken, IsAccepted}
 
 -- the environment's letters of the first `rounds` rounds, the last first
 abbrev pub so_far : (ℕ → ℕ → Bool) → ℕ → List (ℕ → Bool)
@@ -26,11 +27,21 @@ joined controlled own given p = if is_controlled controlled p then own p else gi
 abbrev pub word_of : List ℕ → System → (ℕ → ℕ → Bool) → ℕ → ℕ → Bool
 word_of controlled system given round = joined controlled (system (so_far given (suc round))) (given round)
 
+-- a run of kept edges on a word: each edge can be taken at the word's letter
+pub record IsKeptRun (a : Description) (kept : List ℕ) (word : ℕ → ℕ → Bool) (states edges : ℕ → ℕ) : Type 0 where
+  pub run : IsRun a states edges
+  pub all_kept : (i : ℕ) → Contains kept (edges i)
+  pub taken : (i : ℕ) → CanBeTaken a (edges i) (word i)
+
+-- a word has a run of kept edges
+abbrev pub HasKeptRun : Description → List ℕ → (ℕ → ℕ → Bool) → Type 0
+HasKeptRun a kept word = (states : ℕ → ℕ) × ((edges : ℕ → ℕ) × IsKeptRun a kept word states edges)
+
 -- a strategy realizes an automaton: whatever the environment gives, the word of it and of the answers is accepted
 abbrev pub Realizes : Description → List ℕ → System → Type 0
 Realizes a controlled system = (given : ℕ → ℕ → Bool) → IsAccepted a (word_of controlled system given)
 
--- and each of these words is accepted by a run of kept edges alone
+-- a strategy realizes an automaton by kept edges: each such word is accepted by a run of these edges alone
 abbrev pub RealizesBy : Description → List ℕ → List ℕ → System → Type 0
 RealizesBy a controlled kept system =
     (given : ℕ → ℕ → Bool)

@@ -1,10 +1,28 @@
 //! Laws of controllers and of counter-strategies. A controller realizes, a counter-strategy refutes, and no automaton
 //! has both.
 
-ghost use Rattle.omega_controllers.specs.Laws.{ControllersExcludeCounterStrategies};
+ghost use Rattle.omega_controllers.specs.Laws.{ControllersAnswer, ControllersExcludeCounterStrategies, ControllersRealize, KeptRunsAreAccepting};
 
 /// States that no automaton has both a controller and a counter-strategy, whichever edges the two keep. It need not be
 /// deterministic.
 pub fn controllers_exclude_counter_strategies()
     ensures { ControllersExcludeCounterStrategies }
+{}
+
+/// States that from a controller there is a strategy of the system by whose answers each word has a run of the
+/// controller's edges, whatever letters the environment gives.
+pub fn controllers_answer()
+    ensures { ControllersAnswer }
+{}
+
+/// States that each run of a controller's edges is accepting. Whether the marks of a run satisfy a formula cannot be
+/// decided here, so it is a premise that each test passes infinitely often or at last no more.
+pub fn kept_runs_are_accepting()
+    ensures { KeptRunsAreAccepting }
+{}
+
+/// States that, with the same premise, some strategy of the system realizes an automaton that has a controller: whatever
+/// letters the environment gives, the word of them and of the answers is accepted, by a run of the controller's edges.
+pub fn controllers_realize()
+    ensures { ControllersRealize }
 {}

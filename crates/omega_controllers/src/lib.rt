@@ -4,4 +4,7 @@
 
 mod laws;
 
-pub use laws::controllers_exclude_counter_strategies;
+pub use laws::{
+    controllers_answer, controllers_exclude_counter_strategies, controllers_realize,
+    kept_runs_are_accepting,
+};
