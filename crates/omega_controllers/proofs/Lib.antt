@@ -5,3 +5,6 @@ pub mod Duals
 pub mod Accepting
 pub mod Letters
 pub mod Realizing
+pub mod Numbers
+pub mod Moving
+pub mod Refuting

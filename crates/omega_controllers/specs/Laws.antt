@@ -1,10 +1,11 @@
 -- Laws of controllers and of counter-strategies: the ones realize, the others refute, and no automaton has both.
 use Rattle.std.specs.Prelude.{◌≡◌, ◌⊎◌, ℕ, ◌≤◌, Bool, false, IsTrue, List, Contains}
-use Rattle.omega_automaton.specs.Automaton.{Description}
+use Rattle.omega_automaton.specs.Automaton.{Description, IsAutomaton}
 use Rattle.omega_runs.specs.Lasso.{marks_at}
 use Rattle.omega_runs.specs.Runs.{IsRun, Satisfies}
+use Rattle.omega_complement.specs.Complement.{IsDeterministic}
 use Rattle.omega_controllers.specs.Controllers.{IsController, IsCounterStrategy}
-use Rattle.omega_controllers.specs.Strategies.{HasKeptRun, RealizesBy, System, word_of}
+use Rattle.omega_controllers.specs.Strategies.{HasKeptRun, IsRefuted, Realizes, RealizesBy, System, word_of}
 
 -- a test of numbers passes infinitely often, or from some number on no more
 abbrev pub RecursOrCeases : (ℕ → Bool) → Type 0
@@ -38,3 +39,16 @@ ControllersRealize =
     ((test : ℕ → Bool) → RecursOrCeases test)
     → (a : Description) (controlled kept : List ℕ) → IsController a controlled kept
     → (system : System) × RealizesBy a controlled kept system
+
+-- a deterministic automaton with a counter-strategy is refuted
+abbrev pub CounterStrategiesRefute : Type 0
+CounterStrategiesRefute =
+    (a : Description) (controlled kept : List ℕ) (letters : ℕ → ℕ → Bool) → IsAutomaton a → IsDeterministic a
+    → IsCounterStrategy a controlled kept letters → IsRefuted a controlled
+
+-- no strategy realizes a deterministic automaton with a counter-strategy
+abbrev pub RealizingExcludesCounterStrategies : Type 0
+RealizingExcludesCounterStrategies =
+    (a : Description) (controlled kept : List ℕ) (letters : ℕ → ℕ → Bool) (system : System)
+    → IsAutomaton a → IsDeterministic a → Realizes a controlled system
+    → IsCounterStrategy a controlled kept letters → ⊥

@@ -1,7 +1,7 @@
 //! Laws of controllers and of counter-strategies. A controller realizes, a counter-strategy refutes, and no automaton
 //! has both.
 
-ghost use Rattle.omega_controllers.specs.Laws.{ControllersAnswer, ControllersExcludeCounterStrategies, ControllersRealize, KeptRunsAreAccepting};
+ghost use Rattle.omega_controllers.specs.Laws.{ControllersAnswer, ControllersExcludeCounterStrategies, ControllersRealize, CounterStrategiesRefute, KeptRunsAreAccepting, RealizingExcludesCounterStrategies};
 
 /// States that no automaton has both a controller and a counter-strategy, whichever edges the two keep. It need not be
 /// deterministic.
@@ -25,4 +25,15 @@ pub fn kept_runs_are_accepting()
 /// letters the environment gives, the word of them and of the answers is accepted, by a run of the controller's edges.
 pub fn controllers_realize()
     ensures { ControllersRealize }
+{}
+
+/// States that a deterministic automaton with a counter-strategy is refuted: against each strategy of the system the
+/// environment can give letters such that the word of them and of the answers is not accepted.
+pub fn counter_strategies_refute()
+    ensures { CounterStrategiesRefute }
+{}
+
+/// States that no strategy of the system realizes a deterministic automaton that has a counter-strategy.
+pub fn realizing_excludes_counter_strategies()
+    ensures { RealizingExcludesCounterStrategies }
 {}

@@ -6,5 +6,5 @@ mod laws;
 
 pub use laws::{
     controllers_answer, controllers_exclude_counter_strategies, controllers_realize,
-    kept_runs_are_accepting,
+    counter_strategies_refute, kept_runs_are_accepting, realizing_excludes_counter_strategies,
 };
