@@ -21,8 +21,9 @@ pub fn kept_runs_are_accepting()
     ensures { KeptRunsAreAccepting }
 {}
 
-/// States that, with the same premise, some strategy of the system realizes an automaton that has a controller: whatever
-/// letters the environment gives, the word of them and of the answers is accepted, by a run of the controller's edges.
+/// States that, with the same premise, some strategy of the system realizes an automaton that has a controller.
+/// Whatever letters the environment gives, the word of them and of the answers is accepted, by a run of the
+/// controller's edges.
 pub fn controllers_realize()
     ensures { ControllersRealize }
 {}
