@@ -1,0 +1,4 @@
+-- Lemmas of games in rounds: their nodes by place, and walks of edges as walks of the game.
+pub mod Placing
+pub mod Walks
+pub mod Winning
