@@ -2,3 +2,5 @@
 pub mod Placing
 pub mod Walks
 pub mod Winning
+pub mod Making
+pub mod Found

@@ -39,7 +39,7 @@ range_has first n x low high =
     let at : get_or (range_with_len first n) (x - first) x ≡ first + (x - first) = get_or-range_with_len first n (x - first) x place in
     (x - first, omega (arith, length-range_with_len first n), omega (arith, at))
 
-range_rises : (first n : ℕ) → IsStrictlyIncreasing (range_with_len first n)
+pub range_rises : (first n : ℕ) → IsStrictlyIncreasing (range_with_len first n)
 range_rises first n k within =
     omega (arith, get_or-range_with_len first n k 0 (omega (arith, length-range_with_len first n)),
       get_or-range_with_len first n (k + 1) 0 (omega (arith, length-range_with_len first n)))

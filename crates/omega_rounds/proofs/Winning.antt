@@ -29,22 +29,22 @@ module _ (rounds : Rounds) (is_rounds : IsRounds rounds) (choices : List (Option
       → Follows rounds is_rounds Zero choices from number to
   answer_follows from number to below step has =
       let chosen : IsChosenAnswer rounds choices number = (are number).0 has in
-      let edge : HasEdge (nodes_of rounds) (question_place rounds chosen.question) (edge_place rounds number) =
-      winning.strategy.listed (question_place rounds chosen.question) (edge_place rounds number) chosen.chosen in
-      let answer : Contains (answers_of rounds chosen.question) number = question_answer rounds is_rounds chosen.question number chosen.asked chosen.below edge in
-      let owner = is_rounds.owned chosen.question chosen.asked in
-      let asked : IsAskedIn rounds from chosen.question =
-      subst (λ (s : ℕ). IsAskedIn rounds s chosen.question) (asked_here rounds is_rounds owner.0 chosen.question number from to owner.1 answer step) owner.1 in
+      let edge : HasEdge (nodes_of rounds) (question_place rounds chosen.0) (edge_place rounds number) =
+      winning.strategy.listed (question_place rounds chosen.0) (edge_place rounds number) chosen.1.chosen in
+      let answer : Contains (answers_of rounds chosen.0) number = question_answer rounds is_rounds chosen.0 number chosen.1.asked chosen.1.below edge in
+      let owner = is_rounds.owned chosen.0 chosen.1.asked in
+      let asked : IsAskedIn rounds from chosen.0 =
+      subst (λ (s : ℕ). IsAskedIn rounds s chosen.0) (asked_here rounds is_rounds owner.0 chosen.0 number from to owner.1 answer step) owner.1 in
       record {
-        question = chosen.question;
-        asked = chosen.asked;
+        question = chosen.0;
+        asked = chosen.1.asked;
         first = record {
-          listed = state_to rounds is_rounds from chosen.question asked;
+          listed = state_to rounds is_rounds from chosen.0 asked;
           chosen = λ own c chooses. absurd (one_not_zero (sym (state_owner rounds is_rounds from below) ∙ own));
         };
         second = record {
           listed = edge;
-          chosen = λ own c chooses. one_choice choices (question_place rounds chosen.question) (edge_place rounds number) c chosen.chosen chooses;
+          chosen = λ own c chooses. one_choice choices (question_place rounds chosen.0) (edge_place rounds number) c chosen.1.chosen chooses;
         };
         third = record {
           listed = subst (λ (t : ℕ). HasEdge (nodes_of rounds) (edge_place rounds number) t) step.enters (edge_to rounds is_rounds number step.below);
@@ -100,8 +100,7 @@ module _ (rounds : Rounds) (is_rounds : IsRounds rounds) (choices : List (Option
               (record { listed = edge; chosen = λ own c chooses. one_choice choices place choice.0 c choice.1 chooses }, on) closed)))
         | inr answer ↦
             let number_below : answer.0 < length rounds.edges = (is_rounds.answers state question answer.0 asked answer.1).0 in
-            (answer.0, (are answer.0).1 (record {
-              question = question;
+            (answer.0, (are answer.0).1 (question, record {
               asked = below;
               below = number_below;
               chosen = subst (λ (u : ℕ). Chooses choices place u) answer.2 choice.1;

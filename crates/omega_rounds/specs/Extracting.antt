@@ -15,12 +15,15 @@ pub record IsWinningFrom (game : List Node) (player : Player) (choices : List (O
   pub chosen : (w : ℕ) → w < length game → owner_at game w ≡ player → Wins game player choices w
       → (u : ℕ) × Chooses choices w u
 
--- player 0 chooses the edge at some question
-pub record IsChosenAnswer (rounds : Rounds) (choices : List (Option ℕ)) (number : ℕ) : Type 0 where
-  pub question : ℕ
+-- player 0 chooses the edge at the question
+pub record IsAnswerAt (rounds : Rounds) (choices : List (Option ℕ)) (question number : ℕ) : Type 0 where
   pub asked : question < length rounds.questions
   pub below : number < length rounds.edges
   pub chosen : Chooses choices (question_place rounds question) (edge_place rounds number)
+
+-- player 0 chooses the edge at some question
+abbrev pub IsChosenAnswer : Rounds → List (Option ℕ) → ℕ → Type 0
+IsChosenAnswer rounds choices number = (question : ℕ) × IsAnswerAt rounds choices question number
 
 -- the kept edges are those that player 0 chooses
 abbrev pub AreChosenAnswers : Rounds → List (Option ℕ) → List ℕ → Type 0

@@ -1,8 +1,9 @@
-ghost use Rattle.std.specs.Prelude.{◌≡◌, ◌≤◌, IfOk, IsOkUnless, length};
+ghost use Rattle.std.specs.Prelude.{◌≡◌, ℕ, ◌<◌, ◌≤◌, IfOk, IsOkUnless, MatchOption, length};
 ghost use Rattle.omega_parity_game.specs.Limits.{most_nodes};
-ghost use Rattle.omega_rounds.specs.Extracting.{AreChosenAnswers, AreChosenQuestions};
+ghost use Rattle.omega_rounds.specs.Extracting.{AreChosenAnswers, AreChosenQuestions, IsAnswerAt, IsChosenQuestion};
 ghost use Rattle.omega_rounds.specs.RoundsGame.{node_count};
 
+use crate::nodes::answers_of;
 use crate::rounds::Rounds;
 use omega_text::Refusal;
 use std::alloc::Global;
@@ -28,17 +29,31 @@ pub fn chosen_answers(
     ensures chosen { IfOk result (λ kept. AreChosenAnswers rounds.now choices.now kept.items) }
     ensures memory { IsOkUnless result Refusal.Memory }
 {
-    let states = rounds.states.len() as u32;
-    let sink = states + rounds.edges.len() as u32;
     let mut kept = Vec::new(alloc);
     for question in 0..rounds.questions.len() {
-        if let Some(chosen) = choices[sink as usize + 1 + question] {
-            if states <= chosen && chosen < sink {
-                kept.push(chosen - states)?;
-            }
+        if let Some(number) = answer_at(rounds, choices, question) {
+            kept.push(number)?;
         }
     }
     Ok(kept)
+}
+
+/// Returns the number of the edge that player 0 chooses at `question`, if there is one.
+fn answer_at(rounds: &Rounds, choices: &[Option<u32>], question: usize) -> Option<u32>
+    requires fits { node_count rounds.now ≤ most_nodes }
+    requires entries { length choices.now ≡ node_count rounds.now }
+    requires question { question < length rounds.now.questions }
+    ensures { MatchOption result
+        ((number : ℕ) → ¬ IsAnswerAt rounds.now choices.now question number)
+        (IsAnswerAt rounds.now choices.now question) }
+{
+    let states = rounds.states.len() as u32;
+    let sink = states + rounds.edges.len() as u32;
+    let choice = choices[sink as usize + 1 + question];
+    match choice {
+        Some(chosen) if states <= chosen && chosen < sink => Some(chosen - states),
+        _ => None,
+    }
 }
 
 /// Returns the questions that player 1 chooses in states, by the `choices` in the game of `rounds`, and the edges that
@@ -53,19 +68,33 @@ pub fn asked_questions(
     ensures chosen { IfOk result (λ found. AreChosenQuestions rounds.now choices.now found.kept.items found.asked.items) }
     ensures memory { IsOkUnless result Refusal.Memory }
 {
-    let first = (rounds.states.len() + rounds.edges.len()) as u32 + 1;
-    let count = rounds.questions.len() as u32;
     let mut kept = Vec::new(alloc);
     let mut asked = Vec::new(alloc);
     for state in 0..rounds.states.len() {
-        let mut question = 0;
-        if let Some(chosen) = choices[state] {
-            if first <= chosen && chosen - first < count {
-                question = chosen - first;
-                kept.extend_from_slice(rounds.questions.as_slice()[question as usize].as_slice())?;
-            }
+        if let Some(question) = question_at(rounds, choices, state) {
+            kept.extend_from_slice(answers_of(rounds, question))?;
+            asked.push(question)?;
+        } else {
+            asked.push(0)?;
         }
-        asked.push(question)?;
     }
     Ok(AskedQuestions { kept, asked })
+}
+
+/// Returns the number of the question that player 1 chooses in `state`, if there is one.
+fn question_at(rounds: &Rounds, choices: &[Option<u32>], state: usize) -> Option<u32>
+    requires fits { node_count rounds.now ≤ most_nodes }
+    requires entries { length choices.now ≡ node_count rounds.now }
+    requires state { state < length rounds.now.states }
+    ensures { MatchOption result
+        ((question : ℕ) → ¬ IsChosenQuestion rounds.now choices.now state question)
+        (IsChosenQuestion rounds.now choices.now state) }
+{
+    let first = (rounds.states.len() + rounds.edges.len()) as u32 + 1;
+    let count = rounds.questions.len() as u32;
+    let choice = choices[state];
+    match choice {
+        Some(chosen) if first <= chosen && chosen - first < count => Some(chosen - first),
+        _ => None,
+    }
 }

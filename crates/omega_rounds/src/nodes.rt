@@ -1,13 +1,10 @@
-ghost use Rattle.std.specs.Prelude.{◌≡◌, ◌+◌, ◌++◌, ◌<◌, ◌≤◌, [], ◌∷◌, All, IsOkUnless, OnOk, length, map};
-ghost use Rattle.std.specs.List.{range_with_len};
+ghost use Rattle.std.specs.Prelude.{◌≡◌, ◌++◌, ◌<◌, ◌≤◌, [], ◌∷◌, IsOkUnless, OnOk, length, slice_index};
 ghost use Rattle.omega_text.specs.Limits.{most_number};
-ghost use Rattle.omega_parity_game.specs.Building.{unnamed_spec};
 ghost use Rattle.omega_parity_game.specs.Limits.{most_nodes};
-ghost use Rattle.omega_parity_game.specs.declared.player.Player.TheVariants.{One, Zero};
-ghost use Rattle.omega_rounds.specs.Rounds.{IsRounds, answers_of, edge_at, questions_of};
-ghost use Rattle.omega_rounds.specs.RoundsGame.{edge_node, node_count, node_for, or_sink, question_node, question_place, state_node};
+ghost use Rattle.omega_rounds.specs.Rounds.{IsRounds, answers_of, range_at};
+ghost use Rattle.omega_rounds.specs.RoundsGame.{edge_node, edge_place, node_count, node_for, question_node, question_place, state_node};
 
-use crate::rounds::Rounds;
+use crate::rounds::{QuestionRange, Rounds};
 use omega_parity_game::{GameBuilder, Player};
 use omega_text::Refusal;
 
@@ -44,13 +41,21 @@ fn add_state(builder: &mut GameBuilder, rounds: &Rounds, state: u32) -> Result<(
     ensures ok { OnOk result (builder.new ≡ builder.old ++ state_node rounds.now state ∷ []) }
     ensures memory { IsOkUnless result Refusal.Memory }
 {
-    let range = rounds.states.as_slice()[state as usize];
+    let range = range_of(rounds, state);
     let base = first_question_place(rounds);
     builder.add_node(state, 0, Player::One, base + range.first)?;
     for question in range.first + 1..range.end {
         builder.add_successor(base + question)?;
     }
     Ok(())
+}
+
+/// Returns the range of the questions of `state`.
+fn range_of(rounds: &Rounds, state: u32) -> QuestionRange
+    requires { state < length rounds.now.states }
+    ensures { result ≡ range_at rounds.now state }
+{
+    rounds.states.as_slice()[state as usize]
 }
 
 /// Returns the place of the question with number 0.
@@ -85,25 +90,37 @@ fn add_question(builder: &mut GameBuilder, rounds: &Rounds, question: u32) -> Re
     let states = rounds.states.len() as u32;
     let sink = states + rounds.edges.len() as u32;
     let id = sink + 1 + question;
-    let answers = rounds.questions.as_slice()[question as usize].as_slice();
-    match answers.first() {
-        None => builder.add_node(id, 0, Player::Zero, sink),
-        Some(first) => {
-            builder.add_node(id, 0, Player::Zero, states + *first)?;
-            add_answers(builder, states, &answers[1..])
-        }
+    let count = answers_of(rounds, question).len();
+    if count == 0 {
+        return builder.add_node(id, 0, Player::Zero, sink);
     }
-}
-
-/// Adds the places of `answers` to the successors of the last node, if there are `states` states.
-fn add_answers(builder: &mut GameBuilder, states: u32, answers: &[u32]) -> Result<(), Refusal>
-    requires begun { 0 < length builder.old }
-    requires low { All (λ answer. states + answer ≤ most_number) answers.now }
-    ensures ok { OnOk result (builder.new ≡ builder.old) }
-    ensures memory { IsOkUnless result Refusal.Memory }
-{
-    for answer in answers {
-        builder.add_successor(states + *answer)?;
+    let first = answer_place(rounds, question, 0);
+    builder.add_node(id, 0, Player::Zero, first)?;
+    for at in 1..count {
+        let next = answer_place(rounds, question, at);
+        builder.add_successor(next)?;
     }
     Ok(())
+}
+
+/// Returns the numbers of the edges that answer `question`.
+pub(crate) fn answers_of(rounds: &Rounds, question: u32) -> &[u32]
+    requires { question < length rounds.now.questions }
+    ensures { result.now ≡ answers_of rounds.now question }
+{
+    rounds.questions.as_slice()[question as usize].as_slice()
+}
+
+/// Returns the place of the edge that is the answer to `question` at an index.
+fn answer_place(rounds: &Rounds, question: u32, at: usize) -> u32
+    requires rounds { IsRounds rounds.now }
+    requires fits { node_count rounds.now ≤ most_nodes }
+    requires question { question < length rounds.now.questions }
+    requires at { at < length (answers_of rounds.now question) }
+    ensures place { result ≡ edge_place rounds.now (slice_index (answers_of rounds.now question) at) }
+    ensures writable { result ≤ most_number }
+{
+    let states = rounds.states.len() as u32;
+    let answer = answers_of(rounds, question)[at];
+    states + answer
 }
