@@ -1,0 +1,2 @@
+-- Lemmas of solving games in rounds.
+pub mod Strategies

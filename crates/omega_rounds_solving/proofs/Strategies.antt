@@ -1,0 +1,62 @@
+-- Strategies of exact solutions and of exact answers win, and choose where they win.
+use Rattle.std.proofs.Common.{◌≡◌, ℕ, ◌+◌, ◌<◌, ◌≤◌, ◌⊎◌, inl, inr, Bool, true, false, List, length, map, Option, Some, None, slice_get, sym, ap, refl, ◌∙◌, subst, arith}
+use Rattle.std.specs.Prelude.{IsSome}
+use Rattle.std.proofs.lemmas.List.{length-map}
+use Rattle.std.proofs.lemmas.List.FromFn.{length-map-range_with_len}
+use Rattle.std.proofs.lemmas.List.Sorted.{length_permutation}
+use Rattle.omega_parity_game.specs.Building.{specified}
+use Rattle.omega_parity_game.specs.Game.{IsGame, Node, owner_at}
+use Rattle.omega_parity_game.specs.Laws.{ChoicesAreEntries}
+use Rattle.omega_parity_game.specs.Solution.{IsExactSolution, choices_of, winner_at}
+use Rattle.omega_parity_game.specs.Winning.{Chooses, InRegion, Wins, choice_at}
+use Rattle.omega_parity_game.specs.declared.player.Player.{Player}
+use Rattle.omega_parity_game.specs.declared.player.Player.TheVariants.{One, Zero}
+use Rattle.omega_parity_game.specs.declared.solution.Solution.{Solution}
+use Rattle.omega_region_laws.specs.Laws.{RegionsCover}
+use Rattle.omega_solve.specs.Headline.{IsExact}
+use Rattle.omega_rounds.specs.Extracting.{IsWinningFrom}
+use Rattle.omega_rounds.specs.RoundsGame.{IsRoundsGame, node_count, node_for, table}
+use Rattle.omega_rounds.specs.declared.rounds.Rounds.{Rounds}
+
+-- the game has a node for each place
+pub game_count : (rounds : Rounds) (game : List Node) → IsRoundsGame rounds game → length game ≡ node_count rounds
+game_count rounds game made =
+    omega (arith, length_permutation (table rounds) (map (specified game) game) made.rearranged, length-map game (specified game),
+      length-map-range_with_len (node_for rounds) 0 (node_count rounds))
+
+some_of : (o : Option ℕ) → IsSome o → (u : ℕ) × (o ≡ Some u)
+some_of None some = absurd some
+some_of (Some u) some = (u, refl)
+
+-- in an exact solution
+pub solution_wins : ChoicesAreEntries → (game : List Node) (solution : Solution) → IsExactSolution game solution
+    → (player : Player) (v : ℕ) → v < length game → winner_at solution v ≡ player
+    → IsWinningFrom game player (choices_of solution player) v
+solution_wins entries game solution exact player v below won = record {
+  strategy = exact.fits.strategies player;
+  wins = exact.wins player v below won;
+  chosen = λ w w_below own wins.
+    (let region : InRegion game player w =
+    record { node = w_below; choices = choices_of solution player; strategy = exact.fits.strategies player; wins = wins } in
+    let winner : winner_at solution w ≡ player = (exact.regions player w w_below).1 region in
+    let some = some_of (choice_at (choices_of solution player) w) ((exact.fits.chosen player w w_below).1 (own, winner)) in
+    (some.0, (entries (choices_of solution player) w some.0).1 some.1));
+}
+
+-- in an exact answer
+pub answer_wins : (game : List Node) (player : Player) (won : List Bool) (choices : List (Option ℕ)) → IsExact game player won choices
+    → (v : ℕ) → InRegion game player v → IsWinningFrom game player choices v
+answer_wins game player won choices exact v region = record {
+  strategy = exact.strategy;
+  wins = exact.wins v region;
+  chosen = λ w below own wins.
+    exact.chosen w ((exact.exactly w).1 (record { node = below; choices = choices; strategy = exact.strategy; wins = wins })) own;
+}
+
+-- what player 0 does not win, player 1 wins
+pub other_wins : RegionsCover → (game : List Node) (won : List Bool) (choices : List (Option ℕ)) → IsGame game → IsExact game Zero won choices
+    → (v : ℕ) → v < length game → ((slice_get won v ≡ Some true) → ⊥) → InRegion game One v
+other_wins cover game won choices is_game exact v below lost = elim (cover game v is_game below) [
+    | inl zero ↦ absurd (lost ((exact.exactly v).1 zero))
+    | inr one ↦ one
+  ]

@@ -1,0 +1,58 @@
+ghost use Rattle.std.specs.Prelude.{◌<◌, IfErr, IfOk, IsOkUnless, length};
+ghost use Rattle.omega_parity_game.specs.Solution.{IsExactSolution};
+ghost use Rattle.omega_rounds.specs.Rounds.{IsRounds};
+ghost use Rattle.omega_rounds.specs.RoundsGame.{IsRoundsGame};
+ghost use Rattle.omega_rounds_solving.specs.Solving.{IsOutcome, IsSolvingRefusal};
+
+use crate::lifting::by_lifting;
+use crate::outcome::Outcome;
+use crate::winning::{answered, asked};
+use omega_judged_search::solve_by_search;
+use omega_parity_game::choices_are_entries;
+use omega_rounds::{Game, Rounds, rounds_game};
+use omega_parity_game::{Player, Solution};
+use omega_text::Refusal;
+use std::alloc::Global;
+
+/// Decides who wins `rounds` from the state `start`, and returns what wins. The game of the rounds is solved by a judged
+/// search, and by lifting where that gives nothing.
+///
+/// Fails with [GameFault::TooManyNodes] or [GameFault::TooManyEdges] if the game is too large. Where it is solved by
+/// lifting, fails with [TaskFault::TooWide] if a table of measures would be too wide, and with [TaskFault::Budget] if
+/// `MOST_LIFTS` lifts do not suffice.
+pub fn solve_rounds(alloc: Global, rounds: &Rounds, start: u32) -> Result<Outcome, Refusal>
+    requires rounds { IsRounds rounds.now }
+    requires start { start < length rounds.now.states }
+    ensures outcome { IfOk result (IsOutcome rounds.now start) }
+    ensures refused { IfErr result (IsSolvingRefusal rounds.now) }
+{
+    let game = rounds_game(alloc, rounds)?;
+    match solve_by_search(alloc, &game)? {
+        Some(solution) => Ok(by_solution(alloc, rounds, &game, &solution, start)?),
+        None => by_lifting(alloc, rounds, &game, start),
+    }
+}
+
+/// Returns the outcome that an exact `solution` of the `game` gives.
+fn by_solution(
+    alloc: Global,
+    rounds: &Rounds,
+    game: &Game,
+    solution: &Solution,
+    start: u32,
+) -> Result<Outcome, Refusal>
+    requires rounds { IsRounds rounds.now }
+    requires game { IsRoundsGame rounds.now game.now }
+    requires start { start < length rounds.now.states }
+    requires exact { IsExactSolution game.now solution.now }
+    ensures outcome { IfOk result (IsOutcome rounds.now start) }
+    ensures memory { IsOkUnless result Refusal.Memory }
+{
+    choices_are_entries();
+    game.keeps_limits();
+    let winner = solution.winners.as_slice()[start as usize];
+    match winner {
+        Player::Zero => answered(alloc, rounds, game, solution.zero.choice.as_slice(), start),
+        Player::One => asked(alloc, rounds, game, solution.one.choice.as_slice(), start),
+    }
+}
