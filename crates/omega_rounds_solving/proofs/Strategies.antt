@@ -1,9 +1,11 @@
 -- Strategies of exact solutions and of exact answers win, and choose where they win.
-use Rattle.std.proofs.Common.{◌≡◌, ℕ, ◌+◌, ◌<◌, ◌≤◌, ◌⊎◌, inl, inr, Bool, true, false, List, length, map, Option, Some, None, slice_get, sym, ap, refl, ◌∙◌, subst, arith}
-use Rattle.std.specs.Prelude.{IsSome}
+use Rattle.std.proofs.Common.{◌≡◌, ℕ, ◌+◌, ◌<◌, ◌≤◌, ◌⊎◌, inl, inr, Bool, true, false, List, length, map, Option, Some, None, slice_get, Result, Ok, Err, sym, ap, refl, ◌∙◌, subst, arith}
+use Rattle.std.specs.Prelude.{IfErr, IsOkUnless, IsSome}
 use Rattle.std.proofs.lemmas.List.{length-map}
 use Rattle.std.proofs.lemmas.List.FromFn.{length-map-range_with_len}
 use Rattle.std.proofs.lemmas.List.Sorted.{length_permutation}
+use Rattle.omega_text.specs.declared.refusal.Refusal.{Refusal}
+use Rattle.omega_text.specs.declared.refusal.Refusal.TheVariants.{Automaton, Game, Io, Memory, Task, Text}
 use Rattle.omega_parity_game.specs.Building.{specified}
 use Rattle.omega_parity_game.specs.Game.{IsGame, Node, owner_at}
 use Rattle.omega_parity_game.specs.Laws.{ChoicesAreEntries}
@@ -14,9 +16,14 @@ use Rattle.omega_parity_game.specs.declared.player.Player.TheVariants.{One, Zero
 use Rattle.omega_parity_game.specs.declared.solution.Solution.{Solution}
 use Rattle.omega_region_laws.specs.Laws.{RegionsCover}
 use Rattle.omega_solve.specs.Headline.{IsExact}
+use Rattle.omega_solve.specs.Limits.{most_lifts}
+use Rattle.omega_budget.specs.Within.{IsSolvingRefusal}
+use Rattle.omega_budget.specs.declared.found.Found.{Found}
 use Rattle.omega_rounds.specs.Extracting.{IsWinningFrom}
 use Rattle.omega_rounds.specs.RoundsGame.{IsRoundsGame, node_count, node_for, table}
 use Rattle.omega_rounds.specs.declared.rounds.Rounds.{Rounds}
+use Rattle.omega_rounds_solving.specs.Solving.{IsLiftingRefusal, IsUndecided}
+use Rattle.omega_rounds_solving.specs.declared.outcome.Outcome.{Outcome}
 
 -- the game has a node for each place
 pub game_count : (rounds : Rounds) (game : List Node) → IsRoundsGame rounds game → length game ≡ node_count rounds
@@ -25,8 +32,35 @@ game_count rounds game made =
       length-map-range_with_len (node_for rounds) 0 (node_count rounds))
 
 some_of : (o : Option ℕ) → IsSome o → (u : ℕ) × (o ≡ Some u)
-some_of None some = absurd some
+some_of None some = absurd (cc)
 some_of (Some u) some = (u, refl)
+
+-- want of memory is one of the refusals
+pub memory_refused : {X : Type 0} (r : Result X Refusal) (Is : Refusal → Type 0) → Is Memory → IsOkUnless r Memory → IfErr r Is
+memory_refused (Ok x) Is memory unless = tt
+memory_refused (Err refusal) Is memory unless = subst Is (sym unless) memory
+
+-- a fault of lifting for a player is a fault of lifting
+pub player_refused : (r : Result Found Refusal) (game : List Node) (player : Player) → IfErr r (IsSolvingRefusal game player most_lifts)
+    → IfErr r (IsLiftingRefusal game)
+player_refused (Ok found) game player refused = tt
+player_refused (Err (Text fault)) game player refused = absurd refused
+player_refused (Err (Game fault)) game player refused = absurd refused
+player_refused (Err (Automaton fault)) game player refused = absurd refused
+player_refused (Err (Task fault)) game player refused = (player, refused)
+player_refused (Err Memory) game player refused = refused
+player_refused (Err Io) game player refused = absurd refused
+
+-- and of the rounds
+pub lifting_refused : (r : Result Outcome Refusal) (rounds : Rounds) (game : List Node) → IsRoundsGame rounds game → IfErr r (IsLiftingRefusal game)
+    → IfErr r (IsUndecided rounds)
+lifting_refused (Ok found) rounds game made refused = tt
+lifting_refused (Err (Text fault)) rounds game made refused = absurd refused
+lifting_refused (Err (Game fault)) rounds game made refused = absurd refused
+lifting_refused (Err (Automaton fault)) rounds game made refused = absurd refused
+lifting_refused (Err (Task fault)) rounds game made refused = record { game = game; game_is = made; lifting = refused }
+lifting_refused (Err Memory) rounds game made refused = refused
+lifting_refused (Err Io) rounds game made refused = absurd refused
 
 -- in an exact solution
 pub solution_wins : ChoicesAreEntries → (game : List Node) (solution : Solution) → IsExactSolution game solution

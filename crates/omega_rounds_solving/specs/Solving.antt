@@ -18,13 +18,20 @@ abbrev pub IsOutcome : Rounds → ℕ → Outcome → Type 0
 IsOutcome rounds start (Answered kept) = IsAnswering rounds start kept
 IsOutcome rounds start (Asked kept asked) = IsAsking rounds start kept asked
 
--- lifting in the game of the rounds, with as many lifts as there may be, has this fault for one of the players
+-- lifting in the game, with as many lifts as there may be, has this fault for one of the players
+abbrev pub IsLiftingFault : List Node → TaskFault → Type 0
+IsLiftingFault game fault = (player : Player) × IsSolvingFault game player most_lifts fault
+
+-- the refusal of lifting in the game: such a fault, or want of memory
+abbrev pub IsLiftingRefusal : List Node → Refusal → Type 0
+IsLiftingRefusal game = or_task (IsLiftingFault game) (or_memory never)
+
+-- lifting in the game of the rounds has this fault
 pub record IsUnsolved (rounds : Rounds) (fault : TaskFault) : Type 0 where
   pub game : List Node
   pub game_is : IsRoundsGame rounds game
-  pub player : Player
-  pub fault_there : IsSolvingFault game player most_lifts fault
+  pub lifting : IsLiftingFault game fault
 
--- the refusal: the game is too large, or lifting has a fault, or want of memory
-abbrev pub IsSolvingRefusal : Rounds → Refusal → Type 0
-IsSolvingRefusal rounds = or_game (IsRoundsFault rounds) (or_task (IsUnsolved rounds) (or_memory never))
+-- the refusal of rounds that are not decided: the game is too large, or lifting has a fault, or want of memory
+abbrev pub IsUndecided : Rounds → Refusal → Type 0
+IsUndecided rounds = or_game (IsRoundsFault rounds) (or_task (IsUnsolved rounds) (or_memory never))

@@ -2,15 +2,14 @@ ghost use Rattle.std.specs.Prelude.{◌<◌, IfErr, IfOk, IsOkUnless, length};
 ghost use Rattle.omega_parity_game.specs.Solution.{IsExactSolution};
 ghost use Rattle.omega_rounds.specs.Rounds.{IsRounds};
 ghost use Rattle.omega_rounds.specs.RoundsGame.{IsRoundsGame};
-ghost use Rattle.omega_rounds_solving.specs.Solving.{IsOutcome, IsSolvingRefusal};
+ghost use Rattle.omega_rounds_solving.specs.Solving.{IsOutcome, IsUndecided};
 
 use crate::lifting::by_lifting;
 use crate::outcome::Outcome;
 use crate::winning::{answered, asked};
 use omega_judged_search::solve_by_search;
-use omega_parity_game::choices_are_entries;
+use omega_parity_game::{Player, Solution, choices_are_entries};
 use omega_rounds::{Game, Rounds, rounds_game};
-use omega_parity_game::{Player, Solution};
 use omega_text::Refusal;
 use std::alloc::Global;
 
@@ -24,12 +23,26 @@ pub fn solve_rounds(alloc: Global, rounds: &Rounds, start: u32) -> Result<Outcom
     requires rounds { IsRounds rounds.now }
     requires start { start < length rounds.now.states }
     ensures outcome { IfOk result (IsOutcome rounds.now start) }
-    ensures refused { IfErr result (IsSolvingRefusal rounds.now) }
+    ensures refused { IfErr result (IsUndecided rounds.now) }
 {
     let game = rounds_game(alloc, rounds)?;
-    match solve_by_search(alloc, &game)? {
-        Some(solution) => Ok(by_solution(alloc, rounds, &game, &solution, start)?),
-        None => by_lifting(alloc, rounds, &game, start),
+    solve_in(alloc, rounds, &game, start)
+}
+
+/// Decides who wins `rounds` from `start` in their `game`. Fails with [TaskFault::TooWide] or [TaskFault::Budget].
+fn solve_in(alloc: Global, rounds: &Rounds, game: &Game, start: u32) -> Result<Outcome, Refusal>
+    requires rounds { IsRounds rounds.now }
+    requires game { IsRoundsGame rounds.now game.now }
+    requires start { start < length rounds.now.states }
+    ensures outcome { IfOk result (IsOutcome rounds.now start) }
+    ensures refused { IfErr result (IsUndecided rounds.now) }
+{
+    match solve_by_search(alloc, game)? {
+        Some(solution) => {
+            let outcome = by_solution(alloc, rounds, game, &solution, start)?;
+            Ok(outcome)
+        }
+        None => by_lifting(alloc, rounds, game, start),
     }
 }
 

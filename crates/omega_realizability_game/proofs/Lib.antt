@@ -1,0 +1,2 @@
+-- Lemmas of the rounds of automata.
+pub mod Meaning

@@ -1,0 +1,55 @@
+-- The game in rounds of a parity automaton whose propositions are parted. Its states and edges are those of the
+-- automaton; a question is an environment's letter, and its answers are the edges that answer the letter.
+use Rattle.std.specs.Prelude.{◌≡◌, ◌↔◌, ℕ, ◌<◌, ◌==◌, Bool, List, [], ◌∷◌, Contains, Some, length, slice_index_or}
+use Rattle.std.specs.List.{list_any}
+use Rattle.omega_formula.specs.Kind.{priority_of}
+use Rattle.omega_formula.specs.declared.kind.ParityKind.{ParityKind}
+use Rattle.omega_automaton.specs.Automaton.{BodyEdge, Description, edge_at, edge_count}
+use Rattle.omega_runs.specs.Lasso.{marks_of}
+use Rattle.omega_controllers.specs.Controllers.{Answers}
+use Rattle.omega_rounds.specs.Rounds.{IsAskedIn, answers_of, edge_at as round_edge_at}
+use Rattle.omega_rounds.specs.declared.rounds.RoundEdge.{RoundEdge}
+use Rattle.omega_rounds.specs.declared.rounds.Rounds.{Rounds}
+
+-- the edge of the rounds leads where the edge of the automaton leads, and has the priority of its marks
+pub record IsRoundEdgeOf (kind : ParityKind) (edge : BodyEdge) (round_edge : RoundEdge) : Type 0 where
+  pub source : round_edge.source ≡ edge.source.number
+  pub target : edge.edge.targets ≡ round_edge.target ∷ []
+  pub priority : round_edge.priority ≡ priority_of kind (marks_of edge)
+
+-- whether a proposition holds in a letter, which is given by those that hold
+abbrev pub holds_in : List ℕ → ℕ → Bool
+holds_in letter p = list_any (λ q. q == p) letter
+
+-- the letter of a question, by the propositions that hold
+abbrev pub letter_of : List (List ℕ) → ℕ → List ℕ
+letter_of letters question = slice_index_or letters question []
+
+-- an edge of the state answers the environment's letter
+pub record IsAnswerOf (a : Description) (controlled : List ℕ) (state number : ℕ) (given : ℕ → Bool) : Type 0 where
+  pub edge : BodyEdge
+  pub numbered : edge_at a number ≡ Some edge
+  pub leaves : edge.source.number ≡ state
+  pub answers : Answers a controlled number given
+
+-- a question of the state whose answers all answer the environment's letter
+pub record IsAskedBy (a : Description) (controlled : List ℕ) (rounds : Rounds) (state : ℕ) (given : ℕ → Bool) : Type 0 where
+  pub question : ℕ
+  pub asked : IsAskedIn rounds state question
+  pub answer : (number : ℕ) → Contains (answers_of rounds question) number → Answers a controlled number given
+
+-- the rounds of an automaton for its kind, with a letter for each question: the answers of a state's question are the
+-- edges of the state that answer its letter, and each environment's letter has a question
+pub record AreRoundsOf (a : Description) (controlled : List ℕ) (kind : ParityKind) (rounds : Rounds) (letters : List (List ℕ)) : Type 0 where
+  pub states : length rounds.states ≡ a.states
+  pub edges : length rounds.edges ≡ edge_count a
+  pub each : (number : ℕ) (edge : BodyEdge) → edge_at a number ≡ Some edge
+      → IsRoundEdgeOf kind edge (round_edge_at rounds number)
+  pub asked : (state question number : ℕ) → IsAskedIn rounds state question
+      → Contains (answers_of rounds question) number
+      ↔ IsAnswerOf a controlled state number (holds_in (letter_of letters question))
+  pub every : (state : ℕ) (given : ℕ → Bool) → state < a.states → IsAskedBy a controlled rounds state given
+
+-- the environment's letter of each state, by the question asked in it
+abbrev pub letters_asked : List (List ℕ) → List ℕ → ℕ → ℕ → Bool
+letters_asked letters asked state = holds_in (letter_of letters (slice_index_or asked state 0))

@@ -1,0 +1,11 @@
+//! The game in rounds of a parity automaton whose propositions are parted into the system's and the environment's:
+//! which rounds it has, and what winning them means for it.
+//!
+//! docs/formats.md says when each refusal comes.
+#![tactic(auto)]
+
+mod laws;
+
+pub use laws::{
+    answerings_are_controllers, askings_are_counter_strategies, no_start_is_refused,
+};

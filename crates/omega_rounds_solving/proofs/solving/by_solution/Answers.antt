@@ -1,0 +1,26 @@
+-- the winner's choices win
+use Rattle.std.proofs.Common.{◌≡◌, ◌<◌, List, Option, ℕ, length, sym, ap, ◌∙◌, subst, arith, get_or}
+use Rattle.omega_parity_game.specs.Solution.{winner_at}
+use Rattle.omega_parity_game.specs.declared.player.Player.{Player}
+use Rattle.omega_parity_game.specs.declared.player.Player.TheVariants.{One, Zero}
+use Rattle.omega_rounds.specs.Extracting.{IsWinningFrom}
+use Rattle.omega_rounds_solving.proofs.Strategies.{game_count, solution_wins}
+use Rattle.omega_rounds_solving.proofs.solving.by_solution.Goals as goal
+
+pub bounds-as_slice-start : goal.bounds-as_slice-start
+bounds-as_slice-start c =
+    omega (arith, ap length c.as_slice.ensures, c.requires.exact.fits.winners, game_count c.args.rounds.now c.args.game.now c.requires.game)
+
+pub answered-requires-clause-winning : goal.answered-requires-clause-winning
+answered-requires-clause-winning c =
+    let below : c.args.start < length c.args.game.now = omega (arith, game_count c.args.rounds.now c.args.game.now c.requires.game) in
+    let won : winner_at c.args.solution.now c.args.start ≡ Zero = ?zero in
+    subst (λ (choices : List (Option ℕ)). IsWinningFrom c.args.game.now Zero choices c.args.start) (sym c.as_slice-in-Zero.ensures)
+    (solution_wins c.choices_are_entries.ensures c.args.game.now c.args.solution.now c.requires.exact Zero c.args.start below won)
+
+pub asked-requires-clause-winning : goal.asked-requires-clause-winning
+asked-requires-clause-winning c =
+    let below : c.args.start < length c.args.game.now = omega (arith, game_count c.args.rounds.now c.args.game.now c.requires.game) in
+    let won : winner_at c.args.solution.now c.args.start ≡ One = ?one in
+    subst (λ (choices : List (Option ℕ)). IsWinningFrom c.args.game.now One choices c.args.start) (sym c.as_slice-in-One.ensures)
+    (solution_wins c.choices_are_entries.ensures c.args.game.now c.args.solution.now c.requires.exact One c.args.start below won)
