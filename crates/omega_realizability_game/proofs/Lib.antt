@@ -1,2 +1,3 @@
 -- Lemmas of the rounds of automata.
 pub mod Meaning
+pub mod Restricting

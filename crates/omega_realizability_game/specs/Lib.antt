@@ -2,4 +2,5 @@
 pub use Rattle.omega_controllers.specs.Controllers
 pub use Rattle.omega_rounds.specs.Rounds
 pub mod RoundsOf
+pub mod Answering
 pub mod Laws

@@ -4,8 +4,10 @@
 //! docs/formats.md says when each refusal comes.
 #![tactic(auto)]
 
+mod answering;
 mod laws;
 
+pub use answering::can_answer;
 pub use laws::{
     answerings_are_controllers, askings_are_counter_strategies, no_start_is_refused,
 };
