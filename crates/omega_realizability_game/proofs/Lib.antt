@@ -1,3 +1,4 @@
 -- Lemmas of the rounds of automata.
 pub mod Meaning
 pub mod Restricting
+pub mod Whole

@@ -1,7 +1,18 @@
 -- Labels that can be true where the environment's propositions are given: those of the system are free.
-use Rattle.std.specs.Prelude.{ℕ, ◌==◌, Bool, if◌then◌else◌, IsTrue, List}
+use Rattle.std.specs.Prelude.{◌≡◌, ◌⊎◌, ℕ, ◌==◌, Bool, if◌then◌else◌, IsTrue, List, Some, length}
 use Rattle.std.specs.List.{list_any}
+use Rattle.std.specs.Option.{unwrap_or}
+use Rattle.omega_text.specs.Cases.{never, or_memory, or_task}
+use Rattle.omega_text.specs.declared.refusal.Refusal.{Refusal}
+use Rattle.omega_text.specs.declared.refusal.task.TaskFault.{TaskFault}
+use Rattle.omega_text.specs.declared.refusal.task.TaskFault.TheVariants.{TooLarge, TooManyPropositions}
 use Rattle.omega_label.specs.Label.{LabelTree, conjunction, constant, disjunction, negation, proposition, truth}
+use Rattle.omega_label.specs.Shape.{FitsALabel}
+use Rattle.omega_satisfying.specs.Undecided.{IsHardLabel}
+use Rattle.omega_automaton.specs.Automaton.{BodyEdge, Description, edge_at}
+use Rattle.omega_edge_labels.specs.Labels.{valuation_label}
+use Rattle.omega_runs.specs.Lasso.{label_of}
+use Rattle.omega_runs.specs.Words.{index_in}
 use Rattle.omega_controllers.specs.Controllers.{AgreeOnInputs}
 use Rattle.omega_realizability_game.specs.RoundsOf.{holds_in}
 
@@ -25,3 +36,20 @@ restricted controlled letter (conjunction left right) =
     conjunction (restricted controlled letter left) (restricted controlled letter right)
 restricted controlled letter (disjunction left right) =
     disjunction (restricted controlled letter left) (restricted controlled letter right)
+
+-- the label of an edge with a number: that of its state, or else its own, or else that of its valuation
+abbrev pub whole_label : Description → ℕ → BodyEdge → LabelTree
+whole_label a number edge =
+    unwrap_or (label_of edge) (valuation_label (index_in a.defined number) (length a.propositions))
+
+-- the label is too deep or too large, or what is left of it in the letter may be left undecided
+abbrev pub IsUnjudged : List ℕ → List ℕ → LabelTree → TaskFault → Type 0
+IsUnjudged controlled letter label fault =
+    ((fault ≡ TooLarge) × (FitsALabel label → ⊥))
+    ⊎ ((fault ≡ TooManyPropositions) × IsHardLabel (restricted controlled letter label))
+
+-- the refusal of judging whether the edge with a number answers the letter: by its label, or want of memory
+abbrev pub IsUnanswered : Description → List ℕ → List ℕ → ℕ → Refusal → Type 0
+IsUnanswered a controlled letter number =
+    or_task (λ fault. (edge : BodyEdge) × (edge_at a number ≡ Some edge)
+    × IsUnjudged controlled letter (whole_label a number edge) fault) (or_memory never)

@@ -6,8 +6,10 @@
 
 mod answering;
 mod laws;
+mod letters;
 
 pub use answering::can_answer;
+pub use letters::answers_letter;
 pub use laws::{
     answerings_are_controllers, askings_are_counter_strategies, no_start_is_refused,
 };

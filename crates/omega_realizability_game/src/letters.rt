@@ -1,0 +1,40 @@
+//! Whether an edge answers an environment's letter.
+
+ghost use Rattle.std.specs.Prelude.{◌↔◌, IfErr, IfOk, IsTrue};
+ghost use Rattle.omega_controllers.specs.Controllers.{Answers};
+ghost use Rattle.omega_runs.specs.Places.{EdgeStandsAt};
+ghost use Rattle.omega_realizability_game.specs.Answering.{IsUnanswered};
+ghost use Rattle.omega_realizability_game.specs.RoundsOf.{holds_in};
+
+use crate::answering::can_answer;
+use omega_automaton::{Automaton, Refusal};
+use omega_edge_labels::{fitting_label, label_at};
+use omega_runs::{EdgePlace, edges_are_taken_where_true};
+use std::alloc::Global;
+
+/// Whether the edge with this `number`, which is at `place`, answers the environment's `letter`, which lists the
+/// propositions that hold: it can be taken at some letter that agrees on all propositions but the `controlled` ones.
+///
+/// Fails with [TaskFault::TooLarge] if the label of the edge's valuation would be too deep or too large, and with
+/// [TaskFault::TooManyPropositions] if what is left of the label is not decided.
+pub fn answers_letter(
+    alloc: Global,
+    automaton: &Automaton,
+    place: EdgePlace,
+    _number: u32,
+    controlled: &[u32],
+    letter: &[u32],
+) -> Result<bool, Refusal>
+    requires { EdgeStandsAt automaton.now _number place }
+    ensures judged { IfOk result
+        (λ answers. IsTrue answers ↔ Answers automaton.now controlled.now _number (holds_in letter.now)) }
+    ensures refused { IfErr result (IsUnanswered automaton.now controlled.now letter.now _number) }
+{
+    edges_are_taken_where_true();
+    let count = automaton.propositions().len();
+    let state = &automaton.defined()[place.state];
+    let edge = state.edges.edge(place.index);
+    let shape = label_at(alloc, count, state, &edge, place.index)?;
+    let label = fitting_label(alloc, &shape)?;
+    can_answer(alloc, &label, controlled, letter)
+}
