@@ -2,3 +2,4 @@
 pub mod Meaning
 pub mod Restricting
 pub mod Whole
+pub mod Listing

@@ -1,5 +1,5 @@
 -- Labels that can be true where the environment's propositions are given: those of the system are free.
-use Rattle.std.specs.Prelude.{◌≡◌, ◌⊎◌, ℕ, ◌==◌, Bool, if◌then◌else◌, IsTrue, List, Some, length}
+use Rattle.std.specs.Prelude.{◌≡◌, ◌⊎◌, ◌↔◌, ℕ, ◌<◌, ◌≤◌, ◌==◌, Bool, if◌then◌else◌, IsTrue, List, Contains, Some, length}
 use Rattle.std.specs.List.{list_any}
 use Rattle.std.specs.Option.{unwrap_or}
 use Rattle.omega_text.specs.Cases.{never, or_memory, or_task}
@@ -13,7 +13,7 @@ use Rattle.omega_automaton.specs.Automaton.{BodyEdge, Description, edge_at}
 use Rattle.omega_edge_labels.specs.Labels.{valuation_label}
 use Rattle.omega_runs.specs.Lasso.{label_of}
 use Rattle.omega_runs.specs.Words.{index_in}
-use Rattle.omega_controllers.specs.Controllers.{AgreeOnInputs}
+use Rattle.omega_controllers.specs.Controllers.{AgreeOnInputs, Answers}
 use Rattle.omega_realizability_game.specs.RoundsOf.{holds_in}
 
 -- whether the system controls a proposition
@@ -53,3 +53,20 @@ abbrev pub IsUnanswered : Description → List ℕ → List ℕ → ℕ → Refu
 IsUnanswered a controlled letter number =
     or_task (λ fault. (edge : BodyEdge) × (edge_at a number ≡ Some edge)
     × IsUnjudged controlled letter (whole_label a number edge) fault) (or_memory never)
+
+-- some edge cannot be judged
+abbrev pub IsSomeUnanswered : Description → List ℕ → List ℕ → Refusal → Type 0
+IsSomeUnanswered a controlled letter =
+    or_task (λ fault. (number : ℕ) × ((edge : BodyEdge) × (edge_at a number ≡ Some edge)
+    × IsUnjudged controlled letter (whole_label a number edge) fault)) (or_memory never)
+
+-- an edge with a number from `first` up to `end` answers the environment's letter
+pub record IsAnswerFrom (a : Description) (controlled : List ℕ) (given : ℕ → Bool) (first end number : ℕ) : Type 0 where
+  pub from : first ≤ number
+  pub until : number < end
+  pub answers : Answers a controlled number given
+
+-- the numbers are those of the edges, from `first` up to `end`, that answer the environment's letter
+abbrev pub AreAnswersFrom : Description → List ℕ → (ℕ → Bool) → ℕ → ℕ → List ℕ → Type 0
+AreAnswersFrom a controlled given first end numbers =
+    (number : ℕ) → Contains numbers number ↔ IsAnswerFrom a controlled given first end number

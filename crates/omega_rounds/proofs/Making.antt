@@ -1,6 +1,6 @@
 -- The specifications of the game of rounds as they are added, and that they have no fault but their numbers.
-use Rattle.std.proofs.Common.{◌≡◌, ◌==◌, ℕ, zero, suc, ◌+◌, ◌-◌, ◌<◌, ◌≤◌, Bool, true, false, cond, List, [], ◌∷◌, ◌++◌, length, map, take, get_or, nat_lt, Contains, Option, Some, None, Result, Ok, Err, sym, ap, refl, ◌∙◌, subst, arith}
-use Rattle.std.specs.Prelude.{IfErr, ltb}
+use Rattle.std.proofs.Common.{◌≡◌, ◌==◌, ℕ, ◌+◌, ◌-◌, ◌<◌, ◌≤◌, Bool, true, false, cond, List, [], ◌∷◌, ◌++◌, length, map, take, get_or, nat_lt, Contains, Option, Some, None, Result, Ok, Err, sym, ap, refl, ◌∙◌, subst, arith}
+use Rattle.std.specs.Prelude.{IfErr}
 use Rattle.std.specs.List.{range_with_len}
 use Rattle.std.specs.List.Sorted.{IsStrictlyIncreasing}
 use Rattle.std.proofs.lemmas.Bool.{eq-eqb, le-ltb, ltb-true, ne_eqb}
@@ -13,14 +13,14 @@ use Rattle.omega_text.specs.declared.refusal.game.GameFault.{GameFault}
 use Rattle.omega_text.specs.declared.refusal.game.GameFault.TheVariants as faults
 use Rattle.omega_parity_game.proofs.building.Duplicates.{no_duplicate}
 use Rattle.omega_parity_game.proofs.elements.Counting.{counted}
-use Rattle.omega_parity_game.proofs.elements.Membership.{Contains-under, map-map, map_same, none_passes}
+use Rattle.omega_parity_game.proofs.elements.Membership.{map-map, map_same, none_passes}
 use Rattle.omega_parity_game.specs.Building.{IsBuildRefusal, game_fault_of, has_duplicate, has_undefined, listed_successors, specified_times, unnamed_spec, with_last, with_successor}
 use Rattle.omega_parity_game.specs.Game.{Node}
 use Rattle.omega_parity_game.specs.Limits.{most_nodes, most_successors}
 use Rattle.omega_parity_game.specs.declared.node_spec.NodeSpec.{NodeSpec}
 use Rattle.omega_parity_game.specs.declared.player.Player.{Player}
 use Rattle.omega_rounds.specs.Rounds.{IsRounds, answers_of}
-use Rattle.omega_rounds.specs.RoundsGame.{IsRoundsFault, IsRoundsRefusal, edge_place, node_count, node_for, table}
+use Rattle.omega_rounds.specs.RoundsGame.{IsRoundsFault, IsRoundsRefusal, node_count, node_for, table}
 use Rattle.omega_rounds.specs.declared.rounds.Rounds.{Rounds}
 use Rattle.omega_rounds.proofs.Placing.{id_is, in_range, low_at, range_has, range_rises}
 
@@ -82,7 +82,7 @@ module _ (rounds : Rounds) (is_rounds : IsRounds rounds) where
   table_ids =
       map-map (λ (spec : NodeSpec). spec.id) (node_for rounds) (range_with_len 0 (node_count rounds))
       ∙ map_same (λ v. (node_for rounds v).id) (range_with_len 0 (node_count rounds))
-        (λ v has. id_is rounds v (omega (arith, (in_range 0 (node_count rounds) v has).1)))
+      (λ v has. id_is rounds v (omega (arith, (in_range 0 (node_count rounds) v has).1)))
 
   once : has_duplicate (table rounds) ≡ false
   once = no_duplicate (table rounds) (subst IsStrictlyIncreasing (sym table_ids) (range_rises 0 (node_count rounds)))
@@ -96,9 +96,11 @@ module _ (rounds : Rounds) (is_rounds : IsRounds rounds) where
   from_table : (spec : NodeSpec) → Contains (table rounds) spec → (v : ℕ) × (v < node_count rounds) × (node_for rounds v ≡ spec)
   from_table spec has =
       let below : has.0 < length (range_with_len 0 (node_count rounds)) = omega (arith, has.1, length-map (range_with_len 0 (node_count rounds)) (node_for rounds)) in
-      let v : ℕ = get_or (range_with_len 0 (node_count rounds)) has.0 0 in
-      (v, omega (arith, (in_range 0 (node_count rounds) v (Contains-get_or (range_with_len 0 (node_count rounds)) has.0 0 below)).1),
-        sym (get_or-map (node_for rounds) (range_with_len 0 (node_count rounds)) has.0 0 spec below) ∙ has.2)
+      let v : ℕ = get_or (range_with_len 0 (node_count rounds)) has.0 0 in (
+        v,
+        omega (arith, (in_range 0 (node_count rounds) v (Contains-get_or (range_with_len 0 (node_count rounds)) has.0 0 below)).1),
+        sym (get_or-map (node_for rounds) (range_with_len 0 (node_count rounds)) has.0 0 spec below) ∙ has.2,
+      )
 
   defined : has_undefined (table rounds) ≡ false
   defined = none_passes _ (table rounds) (λ spec contained.

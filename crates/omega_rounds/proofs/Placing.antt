@@ -1,15 +1,14 @@
 -- The nodes of the game of rounds by place, and that they alone are its game.
-use Rattle.std.proofs.Common.{◌≡◌, ℕ, zero, suc, ◌+◌, ◌-◌, ◌<◌, ◌≤◌, ◌⊎◌, inl, inr, Bool, true, false, List, [], ◌∷◌, length, map, get_or, Contains, sym, ap, refl, ◌∙◌, subst, arith}
+use Rattle.std.proofs.Common.{◌≡◌, ℕ, zero, suc, ◌+◌, ◌-◌, ◌<◌, ◌≤◌, ◌⊎◌, inl, inr, List, [], ◌∷◌, length, map, get_or, Contains, sym, ap, refl, ◌∙◌, subst, arith}
 use Rattle.std.specs.List.{range_with_len}
 use Rattle.std.specs.List.Sorted.{IsPermutation, IsStrictlyIncreasing}
 use Rattle.std.proofs.lemmas.Bool.{cases_lt, cases_order, eq-eqb, ne_eqb, lt-ltb, le-ltb}
-use Rattle.std.proofs.lemmas.List.{get_or-map, length-map}
-use Rattle.std.proofs.lemmas.List.Elements.{Contains-get_or}
+use Rattle.std.proofs.lemmas.List.{length-map}
 use Rattle.std.proofs.lemmas.List.FromFn.{get_or-map-range_with_len, get_or-range_with_len, length-map-range_with_len, length-range_with_len}
 use Rattle.std.proofs.lemmas.List.Sorted.{IsPermutation-refl}
-use Rattle.omega_parity_game.proofs.elements.Membership.{Contains-cases, Contains-nothing, Contains-under, map-Contains, map-map, map_same}
-use Rattle.omega_parity_game.specs.Building.{IsGameOf, specified}
-use Rattle.omega_parity_game.specs.Game.{HasEdge, IsGame, Node, identifiers, identifier_at, no_node, node_at, owner_at, priority_at, successors_at}
+use Rattle.omega_parity_game.proofs.elements.Membership.{Contains-cases, Contains-nothing, map-Contains, map-map, map_same}
+use Rattle.omega_parity_game.specs.Building.{specified}
+use Rattle.omega_parity_game.specs.Game.{HasEdge, IsGame, Node, identifiers, identifier_at, no_node, node_at}
 use Rattle.omega_parity_game.specs.Laws.{SpecificationsHaveOneGame}
 use Rattle.omega_parity_game.specs.declared.node_spec.NodeSpec.{NodeSpec}
 use Rattle.omega_rounds.specs.Rounds.{IsAskedIn, IsRounds, answers_of, edge_at, questions_of, range_at}
@@ -41,8 +40,11 @@ range_has first n x low high =
 
 pub range_rises : (first n : ℕ) → IsStrictlyIncreasing (range_with_len first n)
 range_rises first n k within =
-    omega (arith, get_or-range_with_len first n k 0 (omega (arith, length-range_with_len first n)),
-      get_or-range_with_len first n (k + 1) 0 (omega (arith, length-range_with_len first n)))
+    omega (
+      arith,
+      get_or-range_with_len first n k 0 (omega (arith, length-range_with_len first n)),
+      get_or-range_with_len first n (k + 1) 0 (omega (arith, length-range_with_len first n)),
+    )
 
 -- functions that agree within a range
 map_agrees : {X : Type 0} (f g : ℕ → X) (first n : ℕ) → ((x : ℕ) → first ≤ x → x < first + n → f x ≡ g x)
@@ -79,8 +81,12 @@ module _ (rounds : Rounds) where
   pub at_question : (question : ℕ) → node_for rounds (question_place rounds question) ≡ question_node rounds question
   at_question question =
       let back : sink_place rounds + 1 + question - (sink_place rounds + 1) ≡ question = omega arith in
-      rw (le-ltb (sink_place rounds + 1 + question) (length rounds.states) (omega arith), le-ltb (sink_place rounds + 1 + question) (sink_place rounds) (omega arith),
-        ne_eqb (sink_place rounds + 1 + question) (sink_place rounds) (λ same. omega arith), back) refl
+      rw (
+        le-ltb (sink_place rounds + 1 + question) (length rounds.states) (omega arith),
+        le-ltb (sink_place rounds + 1 + question) (sink_place rounds) (omega arith),
+        ne_eqb (sink_place rounds + 1 + question) (sink_place rounds) (λ same. omega arith),
+        back,
+      ) refl
 
   -- each place is that of a state, of an edge, of the sink or of a question
   pub data IsPlace (v : ℕ) : Type 0 where
@@ -137,25 +143,28 @@ module _ (rounds : Rounds) where
 
     successors_low : (v : ℕ) → IsPlace v → AreBelowCount (node_for rounds v).successors
     successors_low v (of_state below) =
-        subst AreBelowCount (sym (ap (λ (spec : NodeSpec). spec.successors) (at_state v below)))
-        (omega (arith, length-map (questions_of rounds v) (question_place rounds), length-range_with_len (range_at rounds v).first ((range_at rounds v).end - (range_at rounds v).first), is_rounds.some v below),
+        subst AreBelowCount (sym (ap (λ (spec : NodeSpec). spec.successors) (at_state v below))) (
+          omega (arith, length-map (questions_of rounds v) (question_place rounds), length-range_with_len (range_at rounds v).first ((range_at rounds v).end - (range_at rounds v).first), is_rounds.some v below),
           λ w has.
-            let from = map-Contains (question_place rounds) (questions_of rounds v) w has in
-            omega (arith, from.2, asked_below v from.0 (asked_in_range v from.0 below from.1)))
+              let from = map-Contains (question_place rounds) (questions_of rounds v) w has in
+              omega (arith, from.2, asked_below v from.0 (asked_in_range v from.0 below from.1)),
+        )
     successors_low v (of_edge number below is) =
-        subst AreBelowCount (sym (ap (λ w. (node_for rounds w).successors) is ∙ ap (λ (spec : NodeSpec). spec.successors) (at_edge number below)))
-        (omega arith, λ w has. elim (Contains-cases (edge_at rounds number).target w [] has) [
-          | inl here ↦ omega (arith, here, is_rounds.targets number below)
-          | inr later ↦ absurd (Contains-nothing w later)
-        ])
+        subst AreBelowCount (sym (ap (λ w. (node_for rounds w).successors) is ∙ ap (λ (spec : NodeSpec). spec.successors) (at_edge number below))) (
+          omega arith,
+          λ w has. elim (Contains-cases (edge_at rounds number).target w [] has) [
+            | inl here ↦ omega (arith, here, is_rounds.targets number below)
+            | inr later ↦ absurd (Contains-nothing w later)
+          ],
+        )
     successors_low v (of_sink is) =
         subst AreBelowCount (sym (ap (λ w. (node_for rounds w).successors) is ∙ ap (λ (spec : NodeSpec). spec.successors) at_sink)) sink_alone
     successors_low v (of_question question below is) =
         subst AreBelowCount (sym (ap (λ w. (node_for rounds w).successors) is ∙ ap (λ (spec : NodeSpec). spec.successors) (at_question question)))
         (or_sink_below (map (edge_place rounds) (answers_of rounds question)) (λ w has.
-          let from = map-Contains (edge_place rounds) (answers_of rounds question) w has in
-          let owner = is_rounds.owned question below in
-          omega (arith, from.2, (is_rounds.answers owner.0 question from.0 owner.1 from.1).0)))
+        let from = map-Contains (edge_place rounds) (answers_of rounds question) w has in
+        let owner = is_rounds.owned question below in
+        omega (arith, from.2, (is_rounds.answers owner.0 question from.0 owner.1 from.1).0)))
 
     pub low_at : (v : ℕ) → v < node_count rounds → AreBelowCount (node_for rounds v).successors
     low_at v below = successors_low v (place_of v below)
@@ -164,7 +173,7 @@ module _ (rounds : Rounds) where
     identifiers_are =
         map-map (λ (node : Node). node.identifier) (λ v. as_node (node_for rounds v)) (range_with_len 0 (node_count rounds))
         ∙ map_same (λ v. (node_for rounds v).id) (range_with_len 0 (node_count rounds))
-          (λ v has. id_is v (omega (arith, (in_range 0 (node_count rounds) v has).1)))
+        (λ v has. id_is v (omega (arith, (in_range 0 (node_count rounds) v has).1)))
 
     identifier_is : (v : ℕ) → v < node_count rounds → identifier_at nodes_of v ≡ v
     identifier_is v below = ap (λ (node : Node). node.identifier) (node_is v below) ∙ id_is v below
@@ -174,8 +183,8 @@ module _ (rounds : Rounds) where
       inhabited = omega (arith, nodes_count);
       rising = subst IsStrictlyIncreasing (sym identifiers_are) (range_rises 0 (node_count rounds));
       continued = λ v below.
-        let here : v < node_count rounds = omega (arith, nodes_count) in
-        subst (λ (list : List ℕ). 0 < length list) (sym (ap (λ (node : Node). node.successors) (node_is v here))) (low_at v here).0;
+          let here : v < node_count rounds = omega (arith, nodes_count) in
+          subst (λ (list : List ℕ). 0 < length list) (sym (ap (λ (node : Node). node.successors) (node_is v here))) (low_at v here).0;
       closed = λ v w edge. go v w edge (cases_lt v (node_count rounds));
     }
       where
@@ -204,7 +213,7 @@ module _ (rounds : Rounds) where
     table_is =
         map-map (specified nodes_of) (λ v. as_node (node_for rounds v)) (range_with_len 0 (node_count rounds))
         ∙ map_agrees (λ v. specified nodes_of (as_node (node_for rounds v))) (node_for rounds) 0 (node_count rounds)
-          (λ v low high. specified_is v (omega arith))
+        (λ v low high. specified_is v (omega arith))
 
     nodes_made : IsRoundsGame rounds nodes_of
     nodes_made = record {

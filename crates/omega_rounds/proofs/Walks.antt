@@ -1,8 +1,8 @@
 -- Edges of the game of rounds, and kept edges that lead on as walks of the game.
-use Rattle.std.proofs.Common.{◌≡◌, ℕ, zero, suc, ◌+◌, ◌-◌, ◌<◌, ◌≤◌, ◌⊎◌, inl, inr, List, [], ◌∷◌, length, map, max, All, Contains, Option, Some, slice_get, sym, ap, refl, ◌∙◌, subst, arith}
+use Rattle.std.proofs.Common.{◌≡◌, ℕ, ◌<◌, ◌⊎◌, inl, inr, List, [], ◌∷◌, length, map, All, Contains, Option, Some, sym, ap, refl, ◌∙◌, subst, arith}
 use Rattle.std.proofs.lemmas.List.Elements.{All-head, All-tail}
 use Rattle.omega_parity_game.proofs.elements.Membership.{Contains-cases, Contains-nothing, Contains-under, map-Contains}
-use Rattle.omega_parity_game.specs.Game.{HasEdge, Node, node_at, owner_at, priority_at, successors_at}
+use Rattle.omega_parity_game.specs.Game.{HasEdge, Node, node_at, owner_at, priority_at}
 use Rattle.omega_parity_game.specs.Winning.{Chooses, IsWalk, Leaves, Wins, end_of, greatest_on}
 use Rattle.omega_parity_game.specs.declared.node_spec.NodeSpec.{NodeSpec}
 use Rattle.omega_parity_game.specs.declared.player.Player.{Player}
@@ -10,7 +10,7 @@ use Rattle.omega_parity_game.specs.declared.player.Player.TheVariants.{One, Zero
 use Rattle.omega_rounds.specs.Rounds.{IsAskedIn, IsRoundStep, IsRounds, LeadOn, answers_of, edge_at, greatest_priority, questions_of}
 use Rattle.omega_rounds.specs.RoundsGame.{edge_node, edge_place, node_count, node_for, or_sink, question_node, question_place, sink_node, sink_place, state_node}
 use Rattle.omega_rounds.specs.declared.rounds.Rounds.{Rounds}
-use Rattle.omega_rounds.proofs.Placing.{as_node, asked_below, asked_has, asked_in_range, at_edge, at_question, at_sink, at_state, node_is, nodes_count, nodes_of}
+use Rattle.omega_rounds.proofs.Placing.{as_node, asked_has, asked_in_range, at_edge, at_question, at_sink, at_state, node_is, nodes_count, nodes_of}
 
 -- the two players differ
 pub one_not_zero : One ≡ Zero → ⊥

@@ -1,15 +1,14 @@
 -- A winning strategy in the game of rounds wins the rounds.
-use Rattle.std.proofs.Common.{◌≡◌, ◌↔◌, ℕ, ◌+◌, ◌%◌, ◌<◌, ◌⊎◌, inl, inr, true, List, [], ◌∷◌, length, All, Contains, Option, sym, ap, refl, ◌∙◌, subst, arith}
+use Rattle.std.proofs.Common.{◌≡◌, ◌↔◌, ℕ, ◌%◌, ◌<◌, inl, inr, List, [], ◌∷◌, length, All, Contains, Option, sym, ap, refl, ◌∙◌, subst, arith}
 use Rattle.std.proofs.lemmas.Bool.{cases_eq, eq-eqb}
-use Rattle.omega_parity_game.specs.Game.{HasEdge, Node, owner_at}
+use Rattle.omega_parity_game.specs.Game.{HasEdge, Node}
 use Rattle.omega_parity_game.specs.Laws.{SpecificationsHaveOneGame}
-use Rattle.omega_parity_game.specs.Winning.{Chooses, IsStrategy, Leaves, Wins, end_of, greatest_on}
-use Rattle.omega_parity_game.specs.declared.player.Player.{Player}
+use Rattle.omega_parity_game.specs.Winning.{Chooses, Leaves, Wins, greatest_on}
 use Rattle.omega_parity_game.specs.declared.player.Player.TheVariants.{One, Zero}
 use Rattle.omega_rounds.specs.Extracting.{AreChosenAnswers, AreChosenQuestions, IsChosenAnswer, IsChosenQuestion, IsKeptAnswer, IsWinningFrom}
 use Rattle.omega_rounds.specs.Laws.{ChosenAnswersWin, ChosenQuestionsWin}
-use Rattle.omega_rounds.specs.Rounds.{IsAnswering, IsAskedIn, IsAsking, IsKeptRound, IsReached, IsRoundStep, IsRounds, LeadOn, answers_of, asked_in, edge_at, greatest_priority}
-use Rattle.omega_rounds.specs.RoundsGame.{IsRoundsGame, edge_place, question_place, sink_place}
+use Rattle.omega_rounds.specs.Rounds.{IsAnswering, IsAskedIn, IsAsking, IsKeptRound, IsReached, IsRoundStep, IsRounds, LeadOn, answers_of, asked_in, greatest_priority}
+use Rattle.omega_rounds.specs.RoundsGame.{edge_place, question_place, sink_place}
 use Rattle.omega_rounds.specs.declared.rounds.Rounds.{Rounds}
 use Rattle.omega_rounds.proofs.Placing.{asked_below, game_is, nodes_count, nodes_of}
 use Rattle.omega_rounds.proofs.Walks.{Follows, Walks, asked_here, edge_from, edge_owner, edge_to, leads_below, one_choice, one_not_zero, question_answer, question_from, question_owner, question_to, sink_from, sink_priority, sink_to, state_from, state_owner, state_to, walks, wins_along}
@@ -97,14 +96,20 @@ module _ (rounds : Rounds) (is_rounds : IsRounds rounds) (choices : List (Option
       elim (question_from rounds is_rounds question choice.0 below edge) [
         | inl sink ↦ absurd (sink_lost (subst (λ (v : ℕ). Wins (nodes_of rounds) Zero choices v) sink
             (λ there around on closed. wins (choice.0 ∷ there) around
-              (record { listed = edge; chosen = λ own c chooses. one_choice choices place choice.0 c choice.1 chooses }, on) closed)))
+            (record { listed = edge; chosen = λ own c chooses. one_choice choices place choice.0 c choice.1 chooses }, on) closed)))
         | inr answer ↦
-            let number_below : answer.0 < length rounds.edges = (is_rounds.answers state question answer.0 asked answer.1).0 in
-            (answer.0, (are answer.0).1 (question, record {
-              asked = below;
-              below = number_below;
-              chosen = subst (λ (u : ℕ). Chooses choices place u) answer.2 choice.1;
-            }), answer.1)
+            let number_below : answer.0 < length rounds.edges = (is_rounds.answers state question answer.0 asked answer.1).0 in (
+              answer.0,
+              (are answer.0).1 (
+                question,
+                record {
+                  asked = below;
+                  below = number_below;
+                  chosen = subst (λ (u : ℕ). Chooses choices place u) answer.2 choice.1;
+                },
+              ),
+              answer.1,
+            )
       ]
 
   even_round : (state : ℕ) (cycle : List ℕ) → IsKeptRound rounds kept start state cycle → greatest_priority rounds cycle % 2 ≡ 0
@@ -180,12 +185,14 @@ module _ (rounds : Rounds) (is_rounds : IsRounds rounds) (choices : List (Option
   chosen_at state reached =
       let below : state < length rounds.states = below_at state reached in
       let choice = winning.chosen state (omega (arith, nodes_count rounds)) (state_owner rounds is_rounds state below) (wins_at state reached) in
-      let from = state_from rounds is_rounds state choice.0 below (winning.strategy.listed state choice.0 choice.1) in
-      (from.0, record {
-        below = below;
-        asked = asked_below rounds is_rounds state from.0 from.1;
-        chosen = subst (λ (u : ℕ). Chooses choices state u) from.2 choice.1;
-      })
+      let from = state_from rounds is_rounds state choice.0 below (winning.strategy.listed state choice.0 choice.1) in (
+        from.0,
+        record {
+          below = below;
+          asked = asked_below rounds is_rounds state from.0 from.1;
+          chosen = subst (λ (u : ℕ). Chooses choices state u) from.2 choice.1;
+        },
+      )
 
   asks_at : (state : ℕ) → IsReached rounds kept start state → IsAskedIn rounds state (asked_in asked state)
   asks_at state reached =
@@ -196,16 +203,16 @@ module _ (rounds : Rounds) (is_rounds : IsRounds rounds) (choices : List (Option
       → Contains kept number ↔ Contains (answers_of rounds (asked_in asked state)) number
   keeps_at state number next reached step = (
     λ has.
-      (let found = kept_by state number next step has in
-      subst (λ (q : ℕ). Contains (answers_of rounds q) number) (sym (are.each state found.0 found.1)) found.2),
+        (let found = kept_by state number next step has in
+        subst (λ (q : ℕ). Contains (answers_of rounds q) number) (sym (are.each state found.0 found.1)) found.2),
     λ has.
-      (let found = chosen_at state reached in
-      (are.answers number).1 (record {
-        state = state;
-        question = found.0;
-        chosen = found.1;
-        answers = subst (λ (q : ℕ). Contains (answers_of rounds q) number) (are.each state found.0 found.1) has;
-      })),
+        (let found = chosen_at state reached in
+        (are.answers number).1 (record {
+          state = state;
+          question = found.0;
+          chosen = found.1;
+          answers = subst (λ (q : ℕ). Contains (answers_of rounds q) number) (are.each state found.0 found.1) has;
+        })),
   )
 
   odd_round : (state : ℕ) (cycle : List ℕ) → IsKeptRound rounds kept start state cycle → greatest_priority rounds cycle % 2 ≡ 1

@@ -1,6 +1,6 @@
 -- The parity game of a game in rounds. Its nodes are those of the states, of the edges, a sink that player 0 loses, and
 -- those of the questions; the place of each is its identifier.
-use Rattle.std.specs.Prelude.{◌≡◌, ℕ, ◌+◌, ◌-◌, ◌<◌, ◌≤◌, ◌==◌, if◌then◌else◌, nat_lt, List, [], ◌∷◌, length, map}
+use Rattle.std.specs.Prelude.{ℕ, ◌+◌, ◌-◌, ◌<◌, ◌≤◌, ◌==◌, if◌then◌else◌, nat_lt, List, [], ◌∷◌, length, map}
 use Rattle.std.specs.List.{range_with_len}
 use Rattle.omega_text.specs.Cases.{never, or_game, or_memory}
 use Rattle.omega_text.specs.declared.refusal.Refusal.{Refusal}

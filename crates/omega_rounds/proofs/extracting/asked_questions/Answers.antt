@@ -7,14 +7,14 @@ use Rattle.omega_rounds.proofs.extracting.asked_questions.Goals.{in-Some+in_ok-e
 
 pub loop-state-preserved : goal.loop-state-preserved
 loop-state-preserved c = elim c.match-question_at.branch [
-    | in-Some+in_ok-extend_from_slice+in_ok-push w ↦
-        let kept : w.extend_from_slice.new.self.items ≡ c.loop-state.kept.items ++ answers_of c.args.rounds.now w.in-Some.question =
-        w.in_ok-extend_from_slice.ensures.items ∙ ap (λ (list : List ℕ). c.loop-state.kept.items ++ list) w.answers_of.ensures in
-        rw (w.kept-is, w.asked-is, kept, w.in_ok-push.ensures.items)
-        (asked_more c.args.rounds.now c.args.choices.now c.loop-state.kept.items c.loop-state.asked.items c.loop-state.state w.in-Some.question c.loop-state.invariant w.in-Some.ensures)
-    | in_default+in_ok-push-2 w ↦ rw (w.kept-is, w.asked-is, w.in_ok-push-2.ensures.items)
-        (asked_none c.args.rounds.now c.args.choices.now c.loop-state.kept.items c.loop-state.asked.items c.loop-state.state c.loop-state.invariant w.in_default.ensures)
-  ]
+  | in-Some+in_ok-extend_from_slice+in_ok-push w ↦
+      let kept : w.extend_from_slice.new.self.items ≡ c.loop-state.kept.items ++ answers_of c.args.rounds.now w.in-Some.question =
+      w.in_ok-extend_from_slice.ensures.items ∙ ap (λ (list : List ℕ). c.loop-state.kept.items ++ list) w.answers_of.ensures in
+      rw (w.kept-is, w.asked-is, kept, w.in_ok-push.ensures.items)
+      (asked_more c.args.rounds.now c.args.choices.now c.loop-state.kept.items c.loop-state.asked.items c.loop-state.state w.in-Some.question c.loop-state.invariant w.in-Some.ensures)
+  | in_default+in_ok-push-2 w ↦ rw (w.kept-is, w.asked-is, w.in_ok-push-2.ensures.items)
+      (asked_none c.args.rounds.now c.args.choices.now c.loop-state.kept.items c.loop-state.asked.items c.loop-state.state c.loop-state.invariant w.in_default.ensures)
+]
 
 pub returns-clause-chosen : goal.returns-clause-chosen
 returns-clause-chosen c =

@@ -1,4 +1,3 @@
-use Rattle.std.proofs.Common.{◌≡◌}
 use Rattle.omega_rounds.proofs.Found.{AreAskedBelow}
 use Rattle.omega_rounds.proofs.extracting.asked_questions.Given as goal
 

@@ -6,11 +6,11 @@ use Rattle.omega_rounds.proofs.extracting.chosen_answers.Goals.{in-Some+in_ok-pu
 
 pub loop-question-preserved : goal.loop-question-preserved
 loop-question-preserved c = elim c.match-answer_at.branch [
-    | in-Some+in_ok-push w ↦ rw (w.kept-is, w.in_ok-push.ensures.items)
-        (chosen_more c.args.rounds.now c.args.choices.now c.loop-question.kept.items c.loop-question.question w.in-Some.number c.loop-question.invariant w.in-Some.ensures)
-    | in_default w ↦ rw w.kept-is
-        (chosen_none c.args.rounds.now c.args.choices.now c.loop-question.kept.items c.loop-question.question c.loop-question.invariant w.in_default.ensures)
-  ]
+  | in-Some+in_ok-push w ↦ rw (w.kept-is, w.in_ok-push.ensures.items)
+      (chosen_more c.args.rounds.now c.args.choices.now c.loop-question.kept.items c.loop-question.question w.in-Some.number c.loop-question.invariant w.in-Some.ensures)
+  | in_default w ↦ rw w.kept-is
+      (chosen_none c.args.rounds.now c.args.choices.now c.loop-question.kept.items c.loop-question.question c.loop-question.invariant w.in_default.ensures)
+]
 
 pub returns-clause-chosen : goal.returns-clause-chosen
 returns-clause-chosen c =

@@ -1,4 +1,3 @@
-use Rattle.std.proofs.Common.{◌≡◌}
 use Rattle.omega_rounds.proofs.Found.{AreChosenBelow}
 use Rattle.omega_rounds.proofs.extracting.chosen_answers.Given as goal
 

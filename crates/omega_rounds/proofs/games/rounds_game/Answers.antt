@@ -1,5 +1,5 @@
 -- one node more, and at the end the table, whose only faults are its numbers
-use Rattle.std.proofs.Common.{◌≡◌, ◌≤◌, ◌++◌, [], ◌∷◌, ℕ, rules, ap, sym, ◌∙◌, subst, arith}
+use Rattle.std.proofs.Common.{◌≤◌, ◌++◌, [], ◌∷◌, ℕ, rules, ap, sym, ◌∙◌, arith}
 use Rattle.std.proofs.lemmas.List.FromFn.{map-range_with_len_more}
 use Rattle.omega_parity_game.specs.Limits.{most_nodes}
 use Rattle.omega_parity_game.specs.declared.node_spec.NodeSpec.{NodeSpec}

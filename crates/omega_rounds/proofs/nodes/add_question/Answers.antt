@@ -1,5 +1,5 @@
 -- one answer more
-use Rattle.std.proofs.Common.{◌≡◌, ◌<◌, length, ap, arith, sym, ◌∙◌, subst}
+use Rattle.std.proofs.Common.{◌<◌, length, ap, arith}
 use Rattle.omega_parity_game.specs.declared.player.Player.TheVariants.{Zero}
 use Rattle.omega_rounds.specs.Rounds.{answers_of}
 use Rattle.omega_rounds.specs.RoundsGame.{edge_place, question_place}

@@ -1,5 +1,5 @@
 -- one question more
-use Rattle.std.proofs.Common.{◌≡◌, ◌+◌, ◌≤◌, ap, arith}
+use Rattle.std.proofs.Common.{◌+◌, ◌≤◌, ap, arith}
 use Rattle.omega_parity_game.specs.declared.player.Player.TheVariants.{One}
 use Rattle.omega_rounds.specs.Rounds.{range_at}
 use Rattle.omega_rounds.specs.RoundsGame.{question_place}
