@@ -20,7 +20,7 @@ use Rattle.omega_controllers.specs.Controllers.{Answers, HasAnswer, IsController
 use Rattle.omega_rounds.specs.Rounds.{IsAnswering, IsAskedIn, IsAsking, IsKeptRound, IsReached, IsRoundStep, LeadOn, answers_of, asked_in, edge_at as round_edge_at, greatest_priority}
 use Rattle.omega_rounds.specs.declared.rounds.Rounds.{Rounds}
 use Rattle.omega_realizability_game.specs.Laws.{AnsweringsAreControllers, AskingsAreCounterStrategies, IsParted, NoStartIsRefused}
-use Rattle.omega_realizability_game.specs.RoundsOf.{AreRoundsOf, IsAnswerOf, IsAskedBy, holds_in, letter_of, letters_asked}
+use Rattle.omega_realizability_game.specs.RoundsOf.{AreLettersAsked, AreRoundsOf, IsAnswerOf, IsAskedBy, holds_in, letter_of, letters_by_state}
 
 -- a list with one entry at most
 one_entry : {X : Type 0} (xs : List X) (x y : X) → length xs ≤ 1 → Contains xs x → Contains xs y → x ≡ y
@@ -157,30 +157,39 @@ module _ (parity : ParityIsPriority) (a : Description) (controlled : List ℕ) (
       (accepted_is state cycle state kept_cycle.leads kept_cycle.longer).1 (answering.even state cycle (round_from kept state cycle kept_cycle));
   }
 
-  pub counter_strategy : (kept asked : List ℕ) → IsAsking rounds start kept asked → IsCounterStrategy a controlled kept (letters_asked letters asked)
-  counter_strategy kept asked asking = record {
-    answers_kept = λ state number next met step answers.
-      (let reached = reached_from kept state met in
-      (asking.keeps state number next reached (step_is state number next step)).1
-      ((parted.rounds_are.asked state (asked_in asked state) number (asking.asks state reached)).1
-        (record { edge = step.edge; numbered = step.numbered; leaves = step.leaves; answers = answers })));
-    kept_answers = λ state number next met step has.
-      (let reached = reached_from kept state met in
-      ((parted.rounds_are.asked state (asked_in asked state) number (asking.asks state reached)).0
-        ((asking.keeps state number next reached (step_is state number next step)).0 has)).answers);
-    refused = λ state cycle kept_cycle.
-      (let odd : greatest_priority rounds cycle % 2 ≡ 1 = asking.odd state cycle (round_from kept state cycle kept_cycle) in
-      false_from_ne_true (is_accepted a cycle) (λ accepted.
-        omega (arith, odd, (accepted_is state cycle state kept_cycle.leads kept_cycle.longer).0 accepted)));
-  }
+  module _ (kept asked : List ℕ) (by_state : List (List ℕ)) (asking : IsAsking rounds start kept asked)
+      (are : AreLettersAsked a.states letters asked by_state) where
+    -- the letter of a state that is met is that of its question
+    letter_is : (state : ℕ) → IsMet a kept state → letter_of letters (asked_in asked state) ≡ letter_of by_state state
+    letter_is state met = sym (are state (met_below kept state met))
+
+    pub counter_strategy : IsCounterStrategy a controlled kept (letters_by_state by_state)
+    counter_strategy = record {
+      answers_kept = λ state number next met step answers.
+        (let reached = reached_from kept state met in
+        let given : Answers a controlled number (holds_in (letter_of letters (asked_in asked state))) =
+        subst (λ (letter : List ℕ). Answers a controlled number (holds_in letter)) (sym (letter_is state met)) answers in
+        (asking.keeps state number next reached (step_is state number next step)).1
+        ((parted.rounds_are.asked state (asked_in asked state) number (asking.asks state reached)).1
+          (record { edge = step.edge; numbered = step.numbered; leaves = step.leaves; answers = given })));
+      kept_answers = λ state number next met step has.
+        (let reached = reached_from kept state met in
+        subst (λ (letter : List ℕ). Answers a controlled number (holds_in letter)) (letter_is state met)
+        ((parted.rounds_are.asked state (asked_in asked state) number (asking.asks state reached)).0
+          ((asking.keeps state number next reached (step_is state number next step)).0 has)).answers);
+      refused = λ state cycle kept_cycle.
+        (let odd : greatest_priority rounds cycle % 2 ≡ 1 = asking.odd state cycle (round_from kept state cycle kept_cycle) in
+        false_from_ne_true (is_accepted a cycle) (λ accepted.
+          omega (arith, odd, (accepted_is state cycle state kept_cycle.leads kept_cycle.longer).0 accepted)));
+    }
 
 pub answerings_are_controllers : ParityIsPriority → AnsweringsAreControllers
 answerings_are_controllers parity a controlled rounds letters start kept parted answering =
     controller parity a controlled rounds letters start parted kept answering
 
 pub askings_are_counter_strategies : ParityIsPriority → AskingsAreCounterStrategies
-askings_are_counter_strategies parity a controlled rounds letters start kept asked parted asking =
-    counter_strategy parity a controlled rounds letters start parted kept asked asking
+askings_are_counter_strategies parity a controlled rounds letters start kept asked by_state parted asking are =
+    counter_strategy parity a controlled rounds letters start parted kept asked by_state asking are
 
 -- without a start nothing is met
 nothing_met : (a : Description) (kept : List ℕ) (state : ℕ) → a.starts ≡ [] → IsMet a kept state → ⊥

@@ -9,7 +9,7 @@ use Rattle.omega_runs.specs.Lasso.{IsStart}
 use Rattle.omega_controllers.specs.Controllers.{IsController, IsCounterStrategy}
 use Rattle.omega_rounds.specs.Rounds.{IsAnswering, IsAsking}
 use Rattle.omega_rounds.specs.declared.rounds.Rounds.{Rounds}
-use Rattle.omega_realizability_game.specs.RoundsOf.{AreRoundsOf, letters_asked}
+use Rattle.omega_realizability_game.specs.RoundsOf.{AreLettersAsked, AreRoundsOf, letters_by_state}
 
 -- an automaton of a parity kind, its only start, and its rounds with a letter for each question
 pub record IsParted (a : Description) (controlled : List ℕ) (rounds : Rounds) (letters : List (List ℕ)) (start : ℕ) : Type 0 where
@@ -30,9 +30,10 @@ AnsweringsAreControllers =
 abbrev pub AskingsAreCounterStrategies : Type 0
 AskingsAreCounterStrategies =
     (a : Description) (controlled : List ℕ) (rounds : Rounds) (letters : List (List ℕ)) (start : ℕ)
-    (kept asked : List ℕ)
+    (kept asked : List ℕ) (by_state : List (List ℕ))
     → IsParted a controlled rounds letters start → IsAsking rounds start kept asked
-    → IsCounterStrategy a controlled kept (letters_asked letters asked)
+    → AreLettersAsked a.states letters asked by_state
+    → IsCounterStrategy a controlled kept (letters_by_state by_state)
 
 -- without a start no edges at all are a counter-strategy
 abbrev pub NoStartIsRefused : Type 0

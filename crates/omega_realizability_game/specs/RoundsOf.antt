@@ -7,7 +7,7 @@ use Rattle.omega_formula.specs.declared.kind.ParityKind.{ParityKind}
 use Rattle.omega_automaton.specs.Automaton.{BodyEdge, Description, edge_at, edge_count}
 use Rattle.omega_runs.specs.Lasso.{marks_of}
 use Rattle.omega_controllers.specs.Controllers.{Answers}
-use Rattle.omega_rounds.specs.Rounds.{IsAskedIn, answers_of, edge_at as round_edge_at}
+use Rattle.omega_rounds.specs.Rounds.{IsAskedIn, answers_of, asked_in, edge_at as round_edge_at}
 use Rattle.omega_rounds.specs.declared.rounds.RoundEdge.{RoundEdge}
 use Rattle.omega_rounds.specs.declared.rounds.Rounds.{Rounds}
 
@@ -50,6 +50,11 @@ pub record AreRoundsOf (a : Description) (controlled : List ℕ) (kind : ParityK
       ↔ IsAnswerOf a controlled state number (holds_in (letter_of letters question))
   pub every : (state : ℕ) (given : ℕ → Bool) → state < a.states → IsAskedBy a controlled rounds state given
 
--- the environment's letter of each state, by the question asked in it
-abbrev pub letters_asked : List (List ℕ) → List ℕ → ℕ → ℕ → Bool
-letters_asked letters asked state = holds_in (letter_of letters (slice_index_or asked state 0))
+-- the environment's letter of each state, by the propositions that hold
+abbrev pub letters_by_state : List (List ℕ) → ℕ → ℕ → Bool
+letters_by_state by_state state = holds_in (letter_of by_state state)
+
+-- each of the states has the letter of the question asked in it
+abbrev pub AreLettersAsked : ℕ → List (List ℕ) → List ℕ → List (List ℕ) → Type 0
+AreLettersAsked states letters asked by_state =
+    (state : ℕ) → state < states → letter_of by_state state ≡ letter_of letters (asked_in asked state)

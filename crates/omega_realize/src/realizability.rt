@@ -1,0 +1,18 @@
+use omega_text::{Numbers, Seq};
+
+/// Whether an automaton is realizable, and by what.
+#[derive(Debug, Drop)]
+pub enum Realizability {
+    /// There is a controller.
+    Realizable {
+        /// The numbers of its edges.
+        kept: Seq<u32>,
+    },
+    /// There is a counter-strategy.
+    Unrealizable {
+        /// The numbers of the edges that answer its letters.
+        kept: Seq<u32>,
+        /// For each state the environment's letter: the propositions that hold.
+        letters: Seq<Numbers>,
+    },
+}
