@@ -1,1 +1,2 @@
 -- Lemmas of realizability.
+pub mod Realized

@@ -1,5 +1,5 @@
 -- Strategies of exact solutions and of exact answers win, and choose where they win.
-use Rattle.std.proofs.Common.{◌≡◌, ℕ, ◌+◌, ◌<◌, ◌≤◌, ◌⊎◌, inl, inr, Bool, true, false, List, length, map, Option, Some, None, slice_get, Result, Ok, Err, sym, ap, refl, ◌∙◌, subst, arith}
+use Rattle.std.proofs.Common.{◌≡◌, ℕ, ◌<◌, inl, inr, Bool, true, List, length, map, Option, Some, None, slice_get, Result, Ok, Err, sym, refl, subst, arith}
 use Rattle.std.specs.Prelude.{IfErr, IsOkUnless, IsSome}
 use Rattle.std.proofs.lemmas.List.{length-map}
 use Rattle.std.proofs.lemmas.List.FromFn.{length-map-range_with_len}
@@ -7,10 +7,10 @@ use Rattle.std.proofs.lemmas.List.Sorted.{length_permutation}
 use Rattle.omega_text.specs.declared.refusal.Refusal.{Refusal}
 use Rattle.omega_text.specs.declared.refusal.Refusal.TheVariants.{Automaton, Game, Io, Memory, Task, Text}
 use Rattle.omega_parity_game.specs.Building.{specified}
-use Rattle.omega_parity_game.specs.Game.{IsGame, Node, owner_at}
+use Rattle.omega_parity_game.specs.Game.{IsGame, Node}
 use Rattle.omega_parity_game.specs.Laws.{ChoicesAreEntries}
 use Rattle.omega_parity_game.specs.Solution.{IsExactSolution, choices_of, winner_at}
-use Rattle.omega_parity_game.specs.Winning.{Chooses, InRegion, Wins, choice_at}
+use Rattle.omega_parity_game.specs.Winning.{InRegion, choice_at}
 use Rattle.omega_parity_game.specs.declared.player.Player.{Player}
 use Rattle.omega_parity_game.specs.declared.player.Player.TheVariants.{One, Zero}
 use Rattle.omega_parity_game.specs.declared.solution.Solution.{Solution}
@@ -28,8 +28,12 @@ use Rattle.omega_rounds_solving.specs.declared.outcome.Outcome.{Outcome}
 -- the game has a node for each place
 pub game_count : (rounds : Rounds) (game : List Node) → IsRoundsGame rounds game → length game ≡ node_count rounds
 game_count rounds game made =
-    omega (arith, length_permutation (table rounds) (map (specified game) game) made.rearranged, length-map game (specified game),
-      length-map-range_with_len (node_for rounds) 0 (node_count rounds))
+    omega (
+      arith,
+      length_permutation (table rounds) (map (specified game) game) made.rearranged,
+      length-map game (specified game),
+      length-map-range_with_len (node_for rounds) 0 (node_count rounds),
+    )
 
 some_of : (o : Option ℕ) → IsSome o → (u : ℕ) × (o ≡ Some u)
 some_of None some = absurd (cc)
@@ -70,11 +74,11 @@ solution_wins entries game solution exact player v below won = record {
   strategy = exact.fits.strategies player;
   wins = exact.wins player v below won;
   chosen = λ w w_below own wins.
-    (let region : InRegion game player w =
-    record { node = w_below; choices = choices_of solution player; strategy = exact.fits.strategies player; wins = wins } in
-    let winner : winner_at solution w ≡ player = (exact.regions player w w_below).1 region in
-    let some = some_of (choice_at (choices_of solution player) w) ((exact.fits.chosen player w w_below).1 (own, winner)) in
-    (some.0, (entries (choices_of solution player) w some.0).1 some.1));
+      (let region : InRegion game player w =
+      record { node = w_below; choices = choices_of solution player; strategy = exact.fits.strategies player; wins = wins } in
+      let winner : winner_at solution w ≡ player = (exact.regions player w w_below).1 region in
+      let some = some_of (choice_at (choices_of solution player) w) ((exact.fits.chosen player w w_below).1 (own, winner)) in
+      (some.0, (entries (choices_of solution player) w some.0).1 some.1));
 }
 
 -- in an exact answer
@@ -84,13 +88,13 @@ answer_wins game player won choices exact v region = record {
   strategy = exact.strategy;
   wins = exact.wins v region;
   chosen = λ w below own wins.
-    exact.chosen w ((exact.exactly w).1 (record { node = below; choices = choices; strategy = exact.strategy; wins = wins })) own;
+      exact.chosen w ((exact.exactly w).1 (record { node = below; choices = choices; strategy = exact.strategy; wins = wins })) own;
 }
 
 -- what player 0 does not win, player 1 wins
 pub other_wins : RegionsCover → (game : List Node) (won : List Bool) (choices : List (Option ℕ)) → IsGame game → IsExact game Zero won choices
     → (v : ℕ) → v < length game → ((slice_get won v ≡ Some true) → ⊥) → InRegion game One v
 other_wins cover game won choices is_game exact v below lost = elim (cover game v is_game below) [
-    | inl zero ↦ absurd (lost ((exact.exactly v).1 zero))
-    | inr one ↦ one
-  ]
+  | inl zero ↦ absurd (lost ((exact.exactly v).1 zero))
+  | inr one ↦ one
+]

@@ -1,7 +1,6 @@
 -- what was found is exact, and a fault for the player is one of lifting
-use Rattle.std.proofs.Common.{◌≡◌, List, Result, Ok, Err, subst, sym}
-use Rattle.std.specs.Prelude.{IfErr, IfOk}
-use Rattle.omega_text.specs.declared.refusal.Refusal.{Refusal}
+use Rattle.std.proofs.Common.{List, subst}
+use Rattle.std.specs.Prelude.{IfErr}
 use Rattle.omega_parity_game.specs.Game.{Node}
 use Rattle.omega_rounds_solving.specs.Solving.{IsLiftingRefusal}
 use Rattle.omega_rounds_solving.proofs.Strategies.{player_refused}

@@ -1,11 +1,10 @@
 -- player 0 wins where found, and else player 1
-use Rattle.std.proofs.Common.{◌≡◌, ◌<◌, List, Option, ℕ, length, sym, ap, ◌∙◌, subst, arith}
+use Rattle.std.proofs.Common.{◌<◌, List, Option, ℕ, length, sym, ◌∙◌, subst, arith}
 use Rattle.std.proofs.lemmas.Bool.{false≢true}
 use Rattle.omega_parity_game.specs.Winning.{InRegion}
 use Rattle.omega_parity_game.specs.declared.player.Player.TheVariants.{One, Zero}
 use Rattle.omega_rounds.specs.Extracting.{IsWinningFrom}
-use Rattle.omega_rounds_solving.specs.Solving.{IsLiftingRefusal}
-use Rattle.omega_rounds_solving.proofs.Strategies.{answer_wins, game_count, memory_refused, other_wins}
+use Rattle.omega_rounds_solving.proofs.Strategies.{answer_wins, game_count, other_wins}
 use Rattle.omega_rounds_solving.proofs.lifting.lifted.Goals as goal
 
 pub has_won-requires : goal.has_won-requires

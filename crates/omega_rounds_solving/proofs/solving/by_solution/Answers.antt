@@ -14,7 +14,7 @@ bounds-as_slice-start c =
 pub answered-requires-clause-winning : goal.answered-requires-clause-winning
 answered-requires-clause-winning c =
     let below : c.args.start < length c.args.game.now = omega (arith, game_count c.args.rounds.now c.args.game.now c.requires.game) in
-    let won : winner_at c.args.solution.now c.args.start ≡ Zero = 
+    let won : winner_at c.args.solution.now c.args.start ≡ Zero =
     ap (λ (list : List Player). get_or list c.args.start Zero) (sym c.as_slice.ensures) ∙ c.in-Zero.is in
     subst (λ (choices : List (Option ℕ)). IsWinningFrom c.args.game.now Zero choices c.args.start) (sym c.as_slice-in-Zero.ensures)
     (solution_wins c.choices_are_entries.ensures c.args.game.now c.args.solution.now c.requires.exact Zero c.args.start below won)
@@ -22,7 +22,7 @@ answered-requires-clause-winning c =
 pub asked-requires-clause-winning : goal.asked-requires-clause-winning
 asked-requires-clause-winning c =
     let below : c.args.start < length c.args.game.now = omega (arith, game_count c.args.rounds.now c.args.game.now c.requires.game) in
-    let won : winner_at c.args.solution.now c.args.start ≡ One = 
+    let won : winner_at c.args.solution.now c.args.start ≡ One =
     ap (λ (list : List Player). get_or list c.args.start Zero) (sym c.as_slice.ensures) ∙ c.in-One.is in
     subst (λ (choices : List (Option ℕ)). IsWinningFrom c.args.game.now One choices c.args.start) (sym c.as_slice-in-One.ensures)
     (solution_wins c.choices_are_entries.ensures c.args.game.now c.args.solution.now c.requires.exact One c.args.start below won)

@@ -1,6 +1,5 @@
 -- the game has a node for each place, and what is chosen wins
-use Rattle.std.proofs.Common.{◌≡◌, List, ℕ, sym, ◌∙◌, subst, arith}
-use Rattle.omega_rounds.specs.Rounds.{IsAnswering}
+use Rattle.std.proofs.Common.{◌∙◌, arith}
 use Rattle.omega_rounds_solving.proofs.Strategies.{game_count}
 use Rattle.omega_rounds_solving.proofs.winning.asked.Goals as goal
 
