@@ -1,26 +1,23 @@
 -- Walks of the automaton are walks of its rounds, and accept exactly if their greatest priority is even.
-use Rattle.std.proofs.Common.{◌≡◌, ◌↔◌, ℕ, zero, suc, ◌+◌, ◌%◌, ◌<◌, ◌≤◌, ◌⊎◌, inl, inr, Bool, true, false, List, [], ◌∷◌, length, map, max, get_or, All, Contains, Option, Some, None, sym, ap, refl, ◌∙◌, subst, arith}
-use Rattle.std.specs.Prelude.{slice_get, slice_index_or}
+use Rattle.std.proofs.Common.{◌≡◌, ◌↔◌, ℕ, zero, suc, ◌%◌, ◌<◌, ◌≤◌, Bool, true, List, [], ◌∷◌, length, map, get_or, All, Contains, Option, Some, None, sym, ap, refl, ◌∙◌, subst, arith}
+use Rattle.std.specs.Prelude.{slice_index_or}
 use Rattle.std.proofs.lemmas.Bool.{false_from_ne_true}
 use Rattle.std.proofs.lemmas.List.{length-map}
 use Rattle.std.proofs.lemmas.List.Elements.{All-map}
 use Rattle.std.proofs.lemmas.Option.{slice_get_within}
 use Rattle.omega_formula.specs.Acceptance.{accepts}
 use Rattle.omega_formula.specs.Kind.{greatest_number, parity_formula, priority_of}
-use Rattle.omega_formula.specs.declared.kind.AccKind.TheVariants as kinds
-use Rattle.omega_formula.specs.declared.kind.ParityKind.{ParityKind}
 use Rattle.omega_acc.specs.KindLaws.{ParityIsPriority}
 use Rattle.omega_label.specs.Label.{LabelTree}
-use Rattle.omega_automaton.specs.AcceptanceKind.{HasKind}
-use Rattle.omega_automaton.specs.Automaton.{AreBelow, BodyEdge, Description, IsAutomaton, edge_at, edge_count, edges_of}
-use Rattle.omega_runs.specs.Lasso.{IsStart, IsStep, IsUsable, Leads, label_of, marks_at, marks_of}
+use Rattle.omega_automaton.specs.Automaton.{AreBelow, BodyEdge, Description, edge_at, edges_of}
+use Rattle.omega_runs.specs.Lasso.{IsStep, IsUsable, Leads, label_of, marks_at}
 use Rattle.omega_runs.specs.Words.{Allows, CanBeTaken}
 use Rattle.omega_runs.proofs.Kept.{edge_kept, marks_are, marks_low}
-use Rattle.omega_controllers.specs.Controllers.{Answers, HasAnswer, IsController, IsCounterStrategy, IsKeptCycle, IsMet, is_accepted}
-use Rattle.omega_rounds.specs.Rounds.{IsAnswering, IsAskedIn, IsAsking, IsKeptRound, IsReached, IsRoundStep, LeadOn, answers_of, asked_in, edge_at as round_edge_at, greatest_priority}
+use Rattle.omega_controllers.specs.Controllers.{Answers, IsController, IsCounterStrategy, IsKeptCycle, IsMet, is_accepted}
+use Rattle.omega_rounds.specs.Rounds.{IsAnswering, IsAsking, IsKeptRound, IsReached, IsRoundStep, LeadOn, asked_in, edge_at as round_edge_at, greatest_priority}
 use Rattle.omega_rounds.specs.declared.rounds.Rounds.{Rounds}
 use Rattle.omega_realizability_game.specs.Laws.{AnsweringsAreControllers, AskingsAreCounterStrategies, IsParted, NoStartIsRefused}
-use Rattle.omega_realizability_game.specs.RoundsOf.{AreLettersAsked, AreRoundsOf, IsAnswerOf, IsAskedBy, holds_in, letter_of, letters_by_state}
+use Rattle.omega_realizability_game.specs.RoundsOf.{AreLettersAsked, IsAskedBy, holds_in, letter_of, letters_by_state}
 
 -- a list with one entry at most
 one_entry : {X : Type 0} (xs : List X) (x y : X) → length xs ≤ 1 → Contains xs x → Contains xs y → x ≡ y
@@ -107,8 +104,7 @@ module _ (parity : ParityIsPriority) (a : Description) (controlled : List ℕ) (
   accepted_is from numbers to leads longer =
       let law = parity parted.kind (map (marks_at a) numbers) (omega (arith, length-map numbers (marks_at a))) (within numbers) in
       let formula : accepts (map (marks_at a) numbers) a.acceptance ≡ accepts (map (marks_at a) numbers) (parity_formula parted.kind) =
-      ap (accepts (map (marks_at a) numbers)) parted.kind_is.row.formula_is in
-      (
+      ap (accepts (map (marks_at a) numbers)) parted.kind_is.row.formula_is in (
         λ accepted. sym (ap (λ n. n % 2) (priorities_are from numbers to leads)) ∙ law.0 (sym formula ∙ accepted),
         λ even. formula ∙ law.1 (ap (λ n. n % 2) (priorities_are from numbers to leads) ∙ even),
       )
@@ -137,24 +133,24 @@ module _ (parity : ParityIsPriority) (a : Description) (controlled : List ℕ) (
   controller kept answering = record {
     begins = (start, parted.begins);
     answered = λ state given met.
-      (let asked : IsAskedBy a controlled rounds state given = parted.rounds_are.every state given (met_below kept state met) in
-      let found = answering.answered state asked.question (reached_from kept state met) asked.asked in
-      let answer = (parted.rounds_are.asked state asked.question found.0 asked.asked).0 found.2 in
-      record {
-        number = found.0;
-        next = (round_edge_at rounds found.0).target;
-        is_kept = found.1;
-        step = record {
-          edge = answer.edge;
-          numbered = answer.numbered;
-          usable = answer_usable a controlled found.0 given answer.edge answer.numbered (asked.answer found.0 found.2);
-          leaves = answer.leaves;
-          enters = (parted.rounds_are.each found.0 answer.edge answer.numbered).target;
-        };
-        answers = asked.answer found.0 found.2;
-      });
+        (let asked : IsAskedBy a controlled rounds state given = parted.rounds_are.every state given (met_below kept state met) in
+        let found = answering.answered state asked.question (reached_from kept state met) asked.asked in
+        let answer = (parted.rounds_are.asked state asked.question found.0 asked.asked).0 found.2 in
+        record {
+          number = found.0;
+          next = (round_edge_at rounds found.0).target;
+          is_kept = found.1;
+          step = record {
+            edge = answer.edge;
+            numbered = answer.numbered;
+            usable = answer_usable a controlled found.0 given answer.edge answer.numbered (asked.answer found.0 found.2);
+            leaves = answer.leaves;
+            enters = (parted.rounds_are.each found.0 answer.edge answer.numbered).target;
+          };
+          answers = asked.answer found.0 found.2;
+        });
     accepted = λ state cycle kept_cycle.
-      (accepted_is state cycle state kept_cycle.leads kept_cycle.longer).1 (answering.even state cycle (round_from kept state cycle kept_cycle));
+        (accepted_is state cycle state kept_cycle.leads kept_cycle.longer).1 (answering.even state cycle (round_from kept state cycle kept_cycle));
   }
 
   module _ (kept asked : List ℕ) (by_state : List (List ℕ)) (asking : IsAsking rounds start kept asked)
@@ -166,20 +162,20 @@ module _ (parity : ParityIsPriority) (a : Description) (controlled : List ℕ) (
     pub counter_strategy : IsCounterStrategy a controlled kept (letters_by_state by_state)
     counter_strategy = record {
       answers_kept = λ state number next met step answers.
-        (let reached = reached_from kept state met in
-        let given : Answers a controlled number (holds_in (letter_of letters (asked_in asked state))) =
-        subst (λ (letter : List ℕ). Answers a controlled number (holds_in letter)) (sym (letter_is state met)) answers in
-        (asking.keeps state number next reached (step_is state number next step)).1
-        ((parted.rounds_are.asked state (asked_in asked state) number (asking.asks state reached)).1
+          (let reached = reached_from kept state met in
+          let given : Answers a controlled number (holds_in (letter_of letters (asked_in asked state))) =
+          subst (λ (letter : List ℕ). Answers a controlled number (holds_in letter)) (sym (letter_is state met)) answers in
+          (asking.keeps state number next reached (step_is state number next step)).1
+          ((parted.rounds_are.asked state (asked_in asked state) number (asking.asks state reached)).1
           (record { edge = step.edge; numbered = step.numbered; leaves = step.leaves; answers = given })));
       kept_answers = λ state number next met step has.
-        (let reached = reached_from kept state met in
-        subst (λ (letter : List ℕ). Answers a controlled number (holds_in letter)) (letter_is state met)
-        ((parted.rounds_are.asked state (asked_in asked state) number (asking.asks state reached)).0
+          (let reached = reached_from kept state met in
+          subst (λ (letter : List ℕ). Answers a controlled number (holds_in letter)) (letter_is state met)
+          ((parted.rounds_are.asked state (asked_in asked state) number (asking.asks state reached)).0
           ((asking.keeps state number next reached (step_is state number next step)).0 has)).answers);
       refused = λ state cycle kept_cycle.
-        (let odd : greatest_priority rounds cycle % 2 ≡ 1 = asking.odd state cycle (round_from kept state cycle kept_cycle) in
-        false_from_ne_true (is_accepted a cycle) (λ accepted.
+          (let odd : greatest_priority rounds cycle % 2 ≡ 1 = asking.odd state cycle (round_from kept state cycle kept_cycle) in
+          false_from_ne_true (is_accepted a cycle) (λ accepted.
           omega (arith, odd, (accepted_is state cycle state kept_cycle.leads kept_cycle.longer).0 accepted)));
     }
 

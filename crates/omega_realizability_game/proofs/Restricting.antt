@@ -1,7 +1,6 @@
 -- A label with constants in place of inputs can be true exactly if the label can be where the inputs are so.
-use Rattle.std.proofs.Common.{◌≡◌, ◌==◌, ◌↔◌, ℕ, zero, suc, ◌+◌, ◌<◌, ◌≤◌, ◌⊎◌, inl, inr, Bool, true, false, cond, not, ◌&&◌, ◌||◌, max, List, [], ◌∷◌, length, get_or, Contains, Option, Some, None, Result, Ok, Err, sym, ap, ap₂, refl, ◌∙◌, subst, arith}
-use Rattle.std.specs.Prelude.{IfErr, IfOk, IsOkUnless, IsTrue, nat_lt}
-use Rattle.std.specs.List.{list_any}
+use Rattle.std.proofs.Common.{◌≡◌, ◌==◌, ◌↔◌, ℕ, suc, ◌+◌, inl, inr, Bool, true, false, cond, not, ◌&&◌, ◌||◌, max, List, [], ◌∷◌, get_or, Contains, Option, Some, None, Result, Ok, Err, sym, ap, ap₂, refl, ◌∙◌, subst, arith}
+use Rattle.std.specs.Prelude.{IfErr, IfOk, IsOkUnless, IsTrue}
 use Rattle.std.proofs.lemmas.Bool.{eq-eqb, eqb-true, false≢true, le-ltb, or_cases}
 use Rattle.std.proofs.lemmas.List.Folds.{list_any_at}
 use Rattle.omega_text.specs.declared.refusal.Refusal.{Refusal}
@@ -22,9 +21,9 @@ uncontrolled controlled p none has =
 among : (controlled : List ℕ) (p : ℕ) → is_controlled controlled p ≡ true → Contains controlled p
 among [] p is = absurd (false≢true is)
 among (q ∷ qs) p is = elim (or_cases (q == p) (is_controlled qs p) is) [
-    | inl here ↦ (0, omega arith, eqb-true q p here)
-    | inr later ↦ let rest = among qs p later in (suc rest.0, omega (arith, rest.1), rest.2)
-  ]
+  | inl here ↦ (0, omega arith, eqb-true q p here)
+  | inr later ↦ let rest = among qs p later in (suc rest.0, omega (arith, rest.1), rest.2)
+]
 
 module _ (controlled letter : List ℕ) where
   -- the letter on the inputs, and another on the rest
@@ -63,13 +62,15 @@ module _ (controlled letter : List ℕ) where
       letter = merged possible.0;
       agrees = agrees possible.0;
       holds =
-        sym (truth_left possible.0 (merged possible.0)
-        (λ p is. sym (ap (λ b. cond b (possible.0 p) (holds_in letter p)) is))
-        (λ p is. sym (ap (λ b. cond b (possible.0 p) (holds_in letter p)) is)) label)
-        ∙ possible.1;
+          sym (truth_left possible.0 (merged possible.0)
+          (λ p is. sym (ap (λ b. cond b (possible.0 p) (holds_in letter p)) is))
+          (λ p is. sym (ap (λ b. cond b (possible.0 p) (holds_in letter p)) is)) label)
+          ∙ possible.1;
     },
-    λ answer. (answer.letter,
-      truth_left answer.letter answer.letter (λ p is. refl) (λ p is. answer.agrees p (uncontrolled controlled p is)) label ∙ answer.holds),
+    λ answer. (
+      answer.letter,
+      truth_left answer.letter answer.letter (λ p is. refl) (λ p is. answer.agrees p (uncontrolled controlled p is)) label ∙ answer.holds,
+    ),
   )
 
   -- it is as deep and as large
@@ -98,8 +99,10 @@ module _ (controlled letter : List ℕ) where
   -- so memory alone refuses it
   no_fault : (label : LabelTree) → FitsALabel label → fault_of_label (restricted controlled letter label) ≡ None
   no_fault label fits =
-      rw (le-ltb most_depth (label_depth (restricted controlled letter label)) (omega (arith, depth_left label, fits.shallow)),
-        le-ltb most_size (label_size (restricted controlled letter label)) (omega (arith, size_left label, fits.small))) refl
+      rw (
+        le-ltb most_depth (label_depth (restricted controlled letter label)) (omega (arith, depth_left label, fits.shallow)),
+        le-ltb most_size (label_size (restricted controlled letter label)) (omega (arith, size_left label, fits.small)),
+      ) refl
 
   pub oversized_never : (label : LabelTree) → FitsALabel label → (refusal : Refusal) → IsOversized (restricted controlled letter label) refusal
       → refusal ≡ Memory

@@ -1,11 +1,10 @@
 -- An edge answers a letter exactly if its whole label can be true there.
-use Rattle.std.proofs.Common.{◌≡◌, ◌↔◌, ◌⊎◌, inl, inr, ℕ, ◌<◌, Bool, List, length, get_or, Some, slice_get, Result, Ok, Err, sym, ap, refl, ◌∙◌, subst, arith}
+use Rattle.std.proofs.Common.{◌≡◌, ◌↔◌, inl, inr, ℕ, ◌<◌, Bool, List, length, get_or, Some, Result, Ok, Err, ap, ◌∙◌, subst}
 use Rattle.std.specs.Prelude.{IfErr, IfOk, IsTrue}
 use Rattle.std.proofs.lemmas.Option.{get_or_from_slice_get, slice_get_within}
 use Rattle.omega_text.specs.declared.refusal.Refusal.{Refusal}
 use Rattle.omega_text.specs.declared.refusal.Refusal.TheVariants.{Automaton, Game, Io, Memory, Task, Text}
 use Rattle.omega_label.specs.Label.{LabelTree}
-use Rattle.omega_label.specs.Shape.{FitsALabel}
 use Rattle.omega_satisfying.specs.Undecided.{IsUndecidedLabel}
 use Rattle.omega_automaton.specs.Automaton.{BodyEdge, Description, edge_at}
 use Rattle.omega_automaton.specs.declared.edge.Edge.{Edge}
@@ -15,7 +14,7 @@ use Rattle.omega_edge_labels.specs.Labels.{label_at, valuation_label}
 use Rattle.omega_complement.proofs.Bits.{valuation_held, valuation_true}
 use Rattle.omega_runs.specs.Laws.{EdgesAreTakenWhereTrue, IsIndexLabel}
 use Rattle.omega_runs.specs.Places.{EdgeStandsAt}
-use Rattle.omega_runs.specs.Words.{CanBeTaken, index_in}
+use Rattle.omega_runs.specs.Words.{index_in}
 use Rattle.omega_runs.specs.declared.place.EdgePlace.{EdgePlace}
 use Rattle.omega_controllers.specs.Controllers.{Answers}
 use Rattle.omega_realizability_game.specs.Answering.{CanAnswer, IsUnanswered, restricted, whole_label}
@@ -28,8 +27,7 @@ is_index_label a number held =
 answers_is : EdgesAreTakenWhereTrue → (a : Description) (controlled : List ℕ) (number : ℕ) (given : ℕ → Bool) (edge : BodyEdge)
     → edge_at a number ≡ Some edge → CanAnswer controlled (whole_label a number edge) given ↔ Answers a controlled number given
 answers_is law a controlled number given edge numbered =
-    let index_label : LabelTree = valuation_label (index_in a.defined number) (length a.propositions) in
-    (
+    let index_label : LabelTree = valuation_label (index_in a.defined number) (length a.propositions) in (
       λ can. record {
         letter = can.letter;
         agrees = can.agrees;

@@ -12,8 +12,8 @@ use omega_satisfying::is_satisfiable;
 use omega_text::Refusal;
 use std::alloc::Global;
 
-/// Whether `label` is true at some letter that agrees with the environment's `letter`, which lists the propositions that
-/// hold, on all propositions but the `controlled` ones.
+/// Whether `label` is true at some letter that agrees with the environment's `letter`, which lists the propositions
+/// that hold, on all propositions but the `controlled` ones.
 ///
 /// Each input is replaced by a constant, and what is left is judged. Fails with [TaskFault::TooManyPropositions] if
 /// that is left undecided.

@@ -9,7 +9,5 @@ mod laws;
 mod letters;
 
 pub use answering::can_answer;
+pub use laws::{answerings_are_controllers, askings_are_counter_strategies, no_start_is_refused};
 pub use letters::{answering_edges, answers_letter};
-pub use laws::{
-    answerings_are_controllers, askings_are_counter_strategies, no_start_is_refused,
-};

@@ -13,8 +13,8 @@ use omega_rounds::{Game, Rounds, rounds_game};
 use omega_text::Refusal;
 use std::alloc::Global;
 
-/// Decides who wins `rounds` from the state `start`, and returns what wins. The game of the rounds is solved by a judged
-/// search, and by lifting where that gives nothing.
+/// Decides who wins `rounds` from the state `start`, and returns what wins. The game of the rounds is solved by a
+/// judged search, and by lifting where that gives nothing.
 ///
 /// Fails with [GameFault::TooManyNodes] or [GameFault::TooManyEdges] if the game is too large. Where it is solved by
 /// lifting, fails with [TaskFault::TooWide] if a table of measures would be too wide, and with [TaskFault::Budget] if

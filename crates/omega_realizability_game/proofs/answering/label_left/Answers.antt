@@ -1,5 +1,5 @@
 -- what is left is as deep and as large as the label
-use Rattle.std.proofs.Common.{◌≡◌, ap, ◌∙◌}
+use Rattle.std.proofs.Common.{ap, ◌∙◌}
 use Rattle.omega_label.specs.Shape.{label_tree_of_shape}
 use Rattle.omega_realizability_game.specs.Answering.{restricted}
 use Rattle.omega_realizability_game.proofs.Restricting.{memory_only}

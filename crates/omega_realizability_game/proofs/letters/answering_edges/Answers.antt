@@ -1,5 +1,5 @@
 -- one edge more
-use Rattle.std.proofs.Common.{◌≡◌, ◌≤◌, ℕ, List, sym, ◌∙◌, subst, arith}
+use Rattle.std.proofs.Common.{◌≡◌, ◌≤◌, ℕ, sym, ◌∙◌, subst, arith}
 use Rattle.std.proofs.lemmas.Bool.{false≢true}
 use Rattle.omega_realizability_game.specs.Answering.{AreAnswersFrom}
 use Rattle.omega_realizability_game.specs.RoundsOf.{holds_in}
@@ -9,15 +9,15 @@ use Rattle.omega_realizability_game.proofs.letters.answering_edges.Goals.{then-h
 
 pub loop-number-preserved : goal.loop-number-preserved
 loop-number-preserved c = elim c.if-here.branch [
-    | then-here+in_ok-push w ↦
-        let first : c.args.first ≤ c.loop-number.number = omega (arith, c.loop-number.auto.number) in
-        rw (w.answers-is, w.in_ok-push.ensures.ok)
-        (answer_more c.args.automaton.now c.args.controlled.now (holds_in c.args.letter.now) c.args.first c.loop-number.number c.loop-number.answers
-        first (c.in_ok-here.ensures.judged.0 w.if-here.true) c.loop-number.invariant)
-    | else-here w ↦ rw w.answers-is
-        (answer_none c.args.automaton.now c.args.controlled.now (holds_in c.args.letter.now) c.args.first c.loop-number.number c.loop-number.answers
-        (λ answers. false≢true (sym w.if-here.false ∙ c.in_ok-here.ensures.judged.1 answers)) c.loop-number.invariant)
-  ]
+  | then-here+in_ok-push w ↦
+      let first : c.args.first ≤ c.loop-number.number = omega (arith, c.loop-number.auto.number) in
+      rw (w.answers-is, w.in_ok-push.ensures.ok)
+      (answer_more c.args.automaton.now c.args.controlled.now (holds_in c.args.letter.now) c.args.first c.loop-number.number c.loop-number.answers
+      first (c.in_ok-here.ensures.judged.0 w.if-here.true) c.loop-number.invariant)
+  | else-here w ↦ rw w.answers-is
+      (answer_none c.args.automaton.now c.args.controlled.now (holds_in c.args.letter.now) c.args.first c.loop-number.number c.loop-number.answers
+      (λ answers. false≢true (sym w.if-here.false ∙ c.in_ok-here.ensures.judged.1 answers)) c.loop-number.invariant)
+]
 
 pub returns-clause-answers : goal.returns-clause-answers
 returns-clause-answers c =

@@ -1,9 +1,8 @@
 -- the whole label is judged
-use Rattle.std.proofs.Common.{◌≡◌, List, ℕ, length, get_or, sym, ap, ◌∙◌}
+use Rattle.std.proofs.Common.{◌≡◌, List, ℕ, length, get_or, ap, ◌∙◌}
 use Rattle.omega_automaton.specs.declared.edge.Edge.{Edge}
 use Rattle.omega_automaton.specs.declared.state.State.{State}
 use Rattle.omega_edge_labels.specs.Labels.{label_at}
-use Rattle.omega_realizability_game.specs.Answering.{whole_label}
 use Rattle.omega_realizability_game.proofs.Whole.{answers_judged, edge_is, label_is, state_is}
 use Rattle.omega_realizability_game.proofs.letters.answers_letter.Goals as goal
 
