@@ -1,5 +1,5 @@
 -- edges that win the rounds are a controller, and questions that win them a counter-strategy
-use Rattle.std.proofs.Common.{◌≡◌, ◌++◌, ℕ, List, map, sym, ap, ◌∙◌, subst}
+use Rattle.std.proofs.Common.{◌≡◌, ℕ, List, map, ap, ◌∙◌, subst}
 use Rattle.std.specs.List.{range_with_len}
 use Rattle.omega_rounds.specs.Rounds.{IsAnswering, IsAsking, asked_in}
 use Rattle.omega_rounds_solving.specs.Solving.{IsOutcome}
