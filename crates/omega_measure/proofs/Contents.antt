@@ -1,8 +1,8 @@
 -- The content of a table of numbers: new, and after a raise.
-use Rattle.std.proofs.Common.{◌≡◌, ℕ, ◌-◌, ◌*◌, ◌<◌, Bool, true, false, List, Some, length, get_or, replicate, take, sym, ap, ◌∙◌, subst, arith, inl, inr}
+use Rattle.std.proofs.Common.{◌≡◌, ◌≢◌, ℕ, ◌-◌, ◌*◌, ◌<◌, Bool, true, false, cond, List, Some, None, length, get_or, set, replicate, take, sym, ap, ◌∙◌, subst, arith, inl, inr}
 use Rattle.std.specs.Prelude.{slice_index}
 use Rattle.std.proofs.lemmas.Bool.{cases_eq}
-use Rattle.std.proofs.lemmas.List.{length-map, length-replicate, get_or-replicate, take-replicate, drop-replicate}
+use Rattle.std.proofs.lemmas.List.{length-map, length-set, get_or-set_same, get_or-set_other, length-replicate, get_or-replicate, take-replicate, drop-replicate}
 use Rattle.omega_parity_game.specs.Bound.{occurrences, losing_priorities}
 use Rattle.omega_parity_game.specs.Player.{loses}
 use Rattle.omega_lift_laws.specs.Allowance.{measure_at}
@@ -12,7 +12,7 @@ use Rattle.omega_lift_laws.specs.Measure.{AreEntries, Measure, IsMeasure, entrie
 use Rattle.omega_measure.specs.private.layout.Plain.{content_of}
 use Rattle.omega_measure.specs.private.layout.Rows.{AreRows, WritesMeasure, allowance_of, measure_in, row_of}
 use Rattle.omega_measure.specs.private.layout.Shape.{Setting, width_of}
-use Rattle.omega_measure.specs.Table.{Content, IsAllowanceIn, Raises, zero_content}
+use Rattle.omega_measure.specs.Table.{Content, IsAllowanceIn, Raises, with_measure, zero_content}
 use Rattle.omega_measure.proofs.Allowances.{allowance_is}
 use Rattle.omega_measure.proofs.Measures.{length-listed, listed-same, listed-written, measure_at-listed}
 use Rattle.omega_measure.proofs.RowWrites.{measure_in-below, rows_before}
@@ -82,6 +82,41 @@ module _
         (listed-written (measure_in (width_of setting.player setting.priorities) tops entries) (measure_in (width_of setting.player setting.priorities) new_tops new_entries)
         (length setting.priorities) v allowance v_in written.written (λ u ne l. written.others u ne (omega (arith, rows.flags))));
   }
+
+-- the table after v is set to top
+module _
+    (setting : Setting) (tops : List Bool) (entries : List ℕ) (v : ℕ) (rows : AreRows setting.player setting.priorities tops entries)
+    (v_in : v < length setting.priorities) where
+  abbrev plain : List Bool → ℕ → Measure
+  plain flags u = measure_in (width_of setting.player setting.priorities) flags entries u
+
+  top_there : plain (set tops v true) v ≡ None
+  top_there =
+      ap (λ b. cond {A = Measure} b None (Some (row_of (width_of setting.player setting.priorities) entries v)))
+      (get_or-set_same tops v true true (omega (arith, v_in, rows.flags)))
+
+  kept_there : (u : ℕ) → u ≢ v → plain (set tops v true) u ≡ plain tops u
+  kept_there u ne =
+      ap (λ b. cond {A = Measure} b None (Some (row_of (width_of setting.player setting.priorities) entries u)))
+      (get_or-set_other tops v u true true ne)
+
+  pub AreRows-topped : AreRows setting.player setting.priorities (set tops v true) entries
+  AreRows-topped = record {
+    flags = length-set tops v true ∙ rows.flags;
+    cells = rows.cells;
+    measures = λ u l.
+        elim (cases_eq u v) [
+          | inl same ↦
+              subst (λ k. IsMeasure setting.player setting.priorities (plain (set tops v true) k)) (sym same)
+              (subst (IsMeasure setting.player setting.priorities) (sym top_there) tt)
+          | inr ne ↦ subst (IsMeasure setting.player setting.priorities) (sym (kept_there u ne)) (rows.measures u l)
+        ];
+  }
+
+  pub content-topped : content_of setting (set tops v true) entries ≡ with_measure (content_of setting tops entries) v None
+  content-topped =
+      ap (λ measures. record { player = setting.player; priorities = setting.priorities; measures = measures })
+      (listed-written (plain tops) (plain (set tops v true)) (length setting.priorities) v None v_in top_there (λ u ne l. kept_there u ne))
 
 -- the table of a new solver: no flag is set, and every entry is 0
 module _ (setting : Setting) (tops : List Bool) (entries : List ℕ) (flags : tops ≡ replicate (length setting.priorities) false) (zeros : entries ≡ replicate (length setting.priorities * width_of setting.player setting.priorities) 0) where

@@ -1,5 +1,5 @@
 -- What the calls of a table of words answer.
-use Rattle.std.proofs.Common.{◌≡◌, ◌≢◌, ℕ, zero, suc, ◌+◌, ◌-◌, ◌*◌, ◌/◌, ◌%◌, ◌^◌, ◌<◌, ◌≤◌, Bool, true, false, List, [], ◌∷◌, ◌++◌, None, Ordering, length, get_or, take, drop, replicate, sym, refl, ap, ◌∙◌, subst, arith, add-one, inl, inr}
+use Rattle.std.proofs.Common.{◌≡◌, ◌≢◌, ℕ, zero, suc, ◌+◌, ◌-◌, ◌*◌, ◌/◌, ◌%◌, ◌^◌, ◌<◌, ◌≤◌, Bool, true, false, List, [], ◌∷◌, ◌++◌, None, Some, Ordering, length, get_or, take, drop, replicate, sym, refl, ap, ◌∙◌, subst, arith, add-one, inl, inr}
 use Rattle.std.specs.Prelude.{◌↔◌, nat_le, slice_index}
 use Rattle.std.proofs.lemmas.Bool.{cases_eq}
 use Rattle.std.proofs.lemmas.List.{get_or_default, get_or-map, length-map, length-take, length-drop, length-replicate, get_or-replicate, take-replicate, drop-replicate}
@@ -14,10 +14,10 @@ use Rattle.omega_lift_laws.specs.Measure.{Measure, IsMeasure, compare_from, entr
 use Rattle.omega_measure.specs.declared.field.Field.{Field}
 use Rattle.omega_measure.specs.private.layout.Field.{AreAtMost, AreFields, ArePacked, IsInside, IsPackedRow, field_places, digit_in, digits_in, entry_limits, front_order, last_field, limits_in, measure_of, top_field, value, word_places}
 use Rattle.omega_measure.specs.private.layout.Due.{is_short}
-use Rattle.omega_measure.specs.private.layout.Packed.{ArePackedRows, packed_content, packed_measure}
+use Rattle.omega_measure.specs.private.layout.Packed.{ArePackedRows, HoldsAllowance, packed_content, packed_measure}
 use Rattle.omega_measure.specs.private.layout.Rows.{AreAtLimits, IsLastBelow, WritesRow, allowance_of, compare_kept, row_of}
 use Rattle.omega_measure.specs.private.layout.Shape.{Setting, width_of}
-use Rattle.omega_measure.specs.Table.{Content, Exceeds, IsAllowanceIn, Raises, zero_content}
+use Rattle.omega_measure.specs.Table.{Content, Exceeds, IsAllowanceIn, Raises, with_measure, zero_content}
 use Rattle.omega_measure.proofs.Allowances.{allowance_is, due_from}
 use Rattle.omega_measure.proofs.Digits.{value-zeros}
 use Rattle.omega_measure.proofs.Measures.{length-listed, listed-same, listed-written, measure_at-listed}
@@ -246,6 +246,35 @@ module _
         (allows ∙ ap (allowance_of strict kept (entry_limits fields)) (sym (measure_at-packed setting fields size words w w_in)))
         (λ u ne l. ap (λ row. measure_of (digits_in fields row)) (others.others u ne (packed_fits setting fields size words rows u l))));
   }
+
+-- the table after v is set to top
+module _
+    (setting : Setting) (fields : List Field) (size : ℕ) (words new_words : List ℕ) (v : ℕ)
+    (rows : ArePackedRows setting fields size words) (v_in : v < length setting.priorities)
+    (others : WritesRow size words new_words v (row_of size new_words v))
+    (holds : HoldsAllowance fields 0 true (row_of size words v) (row_of size new_words v)) where
+  no_room : (limits : List ℕ) (x : Measure) → allowance_of true 0 limits x ≡ None
+  no_room limits None = refl
+  no_room limits (Some entries) = refl
+
+  pub ArePackedRows-topped : ArePackedRows setting fields size new_words
+  ArePackedRows-topped = record {
+    fields_are = rows.fields_are;
+    limits = rows.limits;
+    rows = others.count ∙ rows.rows;
+    packed = λ u l.
+        elim (cases_eq u v) [
+          | inl same ↦ subst (λ k. IsPackedRow fields (row_of size new_words k)) (sym same) holds.packed
+          | inr ne ↦ subst (IsPackedRow fields) (sym (others.others u ne (packed_fits setting fields size words rows u l))) (rows.packed u l)
+        ];
+  }
+
+  pub packed_content-topped : packed_content setting fields size new_words ≡ with_measure (packed_content setting fields size words) v None
+  packed_content-topped =
+      ap (λ measures. record { player = setting.player; priorities = setting.priorities; measures = measures })
+      (listed-written (packed_measure fields size words) (packed_measure fields size new_words) (length setting.priorities) v None v_in
+      (holds.allowance ∙ no_room (entry_limits fields) (packed_measure fields size words v))
+      (λ u ne l. ap (λ row. measure_of (digits_in fields row)) (others.others u ne (packed_fits setting fields size words rows u l))))
 
 -- ---- the table of a new solver
 

@@ -94,6 +94,20 @@ impl MeasureTable for PackedTable {
             w as usize,
         );
     }
+
+    fn set_top(&mut self, place: u32) {
+        let size = self.size;
+        // A measure has no entry to be raised among none, so its allowance on none is top.
+        raise_at(
+            &mut self.words,
+            size,
+            &self.fields,
+            0,
+            true,
+            place as usize,
+            place as usize,
+        );
+    }
 }
 
 /// Returns the number of words of a row.

@@ -107,4 +107,8 @@ impl MeasureTable for PlainTable {
             w as usize,
         );
     }
+
+    fn set_top(&mut self, place: u32) {
+        self.tops[place as usize] = true;
+    }
 }

@@ -2,7 +2,7 @@ ghost use Rattle.std.specs.Prelude.{◌≡◌, ◌↔◌, ◌<◌, false, length
 ghost use Rattle.omega_parity_game.specs.Game.{priorities};
 ghost use Rattle.omega_lift_laws.specs.Allowance.{measure_at};
 ghost use Rattle.omega_lift_laws.specs.Measure.{compare_from};
-ghost use Rattle.omega_measure.specs.Table.{Content, Exceeds, IsPrepareRefusal, Raises, is_too_wide, zero_content};
+ghost use Rattle.omega_measure.specs.Table.{Content, Exceeds, IsPrepareRefusal, Raises, is_too_wide, with_measure, zero_content};
 
 use omega_parity_game::{Game, Player, Refusal};
 use std::alloc::Global;
@@ -59,4 +59,9 @@ pub trait MeasureTable: Drop {
         requires towards { w < length (content self.old).measures }
         requires due { Exceeds (content self.old) v w }
         ensures { Raises (content self.old) v w (content self.new) };
+
+    /// Replaces the measure of `place` by top.
+    fn set_top(&mut self, place: u32)
+        requires { place < length (content self.old).measures }
+        ensures { content self.new ≡ with_measure (content self.old) place None };
 }
