@@ -3,3 +3,4 @@ mod schedules
 mod lifting
 mod answers
 mod runs
+mod turning

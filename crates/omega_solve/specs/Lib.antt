@@ -13,4 +13,6 @@ pub mod Schedule
 pub mod Solver
 pub mod Headline
 pub mod Determinacy
+pub mod LeastTables
+pub mod Turns
 pub mod private

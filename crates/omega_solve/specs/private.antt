@@ -1,3 +1,4 @@
 -- What private contracts alone cite.
 pub mod schedules
 pub mod solving
+pub mod turning

@@ -1,6 +1,7 @@
 //! Laws of the definitions that the calls of `Solver` cite. They hold of any solver that keeps these contracts.
 ghost use Rattle.omega_solve.specs.Determinacy.{AnswersPartTheGame};
 ghost use Rattle.omega_solve.specs.Headline.{Headline};
+ghost use Rattle.omega_solve.specs.LeastTables.{RunsLeadToLeastTables};
 
 use omega_lift_laws::{
     choices_are_a_strategy, choices_win, regions_stay_below_top, runs_are_bounded,
@@ -33,3 +34,9 @@ pub fn answers_part_the_game()
     regions_cover();
     regions_are_apart();
 }
+
+/// States that a lifting run leads from the all-zero table to the least table in which no lift is due. So each way to
+/// make lifts that ends there has the answer of a lifting run (Jurdziński 2000).
+pub fn runs_lead_to_least_tables()
+    ensures { RunsLeadToLeastTables }
+{}

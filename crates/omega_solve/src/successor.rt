@@ -64,7 +64,7 @@ pub(crate) fn chosen_successor<T: MeasureTable>(
 }
 
 /// Whether `player` owns `place`.
-fn owns(game: &Game, player: Player, place: u32) -> bool
+pub(crate) fn owns(game: &Game, player: Player, place: u32) -> bool
     requires { place < length game.now }
     ensures { IsTrue result ↔ (owner_at game.now place ≡ player) }
 {

@@ -63,7 +63,7 @@ others_kept nodes table u v x apart w edge =
     get_or-set_other table v w x None (λ (e : w ≡ v). apart (subst (λ (place : ℕ). HasEdge nodes u place) e edge))
 
 -- then a lift that is due at another place was due before
-due_before : (nodes : List Node) (player : Player) (table other : List Measure) (u v : ℕ)
+pub due_before : (nodes : List Node) (player : Player) (table other : List Measure) (u v : ℕ)
     → ((w : ℕ) → w ≢ v → measure_at other w ≡ measure_at table w) → ¬ HasEdge nodes u v → u ≢ v
     → IsDue nodes player other u → IsDue nodes player table u
 due_before nodes player table other u v kept apart ne due = (
@@ -96,7 +96,7 @@ not_due_again nodes player table v x apart lt lifts due =
     ]
 
 -- a place at which a lift is due is below top
-due_below_top : (x y : Measure) → IsAbove x y → IsSome y
+pub due_below_top : (x y : Measure) → IsAbove x y → IsSome y
 due_below_top None None above = absurd (let e = above in cc)
 due_below_top (Some xs) None above = absurd (let e = above in cc)
 due_below_top x (Some ys) above = refl
@@ -158,7 +158,7 @@ due_exceeds nodes player content v w table due = record {
 }
 
 -- the measures after a raise towards the successor that decides the lift value
-raised : (nodes : List Node) (player : Player) (old new : Content) (v w : ℕ) → AllowancesAreUnique → IsTableOf nodes player old
+pub raised : (nodes : List Node) (player : Player) (old new : Content) (v w : ℕ) → AllowancesAreUnique → IsTableOf nodes player old
     → (due : IsDueTowards nodes player old.measures v w) → Raises old v w new
     → new ≡ with_measure old v due.value
 raised nodes player old new v w unique table due raises =

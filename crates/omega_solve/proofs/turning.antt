@@ -1,0 +1,6 @@
+-- Solving in turns: lifts stay below the least table in which no lift is due, and lead to it.
+pub mod Values
+pub mod Below
+pub mod Ending
+pub mod Sides
+pub mod Cutting

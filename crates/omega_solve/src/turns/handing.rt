@@ -1,0 +1,55 @@
+ghost use Rattle.std.specs.Prelude.{◌≡◌, ◌<◌, length};
+ghost use Rattle.omega_parity_game.specs.Game.{IsGame};
+ghost use Rattle.omega_parity_game.specs.Player.{opponent_of};
+ghost use Rattle.omega_parity_game.specs.Winning.{InRegion};
+ghost use Rattle.omega_solve.specs.private.turning.Handing.{AreWon};
+ghost use Rattle.omega_solve.specs.private.turning.Side.{IsSide};
+
+use super::side::Side;
+use crate::schedule::Schedule;
+use crate::wake::wake_predecessors;
+use omega_lift_laws::won_places_are_in_regions;
+use omega_measure::{Game, MeasureTable, Player};
+use omega_region_laws::regions_are_apart;
+
+/// Hands on to `side`, the side of `player`, the places that are not in `lost` and that the opponent wins: their
+/// measures become top. Returns whether some measure was below top.
+pub(crate) fn hand_on<T: MeasureTable, S: Schedule>(
+    game: &Game,
+    player: Player,
+    side: &mut Side<T, S>,
+    lost: &[bool],
+) -> bool
+    requires game { IsGame game.now }
+    requires side { IsSide game.now player (T.content side.old.table) (S.waiting side.old.schedule) }
+    requires entries { length lost.now ≡ length game.now }
+    requires won { AreWon game.now (opponent_of player) lost.now }
+    ensures { IsSide game.now player (T.content side.new.table) (S.waiting side.new.schedule) }
+{
+    let mut some = false;
+    for place in 0..game.len() {
+        if !lost[place] && !side.table.is_top(place as u32) {
+            give_up(game, player, side, place as u32);
+            some = true;
+        }
+    }
+    some
+}
+
+/// Gives up `place`, which the opponent of `player` wins: its measure becomes top, and its predecessors pending.
+fn give_up<T: MeasureTable, S: Schedule>(
+    game: &Game,
+    player: Player,
+    side: &mut Side<T, S>,
+    place: u32,
+)
+    requires game { IsGame game.now }
+    requires side { IsSide game.now player (T.content side.old.table) (S.waiting side.old.schedule) }
+    requires lost { InRegion game.now (opponent_of player) place }
+    ensures { IsSide game.now player (T.content side.new.table) (S.waiting side.new.schedule) }
+{
+    won_places_are_in_regions();
+    regions_are_apart();
+    side.table.set_top(place);
+    wake_predecessors(game, &side.table, &mut side.schedule, place);
+}
