@@ -7,4 +7,5 @@ mod Lifting
 mod Dealing
 mod Exactness
 mod Within
+pub mod Turning
 pub mod Observed

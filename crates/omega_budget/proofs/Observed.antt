@@ -1,12 +1,15 @@
 -- The reports of several runs, put together.
-use Rattle.std.proofs.Common.{◌≡◌, ◌≢◌, ℕ, ◌⊎◌, List, [], ◌∷◌, Option, None, Some, Result, Ok, Err, IfErr, arith, inl, inr, refl, subst, sym}
+use Rattle.std.proofs.Common.{◌≡◌, ◌≢◌, ℕ, zero, suc, ◌+◌, ◌*◌, ◌<◌, ◌⊎◌, List, [], ◌∷◌, Option, None, Some, Result, Ok, Err, IfErr, arith, inl, inr, refl, subst, sym}
 use Rattle.std.specs.Result.{IsErrAnd}
+use Rattle.std.proofs.lemmas.Bool.{cases_lt}
 use Rattle.omega_text.specs.declared.refusal.Refusal.{Refusal}
 use Rattle.omega_text.specs.declared.refusal.Refusal.TheVariants.{Task}
 use Rattle.omega_text.specs.declared.refusal.task.TaskFault.TheVariants.{Budget, TooWide}
 use Rattle.omega_parity_game.specs.declared.player.Player.{Player}
+use Rattle.omega_solve.specs.declared.outcome.Outcome.TheVariants.{Done}
 use Rattle.omega_parity_game.specs.Game.{Node}
-use Rattle.omega_budget.specs.Observing.{AreMade, ComesBefore, IsUntried, IsObserved, ReportsRun, ReportsRuns, ReportsSolving, refusal_in}
+use Rattle.omega_budget.specs.Observing.{AreMade, AreReports, ComesBefore, IsUntried, IsObserved, ReportsEach, ReportsRun, ReportsRuns, ReportsSolving, most_of, refusal_in}
+use Rattle.omega_budget.specs.Within.{EndsWithin}
 use Rattle.omega_budget.specs.declared.found.Found.{Found}
 use Rattle.omega_budget.specs.declared.observing.Progress.{Progress}
 
@@ -168,3 +171,47 @@ two_made one other refusal = record { first = (2, refl); whole = λ e. refl; som
 -- one run of two, which is refused
 pub first_made : (one other : Player) (refusal : Refusal) → AreMade (one ∷ other ∷ []) (Some refusal) (one ∷ [])
 first_made one other refusal = record { first = (1, refl); whole = λ e. cc; some = λ e. omega arith }
+
+-- the number of reports of a run of `lifts` lifts that is done
+times_of : (every lifts : ℕ) → 0 < every → (times : ℕ) × AreReports Done every lifts times
+times_of every zero some = (0, (λ more. absurd (omega arith), omega arith))
+times_of every (suc lifts) some =
+    let before = times_of every lifts some in
+    let most = before.1.1 in
+    elim (cases_lt lifts (before.0 * every + every)) [
+      | inl inside ↦ (before.0, (λ more. let was = before.1.0 more in omega (arith, was), omega arith))
+      | inr past ↦ (suc before.0, (λ more. omega (arith, most, past), omega (arith, most, past)))
+    ]
+
+-- reports that do not change the observer
+silent_each : {L : Type 0} (tells : Progress → L → L → Type 0) (player : Player) (every most times : ℕ) (observer : L)
+    → ((progress : Progress) (observer : L) → tells progress observer observer) → ReportsEach tells player every most times observer observer
+silent_each tells player every most zero observer silent = refl
+silent_each tells player every most (suc times) observer silent =
+    (observer, silent_each tells player every most times observer silent, silent _ observer)
+
+-- a run that ended was reported to an observer whom no report changes
+silent_run : {L : Type 0} (tells : Progress → L → L → Type 0) (every : ℕ) (nodes : List Node) (player : Player) (budget lifts : ℕ) (observer : L)
+    → 0 < every → ((progress : Progress) (observer : L) → tells progress observer observer) → EndsWithin nodes player budget lifts
+    → ReportsRun tells every nodes player budget lifts None observer observer
+silent_run tells every nodes player budget lifts observer some silent ended =
+    let times = times_of every lifts some in
+    record {
+      outcome = Done;
+      spent = (λ e. cc, λ e. cc);
+      ended = ended;
+      reported = record {
+        times = times.0;
+        reports = times.1;
+        reported = silent_each tells player every (most_of nodes player budget) times.0 observer silent;
+      };
+    }
+
+-- so were two runs
+pub silent_observed : {L : Type 0} (Runs : Option Refusal → List Node → List Player → Type 0) (tells : Progress → L → L → Type 0) (every : ℕ) (game : List Node)
+    (one other : Player) (budget lifts more : ℕ) (observer : L) → Runs None game (one ∷ other ∷ []) → 0 < every
+    → ((progress : Progress) (observer : L) → tells progress observer observer)
+    → EndsWithin game one budget lifts → EndsWithin game other budget more → IsObserved Runs None tells every budget observer observer
+silent_observed Runs tells every game one other budget lifts more observer are some silent first then =
+    two_observed Runs tells every game one other budget lifts more None observer observer observer are
+    (silent_run tells every game one budget lifts observer some silent first) (silent_run tells every game other budget more observer some silent then)

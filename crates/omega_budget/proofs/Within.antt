@@ -157,7 +157,7 @@ ended_so nodes player budget Done state lifted = ends_within nodes player budget
 ended_so nodes player budget Spent state lifted = (lifted.stopped.0, used_up nodes player budget state lifted)
 
 -- an exact answer that is read in the table of a solver that is done was found within the budget
-found_within : (nodes : List Node) (player : Player) (budget : ℕ) (state : SolverState) (found : Found) → HasLifted nodes player budget Done state
+pub found_within : (nodes : List Node) (player : Player) (budget : ℕ) (state : SolverState) (found : Found) → HasLifted nodes player budget Done state
     → IsExact nodes state.player found.won.items found.choice.items → found.won.items ≡ won_in state.table.measures
     → AreChoices nodes state.player state.table.measures found.choice.items → found.lifts ≡ state.lifts
     → IsFound nodes player budget found

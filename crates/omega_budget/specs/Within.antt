@@ -13,6 +13,7 @@ use Rattle.omega_lift_laws.specs.Run.{IsDue, IsLiftingRun, IsStable, zero_table}
 use Rattle.omega_measure.specs.Table.{is_too_wide}
 use Rattle.omega_solve.specs.Headline.{IsExact}
 use Rattle.omega_solve.specs.declared.outcome.Outcome.{Outcome}
+use Rattle.omega_solve.specs.declared.turns.TurnsAnswer.{TurnsAnswer}
 use Rattle.omega_solve.specs.declared.outcome.Outcome.TheVariants.{Done, Spent}
 use Rattle.omega_budget.specs.declared.found.Found.{Found}
 
@@ -53,6 +54,11 @@ pub record IsFound (nodes : List Node) (player : Player) (budget : ℕ) (found :
   pub ended : EndsWithin nodes player budget found.lifts
   pub below_top : found.won.items ≡ won_in ended.ended.table
   pub chosen : AreChoices nodes player ended.ended.table found.choice.items
+
+-- an answer without the number of its lifts, which was found with some number of them, at most the bound
+abbrev pub IsFoundUncounted : List Node → Player → TurnsAnswer → Type 0
+IsFoundUncounted nodes player answer =
+    (lifts : ℕ) × IsFound nodes player (bound_of player (priorities nodes)) (record { won = answer.won; choice = answer.choice; lifts = lifts })
 
 -- the fault of solving a game within a budget: it is too wide, or else a lifting run of exactly the budget's entries
 -- leaves a lift due

@@ -64,7 +64,7 @@ impl Reordered<'_> {
 }
 
 /// Lists by place the flags `won`, which are listed by position.
-fn won_by_place(
+pub(crate) fn won_by_place(
     alloc: Global,
     permutation: &Permutation,
     won: &[bool],
@@ -82,7 +82,7 @@ fn won_by_place(
 }
 
 /// Lists by place the choices, which are listed by position and name positions, as choices of places.
-fn choices_of(
+pub(crate) fn choices_of(
     alloc: Global,
     permutation: &Permutation,
     choices: &[Option<u32>],

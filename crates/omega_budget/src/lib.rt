@@ -12,6 +12,7 @@ mod observing;
 mod reordered;
 mod running;
 mod solving;
+mod turns;
 
 pub use found::Found;
 pub use laws::{
@@ -19,5 +20,5 @@ pub use laws::{
     spent_budgets_are_below_the_bound,
 };
 pub use observing::{LIFTS_BETWEEN_REPORTS, NoObserver, Progress, Reporter};
-pub use omega_solve::{Game, Player, Refusal};
+pub use omega_solve::{Game, Player, Refusal, TurnsAnswer, TurnsAnswers};
 pub use reordered::Reordered;

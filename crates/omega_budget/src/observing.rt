@@ -1,4 +1,4 @@
-ghost use Rattle.std.specs.Prelude.{◌≡◌, ℕ, ◌<◌};
+ghost use Rattle.std.specs.Prelude.{◌≡◌, ℕ, ◌<◌, false};
 ghost use Rattle.omega_budget.specs.Observing.{lifts_between_reports};
 
 use omega_parity_game::Player;
@@ -35,6 +35,13 @@ pub trait Reporter<L> {
     /// Reports to `observer` how far a run has come.
     fn report(&self, observer: &mut L, progress: Progress)
         ensures { tells self.now progress observer.old observer.new };
+
+    /// Whether reports may change the observer. If not, none needs to be made.
+    fn listens(&self) -> bool
+        ensures { result ≡ false → (progress : Progress) (observer : L) → tells self.now progress observer observer }
+    {
+        true
+    }
 }
 
 /// No observer. Budgets are dealt out all the same, so that a run makes the same lifts whether it is reported or not.
@@ -50,4 +57,8 @@ impl<L> Reporter<L> for NoObserver {
     }
 
     fn report(&self, _observer: &mut L, _progress: Progress) {}
+
+    fn listens(&self) -> bool {
+        false
+    }
 }
