@@ -9,5 +9,6 @@ pub mod Refused
 pub mod Solutions
 pub mod Solved
 pub mod Solving
+pub mod Turning
 pub mod Verifying
 pub mod Observing

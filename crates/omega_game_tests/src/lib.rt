@@ -33,3 +33,5 @@ mod searching;
 mod solve;
 #[cfg(test)]
 mod strategies;
+#[cfg(test)]
+mod turns;

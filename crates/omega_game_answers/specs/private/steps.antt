@@ -5,3 +5,4 @@ pub mod Drawn
 pub mod Solved
 pub mod Verdict
 pub mod Lifts
+pub mod Bounds

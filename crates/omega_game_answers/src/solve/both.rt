@@ -1,4 +1,5 @@
-ghost use Rattle.std.specs.Prelude.{◌≡◌, ◌≤◌, IfOk, IfErr, IsOk, IsOkUnless, None, false, true};
+ghost use Rattle.std.specs.Prelude.{◌≡◌, ◌≤◌, IfOk, IfErr, IfSome, IsOk, IsOkUnless, IsTrue, None, false, true};
+ghost use Rattle.omega_parity_game.specs.Bound.{bound_of};
 ghost use Rattle.omega_parity_game.specs.Game.{priorities};
 ghost use Rattle.omega_measure.specs.Table.{is_too_wide};
 ghost use Rattle.omega_text.specs.declared.refusal.task.TaskFault.TheVariants.{TooWide};
@@ -8,11 +9,12 @@ ghost use Rattle.omega_text.specs.declared.refusal.Refusal.TheVariants.{Task};
 ghost use Rattle.omega_game_answers.specs.declared.solve.asked.Asked.TheVariants.{Both};
 ghost use Rattle.omega_game_answers.specs.solve.Solution.{IsNarrow, IsRight, IsSolutionOf};
 ghost use Rattle.omega_game_answers.specs.solve.Winners.{winners_of};
+ghost use Rattle.omega_game_answers.specs.private.steps.Bounds.{AreBoundsWithin};
 ghost use Rattle.omega_game_answers.specs.private.steps.Lifts.{LiftsWholeGame};
 ghost use Rattle.omega_budget.specs.Observing.{IsObserved, refusal_in};
 
-use omega_budget::{Reordered, Reporter};
-use omega_game::{ForwardGame, Player, Refusal, Seq, Solution, Strategy, TaskFault};
+use omega_budget::{Reordered, Reporter, TurnsAnswer};
+use omega_game::{ForwardGame, Player, Refusal, Seq, Solution, Strategy, TaskFault, bound};
 use omega_measure::fits;
 use omega_pg::write_solution;
 use omega_region_laws::{regions_are_apart, regions_cover};
@@ -54,7 +56,100 @@ pub fn solution_of<L, W: Reporter<L>>(
 {
     fits_both(game)?;
     let reordered = Reordered::of(alloc, game)?;
-    lifted_solution(alloc, game, &reordered, budget, reporter, observer)
+    solution_in(alloc, game, &reordered, budget, reporter, observer)
+}
+
+/// Returns the solution of a game that is too wide for neither player. If the bounds of both players are within
+/// `budget` and reports change no observer, the players are lifted for in turns, else one after the other. Fails with
+/// [TaskFault::Budget] if the budget does not suffice for one of them.
+fn solution_in<L, W: Reporter<L>>(
+    alloc: Global,
+    game: &ForwardGame,
+    reordered: &Reordered<'_>,
+    budget: u64,
+    reporter: &W,
+    observer: &mut L,
+) -> Result<Solution, Refusal>
+    requires budget { budget ≤ most_lifts }
+    requires given { reordered.now.given ≡ game.now }
+    requires narrow { IsNarrow game.now }
+    ensures right { IfOk result (IsRight game.now budget) }
+    ensures refused { IfErr result (IsSolveGameRefusal game.now Both None budget) }
+    ensures reported { IsObserved (LiftsWholeGame game.now Both) (refusal_in result)
+        (W.tells reporter.now) (W.pace reporter.now) budget observer.old observer.new }
+{
+    let every = reporter.every();
+    let listens = reporter.listens();
+    if every > 0 && !listens && are_bounds_within(game, budget) {
+        let turned = turned_solution(alloc, game, reordered, budget)?;
+        if let Some(solution) = turned {
+            return Ok(solution);
+        }
+    }
+    lifted_solution(alloc, game, reordered, budget, reporter, observer)
+}
+
+/// Whether the bounds on lifts of both players are within `budget`, so that no run is refused for it.
+fn are_bounds_within(game: &ForwardGame, budget: u64) -> bool
+    ensures { IsTrue result → AreBoundsWithin game.now budget }
+{
+    is_bound_within(game, Player::Zero, budget) && is_bound_within(game, Player::One, budget)
+}
+
+/// Whether the bound on lifts of `player` is within `budget`.
+fn is_bound_within(game: &ForwardGame, player: Player, budget: u64) -> bool
+    ensures { IsTrue result → bound_of player (priorities game.now) ≤ budget }
+{
+    match bound(game, player) {
+        Some(lifts) => lifts <= u128::from(budget),
+        None => false,
+    }
+}
+
+/// Returns the solution of a game that is too wide for neither player and whose bounds are within a budget, by lifting
+/// for both players in turns. Returns none if the turns do not suffice.
+fn turned_solution(
+    alloc: Global,
+    game: &ForwardGame,
+    reordered: &Reordered<'_>,
+    _budget: u64,
+) -> Result<Option<Solution>, Refusal>
+    requires given { reordered.now.given ≡ game.now }
+    requires narrow { IsNarrow game.now }
+    requires bounds { AreBoundsWithin game.now _budget }
+    ensures right { IfOk result (λ found. IfSome found (IsRight game.now _budget)) }
+    ensures memory { IsOkUnless result Refusal.Memory }
+{
+    regions_are_apart();
+    regions_cover();
+    game.keeps_limits();
+    let found = reordered.solve_in_turns(alloc)?;
+    match found {
+        Some(both) => {
+            let solution = joined(alloc, both.zero, both.one)?;
+            Ok(Some(solution))
+        }
+        None => Ok(None),
+    }
+}
+
+/// Returns the solution that the answers for both players make.
+fn joined(alloc: Global, zero: TurnsAnswer, one: TurnsAnswer) -> Result<Solution, Refusal>
+    ensures winners { IfOk result (λ solution. solution.winners ≡ winners_of zero.won.items) }
+    ensures zero { IfOk result (λ solution. solution.zero.choice ≡ zero.choice.items) }
+    ensures one { IfOk result (λ solution. solution.one.choice ≡ one.choice.items) }
+    ensures memory { IsOkUnless result Refusal.Memory }
+{
+    let winners = winners_of(alloc, zero.won.as_slice())?;
+    Ok(Solution {
+        winners: Seq::from_vec(winners),
+        zero: Strategy {
+            choice: Seq::from_vec(zero.choice),
+        },
+        one: Strategy {
+            choice: Seq::from_vec(one.choice),
+        },
+    })
 }
 
 /// Returns the solution of a game that is too wide for neither player, by lifting for one player and then for the
