@@ -3,7 +3,7 @@ use Rattle.std.proofs.Common.{◌≡◌, ◌∙◌, ◌<◌, ◌≤◌, ◌++◌
 use Rattle.std.proofs.lemmas.List.{ext_get_or, get_or-map, get_or-replicate, length-map, length-replicate, length_push}
 use Rattle.omega_parity_game.specs.declared.player.Player.{Player}
 use Rattle.omega_parity_game.specs.Bound.{bound_of}
-use Rattle.omega_parity_game.specs.Game.{Node, IsGame, priorities}
+use Rattle.omega_parity_game.specs.Game.{Node, priorities}
 use Rattle.omega_lift_laws.specs.Laws.{RunsAreBounded}
 use Rattle.omega_lift_laws.specs.Measure.{Measure, zero_measure}
 use Rattle.omega_lift_laws.specs.Run.{IsDue, IsLiftingRun, IsStable, zero_table}
@@ -12,7 +12,7 @@ use Rattle.omega_solve.specs.Schedule.{all_pending}
 use Rattle.omega_solve.specs.Solver.{SolverState, solver_state, start_of}
 use Rattle.omega_budget.specs.declared.found.Found.{Found}
 use Rattle.omega_budget.specs.Laws.{HeadlineByPlace, IsAnswerOfSolver}
-use Rattle.omega_budget.specs.Reordering.{IsReordering, flags_by_place, measures_by_place, state_by_place}
+use Rattle.omega_budget.specs.Reordering.{IsReordering, flags_by_place, state_by_place}
 use Rattle.omega_budget.specs.Within.{GoesOnAfter, IsFound, LiftsTo}
 use Rattle.omega_budget.proofs.Games.{IsClosed, edge_from, position_below}
 use Rattle.omega_budget.proofs.Lifting.{due_here, run_here, run_long, stable_here, zeros_here}

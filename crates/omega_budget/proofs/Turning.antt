@@ -1,12 +1,11 @@
 -- The answer of a lifting run in the reordered game, read by place, is one that is found with some number of lifts.
-use Rattle.std.proofs.Common.{◌≡◌, ℕ, ◌≤◌, ◌∙◌, Bool, true, List, Option, Err, length, refl, sym, ap, subst, arith}
+use Rattle.std.proofs.Common.{◌≡◌, ℕ, ◌≤◌, Bool, true, List, Option, Err, length, refl, subst, arith}
 use Rattle.omega_text.specs.declared.refusal.Refusal.{Refusal}
 use Rattle.omega_parity_game.specs.declared.player.Player.{Player}
 use Rattle.omega_parity_game.specs.Bound.{bound_of}
 use Rattle.omega_parity_game.specs.Game.{IsGame, Node, priorities}
 use Rattle.omega_lift_laws.specs.Answer.{won_in}
 use Rattle.omega_lift_laws.specs.Laws.{RunsAreBounded}
-use Rattle.omega_lift_laws.specs.Measure.{Measure}
 use Rattle.omega_solve.specs.declared.outcome.Outcome.TheVariants.{Done}
 use Rattle.omega_solve.specs.declared.turns.TurnsAnswer.{TurnsAnswer}
 use Rattle.omega_solve.specs.Headline.{Headline}
@@ -16,7 +15,7 @@ use Rattle.omega_solve.specs.Turns.{IsAnswerOfRun, IsTurnsRefusal}
 use Rattle.omega_budget.specs.declared.found.Found.{Found}
 use Rattle.omega_budget.specs.Laws.{ReorderingsKeepBounds, ReorderingsKeepStates}
 use Rattle.omega_budget.specs.Reordering.{IsReordering, measures_by_place, state_by_place}
-use Rattle.omega_budget.specs.Within.{EndsWithin, IsFound, IsFoundUncounted}
+use Rattle.omega_budget.specs.Within.{IsFound, IsFoundUncounted}
 use Rattle.omega_budget.specs.private.steps.Lifting.{HasLifted}
 use Rattle.omega_budget.specs.private.steps.Reordering.{choices_by_place}
 use Rattle.omega_budget.proofs.Exactness.{choices_here, exact_here}

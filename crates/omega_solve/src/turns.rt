@@ -108,7 +108,9 @@ fn take_turns<T: MeasureTable, S: Schedule>(
     ensures zero { IsTrue result → HasEnded game.now Zero (T.content zero.new.table) (S.waiting zero.new.schedule) }
     ensures one { IsTrue result → HasEnded game.now One (T.content one.new.table) (S.waiting one.new.schedule) }
 {
-    let first = (game.len() as u64 / 2).saturating_add(game.edges() as u64 / 2).saturating_add(16);
+    let first = (game.len() as u64 / 2)
+        .saturating_add(game.edges() as u64 / 2)
+        .saturating_add(16);
     let mut zero_quota = first;
     let mut one_quota = first;
     for _ in 0..MOST_TURNS {

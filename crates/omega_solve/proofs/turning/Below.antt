@@ -1,5 +1,5 @@
 -- Lifts lead to no measure above those of a table in which no lift is due.
-use Rattle.std.proofs.Common.{◌≡◌, ◌≢◌, ℕ, ◌<◌, inl, inr, List, [], ◌∷◌, Option, Some, None, IsSome, length, set, get_or, replicate, refl, sym, ap, ◌∙◌, subst, arith, Less, Equal, Greater}
+use Rattle.std.proofs.Common.{◌≡◌, ℕ, ◌<◌, inl, inr, List, [], ◌∷◌, Some, None, length, set, sym, ap, ◌∙◌, subst, arith, Less, Equal, Greater}
 use Rattle.std.proofs.lemmas.Bool.{cases_eq}
 use Rattle.std.proofs.lemmas.List.{ext_get_or, get_or-replicate, get_or-set_other, get_or-set_same, length-map}
 use Rattle.omega_parity_game.specs.declared.player.Player.{Player}
@@ -13,7 +13,6 @@ use Rattle.omega_lift_laws.proofs.Entries.{zeros_least}
 use Rattle.omega_lift_laws.proofs.LeastMeasure.{allowance_is_monotone, at_most_from}
 use Rattle.omega_lift_laws.proofs.Lifting.{lift_keeps_table, measure_at_is}
 use Rattle.omega_lift_laws.proofs.Order.{at_most_trans, compare_total, equal_from_both, same_measures}
-use Rattle.omega_solve.specs.LeastTables.{IsBelowStable}
 use Rattle.omega_solve.proofs.turning.Values.{value_exists}
 
 -- each measure of the one table is at most that of the other

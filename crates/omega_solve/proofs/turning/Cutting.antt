@@ -1,5 +1,5 @@
 -- Places that stand alone are won: no lift is due in the table that has their measures, and top everywhere else.
-use Rattle.std.proofs.Common.{◌≡◌, ◌≢◌, ℕ, ◌<◌, inl, inr, Bool, true, false, cond, List, Some, None, IsSome, length, map, get_or, slice_index, refl, sym, ap, ◌∙◌, subst, arith}
+use Rattle.std.proofs.Common.{◌≡◌, ℕ, ◌<◌, inl, inr, Bool, true, false, cond, List, Some, None, IsSome, length, map, get_or, slice_index, refl, sym, ap, ◌∙◌, subst, arith}
 use Rattle.std.specs.List.{range_with_len}
 use Rattle.std.proofs.lemmas.Bool.{false≢true}
 use Rattle.std.proofs.lemmas.List.{length-map}
@@ -7,11 +7,10 @@ use Rattle.std.proofs.lemmas.List.FromFn.{length-map-range_with_len, get_or-map-
 use Rattle.std.proofs.lemmas.Option.{get_or_from_slice_get, slice_get-get_or, slice_get_within}
 use Rattle.omega_parity_game.specs.declared.player.Player.{Player}
 use Rattle.omega_parity_game.specs.Game.{Node, IsGame, owner_at, priorities}
-use Rattle.omega_parity_game.specs.Winning.{InRegion}
 use Rattle.omega_lift_laws.specs.Measure.{Measure, IsAbove, IsMeasure}
 use Rattle.omega_lift_laws.specs.Allowance.{IsAllowance, measure_at}
 use Rattle.omega_lift_laws.specs.Laws.{AllowancesExist, MeasuresAreOrdered, WonPlacesAreInRegions}
-use Rattle.omega_lift_laws.specs.Run.{IsDue, IsStable}
+use Rattle.omega_lift_laws.specs.Run.{IsDue}
 use Rattle.omega_lift_laws.proofs.Choosing.{cases_player}
 use Rattle.omega_lift_laws.proofs.Lifting.{measure_at_is}
 use Rattle.omega_measure.specs.Table.{Content, Exceeds}

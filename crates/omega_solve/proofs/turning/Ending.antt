@@ -1,5 +1,5 @@
 -- A lifting run from the all-zero table ends with no lift due, in the least such table.
-use Rattle.std.proofs.Common.{◌≡◌, ℕ, zero, suc, ◌+◌, ◌<◌, ◌≤◌, ◌⊎◌, inl, inr, List, [], ◌∷◌, ◌++◌, length, set, refl, sym, ap, ◌∙◌, subst, arith}
+use Rattle.std.proofs.Common.{◌≡◌, ℕ, zero, suc, ◌+◌, ◌<◌, ◌≤◌, ◌⊎◌, inl, inr, List, [], ◌∷◌, ◌++◌, length, set, refl, subst, arith}
 use Rattle.std.proofs.lemmas.Bool.{cases_lt}
 use Rattle.std.proofs.lemmas.List.{length_push}
 use Rattle.omega_parity_game.specs.declared.player.Player.{Player}
@@ -8,7 +8,7 @@ use Rattle.omega_parity_game.specs.Game.{Node, IsGame, priorities}
 use Rattle.omega_lift_laws.specs.Measure.{Measure}
 use Rattle.omega_lift_laws.specs.Run.{IsDue, IsLiftingRun, IsStable, IsTable, zero_table}
 use Rattle.omega_lift_laws.proofs.Lifting.{lift_keeps_table, run_is_bounded, zero_is_table}
-use Rattle.omega_solve.specs.LeastTables.{IsLeastStable, IsLedTo, RunsLeadToLeastTables}
+use Rattle.omega_solve.specs.LeastTables.{RunsLeadToLeastTables}
 use Rattle.omega_solve.proofs.lifting.Lifting.{run_more}
 use Rattle.omega_solve.proofs.turning.Below.{run_below, same_tables, zero_below}
 use Rattle.omega_solve.proofs.turning.Values.{due_or_not}

@@ -1,12 +1,12 @@
 -- Each place of a table has a lift value, so that it can be decided whether a lift is due.
-use Rattle.std.proofs.Common.{◌≡◌, ◌≢◌, ℕ, ◌<◌, ◌⊎◌, inl, inr, List, [], ◌∷◌, length, get_or, Contains, refl, sym, ap, ◌∙◌, subst, arith, Greater}
+use Rattle.std.proofs.Common.{◌≡◌, ◌≢◌, ℕ, ◌<◌, ◌⊎◌, inl, inr, List, [], ◌∷◌, length, get_or, Contains, refl, sym, ap, ◌∙◌, subst, arith}
 use Rattle.std.proofs.lemmas.List.{get_or_default}
 use Rattle.omega_parity_game.specs.declared.player.Player.{Player}
 use Rattle.omega_parity_game.specs.Game.{Node, IsGame, owner_at, priority_at, priorities, successors_at}
 use Rattle.omega_lift_laws.specs.Measure.{Measure, IsAtMost, compare}
 use Rattle.omega_lift_laws.specs.Allowance.{IsAllowanceOf, IsLiftValue, measure_at}
-use Rattle.omega_lift_laws.specs.Run.{IsDue, IsTable, Lifts}
-use Rattle.omega_lift_laws.proofs.BestPlaces.{IsFirstLeastPlace, IsGreatestPlace, first_least_place, greatest_place}
+use Rattle.omega_lift_laws.specs.Run.{IsDue, IsTable}
+use Rattle.omega_lift_laws.proofs.BestPlaces.{first_least_place, greatest_place}
 use Rattle.omega_lift_laws.proofs.Choosing.{allowance_towards, allowance_towards_is, cases_player}
 use Rattle.omega_lift_laws.proofs.LeastMeasure.{allowance_is_unique}
 use Rattle.omega_lift_laws.proofs.Order.{at_most_trans, cases_greater, compare_total}

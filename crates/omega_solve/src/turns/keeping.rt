@@ -26,7 +26,8 @@ pub(crate) fn mark_lost<T: MeasureTable>(
     lost.fill(false);
     let mut count = 0;
     for place in 0..game.len() {
-        let unsettled = table.is_top(place as u32) || !rests(game, player, table, lost, place as u32);
+        let unsettled = table.is_top(place as u32)
+            || !rests(game, player, table, lost, place as u32);
         count = push_if(unsettled, lost, stack, count, place as u32);
     }
     // Each place is on the stack at most once.
@@ -66,13 +67,7 @@ fn spread<T: MeasureTable>(
 }
 
 /// Marks `place` and puts it on the stack if it is `unsettled`. Returns how many places are on the stack then.
-fn push_if(
-    unsettled: bool,
-    lost: &mut [bool],
-    stack: &mut [u32],
-    count: usize,
-    place: u32,
-) -> usize
+fn push_if(unsettled: bool, lost: &mut [bool], stack: &mut [u32], count: usize, place: u32) -> usize
     requires { place < length lost.old }
     ensures { length lost.new ≡ length lost.old }
 {
@@ -89,7 +84,12 @@ fn push_if(
 
 /// Whether each place that is not in `lost` is seen to be in the region of `player`: it is below top, and no lift is
 /// due there in a table with these measures and top everywhere else.
-pub(crate) fn are_won<T: MeasureTable>(game: &Game, player: Player, table: &T, lost: &[bool]) -> bool
+pub(crate) fn are_won<T: MeasureTable>(
+    game: &Game,
+    player: Player,
+    table: &T,
+    lost: &[bool],
+) -> bool
     requires game { IsGame game.now }
     requires table { IsTableOf game.now player (T.content table.now) }
     requires entries { length lost.now ≡ length game.now }
@@ -135,13 +135,7 @@ fn is_held<T: MeasureTable>(
 }
 
 /// Whether `place` rests on places that are not in `lost`: on one of its successors if `player` owns it, else on each.
-fn rests<T: MeasureTable>(
-    game: &Game,
-    player: Player,
-    table: &T,
-    lost: &[bool],
-    place: u32,
-) -> bool
+fn rests<T: MeasureTable>(game: &Game, player: Player, table: &T, lost: &[bool], place: u32) -> bool
     requires inside { place < length game.now }
     requires game { IsGame game.now }
     requires measures { length (T.content table.now).measures ≡ length game.now }

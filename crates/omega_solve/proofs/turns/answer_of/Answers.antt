@@ -1,5 +1,5 @@
 -- The answer of a side for which no place is pending is that of a lifting run.
-use Rattle.std.proofs.Common.{◌≡◌, ◌∙◌, length, ap, arith}
+use Rattle.std.proofs.Common.{length, ap, arith}
 use Rattle.std.proofs.lemmas.List.{with_items_is}
 use Rattle.omega_solve.proofs.turning.Sides.{ended_answer, ended_least}
 use Rattle.omega_solve.proofs.turns.answer_of.Goals as goal

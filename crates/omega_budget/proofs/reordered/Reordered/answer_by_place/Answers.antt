@@ -1,7 +1,5 @@
 -- The answer of a run in the reordered game is found, by place, with some number of lifts.
-use Rattle.std.proofs.Common.{◌≡◌, ◌∙◌, IfSome, List, None, get_or, length, subst, sym, ap, ℕ, ◌<◌, arith}
-use Rattle.omega_lift_laws.specs.Answer.{won_in}
-use Rattle.omega_budget.specs.Reordering.{measures_by_place}
+use Rattle.std.proofs.Common.{◌∙◌, length, ap, arith}
 use Rattle.omega_budget.specs.private.steps.Reordering.{choices_by_place}
 use Rattle.omega_budget.proofs.Exactness.{choices_below, choices_by_place_here, won_by_place_here}
 use Rattle.omega_budget.proofs.Turning.{turned}

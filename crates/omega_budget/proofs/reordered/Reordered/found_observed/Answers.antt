@@ -1,5 +1,5 @@
 -- A solver that is done found an exact answer within the budget, by place.
-use Rattle.std.proofs.Common.{◌∙◌, IfOk, List, ap, refl, subst}
+use Rattle.std.proofs.Common.{◌∙◌, List, ap, refl, subst}
 use Rattle.omega_parity_game.specs.Game.{Node}
 use Rattle.omega_solve.specs.declared.outcome.Outcome.TheVariants.{Done, Spent}
 use Rattle.omega_budget.specs.Reordering.{state_by_place}

@@ -1,8 +1,7 @@
 -- A place that the opponent wins is given up.
-use Rattle.std.proofs.Common.{◌≡◌, List, None, length, sym, ap, subst}
+use Rattle.std.proofs.Common.{length, sym, subst}
 use Rattle.omega_parity_game.specs.Game.{predecessors_of}
-use Rattle.omega_lift_laws.specs.Measure.{Measure}
-use Rattle.omega_measure.specs.Table.{Content, with_measure}
+use Rattle.omega_measure.specs.Table.{Content}
 use Rattle.omega_solve.specs.private.solving.Wake.{Wakes}
 use Rattle.omega_solve.specs.private.turning.Side.{IsSide}
 use Rattle.omega_solve.proofs.turning.Sides.{side_topped}

@@ -1,5 +1,5 @@
 -- The place rests on one more successor.
-use Rattle.std.proofs.Common.{◌<◌, ◌≡◌, ◌∙◌, ℕ, Some, false, inl, inr, length, slice_index, sym, ap, subst, arith}
+use Rattle.std.proofs.Common.{◌<◌, ◌∙◌, ℕ, Some, false, inl, inr, length, slice_index, sym, ap, subst, arith}
 use Rattle.std.proofs.lemmas.Bool.{cases_eq, false≢true}
 use Rattle.std.proofs.lemmas.Option.{slice_get-get_or}
 use Rattle.omega_solve.specs.private.turning.Handing.{RestsOn}

@@ -22,8 +22,11 @@ returns-then-not-due g c = λ _.
     let w = slice_index c.successors-successor-items.result.now c.loop-successor.successor-index in
     let edge = edge_index c.args.game.now c.args.place c.successors-successor-items.result.now c.loop-successor.successor-index
     c.successors-successor-items.ensures c.loop-successor-test.true in
-    let inside : w < length c.args.lost.now = omega (arith, c.requires.game.closed c.args.place w edge, c.requires.entries) in
-    (w, edge, record {
-      kept = slice_get-get_or c.args.lost.now w false inside ∙ ap Some c.if-not-lost-successor.true;
-      enough = λ exceeds. false≢true (sym c.if-not-due.true ∙ c.due.ensures.1 exceeds);
-    })
+    let inside : w < length c.args.lost.now = omega (arith, c.requires.game.closed c.args.place w edge, c.requires.entries) in (
+      w,
+      edge,
+      record {
+        kept = slice_get-get_or c.args.lost.now w false inside ∙ ap Some c.if-not-lost-successor.true;
+        enough = λ exceeds. false≢true (sym c.if-not-due.true ∙ c.due.ensures.1 exceeds);
+      },
+    )

@@ -1,5 +1,5 @@
 -- A lift keeps a side.
-use Rattle.std.proofs.Common.{◌<◌, length, sym, subst, arith}
+use Rattle.std.proofs.Common.{subst, arith}
 use Rattle.omega_solve.specs.Schedule.{Pending}
 use Rattle.omega_solve.specs.private.solving.Repeating.{LiftsAgain}
 use Rattle.omega_solve.proofs.lifting.Due.{table_entries}
