@@ -1,9 +1,8 @@
 -- What was found for both players in turns is a right solution.
-use Rattle.std.proofs.Common.{◌≡◌, ℕ, ◌≤◌, false, true, List, refl, sym, subst, ◌∙◌}
+use Rattle.std.proofs.Common.{◌≡◌, ℕ, ◌≤◌, List, refl, sym, subst, ◌∙◌}
 use Rattle.std.proofs.lemmas.Bool.{false≢true}
 use Rattle.omega_text.specs.declared.refusal.Refusal.{Refusal}
 use Rattle.omega_text.specs.declared.refusal.Refusal.TheVariants.{Automaton, Game, Io, Memory, Task, Text}
-use Rattle.omega_parity_game.specs.declared.player.Player.{Player}
 use Rattle.omega_parity_game.specs.declared.player.Player.TheVariants.{One, Zero}
 use Rattle.omega_parity_game.specs.declared.solution.Solution.{Solution}
 use Rattle.omega_parity_game.specs.Bound.{bound_of}
@@ -11,8 +10,7 @@ use Rattle.omega_parity_game.specs.Game.{IsGame, Node, priorities}
 use Rattle.omega_region_laws.specs.Laws.{RegionsAreApart, RegionsCover}
 use Rattle.omega_solve.specs.declared.turns.TurnsAnswers.{TurnsAnswers}
 use Rattle.omega_solve.specs.Turns.{IsTurnsRefusal}
-use Rattle.omega_budget.specs.declared.found.Found.{Found}
-use Rattle.omega_budget.specs.Within.{IsFound, IsFoundUncounted}
+use Rattle.omega_budget.specs.Within.{IsFoundUncounted}
 use Rattle.omega_budget.proofs.Turning.{found_at}
 use Rattle.omega_game_answers.specs.solve.Solution.{IsNarrow, IsRight}
 use Rattle.omega_game_answers.specs.solve.Winners.{winners_of}
