@@ -33,5 +33,3 @@ mod searching;
 mod solve;
 #[cfg(test)]
 mod strategies;
-#[cfg(test)]
-mod turns;
