@@ -8,3 +8,4 @@ pub mod Deciding
 pub mod Steps
 pub mod Texts
 pub mod Written
+pub mod BeforeWord

@@ -1,7 +1,8 @@
 -- Laws of the texts of lassos, whatever reads or writes them.
-use Rattle.std.specs.Prelude.{◌≡◌, ℕ, ◌<◌, ◌≤◌, ◌⊎◌, All, List, length}
+use Rattle.std.specs.Prelude.{◌≡◌, ℕ, ◌<◌, ◌≤◌, ◌⊎◌, ◌++◌, All, List, codes, length}
 use Rattle.omega_text.specs.Limits.{most_number, most_text}
 use Rattle.omega_text.specs.declared.refusal.Refusal.{Refusal}
+use Rattle.omega_lasso_text.specs.Lines.{IsLassoLines, before_word}
 use Rattle.omega_lasso_text.specs.Refusing.{IsLassoRefusal}
 use Rattle.omega_lasso_text.specs.Text.{IsLassoText}
 use Rattle.omega_lasso_text.specs.Written.{lasso_text}
@@ -32,3 +33,18 @@ abbrev pub WrittenLassosAreRead : Type 0
 WrittenLassosAreRead = (lasso : LassoText) → 0 < length lasso.cycle
     → All (λ number. number ≤ most_number) lasso.stem → All (λ number. number ≤ most_number) lasso.cycle
     → length (lasso_text lasso.stem lasso.cycle) ≤ most_text → IsLassoText (lasso_text lasso.stem lasso.cycle) lasso
+
+-- the written form of a lasso stands before a line of a word that follows it
+abbrev pub WordsArePassedOver : Type 0
+WordsArePassedOver = (stem cycle word : List ℕ)
+    → before_word (lasso_text stem cycle ++ (codes "word " ++ word)) ≡ lasso_text stem cycle
+
+-- the written form of a lasso has no line of a word
+abbrev pub WrittenLassosHaveNoWord : Type 0
+WrittenLassosHaveNoWord = (stem cycle : List ℕ) → before_word (lasso_text stem cycle) ≡ lasso_text stem cycle
+
+-- a text with the written form of a lasso before its word says that lasso if it keeps the limits
+abbrev pub WrittenLinesAreRead : Type 0
+WrittenLinesAreRead = (source : List ℕ) (lasso : LassoText) → 0 < length lasso.cycle
+    → All (λ number. number ≤ most_number) lasso.stem → All (λ number. number ≤ most_number) lasso.cycle
+    → length source ≤ most_text → before_word source ≡ lasso_text lasso.stem lasso.cycle → IsLassoLines source lasso

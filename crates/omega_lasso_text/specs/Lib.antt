@@ -9,6 +9,7 @@ pub mod Symbols
 pub mod Grammar
 pub mod Text
 pub mod Refusing
+pub mod Lines
 pub mod Written
 pub mod Laws
 pub mod private

@@ -2,6 +2,7 @@
 
 ghost use Rattle.omega_lasso_text.specs.Grammar.{lasso_syntax};
 ghost use Rattle.omega_lasso_text.specs.Laws.{LassoRefusalsAreOne, LassoTextsAreReadOrRefused, LassosAreNotRefused, LassosOfTextsAreOne, WrittenLassosAreRead};
+ghost use Rattle.omega_lasso_text.specs.Laws.{WordsArePassedOver, WrittenLassosHaveNoWord, WrittenLinesAreRead};
 ghost use Rattle.omega_text.specs.Syntax.{SyntaxFaultsAreFirst};
 
 use crate::kind::LassoKind;
@@ -55,4 +56,19 @@ pub fn written_lassos_are_read()
     ends_are_gaps();
     numbers_are_longest();
     words_are_longest();
+}
+
+/// States that the written form of a lasso is what stands before a line of a word that follows it, and that it has no
+/// such line itself.
+pub fn words_are_passed_over()
+    ensures word { WordsArePassedOver }
+    ensures none { WrittenLassosHaveNoWord }
+{}
+
+/// States that a text with the written form of a lasso before its word says that lasso if it keeps the limits of texts
+/// and of numbers.
+pub fn written_lines_are_read()
+    ensures { WrittenLinesAreRead }
+{
+    written_lassos_are_read();
 }

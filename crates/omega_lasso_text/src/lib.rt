@@ -7,6 +7,7 @@ mod format;
 mod kind;
 mod lasso;
 pub mod laws;
+mod lines;
 mod reader;
 mod reading;
 mod stage;
@@ -16,6 +17,7 @@ mod writing;
 
 pub use kind::LassoKind;
 pub use lasso::LassoText;
+pub use lines::read_lasso_lines;
 pub use omega_text::{Refusal, Seq};
 pub use reading::read_lasso;
 pub use writing::write_lasso;
