@@ -9,6 +9,7 @@ use Rattle.omega_io.specs.declared.refused.Refused.{Refused}
 use Rattle.omega_io.specs.declared.refused.Which.TheVariants.{Input}
 use Rattle.omega_io.specs.Refused.{IsAbout, about}
 use Rattle.omega_language_answers.specs.Meet.{IsOfNoText, IsTextRefused}
+use Rattle.omega_language_answers.proofs.Refusals.{text_is_read}
 
 module _ (file input : List ℕ) where
   abbrev IsReported : Refused → Type 0
@@ -26,4 +27,4 @@ module _ (file input : List ℕ) where
       go (Automaton fault) h = record { second = second; second_read = read; refused = h }
       go (Task fault) h = record { second = second; second_read = read; refused = h }
       go Memory h = inl refl
-      go Io h = absurd h
+      go Io h = absurd (text_is_read input h)

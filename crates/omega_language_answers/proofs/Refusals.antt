@@ -3,6 +3,7 @@ use Rattle.std.proofs.Common.{inl, inr, ℕ, List, refl}
 use Rattle.omega_text.specs.Cases.{or_memory}
 use Rattle.omega_text.specs.declared.refusal.Refusal.{Refusal}
 use Rattle.omega_text.specs.declared.refusal.Refusal.TheVariants.{Automaton, Game, Io, Memory, Task, Text}
+use Rattle.omega_hoa.specs.Alone.{IsAutomatonRefusal}
 use Rattle.omega_io.specs.Refused.{IsRefusedOf, about}
 use Rattle.omega_io.specs.declared.refused.Which.TheVariants.{File}
 use Rattle.omega_language_answers.specs.Verify.{RefusesFileFirst}
@@ -26,7 +27,17 @@ memory_or own other then (Task fault) is = then (Task fault) is
 memory_or own other then Memory is = is
 memory_or own other then Io is = then Io is
 
+-- no text of an automaton is refused for a failed read
+pub text_is_read : (text : List ℕ) → ¬ IsAutomatonRefusal text Io
+text_is_read text (inl (e, long)) = cc
+text_is_read text (inr (short, inl (fault, e, is))) = cc
+text_is_read text (inr (short, inr (lexemes, cut, inl (at, e, none)))) = cc
+text_is_read text (inr (short, inr (lexemes, cut, inr segment))) = elim segment.refused [
+  | inl (fault, first) ↦ fault
+  | inr (raw, (next, more, rest, e)) ↦ cc
+]
+
 -- before the input is read, no file is refused for a failed read
 pub file_is_read : (file : List ℕ) → ¬ RefusesFileFirst file Io
-file_is_read file (inl is) = is
-file_is_read file (inr is) = absurd is.refused
+file_is_read file (inl is) = text_is_read file is
+file_is_read file (inr is) = cc is.refused

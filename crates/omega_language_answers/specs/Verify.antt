@@ -13,8 +13,7 @@ use Rattle.omega_lasso_judge.specs.Fault.{IsLassoFault}
 use Rattle.omega_lasso_judge.specs.FaultText.{fault_text}
 use Rattle.omega_lasso_judge.specs.Refusing.{RefusesToJudge}
 use Rattle.omega_lasso_judge.specs.declared.fault.LassoFault.{LassoFault}
-use Rattle.omega_lasso_text.specs.Refusing.{IsLassoRefusal}
-use Rattle.omega_lasso_text.specs.Text.{IsLassoText}
+use Rattle.omega_lasso_text.specs.Lines.{IsLassoLines, IsLassoLinesRefusal}
 use Rattle.omega_lasso_text.specs.declared.lasso.LassoText.{LassoText}
 
 -- `no`, and with `explain` a line that says the fault
@@ -31,12 +30,13 @@ IsLassoVerdict automaton lasso explain No output =
     (¬ IsAcceptingLasso automaton lasso.stem lasso.cycle)
     × ((fault : LassoFault) × IsLassoFault automaton lasso.stem lasso.cycle fault × (output ≡ no_text explain fault))
 
--- the answer of `verify`: the texts are those of an automaton and of a lasso, and the verdict is written
+-- the answer of `verify`: the texts are those of an automaton and of a lasso, with its word or without, and the verdict
+-- is written
 pub record IsLassoAnswer (file input : List ℕ) (explain : Bool) (exit : Exit) (output : List ℕ) : Type 0 where
   pub automaton : Description
   pub automaton_read : IsAutomatonText file automaton
   pub lasso : LassoText
-  pub read : IsLassoText input lasso
+  pub read : IsLassoLines input lasso
   pub verdict : IsLassoVerdict automaton lasso explain exit output
 
 -- the text of the file is that of an automaton with universal branching
@@ -56,7 +56,7 @@ pub record RefusesJudging (file input : List ℕ) (refusal : Refusal) : Type 0 w
   pub automaton_read : IsAutomatonText file automaton
   pub given : has_universal_branching automaton ≡ false
   pub lasso : LassoText
-  pub read : IsLassoText input lasso
+  pub read : IsLassoLines input lasso
   pub refused : RefusesToJudge automaton lasso.stem lasso.cycle refusal
 
 -- the refusal about the file: that before the input is read, or else that of its automaton by the referee
@@ -69,7 +69,7 @@ pub record RefusesLasso (file input : List ℕ) (refusal : Refusal) : Type 0 whe
   pub automaton : Description
   pub automaton_read : IsAutomatonText file automaton
   pub given : has_universal_branching automaton ≡ false
-  pub refused : IsLassoRefusal input refusal
+  pub refused : IsLassoLinesRefusal input refusal
 
 -- the refusal of `verify`: that of the automaton, or that of the lasso's text
 abbrev pub IsLassoAnswerRefusal : (file input : List ℕ) → Refusal → Type 0

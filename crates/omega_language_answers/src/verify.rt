@@ -3,8 +3,7 @@ ghost use Rattle.omega_text.specs.Cases.{or_memory};
 ghost use Rattle.omega_automaton.specs.Branching.{has_universal_branching};
 ghost use Rattle.omega_hoa.specs.Alone.{IsAutomatonText};
 ghost use Rattle.omega_lasso_judge.specs.Refusing.{IsJudgeRefusal};
-ghost use Rattle.omega_lasso_text.specs.Refusing.{IsReadLassoRefusal};
-ghost use Rattle.omega_lasso_text.specs.Text.{IsLassoText};
+ghost use Rattle.omega_lasso_text.specs.Lines.{IsLassoLines, IsReadLassoLinesRefusal};
 ghost use Rattle.omega_io.specs.Refused.{IsRefusedOf};
 ghost use Rattle.omega_language_answers.specs.Verify.{IsLassoAnswer, IsLassoVerdict, no_text};
 ghost use Rattle.omega_language_answers.specs.Verify.{RefusesAutomaton, RefusesFileFirst, RefusesLasso};
@@ -13,13 +12,13 @@ use omega_automaton::{Automaton, Refusal, has_universal_branching};
 use omega_hoa::read_one;
 use omega_io::{Exit, Refused, Which};
 use omega_lasso_judge::{LassoFault, judge_lasso, write_lasso_fault};
-use omega_lasso_text::{LassoText, read_lasso};
+use omega_lasso_text::{LassoText, read_lasso_lines};
 use omega_text::TaskFault;
 use std::alloc::Global;
 
 /// Judges whether the lasso of `input`, given by the numbers of its edges, is an accepting lasso of the automaton of
-/// `file`, without a search for one. If it is not and `explain` is set, the answer also says why. Both texts are
-/// dropped once they are read.
+/// `file`, without a search for one. A line of its word, as `empty --word` writes it, is passed over. If the lasso is
+/// not an accepting one and `explain` is set, the answer also says why. Both texts are dropped once they are read.
 ///
 /// Fails with the [Refusal::Text] or [Refusal::Automaton] of `file`, or else with [TaskFault::UniversalBranch] of its
 /// automaton. Or else fails with the [Refusal::Text] of `input`, and then with [TaskFault::TooManyPropositions] of the
@@ -62,12 +61,12 @@ fn automaton_in(alloc: Global, text: Vec<u8>) -> Result<Automaton, Refusal>
     Ok(automaton)
 }
 
-/// Reads the lasso of `text`, which is dropped.
+/// Reads the lasso of `text`, which is dropped. A line of its word is passed over.
 fn lasso_in(alloc: Global, text: Vec<u8>) -> Result<LassoText, Refusal>
-    ensures lasso { IfOk result (IsLassoText text.items) }
-    ensures refused { IfErr result (IsReadLassoRefusal text.items) }
+    ensures lasso { IfOk result (IsLassoLines text.items) }
+    ensures refused { IfErr result (IsReadLassoLinesRefusal text.items) }
 {
-    read_lasso(alloc, text.as_slice())
+    read_lasso_lines(alloc, text.as_slice())
 }
 
 /// Returns the verdict on `lasso` as one of `automaton`, with the fault of the lasso if `explain` is set. Fails as
