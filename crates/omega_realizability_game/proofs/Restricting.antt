@@ -14,11 +14,11 @@ use Rattle.omega_realizability_game.specs.Answering.{CanAnswer, is_controlled, r
 use Rattle.omega_realizability_game.specs.RoundsOf.{holds_in}
 
 -- what is among numbers is contained in them
-uncontrolled : (controlled : List ℕ) (p : ℕ) → is_controlled controlled p ≡ false → Contains controlled p → ⊥
+pub uncontrolled : (controlled : List ℕ) (p : ℕ) → is_controlled controlled p ≡ false → Contains controlled p → ⊥
 uncontrolled controlled p none has =
     false≢true (sym none ∙ list_any_at (λ q. q == p) controlled has.0 p has.1 (eq-eqb (get_or controlled has.0 p) p has.2))
 
-among : (controlled : List ℕ) (p : ℕ) → is_controlled controlled p ≡ true → Contains controlled p
+pub among : (controlled : List ℕ) (p : ℕ) → is_controlled controlled p ≡ true → Contains controlled p
 among [] p is = absurd (false≢true is)
 among (q ∷ qs) p is = elim (or_cases (q == p) (is_controlled qs p) is) [
   | inl here ↦ (0, omega arith, eqb-true q p here)

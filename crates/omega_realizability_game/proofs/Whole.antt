@@ -24,7 +24,7 @@ is_index_label : (a : Description) (number : ℕ) → IsIndexLabel a number (val
 is_index_label a number held =
     (valuation_held held (index_in a.defined number) (length a.propositions), valuation_true held (index_in a.defined number) (length a.propositions))
 
-answers_is : EdgesAreTakenWhereTrue → (a : Description) (controlled : List ℕ) (number : ℕ) (given : ℕ → Bool) (edge : BodyEdge)
+pub answers_is : EdgesAreTakenWhereTrue → (a : Description) (controlled : List ℕ) (number : ℕ) (given : ℕ → Bool) (edge : BodyEdge)
     → edge_at a number ≡ Some edge → CanAnswer controlled (whole_label a number edge) given ↔ Answers a controlled number given
 answers_is law a controlled number given edge numbered =
     let index_label : LabelTree = valuation_label (index_in a.defined number) (length a.propositions) in (

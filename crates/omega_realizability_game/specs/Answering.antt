@@ -60,13 +60,7 @@ IsSomeUnanswered a controlled letter =
     or_task (λ fault. (number : ℕ) × ((edge : BodyEdge) × (edge_at a number ≡ Some edge)
     × IsUnjudged controlled letter (whole_label a number edge) fault)) (or_memory never)
 
--- an edge with a number from `first` up to `end` answers the environment's letter
-pub record IsAnswerFrom (a : Description) (controlled : List ℕ) (given : ℕ → Bool) (first end number : ℕ) : Type 0 where
-  pub from : first ≤ number
-  pub until : number < end
-  pub answers : Answers a controlled number given
-
--- the numbers are those of the edges, from `first` up to `end`, that answer the environment's letter
-abbrev pub AreAnswersFrom : Description → List ℕ → (ℕ → Bool) → ℕ → ℕ → List ℕ → Type 0
-AreAnswersFrom a controlled given first end numbers =
-    (number : ℕ) → Contains numbers number ↔ IsAnswerFrom a controlled given first end number
+-- the answers are those of the edges with these numbers that answer the environment's letter
+abbrev pub AreAnswersAmong : Description → List ℕ → List ℕ → (ℕ → Bool) → List ℕ → Type 0
+AreAnswersAmong a controlled numbers given answers =
+    (number : ℕ) → Contains answers number ↔ (Contains numbers number × Answers a controlled number given)

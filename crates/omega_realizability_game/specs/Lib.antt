@@ -4,3 +4,4 @@ pub use Rattle.omega_rounds.specs.Rounds
 pub mod RoundsOf
 pub mod Answering
 pub mod Laws
+pub mod Making

@@ -91,7 +91,7 @@ fn proposition_left(number: u32, controlled: &[u32], letter: &[u32]) -> LabelSha
 }
 
 /// Whether `number` is one of `numbers`.
-fn is_among(numbers: &[u32], number: u32) -> bool
+pub(crate) fn is_among(numbers: &[u32], number: u32) -> bool
     ensures { result ≡ is_controlled numbers.now number }
 {
     numbers.iter().any(|other| *other == number)

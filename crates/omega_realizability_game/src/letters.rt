@@ -1,9 +1,9 @@
 //! Whether an edge answers an environment's letter.
 
-ghost use Rattle.std.specs.Prelude.{◌↔◌, ◌≤◌, IfErr, IfOk, IsTrue, length};
+ghost use Rattle.std.specs.Prelude.{◌↔◌, ◌<◌, All, IfErr, IfOk, IsTrue, length};
 ghost use Rattle.omega_controllers.specs.Controllers.{Answers};
 ghost use Rattle.omega_runs.specs.Places.{ArePlaces, EdgeStandsAt};
-ghost use Rattle.omega_realizability_game.specs.Answering.{AreAnswersFrom, IsSomeUnanswered, IsUnanswered};
+ghost use Rattle.omega_realizability_game.specs.Answering.{AreAnswersAmong, IsSomeUnanswered, IsUnanswered};
 ghost use Rattle.omega_realizability_game.specs.RoundsOf.{holds_in};
 
 use crate::answering::can_answer;
@@ -13,30 +13,28 @@ use omega_runs::{EdgePlace, edges_are_taken_where_true};
 use omega_text::Numbers;
 use std::alloc::Global;
 
-/// Returns the numbers from `first` up to `end` of the edges of `automaton` that answer the environment's `letter`, by
-/// the `places` of all edges. Fails as `answers_letter` does.
+/// Returns those of the edges of `automaton` with these `numbers` that answer the environment's `letter`. Reads the
+/// `places` of all edges. Fails as `answers_letter` does.
 pub fn answering_edges(
     alloc: Global,
     automaton: &Automaton,
     places: &[EdgePlace],
-    first: u32,
-    end: u32,
+    numbers: &[u32],
     controlled: &[u32],
     letter: &[u32],
 ) -> Result<Numbers, Refusal>
     requires places { ArePlaces automaton.now places.now }
-    requires ordered { first ≤ end }
-    requires end { end ≤ length places.now }
+    requires numbers { All (λ number. number < length places.now) numbers.now }
     ensures answers { IfOk result
-        (AreAnswersFrom automaton.now controlled.now (holds_in letter.now) first end) }
+        (AreAnswersAmong automaton.now controlled.now numbers.now (holds_in letter.now)) }
     ensures refused { IfErr result (IsSomeUnanswered automaton.now controlled.now letter.now) }
 {
     let mut answers = Numbers::new();
-    for number in first..end {
-        let place = places[number as usize];
-        let here = answers_letter(alloc, automaton, place, number, controlled, letter)?;
+    for number in numbers {
+        let place = places[*number as usize];
+        let here = answers_letter(alloc, automaton, place, *number, controlled, letter)?;
         if here {
-            answers.push(alloc, number)?;
+            answers.push(alloc, *number)?;
         }
     }
     Ok(answers)

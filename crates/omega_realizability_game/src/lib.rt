@@ -5,9 +5,16 @@
 #![tactic(auto)]
 
 mod answering;
+mod inputs;
 mod laws;
+mod leaving;
 mod letters;
+mod making;
+mod questions;
+mod round_edges;
+mod states;
 
 pub use answering::can_answer;
 pub use laws::{answerings_are_controllers, askings_are_counter_strategies, no_start_is_refused};
 pub use letters::{answering_edges, answers_letter};
+pub use making::{LetteredRounds, rounds_of};

@@ -1,0 +1,6 @@
+use Rattle.std.proofs.Common.{◌≡◌, take}
+use Rattle.omega_realizability_game.specs.Making.{inputs_of}
+use Rattle.omega_realizability_game.proofs.inputs.mentioned_inputs.Given as goal
+
+abbrev pub invariant-loop-number : goal.invariant-loop-number
+invariant-loop-number l = l.inputs ≡ inputs_of l.automaton l.controlled (take l.number-index l.numbers)
