@@ -1,2 +1,3 @@
 -- Lemmas of realizability.
 pub mod Realized
+pub mod Refused

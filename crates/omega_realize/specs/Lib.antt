@@ -2,3 +2,4 @@
 pub use Rattle.omega_controllers.specs.Controllers
 pub use Rattle.omega_realizability_game.specs.RoundsOf
 pub mod Realizing
+pub mod Refusing

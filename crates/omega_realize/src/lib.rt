@@ -4,10 +4,12 @@
 //! docs/formats.md says when each refusal comes.
 #![tactic(auto)]
 
+mod deciding;
+mod posing;
 mod realizability;
 mod realizing;
 
+pub use deciding::realize;
 pub use omega_automaton::{Automaton, Refusal};
-pub use omega_rounds_solving::{Numbers, Rounds, Seq};
+pub use omega_rounds_solving::{Numbers, Seq};
 pub use realizability::Realizability;
-pub use realizing::realize_rounds;

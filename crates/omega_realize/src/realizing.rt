@@ -18,7 +18,7 @@ use std::alloc::Global;
 /// counter-strategy.
 ///
 /// Fails as `solve_rounds` does.
-pub fn realize_rounds(
+pub(crate) fn realize_rounds(
     alloc: Global,
     automaton: &Automaton,
     _controlled: &[u32],
