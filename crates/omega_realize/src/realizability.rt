@@ -5,7 +5,7 @@ use omega_text::{Numbers, Seq};
 pub enum Realizability {
     /// There is a controller.
     Realizable {
-        /// The numbers of its edges.
+        /// The numbers of its edges. One that answers several letters is listed for each of them.
         kept: Seq<u32>,
     },
     /// There is a counter-strategy.
