@@ -1,6 +1,3 @@
--- Lemmas by what they are about: what products accept, what complements accept, texts that are read back, and what the
--- texts of both say together.
+-- Lemmas by what they are about: texts that are read back, and what the texts of products and complements say together.
 pub mod containing
-pub mod meeting
-pub mod parting
 pub mod reading_back

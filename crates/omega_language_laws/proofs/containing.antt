@@ -1,4 +1,2 @@
 -- That texts which are met and complemented say whether the words of one are words of another.
-pub mod Named
-pub mod Parted
 pub mod Texts

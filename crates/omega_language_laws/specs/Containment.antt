@@ -6,8 +6,9 @@ use Rattle.omega_hoa.specs.Alone.{IsAutomatonText}
 use Rattle.omega_empty_answers.specs.empty.Answer.{IsEmptyAnswer, IsEmptySearchAnswer}
 use Rattle.omega_language_answers.specs.Complement.{IsComplementAnswer}
 use Rattle.omega_language_answers.specs.Meet.{IsMeetAnswer}
-use Rattle.omega_language_laws.specs.Complements.{RecursOrCeases}
-use Rattle.omega_language_laws.specs.NamedWords.{NamedWord, TextAccepts}
+use Rattle.omega_word_laws.specs.Complements.{RecursOrCeases}
+use Rattle.omega_word_laws.specs.NamedWords.{NamedWord}
+use Rattle.omega_language_laws.specs.TextWords.{TextAccepts}
 
 -- what `meet` writes for two texts is, within the limit of texts, the text of an automaton; it accepts a word exactly
 -- if both texts do

@@ -1,7 +1,5 @@
--- The laws of products and complements, of their texts, and of containment.
+-- The laws of the texts of products and complements, and of containment by texts.
 pub mod ComplementTexts
-pub mod Complements
 pub mod Containment
-pub mod NamedWords
 pub mod ProductTexts
-pub mod Products
+pub mod TextWords

@@ -2,21 +2,13 @@
 //! does nothing and states one law.
 
 ghost use Rattle.omega_language_laws.specs.Containment.{EmptyMeansContained, LassosMeanNotContained, MetTextsAcceptBoth};
-ghost use Rattle.omega_language_laws.specs.NamedWords.{WordsAreNamed};
 
 use crate::complement_texts::complements_are_read_back;
-use crate::complements::{complements_are_apart, complements_cover};
 use crate::product_texts::products_are_read_back;
-use crate::products::products_meet;
 use omega_automaton::meanings_are_automata;
 use omega_hoa::automata_are_one;
 use omega_runs::{empty_accepts_no_word, lassos_have_accepted_words};
-
-/// Shows that words over names miss no word: each word by the numbers of propositions is accepted exactly if the part
-/// of some word over names is.
-pub fn words_are_named()
-    ensures { WordsAreNamed }
-{}
+use omega_word_laws::{complements_are_apart, complements_cover, products_meet, words_are_named};
 
 /// Shows that what `meet` writes for two texts is the text of an automaton that accepts a word exactly if both texts
 /// do, if it is within the limit of texts.

@@ -1,13 +1,10 @@
 -- What `meet`, `complement` and `empty` write of texts, one after the other.
-use Rattle.std.proofs.Common.{◌≡◌, ◌⊎◌, ◌↔◌, ℕ, ◌≤◌, inl, inr, Bool, true, false, List, [], length, codes, sym, ap, subst, ◌∙◌, arith}
-use Rattle.std.specs.Prelude.{option_map, slice_index_or}
-use Rattle.std.specs.Option.{unwrap_or}
+use Rattle.std.proofs.Common.{◌≡◌, ◌⊎◌, ◌↔◌, ℕ, ◌≤◌, inl, inr, Bool, true, false, List, length, codes, sym, ap, subst, arith}
+use Rattle.std.specs.Prelude.{slice_index_or}
 use Rattle.omega_text.specs.Limits.{most_text}
 use Rattle.omega_automaton.specs.Automaton.{Description, IsAutomaton}
 use Rattle.omega_automaton.specs.Branching.{has_universal_branching}
-use Rattle.omega_automaton.specs.Items.{first_said, propositions_in}
 use Rattle.omega_automaton.specs.Laws.{MeaningsAreAutomata}
-use Rattle.omega_raw.specs.declared.raw_item.RawItem.{RawItem}
 use Rattle.omega_hoa.specs.Alone.{IsAutomatonText}
 use Rattle.omega_hoa.specs.Laws.{AutomataAreOne}
 use Rattle.omega_runs.specs.Laws.{EmptyAcceptsNoWord}
@@ -15,21 +12,18 @@ use Rattle.omega_runs.specs.Verdict.{IsVerdict}
 use Rattle.omega_runs.specs.Words.{IsAccepted, LassosHaveAcceptedWords}
 use Rattle.omega_runs.specs.declared.verdict.Verdict.{Verdict}
 use Rattle.omega_runs.specs.declared.verdict.Verdict.TheVariants.{Empty, Lasso}
-use Rattle.omega_complement.specs.Complement.{IsComplement}
 use Rattle.omega_empty_answers.specs.empty.Answer.{emptiness_text, lasso_lines}
 use Rattle.omega_language_answers.specs.Meet.{IsMeetAnswer}
 use Rattle.omega_language_laws.specs.ComplementTexts.{ComplementsAreReadBack}
-use Rattle.omega_language_laws.specs.Complements.{ComplementsAreApart, ComplementsCover}
+use Rattle.omega_word_laws.specs.Complements.{ComplementsAreApart, ComplementsCover}
 use Rattle.omega_language_laws.specs.Containment.{EmptyMeansContained, IsContainmentAnswer, IsEmptinessAnswer, LassosMeanNotContained, MetTextsAcceptBoth}
-use Rattle.omega_language_laws.specs.NamedWords.{NamedWord, TextAccepts, WordsAreNamed, part_of}
+use Rattle.omega_word_laws.specs.NamedWords.{AcceptsNamed, NamedWord, WordsAreNamed, part_of}
 use Rattle.omega_language_laws.specs.ProductTexts.{ProductsAreReadBack}
-use Rattle.omega_language_laws.specs.Products.{ProductsMeet}
-use Rattle.omega_language_laws.proofs.containing.Parted.{products_meet_named}
-use Rattle.omega_language_laws.proofs.parting.Plain.{or_parts}
-
--- an automaton accepts its part of a word over names
-abbrev AcceptsNamed : Description → NamedWord → Type 0
-AcceptsNamed a word = IsAccepted a (part_of a.propositions word)
+use Rattle.omega_language_laws.specs.TextWords.{TextAccepts}
+use Rattle.omega_word_laws.specs.Products.{ProductsMeet}
+use Rattle.omega_word_laws.proofs.naming.Parted.{products_meet_named}
+use Rattle.omega_word_laws.proofs.naming.Same.{same_names}
+use Rattle.omega_word_laws.proofs.parting.Plain.{or_parts}
 
 is_automaton : MeaningsAreAutomata → (text : List ℕ) (a : Description) → IsAutomatonText text a → IsAutomaton a
 is_automaton automata text a read = automata read.value.raw a read.value.means
@@ -102,11 +96,6 @@ no_lasso a true stem cycle e = let first : 101 ≡ 115 = ap (λ (text : List ℕ
 is_empty : (a : Description) (with_word : Bool) (verdict : Verdict) → IsVerdict a verdict → codes "empty\n" ≡ emptiness_text a with_word verdict → IsVerdict a Empty
 is_empty a with_word Empty right written = right
 is_empty a with_word (Lasso stem cycle) right written = absurd (no_lasso a with_word stem cycle written)
-
--- the propositions of a complement are those of its automaton
-same_names : (a c : Description) → IsComplement a c → c.propositions ≡ a.propositions
-same_names a c (raw, written, means) =
-    means.propositions ∙ ap (λ (items : List RawItem). unwrap_or (option_map (λ named. named.names) (first_said propositions_in items)) []) written.items
 
 module _ (one : AutomataAreOne) (automata : MeaningsAreAutomata) (back : ComplementsAreReadBack) (both : MetTextsAcceptBoth)
     (text other output : List ℕ) (is : IsContainmentAnswer text other output) where

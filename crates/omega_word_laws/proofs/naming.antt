@@ -1,0 +1,4 @@
+-- Words over names: what automata see of them, and what products and complements accept of them.
+pub mod Named
+pub mod Parted
+pub mod Same

@@ -1,0 +1,4 @@
+-- The laws of products and complements, and words over names.
+pub mod Complements
+pub mod NamedWords
+pub mod Products

@@ -1,0 +1,13 @@
+//! Laws of products and complements: the words that they accept, by numbers of propositions and by their names. No code
+//! that runs.
+#![tactic(auto)]
+
+mod complements;
+mod named_words;
+mod products;
+
+pub use complements::{
+    complements_are_apart, complements_are_one, complements_are_writable, complements_cover,
+};
+pub use named_words::words_are_named;
+pub use products::{products_are_one, products_meet};
