@@ -31,6 +31,9 @@ BESIDE_HEADLINE = "; that the program keeps the bound and answers exactly is in 
 CONTAINMENT = "omega_language_laws.specs.Containment"
 CONTAINMENT_LAWS = ("EmptyMeansContained", "LassosMeanNotContained")
 CONTAINMENT_ANSWERS = frozenset({"IsComplementAnswer", "IsMeetAnswer", "IsEmptyAnswer", "IsEmptySearchAnswer"})
+# What the calls of the library on containment answer, where they answer.
+CALLED = "omega_containment.specs"
+CALLS = {"contained": ("Containing", "IsContainment"), "equal": ("Equality", "IsEquality")}
 
 # Each promise, with the beginnings of the rows that are its own.
 COMMANDS = {
@@ -96,7 +99,8 @@ whole program.
 
 The row of containment is what the answers of `complement`, `meet` and `empty` say of two texts, one after the other. It
 counts what texts, runs and words are. What a product and a complement are is not among it, since the laws say what the
-answers mean.
+answers mean. The two rows of the library's calls on containment are their answers alone. Their refusals are those of
+`complement`, `product` and `lasso`, and rest on what these are.
 
 **How to read one.** Each section below lists the files of `crates/CRATE/specs/` in an order in which nothing is cited
 before it was read, and how many lines of each file are needed. `checks/believing.py check --format pg` prints just
@@ -389,6 +393,9 @@ def promises(sources: Sources) -> Iterator[tuple[str, list[Believed]]]:
         yield f"`omega {label}`", sources.reached(sources.rows_cite(arguments))
     laws = [sources.held[CONTAINMENT, law] for law in CONTAINMENT_LAWS]
     yield CONTAINED, sources.reached(laws, CONTAINMENT_ANSWERS)
+    for call, (module, answer) in CALLS.items():
+        held = sources.held[f"{CALLED}.{module}", answer]
+        yield f"answers of `{call}` of `omega_containment`", sources.reached([held])
     read_words = clause_words("crates/omega_command_line/src/words.rt", "read_words")
     yield "the words of the command line, `read_words`", sources.reached(sources.cited(read_words))
     obey = clause_words("crates/omega_run/src/obeying.rt", "obey")

@@ -1,0 +1,4 @@
+-- Lemmas of containment: words along a lasso, strings, and answers.
+pub mod Along
+pub mod Strings
+pub mod Answering

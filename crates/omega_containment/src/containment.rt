@@ -1,0 +1,17 @@
+use omega_text::Seq;
+
+/// Whether an automaton accepts only words that another accepts.
+#[derive(Debug, Drop, PartialEq, Eq)]
+pub enum Containment {
+    /// The other accepts each word that the one accepts.
+    Contained,
+    /// The one accepts a word that the other does not accept.
+    NotContained(Counterexample),
+}
+
+/// Words that an automaton accepts and another does not.
+#[derive(Debug, Drop, PartialEq, Eq)]
+pub struct Counterexample {
+    /// The text of the words, as Spot writes words. Its letters are formulas over the names of both automata.
+    pub word: Seq<u8>,
+}

@@ -1,0 +1,41 @@
+//! Equality of languages by containment both ways.
+
+ghost use Rattle.std.specs.Prelude.{IfErr, IfOk, OnOk};
+ghost use Rattle.omega_containment.specs.Equality.{AreEquatable, IsEquality, IsEqualityRefusal};
+
+use crate::containing::contained;
+use crate::containment::{Containment, Counterexample};
+use omega_automaton::{Automaton, Refusal};
+use std::alloc::Global;
+
+/// Whether two automata accept the same words.
+#[derive(Debug, Drop, PartialEq, Eq)]
+pub enum Equality {
+    /// They accept the same words.
+    Equal,
+    /// The first accepts a word that the second does not accept.
+    OnlyFirst(Counterexample),
+    /// The first accepts no other words than the second, but the second accepts a word that the first does not accept.
+    OnlySecond(Counterexample),
+}
+
+/// Returns whether two automata, which are to be deterministic, accept the same words. If not, returns a counterexample
+/// of the automaton that accepts more: of `first` if both accept words that the other does not.
+///
+/// Fails with the refusal of `contained` for `first` in `second`, or else with that for `second` in `first`. Both are
+/// asked whatever the answer to the first is, so a refusal does not depend on it. Takes the time of both.
+pub fn equal(alloc: Global, first: &Automaton, second: &Automaton) -> Result<Equality, Refusal>
+    ensures right { IfOk result (IsEquality first.now second.now) }
+    ensures given { OnOk result (AreEquatable first.now second.now) }
+    ensures refused { IfErr result (IsEqualityRefusal first.now second.now) }
+{
+    let there = contained(alloc, first, second)?;
+    let back = contained(alloc, second, first)?;
+    match there {
+        Containment::NotContained(example) => Ok(Equality::OnlyFirst(example)),
+        Containment::Contained => match back {
+            Containment::NotContained(example) => Ok(Equality::OnlySecond(example)),
+            Containment::Contained => Ok(Equality::Equal),
+        },
+    }
+}
