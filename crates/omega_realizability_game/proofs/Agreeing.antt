@@ -9,7 +9,7 @@ use Rattle.omega_satisfying.specs.Satisfiable.{each_once}
 use Rattle.omega_automaton.specs.Automaton.{BodyEdge, Description, edge_at}
 use Rattle.omega_runs.specs.Laws.{EdgesAreTakenWhereTrue}
 use Rattle.omega_runs.specs.Words.{CanBeTaken}
-use Rattle.omega_controllers.specs.Controllers.{AgreeOnInputs, Answers}
+use Rattle.omega_controllers.specs.Controllers.{Answers}
 use Rattle.omega_realizability_game.specs.Answering.{CanAnswer, is_controlled, whole_label}
 use Rattle.omega_realizability_game.specs.Making.{AllAnswer, AreAnswered, AreQuestionsOf, input_mentions, inputs_of, label_of_number}
 use Rattle.omega_realizability_game.specs.RoundsOf.{holds_in, letter_of}
@@ -138,6 +138,7 @@ module _ (law : EdgesAreTakenWhereTrue) (a : Description) (controlled numbers : 
       outside : (b own other : Bool) → (b ≡ true → ⊥) → other ≡ cond b own other
       outside true own other free = absurd (free refl)
       outside false own other free = refl
+
       inside : (p : ℕ) (b : Bool) → is_controlled controlled p ≡ b → (own other : Bool) → (is_controlled controlled p ≡ false → other ≡ own)
           → cond b own other ≡ own
       inside p true is own other same = refl

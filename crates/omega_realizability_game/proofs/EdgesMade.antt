@@ -1,12 +1,11 @@
 -- An edge of the rounds is that of the automaton, and one edge more.
-use Rattle.std.proofs.Common.{◌≡◌, ℕ, zero, suc, ◌+◌, ◌-◌, ◌<◌, ◌≤◌, inl, inr, Bool, true, false, cond, List, [], ◌∷◌, ◌++◌, length, max, get_or, All, Some, sym, ap, refl, ◌∙◌, subst, arith, length-append}
+use Rattle.std.proofs.Common.{◌≡◌, ℕ, zero, suc, ◌+◌, ◌<◌, ◌≤◌, inl, inr, Bool, true, false, cond, List, [], ◌∷◌, ◌++◌, length, get_or, All, Some, sym, ap, refl, ◌∙◌, subst, arith, length-append}
 use Rattle.std.proofs.lemmas.Bool.{cases_eq}
 use Rattle.std.proofs.Math.Seq.{get_or-append_seam}
 use Rattle.std.proofs.lemmas.List.{get_or_append_left}
 use Rattle.std.proofs.lemmas.List.Elements.{All-head, All-tail}
-use Rattle.omega_text.specs.Limits.{most_number}
 use Rattle.omega_formula.specs.Acceptance.{acc_depth, conjunction, disjunction, fin, inf}
-use Rattle.omega_formula.specs.Kind.{beyond, formula_of, has_parity, least_from, least_mark, parity_formula, priority_by, priority_of, sets_left}
+use Rattle.omega_formula.specs.Kind.{beyond, formula_of, has_parity, least_from, priority_by, priority_of, sets_left}
 use Rattle.omega_formula.specs.declared.kind.AccKind.TheVariants as kinds
 use Rattle.omega_formula.specs.declared.kind.Order.{Order}
 use Rattle.omega_formula.specs.declared.kind.Order.TheVariants.{Max, Min}
@@ -70,8 +69,13 @@ length-sets_left order count (suc following) = ap suc (length-sets_left order co
 -- the sets of a kind are at most as many as its formula is deep
 pub count_low : (a : Description) (kind : ParityKind) → IsAutomaton a → HasKind a (kinds.Parity kind) → kind.count ≤ 256
 count_low a kind automaton has =
-    omega (arith, automaton.shallow, ap acc_depth has.row.formula_is, formula_deep kind.order kind.parity (sets_left kind.order kind.count kind.count),
-    length-sets_left kind.order kind.count kind.count)
+    omega (
+      arith,
+      automaton.shallow,
+      ap acc_depth has.row.formula_is,
+      formula_deep kind.order kind.parity (sets_left kind.order kind.count kind.count),
+      length-sets_left kind.order kind.count kind.count,
+    )
 
 module _ (a : Description) (kind : ParityKind) (automaton : IsAutomaton a) (has : HasKind a (kinds.Parity kind))
     (number : ℕ) (place : EdgePlace) (stands : EdgeStandsAt a number place) where

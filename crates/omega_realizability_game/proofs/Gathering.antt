@@ -1,5 +1,5 @@
 -- The questions of one state more.
-use Rattle.std.proofs.Common.{◌≡◌, ℕ, zero, suc, ◌+◌, ◌-◌, ◌^◌, ◌<◌, ◌≤◌, ◌⊎◌, inl, inr, Bool, false, All, List, [], ◌∷◌, ◌++◌, length, get_or, take, Contains, sym, ap, refl, ◌∙◌, subst, arith, add-zero, length-append, Result, Ok, Err}
+use Rattle.std.proofs.Common.{◌≡◌, ℕ, zero, suc, ◌+◌, ◌-◌, ◌^◌, ◌<◌, inl, inr, false, All, List, [], ◌∷◌, ◌++◌, length, get_or, take, sym, ap, refl, ◌∙◌, subst, arith, add-zero, length-append, Result, Ok, Err}
 use Rattle.std.specs.Prelude.{IfErr, sum_by}
 use Rattle.std.proofs.Math.Seq.{get_or-append_seam}
 use Rattle.std.proofs.lemmas.Bool.{cases_eq, cases_lt}
@@ -117,8 +117,7 @@ module _ (a : Description) (controlled : List ℕ) where
       every = λ s given below. elim (cases_eq s index) [
         | inl same ↦
             let found = of.every given in
-            let q : ℕ = length answers + found.0 in
-            (
+            let q : ℕ = length answers + found.0 in (
               q,
               subst (λ (range : QuestionRange). IsInRange range q) (new_range s same) (omega arith, omega (arith, found.1, of.answered.entries)),
               subst (λ (list : List ℕ). AllAnswer a controlled given list) (new_answer found.0 q refl) found.2,
@@ -126,8 +125,7 @@ module _ (a : Description) (controlled : List ℕ) where
         | inr apart ↦
             let earlier : s < index = omega (arith, below, apart) in
             let found = are.every s given earlier in
-            let early : found.0 < length answers = omega (arith, found.1.1, are.within s earlier) in
-            (
+            let early : found.0 < length answers = omega (arith, found.1.1, are.within s earlier) in (
               found.0,
               subst (λ (range : QuestionRange). IsInRange range found.0) (old_range s earlier) found.1,
               subst (λ (list : List ℕ). AllAnswer a controlled given list) (old_answer found.0 early) found.2,

@@ -11,9 +11,9 @@ pub leaving_none : (edges : List RoundEdge) (states : ℕ) (lists : List (List �
 leaving_none edges states lists is = record {
   entries = ap length is ∙ length-replicate states [];
   each = λ state number below. (
-      λ has. absurd (let none : Contains [] number = subst (λ (list : List ℕ). Contains list number) (ap (λ (all : List (List ℕ)). get_or all state []) is ∙ get_or-replicate states state [] [] below) has in omega (arith, none.1)),
-      λ leaves. absurd (omega (arith, leaves.0)),
-    );
+    λ has. absurd (let none : Contains [] number = subst (λ (list : List ℕ). Contains list number) (ap (λ (all : List (List ℕ)). get_or all state []) is ∙ get_or-replicate states state [] [] below) has in omega (arith, none.1)),
+    λ leaves. absurd (omega (arith, leaves.0)),
+  );
 }
 
 module _ (edges : List RoundEdge) (states end source : ℕ) (lists : List (List ℕ)) (are : AreLeaving edges states end lists)
@@ -33,17 +33,17 @@ module _ (edges : List RoundEdge) (states end source : ℕ) (lists : List (List 
     each = λ state number below.
         elim (cases_eq state source) [
           | inl same ↦ (
-              λ has. elim (Contains-push_cases (get_or lists source []) end number (subst (λ (list : List ℕ). Contains list number) (ap (λ s. get_or longer s []) same ∙ own) has)) [
-                | inl old ↦ later state number ((are.each state number below).0 (subst (λ (s : ℕ). Contains (get_or lists s []) number) (sym same) old))
-                | inr last ↦ (omega (arith, last), ap (λ n. (get_or edges n no_edge).source) (sym last) ∙ sym source_is ∙ sym same)
-              ],
-              λ leaves. subst (λ (list : List ℕ). Contains list number) (sym (ap (λ s. get_or longer s []) same ∙ own))
-                  (elim (cases_eq number end) [
-                    | inl last ↦ subst (λ (n : ℕ). Contains (get_or lists source [] ++ end ∷ []) n) (sym last) (Contains-push (get_or lists source []) end)
-                    | inr apart ↦ Contains-append_left (get_or lists source []) (end ∷ []) number
-                        (subst (λ (s : ℕ). Contains (get_or lists s []) number) same ((are.each state number below).1 (omega (arith, leaves.0, apart), leaves.1)))
-                  ]),
-            )
+            λ has. elim (Contains-push_cases (get_or lists source []) end number (subst (λ (list : List ℕ). Contains list number) (ap (λ s. get_or longer s []) same ∙ own) has)) [
+              | inl old ↦ later state number ((are.each state number below).0 (subst (λ (s : ℕ). Contains (get_or lists s []) number) (sym same) old))
+              | inr last ↦ (omega (arith, last), ap (λ n. (get_or edges n no_edge).source) (sym last) ∙ sym source_is ∙ sym same)
+            ],
+            λ leaves. subst (λ (list : List ℕ). Contains list number) (sym (ap (λ s. get_or longer s []) same ∙ own))
+                (elim (cases_eq number end) [
+                  | inl last ↦ subst (λ (n : ℕ). Contains (get_or lists source [] ++ end ∷ []) n) (sym last) (Contains-push (get_or lists source []) end)
+                  | inr apart ↦ Contains-append_left (get_or lists source []) (end ∷ []) number
+                      (subst (λ (s : ℕ). Contains (get_or lists s []) number) same ((are.each state number below).1 (omega (arith, leaves.0, apart), leaves.1)))
+                ]),
+          )
           | inr apart ↦
               let other : get_or longer state [] ≡ get_or lists state [] = get_or-set_other lists source state (get_or lists source [] ++ end ∷ []) [] apart in (
                 λ has. later state number ((are.each state number below).0 (subst (λ (list : List ℕ). Contains list number) other has)),

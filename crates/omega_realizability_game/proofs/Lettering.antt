@@ -1,5 +1,5 @@
 -- Letters over inputs, one input more.
-use Rattle.std.proofs.Common.{◌≡◌, ◌==◌, ℕ, zero, suc, ◌+◌, ◌*◌, ◌^◌, ◌<◌, inl, inr, Bool, true, false, cond, not, List, [], ◌∷◌, ◌++◌, length, map, take, get_or, Contains, sym, ap, refl, ◌∙◌, subst, arith, add-one, pow-suc, length-append}
+use Rattle.std.proofs.Common.{◌≡◌, ℕ, zero, suc, ◌+◌, ◌*◌, ◌^◌, ◌<◌, Bool, true, false, cond, List, [], ◌∷◌, ◌++◌, length, map, take, get_or, Contains, sym, ap, refl, ◌∙◌, subst, arith, add-one, pow-suc, length-append}
 use Rattle.std.specs.Prelude.{filter}
 use Rattle.std.proofs.lemmas.List.{append-nil, length-map, take_more}
 use Rattle.std.proofs.lemmas.List.Elements.{Contains-append_left, Contains-append_right, filter-append}
@@ -38,6 +38,7 @@ module _ (inputs : List ℕ) (index input : ℕ) (below : index < length inputs)
       go given false =
           subst (λ (letter : List ℕ). Contains (letters ++ map (λ letter. letter ++ input ∷ []) letters) letter) (sym (append-nil (filter given (take index inputs))))
           (Contains-append_left letters (map (λ letter. letter ++ input ∷ []) letters) (filter given (take index inputs)) (are.each given))
+
       power : (n : ℕ) → 2 ^ (n + 1) ≡ 2 ^ n * 2
       power n = ap (λ m. 2 ^ m) (add-one n) ∙ pow-suc 2 n
 

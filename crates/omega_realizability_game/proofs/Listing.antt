@@ -33,10 +33,10 @@ module _ (a : Description) (controlled : List ℕ) (given : ℕ → Bool) (numbe
     λ has. elim (Contains-push_cases answers number n has) [
       | inl old ↦ let found = (are n).0 old in (before n found.0, found.1)
       | inr same ↦ (
-          subst (λ (list : List ℕ). Contains list n) (sym one_more)
-              (subst (λ (m : ℕ). Contains (take index numbers ++ number ∷ []) m) same (Contains-push (take index numbers) number)),
-          subst (λ (m : ℕ). Answers a controlled m given) same answering,
-        )
+        subst (λ (list : List ℕ). Contains list n) (sym one_more)
+            (subst (λ (m : ℕ). Contains (take index numbers ++ number ∷ []) m) same (Contains-push (take index numbers) number)),
+        subst (λ (m : ℕ). Answers a controlled m given) same answering,
+      )
     ],
     λ found. elim (cases n found.0) [
       | inl old ↦ Contains-append_left answers (number ∷ []) n ((are n).1 (old, found.1))

@@ -1,15 +1,14 @@
 -- Edges, the edges that leave each state and the questions of the states make the rounds of an automaton.
-use Rattle.std.proofs.Common.{◌≡◌, ◌↔◌, ℕ, zero, suc, ◌<◌, ◌≤◌, Bool, All, List, [], ◌∷◌, length, get_or, Contains, Some, sym, ap, refl, ◌∙◌, subst, arith}
+use Rattle.std.proofs.Common.{◌≡◌, ◌↔◌, ℕ, zero, suc, ◌<◌, All, List, [], ◌∷◌, length, get_or, Contains, Some, sym, refl, ◌∙◌, subst, arith}
 use Rattle.std.specs.Prelude.{slice_get}
 use Rattle.std.proofs.lemmas.Option.{slice_get_within}
 use Rattle.omega_formula.specs.declared.kind.ParityKind.{ParityKind}
-use Rattle.omega_automaton.specs.Automaton.{BodyEdge, Description, edge_at, edge_count, edges_of}
+use Rattle.omega_automaton.specs.Automaton.{BodyEdge, Description, edge_count, edges_of}
 use Rattle.omega_rounds.specs.Rounds.{IsAskedIn, IsRounds, answers_of, no_edge}
 use Rattle.omega_rounds.specs.declared.rounds.QuestionRange.{QuestionRange}
 use Rattle.omega_rounds.specs.declared.rounds.RoundEdge.{RoundEdge}
 use Rattle.omega_rounds.specs.declared.rounds.Rounds.{Rounds}
-use Rattle.omega_controllers.specs.Controllers.{Answers}
-use Rattle.omega_realizability_game.specs.Making.{AllLeave, AreLeaving, AreRoundEdges, AreStatesAsked, IsLeaving, LeavesBelow, StatesLeave}
+use Rattle.omega_realizability_game.specs.Making.{AreLeaving, AreRoundEdges, AreStatesAsked, IsLeaving, LeavesBelow, StatesLeave}
 use Rattle.omega_realizability_game.specs.RoundsOf.{AreRoundsOf, IsAnswerOf, holds_in, letter_of}
 
 -- there is an edge of each number below the count
@@ -58,8 +57,8 @@ module _ (a : Description) (kind : ParityKind) (edges : List RoundEdge) (are : A
           let both = asked.each state question below (is.from, is.until) number in
           let leave = leaving.each state number (omega (arith, below, leaving.entries)) in (
             λ has. (let found = both.0 has in
-            let it : IsLeaving a state number = leaves_from state number (leave.0 found.0) in
-            record { edge = it.edge; numbered = it.numbered; leaves = it.leaves; answers = found.1 }),
+                let it : IsLeaving a state number = leaves_from state number (leave.0 found.0) in
+                record { edge = it.edge; numbered = it.numbered; leaves = it.leaves; answers = found.1 }),
             λ answer. both.1 (
               leave.1 (
                 omega (arith, slice_get_within (edges_of a) number answer.edge answer.numbered, are.entries),
@@ -121,8 +120,7 @@ gathered a kind controlled edges lent held lent_is held_is are count count_is li
     let three : AreStatesAsked a controlled lists (length lists) states its answers =
     subst (λ (list : List (List ℕ)). AreStatesAsked a controlled lists (length lists) states list answers) (sym its_is) two in
     let all : AreStatesAsked a controlled lists (length lists) states its questions =
-    subst (λ (list : List (List ℕ)). AreStatesAsked a controlled lists (length lists) states its list) (sym questions_is) three in
-    (
+    subst (λ (list : List (List ℕ)). AreStatesAsked a controlled lists (length lists) states its list) (sym questions_is) three in (
       rounds_are a kind held held_are lists left controlled states its questions all,
       are_rounds a kind held held_are lists left controlled states its questions all,
     )

@@ -1,5 +1,5 @@
 -- Labels that can be true where the environment's propositions are given: those of the system are free.
-use Rattle.std.specs.Prelude.{◌≡◌, ◌⊎◌, ◌↔◌, ℕ, ◌<◌, ◌≤◌, ◌==◌, Bool, if◌then◌else◌, IsTrue, List, Contains, Some, length}
+use Rattle.std.specs.Prelude.{◌≡◌, ◌⊎◌, ◌↔◌, ℕ, ◌==◌, Bool, if◌then◌else◌, IsTrue, List, Contains, Some, length}
 use Rattle.std.specs.List.{list_any}
 use Rattle.std.specs.Option.{unwrap_or}
 use Rattle.omega_text.specs.Cases.{never, or_memory, or_task}

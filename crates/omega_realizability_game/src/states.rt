@@ -72,8 +72,9 @@ fn asked_in(
 fn add(asked: &mut StatesAsked, questions: Questions) -> Result<(), Refusal>
     requires fits { length asked.old.answers.items + length questions.answers.items ≤ most_nodes }
     ensures ranges { OnOk result (asked.new.ranges.items ≡ asked.old.ranges.items ++ record {
-        first = length asked.old.answers.items;
-        end = length asked.old.answers.items + length questions.answers.items } ∷ []) }
+      first = length asked.old.answers.items;
+      end = length asked.old.answers.items + length questions.answers.items;
+    } ∷ []) }
     ensures letters { OnOk result (asked.new.letters.items ≡ asked.old.letters.items ++ questions.letters.items) }
     ensures answers { OnOk result (asked.new.answers.items ≡ asked.old.answers.items ++ questions.answers.items) }
     ensures memory { IsOkUnless result Refusal.Memory }

@@ -1,5 +1,5 @@
 -- one edge more, whose inputs are appended
-use Rattle.std.proofs.Common.{◌≡◌, ◌+◌, ◌<◌, ℕ, List, length, get_or, take, sym, ap, refl, ◌∙◌, arith}
+use Rattle.std.proofs.Common.{◌≡◌, ◌+◌, ℕ, List, length, get_or, take, sym, ap, refl, ◌∙◌, arith}
 use Rattle.omega_satisfying.specs.Satisfiable.{each_once}
 use Rattle.omega_realizability_game.specs.Making.{input_mentions, inputs_of, label_of_number}
 use Rattle.omega_realizability_game.proofs.Mentioning.{inputs_more, inputs_within}

@@ -1,5 +1,5 @@
 -- one edge more
-use Rattle.std.proofs.Common.{◌≡◌, ◌+◌, ◌<◌, ◌++◌, ◌∷◌, [], ℕ, List, length, get_or, set, sym, refl, subst, arith}
+use Rattle.std.proofs.Common.{◌≡◌, ◌+◌, ◌<◌, ℕ, List, length, get_or, sym, refl, subst, arith}
 use Rattle.omega_rounds.specs.Rounds.{no_edge}
 use Rattle.omega_rounds.specs.declared.rounds.RoundEdge.{RoundEdge}
 use Rattle.omega_realizability_game.specs.Making.{AreLeaving}

@@ -1,5 +1,5 @@
 -- one letter more
-use Rattle.std.proofs.Common.{◌≡◌, ◌<◌, ◌+◌, ℕ, List, length, sym, ap, ◌∙◌, subst, arith}
+use Rattle.std.proofs.Common.{◌+◌, ℕ, List, sym, subst, arith}
 use Rattle.omega_realizability_game.specs.Answering.{AreAnswersAmong}
 use Rattle.omega_realizability_game.specs.Making.{AreAnswered}
 use Rattle.omega_realizability_game.specs.RoundsOf.{holds_in}

@@ -1,5 +1,5 @@
 -- the edge at the place, and the marks of its state and its own
-use Rattle.std.proofs.Common.{◌≡◌, ◌++◌, [], ◌<◌, ℕ, All, List, get_or, ap, ap₂, refl, ◌∙◌, arith}
+use Rattle.std.proofs.Common.{◌≡◌, ◌++◌, ℕ, List, get_or, ap, ap₂, refl, ◌∙◌, arith}
 use Rattle.omega_automaton.specs.declared.edge.Edge.{Edge}
 use Rattle.omega_automaton.specs.declared.state.State.{State}
 use Rattle.omega_realizability_game.proofs.EdgesMade.{count_low, edge_made, marks_below}
