@@ -11,8 +11,8 @@ use omega_io::{Exit, exit_code};
 use omega_measure::fits;
 use omega_pg::read_game;
 use omega_text::{
-    ByteTokenizer, Cursor, HoaKind, HoaTokenizer, PgKind, TextCursor, TextFault, TokenKind,
-    TokenSource, check_tokens, hoa_tokens, next_hoa_token, next_pg_number, next_pg_token,
+    Cursor, HoaKind, PgKind, TextCursor, TextFault, TokenKind, TokenSource, check_tokens,
+    hoa_tokens, next_hoa_token, next_pg_number, next_pg_token,
 };
 use std::alloc::Global;
 
@@ -37,7 +37,6 @@ fn texts(alloc: Global, text: &[u8], runs: bool) -> Result<Vec<u8>, Refusal> {
     let mut out = Vec::with_capacity(alloc, 4096)?;
     if runs {
         put_tokens(alloc, text, &mut out)?;
-        put_settled(text, &mut out)?;
         put_places(&mut Cursor::new(tokens.as_slice(), text.len()), &mut out)?;
     }
     Ok(out)
@@ -65,17 +64,6 @@ fn put_tokens(alloc: Global, text: &[u8], out: &mut Vec<u8>) -> Result<(), Refus
     put(out, u128::from(exit_code(&Ok(Exit::No))))?;
     let _none = Aliases::new(alloc);
     Ok(())
-}
-
-/// Puts where a tokenizer stops first in a text, and whether the byte there and the end after it settle a token.
-fn put_settled(text: &[u8], out: &mut Vec<u8>) -> Result<(), Refusal> {
-    let mut tokenizer = HoaTokenizer::new();
-    let stop = tokenizer.pass(text, 0);
-    put(out, stop as u128)?;
-    if stop < text.len() {
-        put_answer(out, tokenizer.step(text[stop]).first.is_some())?;
-    }
-    put_answer(out, tokenizer.finish().first.is_some())
 }
 
 fn put_places<'a, S: TokenSource<'a, HoaKind>>(

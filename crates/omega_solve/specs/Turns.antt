@@ -10,7 +10,8 @@ use Rattle.omega_parity_game.specs.declared.Refusal.{Refusal}
 use Rattle.omega_solve.specs.Headline.{IsExact}
 use Rattle.omega_solve.specs.LeastTables.{IsLedTo}
 
--- the answer is exact, and read in a table in which no lift is due, to which a lifting run leads from the all-zero table
+-- the answer is exact, and read in a table in which no lift is due, to which a lifting run leads from the all-zero
+-- table
 pub record IsAnswerOfRun (nodes : List Node) (player : Player) (won : List Bool) (choices : List (Option ℕ)) : Type 0 where
   pub exact : IsExact nodes player won choices
   pub table : List Measure
