@@ -70,7 +70,7 @@ typedef struct omega_outcome {
     uint64_t place;  /* with 57, the index of the wrong entry; else 0 */
 } omega_outcome;
 
-/* How many lifts the run for each player made. */
+/* How many lifts the run for each player made: none where a search gave the solution, or lifting for both in turns. */
 typedef struct omega_lifts {
     uint64_t zero;
     uint64_t one;
@@ -107,7 +107,8 @@ typedef struct omega_ran {
 /* Solves a game for both players. Writes the winner of each node, 0 or 1, and the winner's choice there, or
  * OMEGA_NO_CHOICE where the winner does not own the node; winner_count and choice_count are n. With by_search not 0 a
  * fast search is tried first, whose answer is checked and which makes no lifts; else, or where it gives none, the game
- * is solved by lifting, with at most `budget` lifts for each player (above 2^40: 2^40). Either way each node is given to
+ * is solved by lifting, with at most `budget` lifts for each player (above 2^40: 2^40). Where the search gives none and
+ * the budget is 2^40 or above, the players are lifted for in turns, whatever that takes. In each way a node is given to
  * the player in whose region it is, and the choices win from all of it. Refuses 57, 13, 14, 50, 51, 60.
  *
  * The search takes time near (n + m) log (n + m) for m successors; lifting takes as long as its lifts. */

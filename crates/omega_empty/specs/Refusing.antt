@@ -5,7 +5,7 @@ use Rattle.omega_text.specs.Cases.{never, or_game, or_memory, or_task}
 use Rattle.omega_text.specs.declared.refusal.Refusal.{Refusal}
 use Rattle.omega_text.specs.declared.refusal.game.GameFault.TheVariants.{TooManyNodes}
 use Rattle.omega_text.specs.declared.refusal.task.TaskFault.{TaskFault}
-use Rattle.omega_text.specs.declared.refusal.task.TaskFault.TheVariants.{BadSolution, Budget, NotDeterministic, NotParity, TooLarge, TooManyPropositions, TooWide, UniversalBranch, UnknownNode}
+use Rattle.omega_text.specs.declared.refusal.task.TaskFault.TheVariants.{BadSolution, Budget, Controllable, NotDeterministic, NotParity, TooLarge, TooManyPropositions, TooWide, UniversalBranch, UnknownNode}
 use Rattle.omega_formula.specs.declared.kind.AccKind.{AccKind}
 use Rattle.omega_automaton.specs.Automaton.{Description}
 use Rattle.omega_parity_game.specs.Limits.{most_nodes}
@@ -51,6 +51,7 @@ IsTaskFault a TooWide = ⊥
 IsTaskFault a Budget = ⊥
 IsTaskFault a BadSolution = ⊥
 IsTaskFault a UnknownNode = ⊥
+IsTaskFault a Controllable = ⊥
 IsTaskFault a TooLarge = ⊥
 IsTaskFault a (NotDeterministic state) = ⊥
 

@@ -4,7 +4,7 @@ use Rattle.std.specs.Prelude.{◌≡◌, ◌++◌, true, false, ℕ, List, Some}
 use Rattle.omega_text.specs.Cases.{never, or_memory, or_task}
 use Rattle.omega_text.specs.declared.refusal.Refusal.{Refusal}
 use Rattle.omega_text.specs.declared.refusal.task.TaskFault.{TaskFault}
-use Rattle.omega_text.specs.declared.refusal.task.TaskFault.TheVariants.{BadSolution, Budget, NotDeterministic, NotParity, TooLarge, TooManyPropositions, TooWide, UniversalBranch, UnknownNode}
+use Rattle.omega_text.specs.declared.refusal.task.TaskFault.TheVariants.{BadSolution, Budget, Controllable, NotDeterministic, NotParity, TooLarge, TooManyPropositions, TooWide, UniversalBranch, UnknownNode}
 use Rattle.omega_automaton.specs.Automaton.{BodyEdge, Description, edge_at}
 use Rattle.omega_automaton.specs.Branching.{has_universal_branching}
 use Rattle.omega_runs.specs.Judging.{IsHard}
@@ -32,6 +32,7 @@ IsJudgingFault a stem cycle TooWide = ⊥
 IsJudgingFault a stem cycle Budget = ⊥
 IsJudgingFault a stem cycle BadSolution = ⊥
 IsJudgingFault a stem cycle UnknownNode = ⊥
+IsJudgingFault a stem cycle Controllable = ⊥
 IsJudgingFault a stem cycle TooLarge = ⊥
 IsJudgingFault a stem cycle (NotDeterministic state) = ⊥
 

@@ -3,7 +3,7 @@ use Rattle.std.specs.Prelude.{◌≡◌, true, false}
 use Rattle.omega_text.specs.Cases.{never, or_memory, or_task}
 use Rattle.omega_text.specs.declared.refusal.Refusal.{Refusal}
 use Rattle.omega_text.specs.declared.refusal.task.TaskFault.{TaskFault}
-use Rattle.omega_text.specs.declared.refusal.task.TaskFault.TheVariants.{BadSolution, Budget, NotDeterministic, NotParity, TooLarge, TooManyPropositions, TooWide, UniversalBranch, UnknownNode}
+use Rattle.omega_text.specs.declared.refusal.task.TaskFault.TheVariants.{BadSolution, Budget, Controllable, NotDeterministic, NotParity, TooLarge, TooManyPropositions, TooWide, UniversalBranch, UnknownNode}
 use Rattle.omega_automaton.specs.Automaton.{Description}
 use Rattle.omega_automaton.specs.Branching.{has_universal_branching}
 use Rattle.omega_runs.specs.Judging.{HasHardLabel}
@@ -22,6 +22,7 @@ IsSearchFault a TooWide = ⊥
 IsSearchFault a Budget = ⊥
 IsSearchFault a BadSolution = ⊥
 IsSearchFault a UnknownNode = ⊥
+IsSearchFault a Controllable = ⊥
 IsSearchFault a TooLarge = ⊥
 IsSearchFault a (NotDeterministic state) = ⊥
 

@@ -3,7 +3,7 @@ use Rattle.std.specs.Prelude.{Result, Ok, Err, IfErr}
 use Rattle.omega_text.specs.Cases.{never, or_memory, or_task}
 use Rattle.omega_text.specs.declared.refusal.Refusal.{Refusal}
 use Rattle.omega_text.specs.declared.refusal.task.TaskFault.{TaskFault}
-use Rattle.omega_text.specs.declared.refusal.task.TaskFault.TheVariants.{BadSolution, Budget, NotDeterministic, NotParity, TooLarge, TooManyPropositions, TooWide, UniversalBranch, UnknownNode}
+use Rattle.omega_text.specs.declared.refusal.task.TaskFault.TheVariants.{BadSolution, Budget, Controllable, NotDeterministic, NotParity, TooLarge, TooManyPropositions, TooWide, UniversalBranch, UnknownNode}
 use Rattle.omega_automaton.specs.Automaton.{Description}
 use Rattle.omega_product.specs.Refusing.{HaveNoBranch, IsJoinFault, IsProductFault, IsProductTooLarge}
 use Rattle.omega_edge_labels.specs.Fitting.{IsLarge}
@@ -23,6 +23,7 @@ plain_fault one other plain TooWide h = h
 plain_fault one other plain Budget h = h
 plain_fault one other plain BadSolution h = h
 plain_fault one other plain UnknownNode h = h
+plain_fault one other plain Controllable h = h
 plain_fault one other plain TooLarge h = (plain, h)
 plain_fault one other plain (NotDeterministic state) h = h
 

@@ -3,7 +3,7 @@ use Rattle.std.proofs.Common.{◌≡◌, ℕ, ◌<◌, List, length, Contains, g
 use Rattle.omega_text.specs.Cases.{never, or_memory, or_task}
 use Rattle.omega_text.specs.declared.refusal.Refusal.{Refusal}
 use Rattle.omega_text.specs.declared.refusal.task.TaskFault.{TaskFault}
-use Rattle.omega_text.specs.declared.refusal.task.TaskFault.TheVariants.{BadSolution, Budget, NotDeterministic, NotParity, TooLarge, TooManyPropositions, TooWide, UniversalBranch, UnknownNode}
+use Rattle.omega_text.specs.declared.refusal.task.TaskFault.TheVariants.{BadSolution, Budget, Controllable, NotDeterministic, NotParity, TooLarge, TooManyPropositions, TooWide, UniversalBranch, UnknownNode}
 use Rattle.omega_label.specs.Label.{LabelTree, conjunction}
 use Rattle.omega_label.specs.Shape.{FitsALabel}
 use Rattle.omega_satisfying.specs.Undecided.{IsHardLabel, IsUndecidedLabel}
@@ -49,6 +49,7 @@ module _ (one other : Description) (pairs : List Pair) (done : ℕ) (found : Are
   join_fault Budget unmet = unmet.partner.unmet
   join_fault BadSolution unmet = unmet.partner.unmet
   join_fault UnknownNode unmet = unmet.partner.unmet
+  join_fault Controllable unmet = unmet.partner.unmet
   join_fault TooLarge unmet =
       unfit_meeting (record { transition = unmet.transition; partner = unmet.partner.other; met = met TooLarge unmet; unfit = unmet.partner.unmet })
   join_fault (NotDeterministic state) unmet = unmet.partner.unmet

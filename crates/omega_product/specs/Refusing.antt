@@ -6,7 +6,7 @@ use Rattle.omega_text.specs.Limits.{most_number}
 use Rattle.omega_text.specs.declared.refusal.Refusal.{Refusal}
 use Rattle.omega_text.specs.declared.refusal.automaton.AutomatonFault.{AutomatonFault}
 use Rattle.omega_text.specs.declared.refusal.task.TaskFault.{TaskFault}
-use Rattle.omega_text.specs.declared.refusal.task.TaskFault.TheVariants.{BadSolution, Budget, NotDeterministic, NotParity, TooLarge, TooManyPropositions, TooWide, UniversalBranch, UnknownNode}
+use Rattle.omega_text.specs.declared.refusal.task.TaskFault.TheVariants.{BadSolution, Budget, Controllable, NotDeterministic, NotParity, TooLarge, TooManyPropositions, TooWide, UniversalBranch, UnknownNode}
 use Rattle.omega_expression.specs.Limits.{most_depth}
 use Rattle.omega_formula.specs.Writing.{acc_written}
 use Rattle.omega_formula.specs.Raw.{raw_acc_depth}
@@ -122,6 +122,7 @@ IsJoinFault one other TooWide = ⊥
 IsJoinFault one other Budget = ⊥
 IsJoinFault one other BadSolution = ⊥
 IsJoinFault one other UnknownNode = ⊥
+IsJoinFault one other Controllable = ⊥
 IsJoinFault one other TooLarge = IsProductTooLarge one other
 IsJoinFault one other (NotDeterministic state) = ⊥
 
@@ -134,6 +135,7 @@ IsProductFault one other TooWide = ⊥
 IsProductFault one other Budget = ⊥
 IsProductFault one other BadSolution = ⊥
 IsProductFault one other UnknownNode = ⊥
+IsProductFault one other Controllable = ⊥
 IsProductFault one other TooLarge = HaveNoBranch one other × IsProductTooLarge one other
 IsProductFault one other (NotDeterministic state) = ⊥
 

@@ -2,6 +2,7 @@
 pub mod AtOnce
 pub mod Completion
 pub mod Differing
+pub mod Ended
 pub mod Exact
 pub mod Gaps
 pub mod Last

@@ -9,7 +9,7 @@ use Rattle.omega_text.specs.declared.refusal.game.GameFault.TheVariants.{Duplica
 use Rattle.omega_text.specs.declared.refusal.automaton.AutomatonFault.{AutomatonFault}
 use Rattle.omega_text.specs.declared.refusal.automaton.AutomatonFault.TheVariants.{AcceptanceAtom, Alias, Expansion, ImplicitCount, MissingAcceptance, MixedLabels, Proposition, RepeatedHeader, SetRange, StateRange, StateTwice, TooDeep, UnknownHeader, Version}
 use Rattle.omega_text.specs.declared.refusal.task.TaskFault.{TaskFault}
-use Rattle.omega_text.specs.declared.refusal.task.TaskFault.TheVariants.{BadSolution, Budget, NotDeterministic, NotParity, TooLarge, TooManyPropositions, TooWide, UniversalBranch, UnknownNode}
+use Rattle.omega_text.specs.declared.refusal.task.TaskFault.TheVariants.{BadSolution, Budget, Controllable, NotDeterministic, NotParity, TooLarge, TooManyPropositions, TooWide, UniversalBranch, UnknownNode}
 
 -- the number of a fault of a text
 abbrev pub text_number : TextFault → ℕ
@@ -93,6 +93,7 @@ task_number BadSolution = 53
 task_number UnknownNode = 54
 task_number TooLarge = 55
 task_number (NotDeterministic state) = 56
+task_number Controllable = 58
 
 -- the name of a fault of a task
 abbrev pub task_name : TaskFault → List ℕ
@@ -105,6 +106,7 @@ task_name BadSolution = codes "BadSolution"
 task_name UnknownNode = codes "UnknownNode"
 task_name TooLarge = codes "TooLarge"
 task_name (NotDeterministic state) = codes "NotDeterministic"
+task_name Controllable = codes "Controllable"
 
 -- the number that a fault of a task has: that of a state
 abbrev pub task_place : TaskFault → Option ℕ
@@ -117,6 +119,7 @@ task_place BadSolution = None
 task_place UnknownNode = None
 task_place TooLarge = None
 task_place (NotDeterministic state) = Some state
+task_place Controllable = None
 
 -- the one number of a refusal
 abbrev pub number_of : Refusal → ℕ

@@ -26,7 +26,7 @@ pub enum Refusal {
     /// 20 to 33: the tokens make no automaton.
     #[error(transparent)]
     Automaton(AutomatonFault),
-    /// 40 to 56: the task can't be done for this value.
+    /// 40 to 58: the task can't be done for this value.
     #[error(transparent)]
     Task(TaskFault),
     /// 60: a request for memory was refused in that call.

@@ -3,7 +3,7 @@ use omega_text::{AutomatonFault, GameFault, Refusal, TaskFault, TextFault};
 use std::alloc::{AllocError, Global};
 
 // Each refusal with its number, its name, its place and the text that it prints.
-static ROWS: [(Refusal, u32, &str, Option<usize>, &str); 32] = [
+static ROWS: [(Refusal, u32, &str, Option<usize>, &str); 35] = [
     (
         Refusal::Text(TextFault::Lex { at: 9 }),
         1,
@@ -213,6 +213,27 @@ static ROWS: [(Refusal, u32, &str, Option<usize>, &str); 32] = [
         "UnknownNode",
         None,
         "no node of the game has the identifier",
+    ),
+    (
+        Refusal::Task(TaskFault::TooLarge),
+        55,
+        "TooLarge",
+        None,
+        "the automaton would have over 1048576 states or 8388608 edges",
+    ),
+    (
+        Refusal::Task(TaskFault::NotDeterministic(7)),
+        56,
+        "NotDeterministic",
+        Some(7),
+        "the automaton is not deterministic at state 7",
+    ),
+    (
+        Refusal::Task(TaskFault::Controllable),
+        58,
+        "Controllable",
+        None,
+        "controllable-AP: repeats, or names a proposition twice or one that there is not",
     ),
     (Refusal::Memory, 60, "Memory", None, "out of memory"),
     (Refusal::Io, 61, "Io", None, "a read or a write failed"),

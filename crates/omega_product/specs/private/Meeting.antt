@@ -1,7 +1,7 @@
 -- Edges of two automata that are taken together, and why the two may be refused.
 use Rattle.std.specs.Prelude.{◌≡◌, true, false, List, Contains, Option, None, Some}
 use Rattle.omega_text.specs.declared.refusal.task.TaskFault.{TaskFault}
-use Rattle.omega_text.specs.declared.refusal.task.TaskFault.TheVariants.{BadSolution, Budget, NotDeterministic, NotParity, TooLarge, TooManyPropositions, TooWide, UniversalBranch, UnknownNode}
+use Rattle.omega_text.specs.declared.refusal.task.TaskFault.TheVariants.{BadSolution, Budget, Controllable, NotDeterministic, NotParity, TooLarge, TooManyPropositions, TooWide, UniversalBranch, UnknownNode}
 use Rattle.omega_label.specs.Label.{conjunction}
 use Rattle.omega_satisfying.specs.Undecided.{IsHardLabel}
 use Rattle.omega_label.specs.Shape.{label_tree_of_shape}
@@ -26,6 +26,7 @@ IsUnmet transition other TooWide = ⊥
 IsUnmet transition other Budget = ⊥
 IsUnmet transition other BadSolution = ⊥
 IsUnmet transition other UnknownNode = ⊥
+IsUnmet transition other Controllable = ⊥
 IsUnmet transition other TooLarge = FitsAText (conjunction transition.label other.label) → ⊥
 IsUnmet transition other (NotDeterministic state) = ⊥
 

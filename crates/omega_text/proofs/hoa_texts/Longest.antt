@@ -32,7 +32,7 @@ one_stays mode byte reads = absurd (no_unit reads.0 reads.1)
     no_unit : (sort : Option HoaKind) → ◌≡◌ {A = Option (Option HoaKind)} None (Some sort) → ⊥
     no_unit sort is = cc
 
-stays : (state : Option Mode) (more : List ℕ) → Stays state → Stays (run state more)
+pub stays : (state : Option Mode) (more : List ℕ) → Stays state → Stays (run state more)
 stays state [] before = before
 stays None (byte ∷ more) before = inr (run_none more)
 stays (Some mode) (byte ∷ more) before = stays (next_mode mode byte) more (⊎_elim (one_stays mode byte) (λ none. let other : Some mode ≡ None = none in absurd (cc)) before)

@@ -11,6 +11,7 @@ use Rattle.omega_text.specs.hoa.Cut.{IsGap}
 use Rattle.omega_text.specs.hoa.Fault.{HasFaultFrom}
 use Rattle.omega_text.specs.hoa.Format.{hoa_format}
 use Rattle.omega_text.specs.hoa.Forms.{IsUnit}
+use Rattle.omega_text.specs.hoa.Laws.{is_closed}
 
 -- a placed token of a text, with its bytes
 abbrev pub lexeme_in : List ℕ → PlacedToken → Lexeme HoaKind
@@ -24,6 +25,15 @@ lexemes_in source (Some token) = lexeme_in source token ∷ []
 -- the tokens of a text that were settled at once
 abbrev pub settled_lexemes : List ℕ → Settled → List (Lexeme HoaKind)
 settled_lexemes source settled = lexemes_in source settled.first ++ lexemes_in source settled.second
+
+-- all bytes are read by the end of a token that ends by itself, in a text that may go on
+pub record EndsClosed (seen : List ℕ) (lexemes : List (Lexeme HoaKind)) : Type 0 where
+  pub front : List (Lexeme HoaKind)
+  pub last : Lexeme HoaKind
+  pub rest : List ℕ
+  pub split : lexemes ≡ front ++ last ∷ []
+  pub closed : is_closed last.kind ≡ true
+  pub cuts : Cuts hoa_format (seen ++ rest) 0 lexemes (length seen)
 
 -- some unit begins with these bytes and is longer
 pub record GoesOn (bytes : List ℕ) : Type 0 where

@@ -1,6 +1,6 @@
 ghost use Rattle.std.specs.Prelude.{◌≡◌, ◌<◌, ◌-◌, ◌≤◌, [], ◌∷◌, ◌++◌, false, IfSome, None, drop, length, slice_index, take};
 ghost use Rattle.omega_text.specs.hoa.Laws.{is_closed};
-ghost use Rattle.omega_text.specs.hoa.Pieces.{DiffersBefore, HasPassed, HasRoom, IsCutUpToFault, IsSettled, StopsBefore, settled_lexemes};
+ghost use Rattle.omega_text.specs.hoa.Pieces.{DiffersBefore, EndsClosed, HasPassed, HasRoom, IsCutUpToFault, IsSettled, StopsBefore, settled_lexemes};
 
 use super::placed::Settled;
 
@@ -29,6 +29,13 @@ pub trait ByteTokenizer {
     /// Makes a tokenizer before the first byte.
     fn new() -> Self
         ensures reads { read result [] [] }
+        ensures sound { fault result ≡ None };
+
+    /// Makes a tokenizer after the first `count` bytes of a text whose tokens are known up to there. The last of them
+    /// ends by itself: it is a header name, a string, a mark or a sign.
+    fn after(count: usize) -> Self
+        ensures reads { (seen : List ℕ) (lexemes : List (Lexeme HoaKind)) → count ≡ length seen
+            → EndsClosed seen lexemes → read result seen lexemes }
         ensures sound { fault result ≡ None };
 
     /// Reads `byte`, and returns what it settles.

@@ -37,6 +37,14 @@ impl ByteTokenizer for HoaTokenizer {
         }
     }
 
+    fn after(count: usize) -> HoaTokenizer {
+        HoaTokenizer {
+            pending: Pending::new(count),
+            place: count,
+            fault: None,
+        }
+    }
+
     #[inline(always)]
     fn step(&mut self, byte: u8) -> Settled {
         let place = self.place;

@@ -32,6 +32,9 @@ pub enum TaskFault {
     /// 56: two starts, or two edges of this state that can be taken at one letter.
     #[error("the automaton is not deterministic at state {0}")]
     NotDeterministic(usize),
+    /// 58: `controllable-AP:` stands twice, or names a proposition twice or one that there is not.
+    #[error("controllable-AP: repeats, or names a proposition twice or one that there is not")]
+    Controllable,
 }
 
 impl TaskFault {
@@ -50,6 +53,7 @@ impl TaskFault {
             TaskFault::UnknownNode => 54,
             TaskFault::TooLarge => 55,
             TaskFault::NotDeterministic(_) => 56,
+            TaskFault::Controllable => 58,
         }
     }
 
@@ -66,6 +70,7 @@ impl TaskFault {
             TaskFault::UnknownNode => "UnknownNode",
             TaskFault::TooLarge => "TooLarge",
             TaskFault::NotDeterministic(_) => "NotDeterministic",
+            TaskFault::Controllable => "Controllable",
         }
     }
 
