@@ -7,6 +7,7 @@ pub mod Endings
 pub mod Feeds
 pub mod Filling
 pub mod FirstEnds
+pub mod Fronts
 pub mod Neither
 pub mod Ones
 pub mod OneStream
@@ -21,5 +22,6 @@ pub mod Settling
 pub mod Taking
 pub mod Unended
 pub mod Wholes
+pub mod Wholly
 pub mod Writing
 pub mod Written

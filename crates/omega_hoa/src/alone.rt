@@ -1,15 +1,16 @@
-ghost use Rattle.std.specs.Prelude.{◌≡◌, ◌≤◌, length, IfErr, IfOk};
+ghost use Rattle.std.specs.Prelude.{◌≡◌, ◌≤◌, length, IfErr, IfOk, IfSome, IsTrue};
 ghost use Rattle.omega_text.specs.Cases.{or_memory};
 ghost use Rattle.omega_text.specs.Limits.{most_text};
 ghost use Rattle.omega_text.specs.declared.refusal.Refusal.TheVariants.{Text};
 ghost use Rattle.omega_text.specs.declared.refusal.text.TextFault.TheVariants.{Syntax};
+ghost use Rattle.omega_text.specs.hoa.Cut.{Ends};
 ghost use Rattle.omega_hoa.specs.Alone.{IsAutomatonRefusal, IsAutomatonText};
 ghost use Rattle.omega_hoa.specs.private.outlines.Outline.{HasFollowed, HasWhole};
 
 use crate::outline::{TextOutline, outline_of};
-use crate::segment::{read_segment, read_written};
+use crate::segment::{read_front, read_segment, read_written};
 use omega_automaton::Automaton;
-use omega_text::{HoaKind, MOST_TEXT, Refusal, TextFault, TokenKind};
+use omega_text::{HoaKind, MOST_TEXT, Refusal, TextFault, TokenKind, next_hoa_token};
 use std::alloc::Global;
 
 /// Reads the automaton of a text that holds one segment, ended by `--END--`. Refused with a `TextFault`, an
@@ -23,7 +24,8 @@ use std::alloc::Global;
 /// - inside the segment;
 /// - at a token after it.
 ///
-/// The meaning of the segment comes last. The bytes are looked at once, and those of the segment once more.
+/// The meaning of the segment comes last. The bytes of a text that is accepted are read once. Those of another are read
+/// up to three times.
 pub fn read_one(alloc: Global, bytes: &[u8]) -> Result<Automaton, Refusal>
     ensures automaton { IfOk result (IsAutomatonText bytes.now) }
     ensures refused { IfErr result (or_memory (IsAutomatonRefusal bytes.now)) }
@@ -31,6 +33,41 @@ pub fn read_one(alloc: Global, bytes: &[u8]) -> Result<Automaton, Refusal>
     if bytes.len() > MOST_TEXT {
         return Err(Refusal::Text(TextFault::TooLong));
     }
+    match read_at_once(alloc, bytes) {
+        Some(automaton) => Ok(automaton),
+        None => read_outlined(alloc, bytes),
+    }
+}
+
+/// Reads the automaton of such a text in one pass, if it is accepted. None says nothing.
+fn read_at_once(alloc: Global, bytes: &[u8]) -> Option<Automaton>
+    requires { length bytes.now ≤ most_text }
+    ensures { IfSome result (IsAutomatonText bytes.now) }
+{
+    HoaKind::goes_on_one_way();
+    match read_front(alloc, bytes) {
+        Some((automaton, end)) if ends_after(bytes, end) => Some(automaton),
+        _ => None,
+    }
+}
+
+/// Whether no token of `bytes` follows from `at` on, and no fault.
+fn ends_after(bytes: &[u8], at: usize) -> bool
+    requires { at ≤ length bytes.now }
+    ensures { IsTrue result → Ends bytes.now at }
+{
+    match next_hoa_token(bytes, at) {
+        Ok(next) => next.is_none(),
+        Err(_fault) => false,
+    }
+}
+
+/// Reads the automaton of such a text by the outline of its tokens.
+fn read_outlined(alloc: Global, bytes: &[u8]) -> Result<Automaton, Refusal>
+    requires { length bytes.now ≤ most_text }
+    ensures automaton { IfOk result (IsAutomatonText bytes.now) }
+    ensures refused { IfErr result (or_memory (IsAutomatonRefusal bytes.now)) }
+{
     let outline = outline_of(bytes)?;
     match outline {
         TextOutline::Whole { end } => read_whole(alloc, bytes, end),

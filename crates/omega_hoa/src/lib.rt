@@ -12,7 +12,9 @@ mod outline;
 mod progress;
 mod reading;
 mod segment;
+mod segment_cursor;
 mod stream;
+mod whole_segment;
 
 pub use alone::read_one;
 pub use item::Item;

@@ -1,15 +1,17 @@
-ghost use Rattle.std.specs.Prelude.{◌+◌, ◌<◌, ◌^◌, List, length, IfErr, IfOk};
+ghost use Rattle.std.specs.Prelude.{◌+◌, ◌<◌, ◌^◌, List, length, IfErr, IfOk, IfSome};
 ghost use Rattle.omega_text.specs.Cut.{IsCut};
 ghost use Rattle.omega_text.specs.Lexeme.{Lexeme};
 ghost use Rattle.omega_text.specs.hoa.Format.{hoa_format};
 ghost use Rattle.omega_text.specs.declared.hoa.kind.HoaKind.{HoaKind};
 ghost use Rattle.omega_hoa.specs.Segment.{IsAutomatonOf, IsRawOf};
+ghost use Rattle.omega_hoa.specs.private.Ahead.{BeginsAutomatonTo};
 ghost use Rattle.omega_hoa.specs.private.Places.{IsPartFault, IsPartUnread, OfSegment};
 
+use crate::segment_cursor::SegmentCursor;
 use omega_automaton::{Automaton, automaton_of};
 use omega_raw::{RawAutomaton, read_raw};
 use omega_text::laws::cuts_are_one;
-use omega_text::{HoaKind, Refusal, TextCursor, TextFault, TokenKind};
+use omega_text::{HoaKind, Refusal, TextCursor, TextFault, TokenKind, TokenSource};
 use std::alloc::Global;
 
 /// Reads the automaton of a segment that ends with `--END--`. Its `bytes` begin at the place `begins` of a longer text.
@@ -26,6 +28,29 @@ pub(crate) fn read_segment(alloc: Global, bytes: &[u8], begins: usize) -> Result
 {
     let raw = read_written(alloc, bytes, begins)?;
     automaton_of(alloc, raw)
+}
+
+/// Reads the automaton of the segment that `bytes` begin with, if it is whole and ends with `--END--`. Also returns the
+/// place after it. The bytes need not be known to be cut.
+///
+/// None says nothing: the segment does not end in the bytes, or its reading is refused. `read_segment` says why.
+///
+/// The bytes of the segment are read once, and none after them.
+pub(crate) fn read_front(alloc: Global, bytes: &[u8]) -> Option<(Automaton, usize)>
+    ensures { IfSome result (λ found. BeginsAutomatonTo bytes.now found.1 found.0) }
+{
+    HoaKind::goes_on_one_way();
+    let mut tokens = SegmentCursor::new(bytes);
+    match read_raw(alloc, &mut tokens) {
+        Ok(raw) => {
+            let end = tokens.place();
+            match automaton_of(alloc, raw) {
+                Ok(automaton) => Some((automaton, end)),
+                Err(_refusal) => None,
+            }
+        }
+        Err(_refusal) => None,
+    }
 }
 
 /// Reads the automaton of such a segment as it is written, whatever it means. Refused with [TextFault::Syntax] or

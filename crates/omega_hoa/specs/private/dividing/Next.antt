@@ -14,7 +14,9 @@ use Rattle.omega_text.specs.declared.refusal.Refusal.TheVariants.{Memory}
 use Rattle.omega_hoa.specs.Feeding.{Appends, IsDivided, IsRefusedThen}
 use Rattle.omega_hoa.specs.Stream.{IsItemOf, IsStreamFault}
 use Rattle.omega_hoa.specs.declared.division.Division.{Division}
+use Rattle.omega_automaton.specs.Automaton.{Description}
 use Rattle.omega_hoa.specs.declared.item.Item.{Item}
+use Rattle.omega_hoa.specs.declared.item.Item.TheVariants.{Automaton}
 use Rattle.omega_hoa.specs.declared.progress.ReadProgress.{ReadProgress}
 
 -- the bytes are those of a text from a place on, as far as it was seen and perhaps further
@@ -118,6 +120,12 @@ abbrev pub IsReadAs : List ℕ → ℕ → (from to : ℕ) → ReadProgress → 
 IsReadAs bytes first from to progress old new after =
     (prior : List ℕ) (items : List Item) → IsProgress bytes first from progress prior items
     → Appends old new items (IsProgress bytes first to after prior)
+
+-- a whole segment with this automaton was read from a place on up to another
+abbrev pub IsWholeRead : List ℕ → (first place : ℕ) → ReadProgress → Description → (end : ℕ) → ReadProgress → Type 0
+IsWholeRead bytes first place progress automaton end after =
+    (prior : List ℕ) (items : List Item) → IsProgress bytes first place progress prior items
+    → IsProgress bytes first end after prior (items ++ Automaton automaton ∷ [])
 
 -- what was read up to a place was read on up to another, without a change of the items
 abbrev pub IsPassedTo : List ℕ → (first from to : ℕ) → ReadProgress → ReadProgress → Type 0
