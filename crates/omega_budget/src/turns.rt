@@ -2,7 +2,7 @@
 ghost use Rattle.std.specs.Prelude.{◌≡◌, IfOk, IfErr, IfSome, IsOkUnless};
 ghost use Rattle.omega_parity_game.specs.declared.player.Player.TheVariants.{One, Zero};
 ghost use Rattle.omega_parity_game.specs.Game.{priorities};
-ghost use Rattle.omega_solve.specs.Turns.{IsAnswerOfRun, IsTurnsRefusal};
+ghost use Rattle.omega_solve.specs.Turns.{EndsRaised, IsAnswerOfRun, IsTurnsRefusal};
 ghost use Rattle.omega_budget.specs.Within.{IsFoundUncounted};
 
 use crate::answering::{choices_of, won_by_place};
@@ -15,14 +15,16 @@ use std::alloc::Global;
 
 impl Reordered<'_> {
     /// Solves the game for both players in turns, and returns the answers by original place, as `solve` finds them for
-    /// a budget of the bound. Each player's lifts are fewer than those of `solve` for most games, and not counted. Two
-    /// tables of measures are in memory at once.
+    /// a budget of the bound. Each player's lifts are fewer than those of `solve` for most games. They and the places
+    /// given up are counted together, and at most the bound. Two tables of measures are in memory at once.
     ///
     /// Returns none if the turns do not suffice; no contract says when they do. Fails with [TaskFault::TooWide] if the
     /// table for one of the players would be too wide.
     pub fn solve_in_turns(&self, alloc: Global) -> Result<Option<TurnsAnswers>, Refusal>
         ensures zero { IfOk result (λ found. IfSome found (λ both. IsFoundUncounted self.now.given Zero both.zero)) }
         ensures one { IfOk result (λ found. IfSome found (λ both. IsFoundUncounted self.now.given One both.one)) }
+        ensures zero_raises { IfOk result (λ found. IfSome found (λ both. EndsRaised self.now.reordered Zero both.zero.raises)) }
+        ensures one_raises { IfOk result (λ found. IfSome found (λ both. EndsRaised self.now.reordered One both.one.raises)) }
         ensures refused { IfErr result (IsTurnsRefusal (priorities self.now.given)) }
     {
         self.keeps_nodes();
@@ -43,6 +45,8 @@ impl Reordered<'_> {
         requires one { IsAnswerOfRun self.now.reordered One both.now.one.won.items both.now.one.choice.items }
         ensures zero { IfOk result (λ both. IsFoundUncounted self.now.given Zero both.zero) }
         ensures one { IfOk result (λ both. IsFoundUncounted self.now.given One both.one) }
+        ensures zero_raises { IfOk result (λ found. found.zero.raises ≡ both.now.zero.raises) }
+        ensures one_raises { IfOk result (λ found. found.one.raises ≡ both.now.one.raises) }
         ensures memory { IsOkUnless result Refusal.Memory }
     {
         let zero = self.answer_by_place(alloc, Player::Zero, &both.zero)?;
@@ -59,6 +63,7 @@ impl Reordered<'_> {
     ) -> Result<TurnsAnswer, Refusal>
         requires { IsAnswerOfRun self.now.reordered _player answer.now.won.items answer.now.choice.items }
         ensures found { IfOk result (IsFoundUncounted self.now.given _player) }
+        ensures raises { IfOk result (λ found. found.raises ≡ answer.now.raises) }
         ensures memory { IsOkUnless result Refusal.Memory }
     {
         headline();
@@ -69,6 +74,10 @@ impl Reordered<'_> {
         let permutation = self.permutation();
         let won = won_by_place(alloc, permutation, answer.won.as_slice())?;
         let choice = choices_of(alloc, permutation, answer.choice.as_slice())?;
-        Ok(TurnsAnswer { won, choice })
+        Ok(TurnsAnswer {
+            won,
+            choice,
+            raises: answer.raises,
+        })
     }
 }

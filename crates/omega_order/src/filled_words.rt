@@ -23,12 +23,21 @@ impl FilledWords {
         Ok(FilledWords { bits })
     }
 
-    /// Notes that `position` was put into the set.
+    /// Notes that `position` is about to be put into the set, whose words are now `words`. A word that is not empty was
+    /// noted before.
     #[inline(always)]
-    pub fn note_inserted(&mut self, position: usize) {
-        let at = position / POSITIONS_NOTED;
+    pub fn note_insertion(&mut self, words: &[u64], position: usize) {
+        let word = position / POSITIONS;
+        if word < words.len() && words[word] == 0 {
+            self.note_filled(word);
+        }
+    }
+
+    /// Notes that `word` of the set is filled.
+    fn note_filled(&mut self, word: usize) {
+        let at = word / 64;
         if at < self.bits.len() {
-            self.bits[at] |= 1 << (position / POSITIONS % 64);
+            self.bits[at] |= 1 << (word % 64);
         }
     }
 

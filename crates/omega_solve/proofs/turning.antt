@@ -2,5 +2,7 @@
 pub mod Values
 pub mod Below
 pub mod Ending
+pub mod Raising
+pub mod Starting
 pub mod Sides
 pub mod Cutting

@@ -2,6 +2,7 @@
 ghost use Rattle.omega_solve.specs.Determinacy.{AnswersPartTheGame};
 ghost use Rattle.omega_solve.specs.Headline.{Headline};
 ghost use Rattle.omega_solve.specs.LeastTables.{RunsLeadToLeastTables};
+ghost use Rattle.omega_solve.specs.Turns.{RaisesAreBounded};
 
 use omega_lift_laws::{
     choices_are_a_strategy, choices_win, regions_stay_below_top, runs_are_bounded,
@@ -39,4 +40,10 @@ pub fn answers_part_the_game()
 /// make lifts that ends there has the answer of a lifting run (Jurdziński 2000).
 pub fn runs_lead_to_least_tables()
     ensures { RunsLeadToLeastTables }
+{}
+
+/// States that each lift, and each place given up at a measure below top, raises the sum of the measures' ranks. So
+/// from the all-zero table there are at most as many of both as the bound.
+pub fn raises_are_bounded()
+    ensures { RaisesAreBounded }
 {}

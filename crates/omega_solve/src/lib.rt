@@ -19,7 +19,7 @@ mod wake;
 mod worklist;
 
 pub use answer::AnswerRef;
-pub use laws::{answers_part_the_game, headline, runs_lead_to_least_tables};
+pub use laws::{answers_part_the_game, headline, raises_are_bounded, runs_lead_to_least_tables};
 pub use limits::{MOST_LIFTS, lift_limits_are_stated};
 pub use nested::Nested;
 pub use omega_measure::{Game, MeasureTable, PackedTable, PlainTable, Player, Refusal, TaskFault};

@@ -50,6 +50,7 @@ impl Schedule for Nested {
         Nested::along(alloc, permutation)
     }
 
+    #[inline(always)]
     fn look(&self) -> Option<u32> {
         let permutation = &self.permutation;
         if let Some(place) = pending_from(
@@ -67,6 +68,11 @@ impl Schedule for Nested {
         first_pending(permutation, &self.pending)
     }
 
+    fn is_pending(&self, place: u32) -> bool {
+        let position = self.permutation.position(place) as usize;
+        contains(&self.pending, position)
+    }
+
     #[inline(always)]
     fn take(&mut self, place: u32) {
         let position = self.permutation.position(place) as usize;
@@ -74,6 +80,14 @@ impl Schedule for Nested {
         self.filled.note_removed(&self.pending, position);
         self.taken += 1;
         self.pace.take(position);
+    }
+
+    #[inline(always)]
+    fn leave_out(&mut self, place: u32) {
+        let position = self.permutation.position(place) as usize;
+        remove(&mut self.pending, position);
+        self.filled.note_removed(&self.pending, position);
+        self.taken += 1;
     }
 
     fn take_again(&mut self) -> bool {
@@ -90,8 +104,8 @@ impl Schedule for Nested {
 
     fn add(&mut self, place: u32) {
         let position = self.permutation.position(place) as usize;
+        self.filled.note_insertion(&self.pending, position);
         insert(&mut self.pending, position);
-        self.filled.note_inserted(position);
         self.pace.add(position);
     }
 }
@@ -131,6 +145,8 @@ fn pending_from(
 }
 
 /// Returns the place of the least pending position of all.
+// A call, since it is seldom made.
+#[inline(never)]
 fn first_pending(permutation: &Permutation, pending: &[u64]) -> Option<u32>
     requires { HasBits pending.now (length permutation.now.places) }
     ensures { MatchOption result

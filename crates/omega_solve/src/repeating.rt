@@ -4,18 +4,22 @@ ghost use Rattle.omega_solve.specs.private.solving.Repeating.{LiftsAgain};
 ghost use Rattle.omega_solve.specs.private.solving.Successor.{IsTableOf};
 
 use crate::schedule::Schedule;
-use crate::successor::due_towards;
+use crate::successor::{due_towards, owns};
 use omega_lift_laws::{allowances_are_unique, runs_keep_tables};
 use omega_measure::{Game, MeasureTable, Player};
 
 /// Lifts `place` again while it leads to itself, a lift is due there and the schedule takes it again, at most `most`
 /// times. Returns how often. Wakes nothing: predecessors are woken once, after the last of these lifts.
+///
+/// The place was lifted towards `towards`. If `player` owns it, no lift is due there again unless that is the place
+/// itself.
 pub(crate) fn lift_again<T: MeasureTable, S: Schedule>(
     game: &Game,
     player: Player,
     table: &mut T,
     schedule: &mut S,
     place: u32,
+    towards: u32,
     most: u64,
 ) -> u64
     requires inside { place < length game.now }
@@ -27,7 +31,7 @@ pub(crate) fn lift_again<T: MeasureTable, S: Schedule>(
         (T.content table.old) (T.content table.new) (S.waiting schedule.old) (S.waiting schedule.new) }
 {
     let mut made = 0u64;
-    if leads_to_itself(game, place) {
+    if may_repeat(game, player, place, towards) {
         while made < most && lift_once_more(game, player, table, schedule, place) {
             made += 1;
         }
@@ -67,6 +71,17 @@ fn lift_once_more<T: MeasureTable, S: Schedule>(
             again
         }
     }
+}
+
+/// Whether a lift may be due again at `place`, which leads to itself and was lifted towards `towards`.
+fn may_repeat(game: &Game, player: Player, place: u32, towards: u32) -> bool
+    requires { place < length game.now }
+    ensures { IsTrue result → HasEdge game.now place place }
+{
+    if towards != place && owns(game, player, place) {
+        return false;
+    }
+    leads_to_itself(game, place)
 }
 
 /// Whether `place` is one of its own successors.

@@ -1,4 +1,4 @@
-ghost use Rattle.std.specs.Prelude.{◌≡◌, ◌+◌, ◌-◌, ◌^◌, ◌<◌, length, IfOk, MatchBool, MatchOption, IsOkUnless};
+ghost use Rattle.std.specs.Prelude.{◌≡◌, ◌↔◌, ◌+◌, ◌-◌, ◌^◌, ◌<◌, length, IfOk, IsTrue, MatchBool, MatchOption, IsOkUnless};
 ghost use Rattle.omega_solve.specs.Schedule.{IsIdle, IsPending, Pending, all_pending, with_added, with_taken, with_taken_again};
 
 use omega_measure::{Game, Refusal};
@@ -31,11 +31,26 @@ pub trait Schedule: Drop {
     fn look(&self) -> Option<u32>
         ensures { MatchOption result (IsIdle (waiting self.now)) (IsPending (waiting self.now)) };
 
+    /// Whether `place` is pending.
+    fn is_pending(&self, place: u32) -> bool
+        requires { place < length (waiting self.now).flags }
+        ensures { IsTrue result ↔ IsPending (waiting self.now) place };
+
     /// Takes out `place`, which is pending.
     fn take(&mut self, place: u32)
         requires pending { IsPending (waiting self.old) place }
         requires counted { (waiting self.old).taken < 2 ^ 64 - 1 }
         ensures { waiting self.new ≡ with_taken (waiting self.old) place };
+
+    /// Takes out `place`, which is pending and need not be the place to look at. A schedule may go on as if the place
+    /// had not been pending. Counts as a take.
+    fn leave_out(&mut self, place: u32)
+        requires pending { IsPending (waiting self.old) place }
+        requires counted { (waiting self.old).taken < 2 ^ 64 - 1 }
+        ensures { waiting self.new ≡ with_taken (waiting self.old) place }
+    {
+        self.take(place);
+    }
 
     /// Decides whether the place taken last is taken once more, before any other. It is called if a lift is due there
     /// again. A yes counts as a take.

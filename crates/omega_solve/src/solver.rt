@@ -253,6 +253,7 @@ impl<'g, T: MeasureTable, S: Schedule> Solver<'g, T, S> {
             &mut self.table,
             &mut self.schedule,
             place,
+            towards,
             most - 1,
         );
         self.lifts += 1 + more;

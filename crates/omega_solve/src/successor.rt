@@ -73,7 +73,7 @@ pub(crate) fn owns(game: &Game, player: Player, place: u32) -> bool
 
 /// Returns the first successor of `place` of least measure, on the entries for priorities at least that of the place.
 /// Returns none if the allowance towards some successor does not exceed the measure of the place, and looks at no
-/// successor after it.
+/// successor after it. No lift is tested towards a successor whose measure is not less than that of another.
 // Inlined, so that the place is looked up once for all its successors.
 #[inline(always)]
 fn least_exceeded<T: MeasureTable>(game: &Game, table: &T, place: u32) -> Option<u32>
@@ -93,10 +93,10 @@ fn least_exceeded<T: MeasureTable>(game: &Game, table: &T, place: u32) -> Option
     }
     for index in 1..successors.len() {
         let successor = successors[index];
-        if !table.due(place, successor) {
-            return None;
-        }
         if table.compare_for(place, successor, least) == Ordering::Less {
+            if !table.due(place, successor) {
+                return None;
+            }
             least = successor;
         }
     }

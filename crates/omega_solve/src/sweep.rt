@@ -52,6 +52,10 @@ impl Schedule for Sweep {
         }
     }
 
+    fn is_pending(&self, place: u32) -> bool {
+        self.pending[place as usize]
+    }
+
     fn take(&mut self, place: u32) {
         self.pending[place as usize] = false;
         self.count -= 1;

@@ -6,6 +6,7 @@ use crate::schedule::Schedule;
 use omega_measure::{Game, MeasureTable};
 
 /// Makes the predecessors of `place` pending. A predecessor at top is left out: no lift is ever due there.
+#[inline(always)]
 pub(crate) fn wake_predecessors<T: MeasureTable, S: Schedule>(
     game: &Game,
     table: &T,

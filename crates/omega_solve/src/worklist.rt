@@ -54,6 +54,10 @@ impl Schedule for Worklist {
         }
     }
 
+    fn is_pending(&self, place: u32) -> bool {
+        self.pending[place as usize]
+    }
+
     fn take(&mut self, place: u32) {
         let at = position_of(&self.ring, self.first, self.count, place);
         close_gap(&mut self.ring, self.first, at);

@@ -15,7 +15,7 @@ use Rattle.omega_lift_laws.specs.Run.{IsDue}
 use Rattle.omega_lift_laws.specs.Answer.{IsFirstLeast}
 use Rattle.omega_lift_laws.specs.Laws.{AllowancesAreMonotone, AllowancesAreStrict, AllowancesExist, MeasuresAreOrdered}
 use Rattle.omega_measure.specs.Table.{Content, Exceeds, IsAllowanceIn}
-use Rattle.omega_solve.specs.private.solving.Successor.{ExceedsToAll, IsDueTowards, IsFirstBest, IsLeastExceeded, IsTableOf, KeepsToSome, order_from}
+use Rattle.omega_solve.specs.private.solving.Successor.{IsDueTowards, IsFirstBest, IsLeastExceeded, IsTableOf, KeepsToSome, order_from}
 use Rattle.omega_solve.proofs.lifting.Edges.{edge_at, index_of_edge}
 use Rattle.omega_solve.proofs.lifting.Order.{reversed, still_above}
 
@@ -122,19 +122,19 @@ towards_due nodes player content v w table lt edge exceeds value =
       lifts = record { value = value allows; above = exceeds.above };
     }
 
--- at the player's own place a lift is due towards the least successor if the allowances towards all exceed the measure
+-- at the player's own place a lift is due towards the least successor if the allowance towards it exceeds the measure
 pub owned_due : (nodes : List Node) (player : Player) (content : Content) (v w : ℕ)
     → IsTableOf nodes player content → v < length nodes → MeasuresAreOrdered → AllowancesAreMonotone
-    → owner_at nodes v ≡ player → ExceedsToAll nodes content v
+    → owner_at nodes v ≡ player → Exceeds content v w
     → IsFirstBest (order_from content (priority_at nodes v)) Less (successors_at nodes v) (length (successors_at nodes v)) w
     → IsDueTowards nodes player content.measures v w
-owned_due nodes player content v w table lt order monotone own all best =
+owned_due nodes player content v w table lt order monotone own exceeds best =
     let edge = edge_at nodes v best.index w best.listed in
-    towards_due nodes player content v w table lt edge (all w edge) (λ allows. record {
+    towards_due nodes player content v w table lt edge exceeds (λ allows. record {
       successor = w;
       listed = edge;
       allowance = allows;
-      least = λ _. least_allowance nodes player content v w (all w edge).allowance table order monotone best allows;
+      least = λ _. least_allowance nodes player content v w exceeds.allowance table order monotone best allows;
       greatest = λ other. absurd (other own);
     })
 

@@ -1,5 +1,5 @@
 -- Flags of pending places: what a take or an add changes, and how many are pending.
-use Rattle.std.proofs.Common.{inl, inr, ◌≡◌, ◌≢◌, ℕ, ◌+◌, ◌<◌, ◌≤◌, zero, suc, Bool, true, false, List, [], ◌∷◌, Some, length, arith, refl, sym, ap, ◌∙◌, get_or, set, cond, replicate, subst}
+use Rattle.std.proofs.Common.{inl, inr, ◌≡◌, ◌≢◌, ◌↔◌, ℕ, ◌+◌, ◌<◌, ◌≤◌, zero, suc, Bool, true, false, List, [], ◌∷◌, Some, length, arith, refl, sym, ap, ◌∙◌, get_or, set, cond, replicate, subst}
 use Rattle.std.specs.List.{slice_get, count_by}
 use Rattle.std.proofs.lemmas.Bool.{cases_eq, false≢true}
 use Rattle.std.proofs.lemmas.List.{get_or-replicate, length-replicate, length-set}
@@ -111,6 +111,13 @@ waits_none pending idle = none_counted pending.flags idle
 -- what a read of a flag shows
 pub not_pending : (flags : List Bool) (v : ℕ) (b : Bool) → v < length flags → b ≡ get_or flags v b → b ≡ false → slice_get flags v ≡ Some false
 not_pending flags v b lt read e = slice_get_read flags (length flags) v b refl lt read ∙ ap Some e
+
+-- a flag says whether a place is pending
+pub pending_if : (flags : List Bool) (v : ℕ) (b : Bool) → slice_get flags v ≡ Some b → (b ≡ true) ↔ (slice_get flags v ≡ Some true)
+pending_if flags v b at = (λ yes. at ∙ ap Some yes, λ waiting. same_Some b true (sym at ∙ waiting))
+
+pub flag_pending : (flags : List Bool) (v : ℕ) (b : Bool) → v < length flags → b ≡ get_or flags v b → (b ≡ true) ↔ (slice_get flags v ≡ Some true)
+flag_pending flags v b lt read = pending_if flags v b (slice_get_read flags (length flags) v b refl lt read)
 
 -- at first as many places are pending as there are
 pub waits_all : (n : ℕ) → waits (all_pending n) ≡ n

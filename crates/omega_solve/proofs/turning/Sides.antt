@@ -1,5 +1,5 @@
 -- What a player's side keeps holds at its start, after lifts and takes, and after a place is given up.
-use Rattle.std.proofs.Common.{◌≡◌, ℕ, ◌<◌, inl, inr, Bool, true, false, List, ◌∷◌, Option, None, IsSome, length, set, slice_index, replicate, refl, sym, ap, ◌∙◌, subst, arith}
+use Rattle.std.proofs.Common.{◌≡◌, ℕ, ◌+◌, ◌-◌, ◌<◌, ◌^◌, inl, inr, [], min, Bool, true, false, List, ◌∷◌, Option, None, IsSome, length, set, slice_index, replicate, refl, sym, ap, ◌∙◌, subst, arith}
 use Rattle.std.proofs.lemmas.Bool.{cases_eq, false≢true}
 use Rattle.std.proofs.lemmas.List.{get_or-set_other, get_or-set_same, get_or_default, length-replicate, length-set}
 use Rattle.std.proofs.lemmas.Option.{same_Some}
@@ -9,7 +9,7 @@ use Rattle.omega_parity_game.specs.Game.{Node, IsGame, predecessors_of, prioriti
 use Rattle.omega_parity_game.specs.Player.{opponent_of}
 use Rattle.omega_parity_game.specs.Winning.{InRegion}
 use Rattle.omega_region_laws.specs.Laws.{RegionsAreApart}
-use Rattle.omega_lift_laws.specs.Measure.{Measure, IsAtMost, IsMeasure}
+use Rattle.omega_lift_laws.specs.Measure.{Measure, IsAtMost}
 use Rattle.omega_lift_laws.specs.Allowance.{measure_at}
 use Rattle.omega_lift_laws.specs.Answer.{AreChoices, won_in}
 use Rattle.omega_lift_laws.specs.Laws.{AllowancesAreUnique, ChoicesAreAStrategy, ChoicesWin, RegionsStayBelowTop, WonPlacesAreInRegions, ZeroTablesAreTables}
@@ -18,7 +18,7 @@ use Rattle.omega_lift_laws.proofs.Choosing.{cases_top}
 use Rattle.omega_measure.specs.Table.{Content, Raises, with_measure, zero_content}
 use Rattle.omega_solve.specs.LeastTables.{IsLeastStable, RunsLeadToLeastTables}
 use Rattle.omega_solve.specs.Schedule.{IsPending, Pending, all_pending, with_taken}
-use Rattle.omega_solve.specs.Turns.{IsAnswerOfRun}
+use Rattle.omega_solve.specs.Turns.{EndsRaised, IsAnswerOfRun}
 use Rattle.omega_solve.specs.private.solving.Repeating.{LiftsAgain}
 use Rattle.omega_solve.specs.private.solving.Successor.{IsDueTowards, IsTableOf}
 use Rattle.omega_solve.specs.private.solving.Wake.{Wakes}
@@ -29,45 +29,52 @@ use Rattle.omega_solve.proofs.lifting.Edges.{contained, edge_from_predecessor, e
 use Rattle.omega_solve.proofs.lifting.Lifting.{due_before, due_below_top, due_pending, raised, run_raised}
 use Rattle.omega_solve.proofs.schedules.Flags.{pending_all, pending_inside, pending_taken}
 use Rattle.omega_solve.proofs.turning.Below.{at_most_set, at_most_top, run_below, zero_below}
+use Rattle.omega_solve.proofs.turning.Raising.{lifts_raise, raised_more, raised_start, set_keeps_table}
 
 -- at its start
 pub side_start : (nodes : List Node) (player : Player) → ZeroTablesAreTables
-    → IsSide nodes player (zero_content player (priorities nodes)) (all_pending (length nodes))
+    → IsSide nodes player (zero_content player (priorities nodes)) (all_pending (length nodes)) 0
 side_start nodes player zero = record {
   table = record { same_player = refl; same_priorities = refl; is_table = zero player (priorities nodes) };
   below = λ other is stable. zero_below nodes player other is;
+  raised = raised_start nodes player;
   entries = length-replicate (length nodes) true;
   due = λ v due. pending_all (length nodes) v (edge_leaves nodes v due.1.value.successor due.1.value.listed);
 }
 
 -- after lifts of one place, its take, and the waking of its predecessors
-pub side_lifted : (nodes : List Node) (player : Player) (old new content : Content) (before again after : Pending) (v w count : ℕ) → IsGame nodes
-    → AllowancesAreUnique → IsSide nodes player old before → IsDueTowards nodes player old.measures v w → Raises old v w new
+pub side_lifted : (nodes : List Node) (player : Player) (old new content : Content) (before again after : Pending) (v w count raises sum : ℕ) → IsGame nodes
+    → AllowancesAreUnique → IsSide nodes player old before raises → sum ≡ min (raises + (1 + count)) (2 ^ 64 - 1) → IsDueTowards nodes player old.measures v w → Raises old v w new
     → LiftsAgain nodes player v count new content (with_taken before v) again
     → Wakes content.measures (predecessors_of nodes v) (length (predecessors_of nodes v)) again after
-    → IsSide nodes player content after
-side_lifted nodes player old new content before again after v w count game unique side due raises more wakes =
+    → IsSide nodes player content after sum
+side_lifted nodes player old new content before again after v w count raises sum game unique side counted due raising more wakes =
     let place = edge_leaves nodes v w due.listed in
     let here : v < length old.measures = omega (arith, place, table_entries nodes player old side.table) in
-    let now = raised nodes player old new v w unique side.table due raises in
+    let now = raised nodes player old new v w unique side.table due raising in
     let from = subst (λ (t : List Measure). IsLiftingRun nodes player t (replicate count v) content.measures)
     (ap (λ (c : Content). c.measures) now) more.lifted in
+    let run = run_raised nodes player old new content v w count unique side.table due raising more.lifted in
     record {
       table = more.table;
       below = λ other is stable.
           run_below nodes player old.measures content.measures other (v ∷ replicate count v) game side.table.is_table is stable
-          (run_raised nodes player old new content v w count unique side.table due raises more.lifted) (side.below other is stable);
+          run (side.below other is stable);
+      raised = raised_more nodes player old.measures content.measures raises sum (v ∷ replicate count v) side.raised
+          (lifts_raise nodes player old.measures content.measures (v ∷ replicate count v) run)
+          (omega (arith, counted, length-replicate count v));
       entries = wakes.entries ∙ (ap (λ (marks : List Bool). length marks) more.flags ∙ (length-set before.flags v false ∙ side.entries));
       due = due_pending nodes player old.measures content.measures before again after v count due.value here due.lifts from more.looped
           side.due more.flags wakes;
     }
 
 -- after the take of a place at which no lift is due
-pub side_settled : (nodes : List Node) (player : Player) (content : Content) (before : Pending) (v : ℕ) → IsSide nodes player content before
-    → ¬ IsDue nodes player content.measures v → IsSide nodes player content (with_taken before v)
-side_settled nodes player content before v side settled = record {
+pub side_settled : (nodes : List Node) (player : Player) (content : Content) (before : Pending) (v raises : ℕ) → IsSide nodes player content before raises
+    → ¬ IsDue nodes player content.measures v → IsSide nodes player content (with_taken before v) raises
+side_settled nodes player content before v raises side settled = record {
   table = side.table;
   below = side.below;
+  raised = side.raised;
   entries = length-set before.flags v false ∙ side.entries;
   due = λ u due. pending_taken before v u (λ (e : u ≡ v).
       settled (subst (λ (place : ℕ). IsDue nodes player content.measures place) e due)) (side.due u due);
@@ -94,20 +101,7 @@ topped_table : (nodes : List Node) (player : Player) (old : Content) (v : ℕ) �
 topped_table nodes player old v table = record {
   same_player = table.same_player;
   same_priorities = table.same_priorities;
-  is_table = record {
-    entries = length-set old.measures v None ∙ table.is_table.entries;
-    measures = λ u lt.
-        let inside : u < length old.measures = omega (arith, lt, length-set old.measures v None) in
-        elim (cases_eq u v) [
-          | inl e ↦
-              let top : measure_at (set old.measures v None) u ≡ None =
-              ap (measure_at (set old.measures v None)) e ∙ get_or-set_same old.measures v None None (omega arith) in
-              subst (IsMeasure player (priorities nodes)) (sym top) tt
-          | inr ne ↦
-              subst (IsMeasure player (priorities nodes)) (sym (get_or-set_other old.measures v u None None ne))
-              (table.is_table.measures u inside)
-        ];
-  };
+  is_table = set_keeps_table player (priorities nodes) old.measures v None table.is_table tt;
 }
 
 -- each place at which a lift is due is pending after its successor was given up
@@ -135,11 +129,12 @@ topped_due nodes player table before after v lt pending wakes u due =
     ]
 
 -- after a place is given up that the opponent wins, and its predecessors are woken
-pub side_topped : (nodes : List Node) (player : Player) (old : Content) (before after : Pending) (v : ℕ) → IsGame nodes → WonPlacesAreInRegions
-    → RegionsAreApart → IsSide nodes player old before → InRegion nodes (opponent_of player) v
+pub side_topped : (nodes : List Node) (player : Player) (old : Content) (before after : Pending) (v raises sum : ℕ) → IsGame nodes → WonPlacesAreInRegions
+    → RegionsAreApart → IsSide nodes player old before raises → sum ≡ min (raises + 1) (2 ^ 64 - 1) → InRegion nodes (opponent_of player) v
+    → IsSome (measure_at old.measures v)
     → Wakes (set old.measures v None) (predecessors_of nodes v) (length (predecessors_of nodes v)) before after
-    → IsSide nodes player (with_measure old v None) after
-side_topped nodes player old before after v game won apart side lost wakes =
+    → IsSide nodes player (with_measure old v None) after sum
+side_topped nodes player old before after v raises sum game won apart side counted lost some wakes =
     let entries = table_entries nodes player old side.table in
     let here : v < length old.measures = omega (arith, entries, lost.node) in
     record {
@@ -147,14 +142,24 @@ side_topped nodes player old before after v game won apart side lost wakes =
       below = λ other is stable.
           at_most_set nodes old.measures other v None entries (side.below other is stable)
           (lost_at_top nodes player other v game won apart is stable lost);
+      raised = raised_more nodes player old.measures (set old.measures v None) raises sum (v ∷ []) side.raised
+          (None, lost.node, inr (lost, some, refl), refl) counted;
       entries = wakes.entries ∙ side.entries;
       due = topped_due nodes player old.measures before after v here side.due wakes;
     }
 
+-- at which no lift is due any more
+pub top_settled : (nodes : List Node) (player : Player) (old : Content) (v : ℕ) → v < length old.measures
+    → ¬ IsDue nodes player (with_measure old v None).measures v
+top_settled nodes player old v lt due =
+    let top : measure_at (set old.measures v None) v ≡ None = get_or-set_same old.measures v None None lt in
+    let some : IsSome (measure_at (set old.measures v None) v) = due_below_top due.0 (measure_at (set old.measures v None) v) due.1.above in
+    false≢true (rw top at some)
+
 -- once no place is pending, the table is the least in which no lift is due
-pub ended_least : (nodes : List Node) (player : Player) (content : Content) (pending : Pending) → HasEnded nodes player content pending
+pub ended_least : (nodes : List Node) (player : Player) (content : Content) (pending : Pending) (raises : ℕ) → HasEnded nodes player content pending raises
     → IsLeastStable nodes player content.measures
-ended_least nodes player content pending ended = record {
+ended_least nodes player content pending raises ended = record {
   is_table = ended.side.table.is_table;
   stable = λ v lt due.
       let waiting = ended.side.due v due in
@@ -164,12 +169,12 @@ ended_least nodes player content pending ended = record {
 }
 
 -- and its answer is that of a lifting run
-pub ended_answer : (nodes : List Node) (player : Player) (content : Content) (pending : Pending) (won : List Bool) (choices : List (Option ℕ))
+pub ended_answer : (nodes : List Node) (player : Player) (content : Content) (pending : Pending) (raises : ℕ) (won : List Bool) (choices : List (Option ℕ))
     → IsGame nodes → RunsLeadToLeastTables → ChoicesAreAStrategy → ChoicesWin → RegionsStayBelowTop
-    → HasEnded nodes player content pending → won ≡ won_in content.measures
+    → HasEnded nodes player content pending raises → won ≡ won_in content.measures
     → AreChoices nodes player content.measures choices → IsAnswerOfRun nodes player won choices
-ended_answer nodes player content pending won choices game lead strategy win stay ended below_top chosen =
-    let least = ended_least nodes player content pending ended in
+ended_answer nodes player content pending raises won choices game lead strategy win stay ended below_top chosen =
+    let least = ended_least nodes player content pending raises ended in
     let led = lead nodes player content.measures game least in
     record {
       exact = rw below_top
@@ -180,3 +185,12 @@ ended_answer nodes player content pending won choices game lead strategy win sta
       below_top = below_top;
       chosen = chosen;
     }
+
+-- and so many raises led there
+pub ended_raised : (nodes : List Node) (player : Player) (content : Content) (pending : Pending) (raises : ℕ) → HasEnded nodes player content pending raises
+    → EndsRaised nodes player raises
+ended_raised nodes player content pending raises ended = record {
+  table = content.measures;
+  raised = ended.side.raised;
+  stable = (ended_least nodes player content pending raises ended).stable;
+}

@@ -5,21 +5,25 @@ ghost use Rattle.omega_lift_laws.specs.Allowance.{measure_at};
 ghost use Rattle.omega_solve.specs.private.solving.Successor.{IsTableOf};
 ghost use Rattle.omega_solve.specs.private.turning.Handing.{AreWon, Rests, RestsOn, StandsAlone};
 
+use crate::schedule::Schedule;
 use crate::successor::owns;
 use omega_lift_laws::{allowances_exist, measures_are_ordered, won_places_are_in_regions};
 use omega_measure::{Game, MeasureTable, Player};
 
 /// Marks in `lost` the places whose measures may still rise to top: those at top, those at which a lift is due, and
-/// those that rest on such places. Nothing is proved of the marks, which are judged. `stack` has room for each place.
-pub(crate) fn mark_lost<T: MeasureTable>(
+/// those that rest on such places. A lift is due at no place that is not pending, so that nothing is compared there at
+/// first. Nothing is proved of the marks, which are judged. `stack` has room for each place.
+pub(crate) fn mark_lost<T: MeasureTable, S: Schedule>(
     game: &Game,
     player: Player,
     table: &T,
+    schedule: &S,
     lost: &mut [bool],
     stack: &mut [u32],
 )
     requires game { IsGame game.now }
     requires measures { length (T.content table.now).measures ≡ length game.now }
+    requires flags { length (S.waiting schedule.now).flags ≡ length game.now }
     requires entries { length lost.old ≡ length game.now }
     ensures { length lost.new ≡ length lost.old }
 {
@@ -27,7 +31,7 @@ pub(crate) fn mark_lost<T: MeasureTable>(
     let mut count = 0;
     for place in 0..game.len() {
         let unsettled = table.is_top(place as u32)
-            || !rests(game, player, table, lost, place as u32);
+            || schedule.is_pending(place as u32) && !rests(game, player, table, lost, place as u32);
         count = push_if(unsettled, lost, stack, count, place as u32);
     }
     // Each place is on the stack at most once.

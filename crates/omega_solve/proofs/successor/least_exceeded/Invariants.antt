@@ -1,5 +1,4 @@
--- The allowances towards the successors so far exceed the measure, and the first of least measure among them.
-use Rattle.std.proofs.Common.{ℕ, ◌<◌, slice_index}
+-- The first successor of least measure among those so far, and the allowance towards it exceeds the measure.
 use Rattle.std.specs.declared.cmp.Ordering.TheVariants.{Less}
 use Rattle.omega_parity_game.specs.Game.{priority_at}
 use Rattle.omega_measure.specs.Table.{Exceeds}
@@ -8,5 +7,5 @@ use Rattle.omega_solve.proofs.successor.least_exceeded.Given as goal
 
 abbrev pub invariant-loop-index : goal.invariant-loop-index
 invariant-loop-index g l =
-    ((k : ℕ) → k < l.index → Exceeds (g.T.MeasureTable.content l.table) l.place (slice_index l.successors k))
+    Exceeds (g.T.MeasureTable.content l.table) l.place l.least
     × IsFirstBest (order_from (g.T.MeasureTable.content l.table) (priority_at l.game l.place)) Less l.successors l.index l.least

@@ -30,17 +30,13 @@ pub record IsFirstBest (order : ℕ → ℕ → Ordering) (wanted : Ordering) (x
   pub best : (j u : ℕ) → j < count → slice_get xs j ≡ Some u → order u x ≢ wanted
   pub first : (j u : ℕ) → j < index → slice_get xs j ≡ Some u → order x u ≡ wanted
 
--- the allowance of v towards each of its successors exceeds its measure
-abbrev pub ExceedsToAll : List Node → Content → ℕ → Type 0
-ExceedsToAll nodes content v = (w : ℕ) → HasEdge nodes v w → Exceeds content v w
-
 -- v has a successor, the allowance towards which does not exceed its measure
 abbrev pub KeepsToSome : List Node → Content → ℕ → Type 0
 KeepsToSome nodes content v = (w : ℕ) × HasEdge nodes v w × ¬ Exceeds content v w
 
--- w is the first successor of v of least measure, and the allowance towards each exceeds the measure of v
+-- w is the first successor of v of least measure, and the allowance towards it exceeds the measure of v
 pub record IsLeastExceeded (nodes : List Node) (content : Content) (v w : ℕ) : Type 0 where
-  pub exceeds : ExceedsToAll nodes content v
+  pub exceeds : Exceeds content v w
   pub least : IsFirstBest (order_from content (priority_at nodes v)) Less (successors_at nodes v) (length (successors_at nodes v)) w
 
 -- a lift is due at v, and its lift value is the allowance towards w

@@ -1,5 +1,6 @@
 -- The answer of a run in the reordered game is found, by place, with some number of lifts.
 use Rattle.std.proofs.Common.{◌∙◌, length, ap, arith}
+use Rattle.omega_solve.specs.declared.turns.TurnsAnswer.{TurnsAnswer}
 use Rattle.omega_budget.specs.private.steps.Reordering.{choices_by_place}
 use Rattle.omega_budget.proofs.Exactness.{choices_below, choices_by_place_here, won_by_place_here}
 use Rattle.omega_budget.proofs.Turning.{turned}
@@ -42,8 +43,9 @@ returns-clause-found c =
     let answer = c.args.answer.now in
     let run = c.requires in
     let order = c.permutation-permutation in
+    let found : TurnsAnswer = record { won = c.in_ok-won.won; choice = c.in_ok-choice.choice; raises = answer.raises } in
     turned c.headline.ensures c.reorderings_keep_states.ensures c.reorderings_keep_bounds.ensures c.runs_are_bounded.ensures
-    self.given self.reordered self.positions self.places c.args._player answer.won.items answer.choice.items _
+    self.given self.reordered self.positions self.places c.args._player answer.won.items answer.choice.items found
     c.keeps_nodes.ensures.game c.keeps_nodes.ensures.reordered run
     (won_by_place_here self.positions _ order.result.now.positions c.as_slice.result.now run.table c.in_ok-won.ensures.won
     order.ensures.positions (c.as_slice.ensures.value ∙ run.below_top))

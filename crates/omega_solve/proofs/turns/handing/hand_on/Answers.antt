@@ -1,7 +1,10 @@
 -- Each place given up is one that the opponent wins.
-use Rattle.std.proofs.Common.{◌<◌, ◌∙◌, Some, false, length, ap, arith}
+use Rattle.std.proofs.Common.{◌<◌, ◌∙◌, inl, inr, Some, false, length, ap, arith}
 use Rattle.std.proofs.lemmas.Option.{slice_get-get_or}
 use Rattle.omega_solve.proofs.lifting.Due.{table_entries}
+use Rattle.std.proofs.lemmas.Bool.{false≢true}
+use Rattle.omega_lift_laws.specs.Allowance.{measure_at}
+use Rattle.omega_lift_laws.proofs.Choosing.{cases_top}
 use Rattle.omega_solve.proofs.turns.handing.hand_on.Goals as goal
 use Rattle.omega_solve.proofs.turns.handing.hand_on.Goals.{then-not-lost-place+then-not-is_top, else-not-lost-place}
 
@@ -33,3 +36,9 @@ loop-place-preserved g c = elim c.if-not-lost-place.branch [
 
 pub returns : goal.returns
 returns g c = c.loop-place.invariant
+
+pub give_up-requires-clause-below_top : goal.give_up-requires-clause-below_top
+give_up-requires-clause-below_top g c = elim (cases_top (measure_at (g.T.MeasureTable.content c.loop-place.side.table).measures c.loop-place.place)) [
+  | inl top ↦ absurd (false≢true (c.if-not-is_top.ensures.1 top))
+  | inr some ↦ some
+]
