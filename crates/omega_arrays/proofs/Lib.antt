@@ -3,3 +3,4 @@ pub mod Answering
 pub mod Built
 pub mod Firsts
 pub mod Shapes
+pub mod Turning

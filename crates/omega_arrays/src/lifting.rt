@@ -1,5 +1,5 @@
 //! Games solved by lifting for both players.
-ghost use Rattle.std.specs.Prelude.{◌≡◌, ◌≤◌, IfOk, IfErr, false};
+ghost use Rattle.std.specs.Prelude.{◌≡◌, ◌≤◌, IfOk, IfErr, false, true};
 ghost use Rattle.omega_parity_game.specs.declared.player.Player.{Player};
 ghost use Rattle.omega_parity_game.specs.Game.{priorities};
 ghost use Rattle.omega_parity_game.specs.Solution.{IsExactSolution};
@@ -10,8 +10,9 @@ ghost use Rattle.omega_arrays.specs.Solving.{AreLifts, EndBoth, IsWholeRefusal};
 use crate::solving::Lifts;
 use omega_budget::{NoObserver, Reordered};
 use omega_game::{ForwardGame, Player, Refusal, Seq, Solution, Strategy};
-use omega_game_answers::{fits_both, winners_of};
+use omega_game_answers::{fits_both, solution_in_turns, winners_of};
 use omega_region_laws::{regions_are_apart, regions_cover};
+use omega_solve::MOST_LIFTS;
 use std::alloc::Global;
 
 /// Solves the game by lifting for one player and then for the other, and returns also how many lifts the runs made.
@@ -30,6 +31,28 @@ pub(crate) fn lifted(
     fits_both(game)?;
     let reordered = Reordered::of(alloc, game)?;
     lifted_for_both(alloc, game, &reordered, budget)
+}
+
+/// Solves a game for which a search gives no answer. If `budget` is the most lifts that a solver makes, the players are
+/// lifted for in turns, whatever their bounds, and their lifts are not counted. Else, or if the turns do not suffice,
+/// it is solved as [lifted] does.
+pub(crate) fn lifted_uncounted(
+    alloc: Global,
+    game: &ForwardGame,
+    budget: u64,
+) -> Result<(Solution, Lifts), Refusal>
+    requires { budget ≤ most_lifts }
+    ensures exact { IfOk result (λ found. IsExactSolution game.now found.0) }
+    ensures lifts { IfOk result (λ found. AreLifts true game.now budget found.1) }
+    ensures refused { IfErr result (IsWholeRefusal game.now budget) }
+{
+    if budget == MOST_LIFTS {
+        let turned = solution_in_turns(alloc, game)?;
+        if let Some(solution) = turned {
+            return Ok((solution, Lifts { zero: 0, one: 0 }));
+        }
+    }
+    lifted(alloc, game, budget)
 }
 
 /// Solves the game as [lifted] does if it is too wide for neither player.

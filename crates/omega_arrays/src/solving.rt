@@ -11,13 +11,14 @@ use crate::answer::{write_solution, wrong_room};
 use crate::arrays::Arrays;
 use crate::building::built_game;
 use crate::fault::ArrayFault;
-use crate::lifting::lifted;
+use crate::lifting::{lifted, lifted_uncounted};
 use omega_game::{Game, Refusal, Solution};
 use omega_judged_search::solve_by_search;
 use omega_solve::MOST_LIFTS;
 use std::alloc::Global;
 
-/// How many lifts the run for each player made.
+/// How many lifts the run for each player made. Those of a solution by search, or by lifting for both players in turns,
+/// are not counted.
 #[repr(C)]
 #[derive(Clone, Copy, Debug, PartialEq, Eq)]
 pub struct Lifts {
@@ -28,8 +29,9 @@ pub struct Lifts {
 }
 
 /// Solves the game of the arrays for both players. Writes for each place its winner, and the winner's choice there, or
-/// [NO_CHOICE] if the winner does not own the node. With `by_search` a search is tried first, and if it gives an answer
-/// no lifts are made. Each run makes at most `budget` lifts, and at most 2^40.
+/// [NO_CHOICE] if the winner does not own the node. Each run makes at most `budget` lifts, and at most 2^40. With
+/// `by_search` a search is tried first, and if it gives an answer no lifts are made. If it gives none and `budget` is
+/// at least 2^40, the players are lifted for in turns, whatever their bounds, and these lifts are not counted.
 ///
 /// Refused with [ArrayFault::BadShape], [GameFault::TooManyNodes], [GameFault::TooManyEdges], [TaskFault::TooWide],
 /// [TaskFault::Budget] or [Refusal::Memory]. Then nothing is written.
@@ -73,8 +75,11 @@ fn solved(
     ensures lifts { IfOk result (λ found. AreLifts by_search game.now budget found.1) }
     ensures refused { IfErr result (IsWholeRefusal game.now budget) }
 {
-    if by_search && let Some(solution) = solve_by_search(alloc, game)? {
+    if !by_search {
+        return lifted(alloc, game.forward(), budget);
+    }
+    if let Some(solution) = solve_by_search(alloc, game)? {
         return Ok((solution, Lifts { zero: 0, one: 0 }));
     }
-    lifted(alloc, game.forward(), budget)
+    lifted_uncounted(alloc, game.forward(), budget)
 }

@@ -7,9 +7,10 @@ use Rattle.omega_io.specs.declared.refused.Which.{Which}
 use Rattle.omega_io.specs.declared.refused.Which.TheVariants.{File, Input}
 use Rattle.omega_parity_game.specs.Game.{Node}
 use Rattle.omega_pg.specs.game.Text.{IsGameText}
-use Rattle.omega_game_answers.specs.Draw.{RefusesDrawnSolution}
-use Rattle.omega_game_answers.specs.Verify.{IsJudgedGameRefusal}
-use Rattle.omega_game_answers.specs.private.steps.Drawn.{IsDrawnRefusal, IsUnknownFrom}
+use Rattle.omega_game_answers.specs.Part.{HasIdentifier, IsPartText}
+use Rattle.omega_game_answers.specs.Verify.{IsJudgedGame, IsJudgedGameRefusal}
+use Rattle.omega_game_answers.specs.private.steps.Drawn.{IsUnknownFrom}
+use Rattle.omega_game_answers.proofs.Parts.{part_has_identifier}
 
 -- a refusal of one of two texts, if what refuses them is said otherwise
 pub about_as : (none file input file' input' : Refusal → Type 0) (text : Option Which) (refusal : Refusal) → (file refusal → file' refusal)
@@ -19,19 +20,19 @@ about_as none file input file' input' (Some File) refusal of_file of_input about
 about_as none file input file' input' (Some Input) refusal of_file of_input about = of_input about
 
 -- an identifier that no node of the game has
-pub unknown_refused : (text : List ℕ) (game : List Node) (from : Option ℕ) (refusal : Refusal) → IsGameText text game → IsUnknownFrom game from refusal
-    → IsJudgedGameRefusal text from refusal
-unknown_refused text game None refusal read unknown = absurd unknown
-unknown_refused text game (Some identifier) refusal read (is, unknown) = rw is (refl, record { game = game; read = read; unknown = unknown })
-
 pub unknown_refused_or_memory : (text : List ℕ) (game : List Node) (from : Option ℕ) (refusal : Refusal) → IsGameText text game
     → IsUnknownFrom game from refusal → or_memory (IsJudgedGameRefusal text from) refusal
 unknown_refused_or_memory text game None refusal read unknown = absurd unknown
 unknown_refused_or_memory text game (Some identifier) refusal read (is, unknown) =
     rw is (refl, record { game = game; read = read; unknown = unknown })
 
--- a text that is no solution of the game
-pub solution_refused : (text : List ℕ) (game : List Node) (from depth : Option ℕ) (solution_text : List ℕ) (refusal : Refusal) → IsGameText text game
-    → IsDrawnRefusal game from depth solution_text refusal → RefusesDrawnSolution text from depth solution_text refusal
-solution_refused text game from depth solution_text refusal read refused =
-    record { game = game; read = read; extent = refused.extent; asked = refused.asked; refused = refused.refused }
+-- the part that the node of an identifier reaches has that node
+part_has : (text : List ℕ) (game : List Node) (identifier : ℕ) → IsPartText text identifier game → (place : ℕ) × HasIdentifier game identifier place
+part_has text game identifier part = part_has_identifier part.game game identifier part.part_of
+
+-- so no identifier of a judged game is unknown
+pub judged_known : (text : List ℕ) (game : List Node) (from : Option ℕ) (refusal : Refusal) → IsJudgedGame text from game
+    → IsUnknownFrom game from refusal → ⊥
+judged_known text game None refusal judged unknown = unknown
+judged_known text game (Some identifier) refusal judged unknown =
+    let has = part_has text game identifier judged in unknown.1 has.0 has.1

@@ -8,7 +8,7 @@ use Rattle.std.proofs.lemmas.List.Kept.{AllPairs-from_increasing}
 use Rattle.std.proofs.lemmas.List.Sums.{sum_by-cons, sum_by-drop_more, sum_by-take-drop}
 use Rattle.omega_parity_game.specs.Game.{IsGame, IsWithinLimits, IsWritableNode, Node, successor_count, identifiers, no_node, node_at}
 use Rattle.omega_parity_game.specs.Laws.{PartsKeepNodes}
-use Rattle.omega_parity_game.specs.Part.{IsPart, IsPartAt, new_place, restricted}
+use Rattle.omega_parity_game.specs.Part.{IsPart, IsPartAt, Reaches, new_place, restricted}
 use Rattle.omega_game_answers.specs.Part.{HasIdentifier, IsPartFrom}
 
 -- ---- rising lists with the same members
@@ -99,6 +99,22 @@ part_from-unique nodes identifier one other game first second =
     let same = place-unique nodes identifier first.place second.place game first.identified second.identified in
     part-unique nodes one other second.place (rw same at first.reached) second.reached
 
+-- the node at a kept place, as a part has it
+abbrev kept_node : List Node → List ℕ → ℕ → Node
+kept_node nodes kept v = record (node_at nodes v) { successors = map (new_place kept) (node_at nodes v).successors }
+
+-- the part of an identifier has it
+pub part_has_identifier : (nodes part : List Node) (identifier : ℕ) → IsPartFrom nodes identifier part → (place : ℕ) × HasIdentifier part identifier place
+part_has_identifier nodes part identifier from =
+    let (kept, at) = from.reached in
+    let self : Reaches nodes from.place from.place = record { path = []; joined = from.identified.node; ends = refl } in
+    let (j, below, held) = (at.reached from.place).1 self in
+    let count : length part ≡ length kept = rw at.kept_nodes (length-map kept (kept_node nodes kept)) in
+    let same : (node_at part j).identifier ≡ (node_at nodes from.place).identifier =
+    rw at.kept_nodes (ap (λ (node : Node). node.identifier) (get_or-map (kept_node nodes kept) kept j from.place no_node below)
+    ∙ ap (λ (v : ℕ). (node_at nodes v).identifier) held) in
+    (j, record { node = omega (arith, below, count); identified = same ∙ from.identified.identified })
+
 -- ---- the limits of parts
 
 -- a sum from a later place on is no greater
@@ -108,10 +124,6 @@ sum_by-drop-le f xs b x h =
     let place : b + (x - b) ≡ x = omega arith in
     let rest : drop (x - b) (drop b xs) ≡ drop x xs = drop-drop (x - b) b xs ∙ ap (λ (i : ℕ). drop i xs) place in
     let sums : sum_by f (drop (x - b) (drop b xs)) ≡ sum_by f (drop x xs) = ap (sum_by f) rest in omega (arith, whole, sums)
-
--- the node at a kept place, as a part has it
-abbrev kept_node : List Node → List ℕ → ℕ → Node
-kept_node nodes kept v = record (node_at nodes v) { successors = map (new_place kept) (node_at nodes v).successors }
 
 -- rising places from some place on
 abbrev IsWithin : ℕ → ℕ → List ℕ → Type 0

@@ -4,7 +4,7 @@ use Rattle.std.specs.List.{Contains, slice_get}
 use Rattle.std.proofs.lemmas.Option.{get_or_from_slice_get, slice_get_within}
 use Rattle.omega_text.specs.declared.refusal.Refusal.{Refusal}
 use Rattle.omega_text.specs.declared.refusal.Refusal.TheVariants.{Automaton, Game, Io, Memory, Task, Text}
-use Rattle.omega_text.specs.declared.refusal.task.TaskFault.TheVariants.{BadSolution, Budget, NotDeterministic, NotParity, TooLarge, TooManyPropositions, TooWide, UniversalBranch, UnknownNode}
+use Rattle.omega_text.specs.declared.refusal.task.TaskFault.TheVariants.{BadSolution, Budget, Controllable, NotDeterministic, NotParity, TooLarge, TooManyPropositions, TooWide, UniversalBranch, UnknownNode}
 use Rattle.omega_parity_game.specs.declared.player.Player.{Player}
 use Rattle.omega_parity_game.specs.Game.{Node, priorities}
 use Rattle.omega_measure.specs.Table.{is_too_wide}
@@ -81,6 +81,7 @@ refused-solving nodes asked player budget (Task NotParity) narrow solved_for h =
 refused-solving nodes asked player budget (Task TooManyPropositions) narrow solved_for h = absurd h
 refused-solving nodes asked player budget (Task UniversalBranch) narrow solved_for h = absurd h
 refused-solving nodes asked player budget (Task UnknownNode) narrow solved_for h = absurd h
+refused-solving nodes asked player budget (Task Controllable) narrow solved_for h = absurd h
 refused-solving nodes asked player budget (Task TooLarge) narrow solved_for h = absurd h
 refused-solving nodes asked player budget (Task (NotDeterministic state)) narrow solved_for h = absurd h
 refused-solving nodes asked player budget Memory narrow solved_for h = tt
@@ -104,6 +105,7 @@ pub refused-part : (game : List Node) (asked : Asked) (identifier budget : ℕ) 
     → IsPartFrom game identifier part → IsSolveGameRefusal part asked None budget refusal
     → IsSolveGameRefusal game asked (Some identifier) budget refusal
 refused-part game asked identifier budget part (Task UnknownNode) part_of h = absurd h
+refused-part game asked identifier budget part (Task Controllable) part_of h = absurd h
 refused-part game asked identifier budget part (Task TooWide) part_of h = record { part = part; part_of = part_of; fault_there = h }
 refused-part game asked identifier budget part (Task Budget) part_of h = record { part = part; part_of = part_of; fault_there = h }
 refused-part game asked identifier budget part (Task BadSolution) part_of h = absurd h

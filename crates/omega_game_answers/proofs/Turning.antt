@@ -1,28 +1,32 @@
 -- What was found for both players in turns is a right solution.
-use Rattle.std.proofs.Common.{◌≡◌, ℕ, ◌≤◌, List, refl, sym, subst, ◌∙◌}
+use Rattle.std.proofs.Common.{◌≡◌, ℕ, ◌+◌, ◌≤◌, None, List, refl, sym, subst, ◌∙◌, arith}
 use Rattle.std.proofs.lemmas.Bool.{false≢true}
 use Rattle.omega_text.specs.declared.refusal.Refusal.{Refusal}
 use Rattle.omega_text.specs.declared.refusal.Refusal.TheVariants.{Automaton, Game, Io, Memory, Task, Text}
+use Rattle.omega_text.specs.declared.refusal.task.TaskFault.TheVariants.{TooWide}
 use Rattle.omega_parity_game.specs.declared.player.Player.TheVariants.{One, Zero}
 use Rattle.omega_parity_game.specs.declared.solution.Solution.{Solution}
 use Rattle.omega_parity_game.specs.Bound.{bound_of}
 use Rattle.omega_parity_game.specs.Game.{IsGame, Node, priorities}
+use Rattle.omega_parity_game.specs.Solution.{IsExactSolution}
 use Rattle.omega_region_laws.specs.Laws.{RegionsAreApart, RegionsCover}
 use Rattle.omega_solve.specs.declared.turns.TurnsAnswers.{TurnsAnswers}
 use Rattle.omega_solve.specs.Turns.{IsTurnsRefusal}
 use Rattle.omega_budget.specs.Within.{IsFoundUncounted}
 use Rattle.omega_budget.proofs.Turning.{found_at}
-use Rattle.omega_game_answers.specs.solve.Solution.{IsNarrow, IsRight}
+use Rattle.omega_game_answers.specs.declared.solve.asked.Asked.TheVariants as way
+use Rattle.omega_game_answers.specs.solve.Refusing.{IsSolveGameRefusal, IsTooWide, IsWideRefusal}
+use Rattle.omega_game_answers.specs.solve.Solution.{IsNarrow}
 use Rattle.omega_game_answers.specs.solve.Winners.{winners_of}
-use Rattle.omega_game_answers.specs.private.steps.Bounds.{AreBoundsWithin}
+use Rattle.omega_game_answers.specs.private.steps.Bounds.{AreBoundsWithin, IsRightByBounds}
 use Rattle.omega_game_answers.proofs.Solutions.{right_solution}
 
 -- a right solution
-pub right_turned : (nodes given : List Node) (budget : ℕ) (both : TurnsAnswers) (solution : Solution) → given ≡ nodes → IsGame nodes → IsNarrow nodes
-    → AreBoundsWithin nodes budget → IsFoundUncounted given Zero both.zero → IsFoundUncounted given One both.one
+pub right_turned : (nodes given : List Node) (both : TurnsAnswers) (solution : Solution) → given ≡ nodes → IsGame nodes → IsNarrow nodes
+    → IsFoundUncounted given Zero both.zero → IsFoundUncounted given One both.one
     → solution.winners ≡ winners_of both.zero.won.items → solution.zero.choice ≡ both.zero.choice.items → solution.one.choice ≡ both.one.choice.items
-    → RegionsAreApart → RegionsCover → IsRight nodes budget solution
-right_turned nodes given budget both solution same game narrow bounds for_zero for_one ew ez eo apart cover =
+    → RegionsAreApart → RegionsCover → IsRightByBounds nodes solution
+right_turned nodes given both solution same game narrow for_zero for_one ew ez eo apart cover budget bounds =
     let zeros = subst (λ (n : List Node). IsFoundUncounted n Zero both.zero) same for_zero in
     let ones = subst (λ (n : List Node). IsFoundUncounted n One both.one) same for_one in
     right_solution nodes budget _ _ solution game (narrow Zero) (narrow One)
@@ -43,3 +47,24 @@ pub by_bounds : (nodes : List Node) (budget : ℕ) → bound_of Zero (priorities
     → AreBoundsWithin nodes budget
 by_bounds nodes budget zero one Zero = zero
 by_bounds nodes budget zero one One = one
+
+-- a solution that is right for each budget that the bounds are within is exact
+pub exact_by_bounds : (nodes : List Node) (solution : Solution) → IsRightByBounds nodes solution → IsExactSolution nodes solution
+exact_by_bounds nodes solution right =
+    let zero = bound_of Zero (priorities nodes) in
+    let one = bound_of One (priorities nodes) in
+    (right (zero + one) (by_bounds nodes (zero + one) (omega arith) (omega arith))).exact
+
+-- a game that is too wide
+pub wide_refused : (nodes : List Node) (refusal : Refusal) → (refusal ≡ Task TooWide) × IsTooWide nodes way.Both → IsWideRefusal nodes way.Both refusal
+wide_refused nodes refusal (e, wide) = rw e (refl, wide)
+
+-- such a refusal refuses the search
+pub search_refused : (nodes : List Node) (budget : ℕ) (refusal : Refusal) → IsWideRefusal nodes way.Both refusal
+    → IsSolveGameRefusal nodes way.Search None budget refusal
+search_refused nodes budget (Task fault) (e, wide) = rw e (record { player = wide.player; solved_for = tt; wide = wide.wide })
+search_refused nodes budget Memory h = tt
+search_refused nodes budget (Text fault) h = h
+search_refused nodes budget (Game fault) h = h
+search_refused nodes budget (Automaton fault) h = h
+search_refused nodes budget Io h = h

@@ -3,11 +3,12 @@ ghost use Rattle.omega_io.specs.Refused.{IsRefusedOf};
 ghost use Rattle.omega_text.specs.Cases.{or_memory};
 ghost use Rattle.omega_game_drawing.specs.Extent.{IsPlaced};
 ghost use Rattle.omega_pg.specs.solution.Refusing.{IsReadSolutionRefusal};
-ghost use Rattle.omega_game_answers.specs.Draw.{IsExtent, IsGameDrawingAnswer, IsSolutionDrawingAnswer, RefusesDrawnSolution};
-ghost use Rattle.omega_game_answers.specs.Verify.{IsJudgedGameRefusal};
+ghost use Rattle.omega_game_answers.specs.Draw.{IsExtent, IsGameDrawingAnswer, IsSolutionDrawingAnswer};
+ghost use Rattle.omega_game_answers.specs.Verify.{IsJudgedGameRefusal, RefusesSolution};
 ghost use Rattle.omega_game_answers.specs.private.steps.Drawn.{IsDrawnRefusal, IsSolutionDrawn, IsUnknownFrom, IsSolvedDrawn};
 
 use crate::game_text::forward_game_of;
+use crate::verify::judged_game;
 use omega_game::{ForwardGame, Refusal, TaskFault};
 use omega_game_drawing::{Extent, draw_game, draw_solution};
 use omega_io::{Refused, Which};
@@ -31,8 +32,9 @@ pub fn draw_game_text(
     draw_game(alloc, &game, extent)
 }
 
-/// Returns the drawing of the game of `text`, as `draw_game_text` does, with the solution of the whole game in
-/// `solution`. If `legend` is set, the drawing has a legend.
+/// Returns the drawing of the game of `text`, as `draw_game_text` does, with the solution in `solution`: of the whole
+/// game, or if an identifier `from` is given, of the part that its node reaches. If `legend` is set, the drawing has a
+/// legend.
 ///
 /// Fails with the [Refusal::Text] or [Refusal::Game] of the game's text, or else with [TaskFault::UnknownNode]; both
 /// are of the input's text. Or else fails with the [Refusal::Text] or [TaskFault::BadSolution] of the solution's text.
@@ -47,15 +49,15 @@ pub fn draw_solution_text(
     ensures answer { IfOk result
         (λ output. IsSolutionDrawingAnswer text.items solution.now from depth legend output.items) }
     ensures refused { IfErr result
-        (IsRefusedOf (RefusesDrawnSolution text.items from depth solution.now) (IsJudgedGameRefusal text.items from)) }
+        (IsRefusedOf (RefusesSolution text.items from solution.now) (IsJudgedGameRefusal text.items from)) }
 {
-    match forward_game_of(alloc, text) {
+    match judged_game(alloc, text, from) {
         Ok(game) => draw_with(alloc, &game, solution, from, depth, legend),
         Err(refusal) => Err(Refused::of(Which::Input, refusal)),
     }
 }
 
-/// Returns the drawing of `game`, or of a part of it, with the solution in the text `solution`. Fails with
+/// Returns the drawing of the extent of `game` with the solution of `game` in the text `solution`. Fails with
 /// [TaskFault::UnknownNode] of the game, or else with the [Refusal::Text] or [TaskFault::BadSolution] of the solution.
 fn draw_with(
     alloc: Global,

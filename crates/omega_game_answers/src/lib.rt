@@ -24,7 +24,7 @@ pub use omega_io::Exit;
 pub use omega_solve::{Player, Refusal};
 pub use show::show_game;
 pub use solve::asked::Asked;
-pub use solve::both::{fits_both, winners_of};
+pub use solve::both::{fits_both, solution_in_turns, winners_of};
 pub use solve::solve_game;
 pub use verify::explaining::lost_by;
 pub use verify::verify_solution;

@@ -40,6 +40,10 @@ IsWholeFault nodes asked budget TooWide = IsTooWide nodes asked
 IsWholeFault nodes asked budget Budget = IsOverBudget nodes asked budget
 IsWholeFault nodes asked budget fault = ⊥
 
+-- a refusal that no budget makes: the game is too wide for a player for whom it is solved, or memory
+abbrev pub IsWideRefusal : List Node → Asked → Refusal → Type 0
+IsWideRefusal nodes asked = or_task (λ fault. (fault ≡ TooWide) × IsTooWide nodes asked) (or_memory never)
+
 -- the part that the node with the identifier reaches has this fault
 pub record IsPartFault (game : List Node) (asked : Asked) (identifier budget : ℕ) (fault : TaskFault) : Type 0 where
   pub part : List Node

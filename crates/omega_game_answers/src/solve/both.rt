@@ -3,13 +3,14 @@ ghost use Rattle.omega_parity_game.specs.Bound.{bound_of};
 ghost use Rattle.omega_parity_game.specs.Game.{priorities};
 ghost use Rattle.omega_measure.specs.Table.{is_too_wide};
 ghost use Rattle.omega_text.specs.declared.refusal.task.TaskFault.TheVariants.{TooWide};
-ghost use Rattle.omega_game_answers.specs.solve.Refusing.{IsSolveGameRefusal, IsTooWide};
+ghost use Rattle.omega_parity_game.specs.Solution.{IsExactSolution};
+ghost use Rattle.omega_game_answers.specs.solve.Refusing.{IsSolveGameRefusal, IsTooWide, IsWideRefusal};
 ghost use Rattle.omega_solve.specs.Limits.{most_lifts};
 ghost use Rattle.omega_text.specs.declared.refusal.Refusal.TheVariants.{Task};
 ghost use Rattle.omega_game_answers.specs.declared.solve.asked.Asked.TheVariants.{Both};
 ghost use Rattle.omega_game_answers.specs.solve.Solution.{IsNarrow, IsRight, IsSolutionOf};
 ghost use Rattle.omega_game_answers.specs.solve.Winners.{winners_of};
-ghost use Rattle.omega_game_answers.specs.private.steps.Bounds.{AreBoundsWithin};
+ghost use Rattle.omega_game_answers.specs.private.steps.Bounds.{AreBoundsWithin, IsRightByBounds};
 ghost use Rattle.omega_game_answers.specs.private.steps.Lifts.{LiftsWholeGame};
 ghost use Rattle.omega_budget.specs.Observing.{IsObserved, refusal_in};
 
@@ -81,7 +82,7 @@ fn solution_in<L, W: Reporter<L>>(
     let every = reporter.every();
     let listens = reporter.listens();
     if every > 0 && !listens && are_bounds_within(game, budget) {
-        let turned = turned_solution(alloc, game, reordered, budget)?;
+        let turned = turned_solution(alloc, game, reordered)?;
         if let Some(solution) = turned {
             return Ok(solution);
         }
@@ -106,18 +107,27 @@ fn is_bound_within(game: &ForwardGame, player: Player, budget: u64) -> bool
     }
 }
 
-/// Returns the solution of a game that is too wide for neither player and whose bounds are within a budget, by lifting
-/// for both players in turns. Returns none if the turns do not suffice.
+/// Returns the solution of `game`, by lifting for both players in turns, whatever the bounds on their lifts. Returns
+/// none if the turns do not suffice; no contract says when they do. Fails with [TaskFault::TooWide].
+pub fn solution_in_turns(alloc: Global, game: &ForwardGame) -> Result<Option<Solution>, Refusal>
+    ensures exact { IfOk result (λ found. IfSome found (IsExactSolution game.now)) }
+    ensures refused { IfErr result (IsWideRefusal game.now Both) }
+{
+    fits_both(game)?;
+    let reordered = Reordered::of(alloc, game)?;
+    turned_solution(alloc, game, &reordered)
+}
+
+/// Returns the solution of a game that is too wide for neither player, by lifting for both players in turns. It is
+/// right for each budget that the bounds of both players are within. Returns none if the turns do not suffice.
 fn turned_solution(
     alloc: Global,
     game: &ForwardGame,
     reordered: &Reordered<'_>,
-    _budget: u64,
 ) -> Result<Option<Solution>, Refusal>
     requires given { reordered.now.given ≡ game.now }
     requires narrow { IsNarrow game.now }
-    requires bounds { AreBoundsWithin game.now _budget }
-    ensures right { IfOk result (λ found. IfSome found (IsRight game.now _budget)) }
+    ensures right { IfOk result (λ found. IfSome found (IsRightByBounds game.now)) }
     ensures memory { IsOkUnless result Refusal.Memory }
 {
     regions_are_apart();

@@ -7,16 +7,18 @@ ghost use Rattle.omega_game_answers.specs.solve.Refusing.{IsSolveGameRefusal};
 ghost use Rattle.omega_game_answers.specs.private.steps.Lifts.{LiftsWholeGame};
 ghost use Rattle.omega_budget.specs.Observing.{IsObserved, refusal_in};
 
-use super::both::solution_of;
+use super::both::{solution_in_turns, solution_of};
 use omega_budget::Reporter;
 use omega_game::{ForwardGame, Game, Refusal, Solution};
 use omega_judged_search::solve_by_search;
 use omega_pg::write_solution;
+use omega_solve::MOST_LIFTS;
 use std::alloc::Global;
 
 /// Returns the solution text of `game`, found by a search and judged. If the search gives none, the game is solved by
-/// lifting, with the budget for each player's run. Only then does [TaskFault::TooWide] or [TaskFault::Budget] come. No
-/// contract says when the search gives one. The search goes against edges, so the predecessors are listed first.
+/// lifting: in turns whatever the bounds if `budget` is the most and nobody listens, else with the budget for each
+/// player's run. Only then does [TaskFault::TooWide] or [TaskFault::Budget] come. No contract says when the search
+/// gives one. The search goes against edges, so the predecessors are listed first.
 pub fn solve_by_judged_search<L, W: Reporter<L>>(
     alloc: Global,
     game: ForwardGame,
@@ -69,6 +71,31 @@ fn searched_solution<L, W: Reporter<L>>(
 {
     match solve_by_search(alloc, game)? {
         Some(solution) => Ok(solution),
-        None => solution_of(alloc, game.forward(), budget, reporter, observer),
+        None => lifted_solution(alloc, game.forward(), budget, reporter, observer),
     }
+}
+
+/// Returns the solution of `game`, by lifting. If `budget` is the most lifts that a solver makes, as where none was
+/// asked for, and reports change no observer, then the players are lifted for in turns whatever their bounds, and
+/// [TaskFault::Budget] does not come unless the turns do not suffice.
+fn lifted_solution<L, W: Reporter<L>>(
+    alloc: Global,
+    game: &ForwardGame,
+    budget: u64,
+    reporter: &W,
+    observer: &mut L,
+) -> Result<Solution, Refusal>
+    requires { budget ≤ most_lifts }
+    ensures exact { IfOk result (IsExactSolution game.now) }
+    ensures refused { IfErr result (IsSolveGameRefusal game.now Search None budget) }
+    ensures reported { IsObserved (LiftsWholeGame game.now Search) (refusal_in result)
+        (W.tells reporter.now) (W.pace reporter.now) budget observer.old observer.new }
+{
+    if budget == MOST_LIFTS && !reporter.listens() {
+        let turned = solution_in_turns(alloc, game)?;
+        if let Some(solution) = turned {
+            return Ok(solution);
+        }
+    }
+    solution_of(alloc, game, budget, reporter, observer)
 }

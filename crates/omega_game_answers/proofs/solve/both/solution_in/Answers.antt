@@ -12,9 +12,15 @@ returns-in_err-turned-clause-reported g c =
 
 pub returns-in-Some-clause-reported : goal.returns-in-Some-clause-reported
 returns-in-Some-clause-reported g c =
-    let right = rw c.in-Some.is at c.in_ok-turned.ensures.right in
+    let by_bounds = rw c.in-Some.is at c.in_ok-turned.ensures.right in
+    let right = by_bounds c.args.budget (c.if-are_bounds_within.ensures refl) in
     let zero = right.ended Zero in
     let one = right.ended One in
     let some : 0 < g.W.Reporter.pace c.args.reporter.now = omega (arith, c.every-every.ensures.pace, c.every-every.ensures.some) in
     silent_observed _ _ _ c.args.game.now Zero One c.args.budget zero.0 one.0 _ (refl, two_made Zero One None) some
     (c.listens-listens.ensures c.if-not-listens.true) zero.1 one.1
+
+pub returns-in-Some-clause-right : goal.returns-in-Some-clause-right
+returns-in-Some-clause-right g c =
+    let by_bounds = rw c.in-Some.is at c.in_ok-turned.ensures.right in
+    by_bounds c.args.budget (c.if-are_bounds_within.ensures refl)

@@ -15,6 +15,6 @@ returns-in_err-found-clause-memory c =
 pub returns-in_ok-solution-in-Some-clause-right : goal.returns-in_ok-solution-in-Some-clause-right
 returns-in_ok-solution-in-Some-clause-right c =
     let made = c.in_ok-solution-in-Some in
-    right_turned c.args.game.now c.args.reordered.now.given c.args._budget c.in-Some.both made.solution c.requires.given c.keeps_limits.ensures.game
-    c.requires.narrow c.requires.bounds (rw c.in-Some.is at c.in_ok-found.ensures.zero) (rw c.in-Some.is at c.in_ok-found.ensures.one)
+    right_turned c.args.game.now c.args.reordered.now.given c.in-Some.both made.solution c.requires.given c.keeps_limits.ensures.game
+    c.requires.narrow (rw c.in-Some.is at c.in_ok-found.ensures.zero) (rw c.in-Some.is at c.in_ok-found.ensures.one)
     made.ensures.winners made.ensures.zero made.ensures.one c.regions_are_apart.ensures c.regions_cover.ensures

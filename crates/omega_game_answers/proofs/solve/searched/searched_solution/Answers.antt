@@ -2,7 +2,7 @@
 use Rattle.std.proofs.Common.{◌≡◌}
 use Rattle.omega_text.specs.declared.refusal.Refusal.TheVariants.{Memory}
 use Rattle.omega_budget.proofs.Observed.{none_observed, spares, observed_alike}
-use Rattle.omega_game_answers.proofs.Observing.{both_lifted, search_observed}
+use Rattle.omega_game_answers.proofs.Observing.{search_observed}
 use Rattle.omega_game_answers.proofs.solve.searched.searched_solution.Goals as goal
 
 pub returns-in_err-solution-clause-reported : goal.returns-in_err-solution-clause-reported
@@ -14,4 +14,4 @@ pub returns-in-Some-clause-reported : goal.returns-in-Some-clause-reported
 returns-in-Some-clause-reported g c = search_observed c.args.game.now _ _ _ _
 
 pub returns-in-None-clause-reported : goal.returns-in-None-clause-reported
-returns-in-None-clause-reported g c = both_lifted c.args.game.now _ _ _ _ _ _ (rw c.forward.ensures at c.solution_of.ensures.reported)
+returns-in-None-clause-reported g c = rw c.forward.ensures at c.lifted_solution.ensures.reported
