@@ -1,5 +1,5 @@
 -- Refusals of a label that is judged are those of its state.
-use Rattle.std.proofs.Common.{◌≡◌, ℕ, ◌<◌, ◌⊎◌, inl, inr, Bool, false, List, length, Some, sym, subst, arith}
+use Rattle.std.proofs.Common.{◌≡◌, ℕ, ◌<◌, ◌⊎◌, inl, inr, Bool, false, List, length, Some, refl, sym, subst, arith}
 use Rattle.omega_label.specs.Label.{LabelTree}
 use Rattle.omega_label.specs.Raw.{raw_depth}
 use Rattle.omega_satisfying.specs.Undecided.{IsHardLabel}
@@ -8,24 +8,25 @@ use Rattle.omega_formula.specs.Raw.{raw_acc_depth}
 use Rattle.omega_expression.specs.Limits.{most_depth}
 use Rattle.omega_label.specs.Writing.{label_written}
 use Rattle.omega_formula.specs.Writing.{acc_written}
+use Rattle.omega_text.specs.Cases.{never, or_memory, or_task}
 use Rattle.omega_text.specs.declared.refusal.Refusal.{Refusal}
 use Rattle.omega_text.specs.declared.refusal.Refusal.TheVariants.{Memory}
 use Rattle.omega_text.specs.declared.refusal.automaton.AutomatonFault.{AutomatonFault}
 use Rattle.omega_text.specs.declared.refusal.task.TaskFault.{TaskFault}
-use Rattle.omega_text.specs.declared.refusal.task.TaskFault.TheVariants.{BadSolution, Budget, NotDeterministic, NotParity, TooLarge, TooManyPropositions, TooWide, UniversalBranch, UnknownNode}
+use Rattle.omega_text.specs.declared.refusal.task.TaskFault.TheVariants.{BadSolution, Budget, Controllable, NotDeterministic, NotParity, TooLarge, TooManyPropositions, TooWide, UniversalBranch, UnknownNode}
 use Rattle.omega_automaton.specs.Automaton.{Description}
 use Rattle.omega_automaton.specs.Branching.{has_universal_branching}
 use Rattle.omega_automaton.specs.Faults.{automaton_fault_of}
 use Rattle.omega_raw.specs.declared.raw_automaton.RawAutomaton.{RawAutomaton}
 use Rattle.omega_complement.specs.Complement.{AreExclusiveBelow, AreFittingBelow}
 use Rattle.omega_complement.specs.Dual.{dual}
-use Rattle.omega_complement.specs.Judged.{IsJudgedLabel, IsWrittenLabel}
-use Rattle.omega_complement.specs.Labels.{is_full, labels_at, state_at}
-use Rattle.omega_complement.specs.Refusing.{HasStart, IsComplementFault, IsFirstFault, IsStateFault, IsUncomplemented}
+use Rattle.omega_complement.specs.Judged.{HasLargeEdge, IsBoth, IsJudgedLabel, IsWrittenLabel}
+use Rattle.omega_complement.specs.Labels.{is_full, is_full_at, labels_at, state_at}
+use Rattle.omega_complement.specs.Refusing.{AreUnjudged, HasStart, IsClashFault, IsComplementFault, IsFirstFault, IsStateFault, IsStatesFault, IsUncomplemented}
 use Rattle.omega_complement.specs.Written.{IsWrittenComplement}
-use Rattle.omega_complement.specs.private.Turned.{AreRefused, IsStateRefusal, IsUnformed, IsUnjudged}
+use Rattle.omega_complement.specs.private.Turned.{AreRefused, IsPartialFault, IsStateRefusal, IsUnformed, IsUnjudged, IsUnjudgedAt}
 use Rattle.omega_complement.proofs.LimitTests.{deep_formula}
-use Rattle.omega_edge_labels.specs.Fitting.{FitsAText, IsLarge, IsUnfit}
+use Rattle.omega_edge_labels.specs.Fitting.{FitsAText, IsLarge}
 use Rattle.omega_edge_labels.proofs.Depths.{deep_text, unfit_text}
 use Rattle.omega_edge_labels.proofs.Refusals.{large_task, memory_task, task_weaker}
 
@@ -34,10 +35,6 @@ module _ (full : Bool) (labels : List LabelTree) (number : ℕ) (label : LabelTr
   pub unwritten_refused : (refusal : Refusal) → IsWrittenLabel labels label → IsLarge (FitsAText label → ⊥) refusal → IsStateRefusal full labels number refusal
   unwritten_refused refusal written is =
       large_task (FitsAText label → ⊥) (IsStateFault full labels number) (λ unfit. inr (label, written, unfit)) refusal is
-
-  pub unfit_refused : (refusal : Refusal) → IsWrittenLabel labels label → IsUnfit label refusal → IsStateRefusal full labels number refusal
-  unfit_refused refusal written is =
-      large_task (FitsALabel label → ⊥) (IsStateFault full labels number) (λ unfit. inr (label, written, unfit_text label unfit)) refusal is
 
   pub deep_refused : (refusal : Refusal) → IsWrittenLabel labels label → IsLarge (most_depth < raw_depth (label_written label)) refusal → IsStateRefusal full labels number refusal
   deep_refused refusal written is =
@@ -52,6 +49,60 @@ module _ (full : Bool) (labels : List LabelTree) (number : ℕ) (label : LabelTr
           → IsStateFault full labels number fault
       go fault (inl large) = subst (IsStateFault full labels number) (sym large.0) (inl (label, judged, large.1))
       go fault (inr wide) = subst (IsStateFault full labels number) (sym wide.0) (label, judged, wide.1)
+
+module _ (labels : List LabelTree) (number : ℕ) (label : LabelTree) where
+  -- two labels that are judged together
+  pub both_refused : (refusal : Refusal) → IsBoth labels label → IsUnjudged label refusal → or_task (IsClashFault labels number) (or_memory never) refusal
+  both_refused refusal both is =
+      task_weaker (λ fault. ((fault ≡ TooLarge) × (FitsALabel label → ⊥)) ⊎ ((fault ≡ TooManyPropositions) × IsHardLabel label))
+      (IsClashFault labels number) go refusal is
+    where
+      go : (fault : TaskFault) → ((fault ≡ TooLarge) × (FitsALabel label → ⊥)) ⊎ ((fault ≡ TooManyPropositions) × IsHardLabel label)
+          → IsClashFault labels number fault
+      go fault (inl large) = inr (inr (large.0, inr (label, both, large.1)))
+      go fault (inr wide) = inr (inl (wide.0, (label, both, wide.1)))
+
+module _ (full : Bool) (labels : List LabelTree) (number : ℕ) where
+  -- the label of an edge that is too deep or too large
+  pub edge_refused : (refusal : Refusal) → IsLarge (HasLargeEdge labels) refusal → IsStateRefusal full labels number refusal
+  edge_refused refusal is =
+      large_task (HasLargeEdge labels) (IsStateFault full labels number)
+      (λ large. inr (large.0, inl large.1, unfit_text large.0 large.2)) refusal is
+
+  -- it is one of judging the edges, too
+  pub edge_partial : full ≡ false → (refusal : Refusal) → IsLarge (HasLargeEdge labels) refusal
+      → or_task (IsPartialFault full labels number) (or_memory never) refusal
+  edge_partial partial refusal is =
+      large_task (HasLargeEdge labels) (IsPartialFault full labels number) (λ large. (partial, inr (inr (refl, inl large)))) refusal is
+
+  pub clash_partial : full ≡ false → (refusal : Refusal) → or_task (IsClashFault labels number) (or_memory never) refusal
+      → or_task (IsPartialFault full labels number) (or_memory never) refusal
+  clash_partial partial refusal is =
+      task_weaker (IsClashFault labels number) (IsPartialFault full labels number) (λ fault here. (partial, here)) refusal is
+
+  -- the fault of judging the edges is one of the state
+  pub clash_refused : full ≡ false → (refusal : Refusal) → or_task (IsClashFault labels number) (or_memory never) refusal
+      → IsStateRefusal full labels number refusal
+  clash_refused partial refusal is = task_weaker (IsClashFault labels number) (IsStateFault full labels number) go refusal is
+    where
+      go : (fault : TaskFault) → IsClashFault labels number fault → IsStateFault full labels number fault
+      go fault (inl clash) = subst (IsStateFault full labels number) (sym clash.0) (refl, clash.1)
+      go fault (inr (inl (wide, (label, both, hard)))) = subst (IsStateFault full labels number) (sym wide) (label, (partial, inl both), hard)
+      go fault (inr (inr (large, inl (label, one, unfit)))) =
+          subst (IsStateFault full labels number) (sym large) (inr (label, inl one, unfit_text label unfit))
+      go fault (inr (inr (large, inr (label, both, unfit)))) =
+          subst (IsStateFault full labels number) (sym large) (inl (label, (partial, inl both), unfit))
+
+-- the fault of judging a state is that of judging all, where those before it are apart
+pub first_refused : (a : Description) (number : ℕ) → number < a.states → AreExclusiveBelow a number → (refusal : Refusal)
+    → IsUnjudgedAt a number refusal → AreUnjudged a refusal
+first_refused a number below apart refusal is =
+    task_weaker (IsPartialFault (is_full_at a number) (labels_at a number) number) (IsStatesFault a) go refusal is
+  where
+    go : (fault : TaskFault) → IsPartialFault (is_full_at a number) (labels_at a number) number fault → IsStatesFault a fault
+    go fault (partial, inl clash) = inl (number, clash.0, record { below = below; apart = apart; clash = clash.1 })
+    go fault (partial, inr undecided) =
+        inr (record { number = number; below = below; apart = apart; partial = partial; undecided = undecided })
 
 -- want of memory
 pub memory_refused : (full : Bool) (labels : List LabelTree) (number : ℕ) (refusal : Refusal) → refusal ≡ Memory → IsStateRefusal full labels number refusal
@@ -79,6 +130,7 @@ fault_refused a start TooWide is = is.4
 fault_refused a start Budget is = is.4
 fault_refused a start BadSolution is = is.4
 fault_refused a start UnknownNode is = is.4
+fault_refused a start Controllable is = is.4
 fault_refused a start TooLarge is = inr (start, inl is)
 fault_refused a start (NotDeterministic state) is = inr (start, is)
 

@@ -24,6 +24,18 @@ IsJudgedLabel full labels label = (full ≡ false) × (IsBoth labels label ⊎ I
 abbrev pub IsWrittenLabel : List LabelTree → LabelTree → Type 0
 IsWrittenLabel labels label = IsOne labels label ⊎ (LacksLetter labels × IsRestLabel labels label)
 
+-- the label of an edge is too deep or too large
+abbrev pub HasLargeEdge : List LabelTree → Type 0
+HasLargeEdge labels = (label : LabelTree) × IsOne labels label × (FitsALabel label → ⊥)
+
+-- the labels of two edges together are too deep or too large
+abbrev pub HasLargeBoth : List LabelTree → Type 0
+HasLargeBoth labels = (label : LabelTree) × IsBoth labels label × (FitsALabel label → ⊥)
+
+-- the labels of two edges together may be left undecided
+abbrev pub HasUndecidedBoth : List LabelTree → Type 0
+HasUndecidedBoth labels = (label : LabelTree) × IsBoth labels label × IsHardLabel label
+
 -- the conjunction of each two labels is neither too deep nor too large
 abbrev pub BothFit : List LabelTree → Type 0
 BothFit labels = (label : LabelTree) → IsBoth labels label → FitsALabel label

@@ -1,11 +1,11 @@
 //! The complement of a deterministic automaton.
 
-ghost use Rattle.std.specs.Prelude.{◌≤◌, length, IfErr, IfOk, OnOk};
+ghost use Rattle.std.specs.Prelude.{IfErr, IfOk, OnOk};
 ghost use Rattle.omega_complement.specs.Complement.{HasComplement, IsComplement};
 ghost use Rattle.omega_complement.specs.Refusing.{IsUncomplemented};
-ghost use Rattle.omega_complement.specs.private.Turned.{IsStartRefusal};
 
 use crate::acceptance::dual_acceptance;
+use crate::determinism::judge_starts;
 use crate::forming::{formed, written_complement};
 use crate::limits::exceeds_limits;
 use crate::states::turned_states;
@@ -59,18 +59,4 @@ pub fn complement(alloc: Global, automaton: &Automaton) -> Result<Automaton, Ref
     let raw = written_complement(alloc, automaton, dual, body)?;
     let complement = formed(alloc, raw)?;
     Ok(complement)
-}
-
-/// Judges that there is at most one start. Fails with [TaskFault::NotDeterministic] with the state of the second.
-fn judge_starts(automaton: &Automaton) -> Result<(), Refusal>
-    ensures one { OnOk result (length automaton.now.starts ≤ 1) }
-    ensures err { IfErr result (IsStartRefusal automaton.now) }
-{
-    match automaton.starts() {
-        [_, second, ..] => {
-            let state = second.as_slice().first().copied().unwrap_or(0);
-            Err(Refusal::Task(TaskFault::NotDeterministic(state as usize)))
-        }
-        _ => Ok(()),
-    }
 }

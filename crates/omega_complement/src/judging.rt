@@ -7,7 +7,7 @@ ghost use Rattle.omega_label.specs.Shape.{FitsALabel, label_tree_of_shape};
 ghost use Rattle.omega_complement.specs.Judged.{BothFit};
 ghost use Rattle.omega_complement.specs.Letters.{AreExclusive};
 ghost use Rattle.omega_complement.specs.private.Apart.{IsApartFrom};
-ghost use Rattle.omega_complement.specs.private.Turned.{IsJudgingRefusal, IsUnjudged};
+ghost use Rattle.omega_complement.specs.private.Turned.{IsClashRefusal, IsUnjudged};
 
 use crate::state_labels::StateLabels;
 use omega_edge_labels::fitting_label;
@@ -33,7 +33,7 @@ pub(crate) fn can_hold(alloc: Global, shape: &LabelShape) -> Result<bool, Refusa
 pub(crate) fn judge_apart(alloc: Global, state: &StateLabels<'_>) -> Result<(), Refusal>
     ensures apart { OnOk result (AreExclusive state.now.labels.now) }
     ensures fits { OnOk result (BothFit state.now.labels.now) }
-    ensures err { IfErr result (IsJudgingRefusal state.now) }
+    ensures err { IfErr result (IsClashRefusal state.now) }
 {
     for second in 0..state.labels.len() {
         judge_before(alloc, state, second)?;
@@ -45,7 +45,7 @@ pub(crate) fn judge_apart(alloc: Global, state: &StateLabels<'_>) -> Result<(), 
 fn judge_before(alloc: Global, state: &StateLabels<'_>, second: usize) -> Result<(), Refusal>
     requires { second < length state.now.labels.now }
     ensures apart { OnOk result (IsApartFrom state.now.labels.now second second) }
-    ensures err { IfErr result (IsJudgingRefusal state.now) }
+    ensures err { IfErr result (IsClashRefusal state.now) }
 {
     let labels = state.labels;
     for first in 0..second {

@@ -5,6 +5,7 @@
 
 mod acceptance;
 mod complementing;
+mod determinism;
 mod forming;
 mod judging;
 mod labels;
@@ -16,5 +17,6 @@ mod states;
 mod turning;
 
 pub use complementing::complement;
+pub use determinism::{judge_starts, judge_states};
 pub use omega_automaton::{Automaton, Refusal};
 pub use omega_edge_labels::{MOST_EDGES, MOST_STATES, written_limits_are_stated};

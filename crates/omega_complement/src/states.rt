@@ -69,7 +69,7 @@ fn turned_at(
 }
 
 /// Returns the state with the number `number`, or `spare` if the body does not define it.
-fn state_of<'a>(
+pub(crate) fn state_of<'a>(
     automaton: &'a Automaton,
     places: &IndexSet<u32>,
     number: u32,
@@ -86,7 +86,7 @@ fn state_of<'a>(
 }
 
 /// Makes the state for a number that the body does not define: it has no edges.
-fn undefined(alloc: Global, number: u32) -> State
+pub(crate) fn undefined(alloc: Global, number: u32) -> State
     ensures { result ≡ undefined_state number }
 {
     State {

@@ -88,7 +88,7 @@ fn judged(
 }
 
 /// Whether `state` has an edge for each valuation of `count` propositions, and no labels.
-fn is_full(count: usize, state: &State) -> bool
+pub(crate) fn is_full(count: usize, state: &State) -> bool
     ensures { result ≡ has_all_edges count state.now }
 {
     let edges = state.edges.len();

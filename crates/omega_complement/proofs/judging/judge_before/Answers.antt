@@ -1,8 +1,8 @@
 -- a label and one before it: judged, or at a letter both true
-use Rattle.std.proofs.Common.{arith, false, inl, refl, sym, ◌∙◌, true≢false}
+use Rattle.std.proofs.Common.{arith, inl, refl, sym, ◌∙◌, true≢false}
 use Rattle.std.proofs.lemmas.Result.{err_from_is_err_and}
 use Rattle.omega_label.specs.Label.{conjunction}
-use Rattle.omega_complement.proofs.Faults.{unjudged_refused}
+use Rattle.omega_complement.proofs.Faults.{both_refused}
 use Rattle.omega_complement.proofs.Judged.{a_pair, apart_from_more}
 use Rattle.omega_complement.proofs.judging.judge_before.Goals as goal
 
@@ -12,14 +12,14 @@ returns-in_err-can_meet-clause-err c =
     let pair = a_pair c.args.state.now.labels.now c.loop-first.first c.args.second c.index-labels-first.result c.index-labels-second.result c.loop-first-test.true c.requires
     c.index-labels-first.is c.index-labels-second.is in
     rw (p.1, p.2)
-    (unjudged_refused false c.args.state.now.labels.now c.args.state.now.number (conjunction c.index-labels-first.result c.index-labels-second.result) c.in_err-can_meet.field-0.0
-    (refl, inl (c.index-labels-first.result, (c.index-labels-second.result, pair, refl))) c.in_err-can_meet.ensures.err)
+    (both_refused c.args.state.now.labels.now c.args.state.now.number (conjunction c.index-labels-first.result c.index-labels-second.result) c.in_err-can_meet.field-0.0
+    (c.index-labels-first.result, (c.index-labels-second.result, pair, refl)) c.in_err-can_meet.ensures.err)
 
 pub returns-then-branch-clause-err : goal.returns-then-branch-clause-err
 returns-then-branch-clause-err c =
     let pair = a_pair c.args.state.now.labels.now c.loop-first.first c.args.second c.index-labels-first.result c.index-labels-second.result c.loop-first-test.true c.requires
     c.index-labels-first.is c.index-labels-second.is in
-    (refl, (c.index-labels-first.result, (c.index-labels-second.result, pair, c.in_ok-can_meet.ensures.judged.0 c.if-branch.true)))
+    inl (refl, (c.index-labels-first.result, (c.index-labels-second.result, pair, c.in_ok-can_meet.ensures.judged.0 c.if-branch.true)))
 
 pub loop-first-preserved : goal.loop-first-preserved
 loop-first-preserved c =

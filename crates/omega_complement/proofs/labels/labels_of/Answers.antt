@@ -1,14 +1,15 @@
 -- the labels so far, and the one that is no label
-use Rattle.std.proofs.Common.{◌≡◌, ◌<◌, Some, inl, length, refl, slice_get, sym, ap, subst, ◌∙◌, arith}
+use Rattle.std.proofs.Common.{◌≡◌, ◌<◌, Some, length, refl, slice_get, sym, ap, subst, ◌∙◌, arith}
 use Rattle.std.specs.List.{All}
 use Rattle.std.proofs.lemmas.List.Elements.{All-push}
 use Rattle.std.proofs.lemmas.Option.{slice_get_read}
 use Rattle.std.proofs.lemmas.Result.{err_from_is_err_and}
 use Rattle.omega_label.specs.Shape.{FitsALabel, label_tree_of_shape}
-use Rattle.omega_complement.specs.Labels.{is_full, labels_of}
-use Rattle.omega_complement.proofs.Faults.{unfit_refused}
+use Rattle.omega_complement.specs.Judged.{HasLargeEdge}
+use Rattle.omega_complement.specs.Labels.{labels_of}
 use Rattle.omega_complement.proofs.Rows.{each_grown, each_there}
 use Rattle.omega_edge_labels.specs.Labels.{label_at}
+use Rattle.omega_edge_labels.proofs.Refusals.{large_weaker}
 use Rattle.omega_complement.proofs.labels.labels_of.Goals as goal
 
 pub returns-in_err-fitting_label-clause-err : goal.returns-in_err-fitting_label-clause-err
@@ -19,8 +20,9 @@ returns-in_err-fitting_label-clause-err c =
     each_there (label_at c.args.count c.args.state.now) c.args.state.now.edges c.loop-at.at c.edge-edge.result
     (slice_get_read c.args.state.now.edges (length c.args.state.now.edges) c.loop-at.at c.edge-edge.result refl below c.edge-edge.ensures) in
     rw (p.1, p.2)
-    (unfit_refused (is_full c.args.count c.args.state.now) (labels_of c.args.count c.args.state.now) c.args.state.now.number (label_tree_of_shape c.in_ok-shape.shape) c.in_err-fitting_label.field-0.0
-    (inl (c.loop-at.at, there ∙ ap Some (sym c.in_ok-shape.ensures.label))) c.in_err-fitting_label.ensures.err)
+    (large_weaker (FitsALabel (label_tree_of_shape c.in_ok-shape.shape) → ⊥) (HasLargeEdge (labels_of c.args.count c.args.state.now))
+    (λ unfit. (label_tree_of_shape c.in_ok-shape.shape, (c.loop-at.at, there ∙ ap Some (sym c.in_ok-shape.ensures.label)), unfit))
+    c.in_err-fitting_label.field-0.0 c.in_err-fitting_label.ensures.err)
 
 pub loop-at-preserved : goal.loop-at-preserved
 loop-at-preserved c =

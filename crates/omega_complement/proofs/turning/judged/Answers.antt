@@ -4,8 +4,10 @@ use Rattle.std.proofs.lemmas.Result.{on_ok_weaker}
 use Rattle.omega_label.specs.Label.{LabelTree}
 use Rattle.omega_complement.specs.Letters.{HasClash, LacksLetter}
 use Rattle.omega_complement.specs.Labels.{is_full}
+use Rattle.omega_complement.proofs.Faults.{clash_refused}
 use Rattle.omega_complement.proofs.Full.{full_apart, full_lacks_none}
 use Rattle.omega_complement.proofs.Judged.{judged_fit}
+use Rattle.omega_edge_labels.proofs.Refusals.{passed_on}
 use Rattle.omega_complement.proofs.turning.judged.Goals as goal
 
 pub returns-then-is_full-clause-missing : goal.returns-then-is_full-clause-missing
@@ -27,3 +29,9 @@ returns-then-is_full-clause-written c =
 pub returns-clause-judged : goal.returns-clause-judged
 returns-clause-judged c =
     on_ok_weaker c.missing.result (judged_fit (is_full c.args.count c.args.state.now) c.args.labels.now c.in_ok-judge_apart.ensures.fits) c.missing.ensures.judged
+
+pub returns-in_err-judge_apart-clause-err : goal.returns-in_err-judge_apart-clause-err
+returns-in_err-judge_apart-clause-err c =
+    passed_on c.from_residual.result _ _ c.from_residual.ensures.1
+    (clash_refused (is_full c.args.count c.args.state.now) c.args.labels.now c.args.state.now.number
+    (sym c.is_full.ensures ∙ c.if-is_full.false) _ c.in_err-judge_apart.ensures.err)

@@ -6,8 +6,10 @@ use Rattle.omega_label.specs.Shape.{FitsALabel}
 use Rattle.omega_complement.specs.Judged.{IsJudgedLabel}
 use Rattle.omega_complement.specs.Labels.{is_full, labels_of}
 use Rattle.omega_complement.specs.Letters.{IsRestLabel, LacksLetter}
+use Rattle.omega_complement.proofs.Faults.{edge_refused}
 use Rattle.omega_complement.proofs.Judged.{all_fitting}
 use Rattle.omega_edge_labels.specs.Fitting.{FitsAText}
+use Rattle.omega_edge_labels.proofs.Refusals.{passed_on}
 use Rattle.omega_complement.proofs.turning.turned_state.Goals as goal
 
 pub returns-clause-fitting : goal.returns-clause-fitting
@@ -19,3 +21,8 @@ returns-clause-fitting c =
     (subst (λ (ls : List LabelTree). (label : LabelTree) → IsJudgedLabel (is_full c.args.count c.args.state.now) ls label → FitsALabel label) judged c.in_ok-missing.ensures.judged)
     (subst (λ (ls : List LabelTree). LacksLetter ls → (label : LabelTree) → IsRestLabel ls label → FitsAText label) judged c.in_ok-missing.ensures.written)
     (subst (All FitsAText) written c.in_ok-edges.ensures.written)
+
+pub returns-in_err-labels-clause-err : goal.returns-in_err-labels-clause-err
+returns-in_err-labels-clause-err c =
+    passed_on c.from_residual.result _ _ c.from_residual.ensures.1
+    (edge_refused (is_full c.args.count c.args.state.now) (labels_of c.args.count c.args.state.now) c.args.state.now.number _ c.in_err-labels.ensures.err)
