@@ -5,12 +5,9 @@ use Rattle.omega_runs.specs.Lasso.{IsStep, Leads, label_of}
 use Rattle.omega_runs.specs.Words.{CanBeTaken}
 use Rattle.omega_runs.proofs.runs.Words.{held_by}
 use Rattle.omega_lasso_word.specs.Fitting.{along}
+use Rattle.omega_containment.specs.Containing.{GoesAlong}
 use Rattle.omega_word_laws.specs.NamedWords.{NamedWord, part_of}
 use Rattle.omega_word_laws.proofs.naming.Named.{AgreeBelow, allowed_same, named_by, part_named}
-
--- at each index of a word over names the edge of a lasso can be taken with what holds there
-abbrev pub GoesAlong : Description → List ℕ → ℕ → List ℕ → NamedWord → Type 0
-GoesAlong a stem first others word = (i : ℕ) → CanBeTaken a (along first others stem i) (part_of a.propositions word i)
 
 -- an edge that can be taken with what an automaton sees of a word can be taken with what it sees of another the same
 taken_same : (a : Description) (automaton : IsAutomaton a) (word other : ℕ → ℕ → Bool) → AgreeBelow (length a.propositions) word other
@@ -35,7 +32,7 @@ module _ (a : Description) (automaton : IsAutomaton a) (loop_state first : ℕ) 
   letter s (suc i) [] leads = letter lap.0 i others lap.2
   letter s (suc i) (x ∷ xs) leads = letter leads.0 i xs leads.2
 
-  pub word_along : (s : ℕ) (stem : List ℕ) → Leads a s stem loop_state → (word : NamedWord) × GoesAlong a stem first others word
+  pub word_along : (s : ℕ) (stem : List ℕ) → Leads a s stem loop_state → (word : NamedWord) × GoesAlong a stem (first ∷ others) word
   word_along s stem leads =
       let word : ℕ → ℕ → Bool = λ i. (letter s i stem leads).0 in (
         named_by a.propositions word,

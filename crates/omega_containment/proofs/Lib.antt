@@ -1,4 +1,13 @@
--- Lemmas of containment: words along a lasso, strings, and answers.
+-- Lemmas of containment: words along a lasso, strings, edges of the first factor, and answers.
 pub mod Along
 pub mod Strings
+pub mod Options
+pub mod PairNames
+pub mod Formulas
+pub mod Marks
+pub mod Fit
+pub mod Made
+pub mod Paths
+pub mod Accepting
+pub mod Ranging
 pub mod Answering

@@ -1,2 +1,6 @@
 -- What private contracts alone cite.
+pub mod Fitting
+pub mod Leading
+pub mod Projecting
+pub mod Ranges
 pub mod Telling

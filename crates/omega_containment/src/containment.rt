@@ -9,9 +9,13 @@ pub enum Containment {
     NotContained(Counterexample),
 }
 
-/// Words that an automaton accepts and another does not.
+/// Words that an automaton accepts and another does not, and the accepting lasso along which it accepts them.
 #[derive(Debug, Drop, PartialEq, Eq)]
 pub struct Counterexample {
     /// The text of the words, as Spot writes words. Its letters are formulas over the names of both automata.
     pub word: Seq<u8>,
+    /// The edges from a start to the cycle, by their numbers in the automaton that accepts. There may be none.
+    pub stem: Seq<u32>,
+    /// The edges of the cycle, likewise, at least one.
+    pub cycle: Seq<u32>,
 }

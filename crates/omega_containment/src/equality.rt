@@ -1,6 +1,8 @@
 //! Equality of languages by containment both ways.
 
 ghost use Rattle.std.specs.Prelude.{IfErr, IfOk, OnOk};
+ghost use Rattle.omega_automaton.specs.Automaton.{Description};
+ghost use Rattle.omega_containment.specs.Containing.{IsContainment};
 ghost use Rattle.omega_containment.specs.Equality.{AreEquatable, IsEquality, IsEqualityRefusal};
 
 use crate::containing::contained;
@@ -31,11 +33,20 @@ pub fn equal(alloc: Global, first: &Automaton, second: &Automaton) -> Result<Equ
 {
     let there = contained(alloc, first, second)?;
     let back = contained(alloc, second, first)?;
+    Ok(equality_of(there, back))
+}
+
+/// Returns whether two automata accept the same words, given whether the first accepts only words of the second, and
+/// whether the second accepts only words of the first.
+pub fn equality_of(there: Containment, back: Containment) -> Equality
+    ensures { (first second : Description) →
+        IsContainment first second there → IsContainment second first back → IsEquality first second result }
+{
     match there {
-        Containment::NotContained(example) => Ok(Equality::OnlyFirst(example)),
+        Containment::NotContained(example) => Equality::OnlyFirst(example),
         Containment::Contained => match back {
-            Containment::NotContained(example) => Ok(Equality::OnlySecond(example)),
-            Containment::Contained => Ok(Equality::Equal),
+            Containment::NotContained(example) => Equality::OnlySecond(example),
+            Containment::Contained => Equality::Equal,
         },
     }
 }

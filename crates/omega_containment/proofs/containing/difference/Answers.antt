@@ -1,4 +1,5 @@
 -- the refusals of the steps, and the product
+use Rattle.std.proofs.Common.{arith}
 use Rattle.omega_edge_labels.proofs.Refusals.{passed_on}
 use Rattle.omega_containment.specs.Refusing.{not_complemented, not_met}
 use Rattle.omega_containment.proofs.containing.difference.Goals as goal
@@ -15,6 +16,7 @@ pub returns-clause-difference : goal.returns-clause-difference
 returns-clause-difference c = record {
   complement = c.in_ok-rest.rest;
   is_one = c.keeps_limits.ensures;
+  few_states = omega (arith, c.state_count-states.ensures);
   is_other = c.keeps_limits-2.ensures;
   is_complement = c.keeps_limits-3.ensures;
   is_both = c.keeps_limits-4.ensures;

@@ -1,10 +1,7 @@
--- the refusals of both ways, and that both contain each other
-use Rattle.std.proofs.Common.{inl, inr, subst}
+-- the refusals of both ways, and both answers together
+use Rattle.std.proofs.Common.{inl, inr}
 use Rattle.omega_edge_labels.proofs.Refusals.{passed_on}
-use Rattle.omega_containment.specs.Containing.{IsContainment}
 use Rattle.omega_containment.specs.Equality.{IsEqualityRefusal}
-use Rattle.omega_containment.specs.declared.containment.Containment.{Containment}
-use Rattle.omega_containment.specs.declared.containment.Containment.TheVariants.{Contained}
 use Rattle.omega_containment.proofs.equality.equal.Goals as goal
 
 pub returns-in_err-there-clause-refused : goal.returns-in_err-there-clause-refused
@@ -18,10 +15,6 @@ returns-in_err-back-clause-refused c =
     inr (c.in_ok-there.ensures.given, c.in_err-back.ensures.refused) in
     passed_on c.from_residual-in_err-back.result _ _ c.from_residual-in_err-back.ensures.1 refused
 
-pub returns-in-Contained-back-clause-right : goal.returns-in-Contained-back-clause-right
-returns-in-Contained-back-clause-right c =
-    let there : IsContainment c.args.first.now c.args.second.now Contained =
-    subst (λ (a : Containment). IsContainment c.args.first.now c.args.second.now a) c.in-Contained.is c.in_ok-there.ensures.right in
-    let back : IsContainment c.args.second.now c.args.first.now Contained =
-    subst (λ (a : Containment). IsContainment c.args.second.now c.args.first.now a) c.in-Contained-back.is c.in_ok-back.ensures.right in
-    λ settled word. (there settled word, back settled word)
+pub returns-clause-right : goal.returns-clause-right
+returns-clause-right c =
+    c.equality_of.ensures c.args.first.now c.args.second.now c.in_ok-there.ensures.right c.in_ok-back.ensures.right
