@@ -84,6 +84,8 @@ text_of name.Automaton options = option_map (λ text. text.now) options.automato
 text_of name.Explain options = option_map (λ text. text.now) options.explain
 text_of name.Word options = option_map (λ text. text.now) options.word
 text_of name.With options = option_map (λ text. text.now) options.with
+text_of name.In options = option_map (λ text. text.now) options.within
+text_of name.To options = option_map (λ text. text.now) options.to
 text_of name.Solution options = option_map (λ text. text.now) options.solution
 text_of name.Legend options = option_map (λ text. text.now) options.legend
 text_of name.Lasso options = option_map (λ text. text.now) options.lasso
@@ -123,6 +125,10 @@ AsksBeside subcommand options file (beside.VerifyLasso explain) =
     (subcommand ≡ codes "verify") × (text_of name.Automaton options ≡ Some file) × (text_of name.Game options ≡ None)
     × (text_of name.From options ≡ None) × GivesFlag (text_of name.Explain options) explain
 AsksBeside subcommand options file beside.Meet = (subcommand ≡ codes "meet") × (text_of name.With options ≡ Some file)
+AsksBeside subcommand options file (beside.Contained explain) =
+    (subcommand ≡ codes "contained") × (text_of name.In options ≡ Some file) × GivesFlag (text_of name.Explain options) explain
+AsksBeside subcommand options file (beside.Equal explain) =
+    (subcommand ≡ codes "equal") × (text_of name.To options ≡ Some file) × GivesFlag (text_of name.Explain options) explain
 AsksBeside subcommand options file (beside.DrawSolution from depth legend) =
     (subcommand ≡ codes "draw") × Gives IsFormatText (text_of name.Format options) (Some Pg)
     × (text_of name.Solution options ≡ Some file) × GivesFlag (text_of name.Legend options) legend
@@ -188,9 +194,12 @@ HasOption subcommand name.Budget = (subcommand ≡ codes "solve") ⊎ (subcomman
 HasOption subcommand name.Search = (subcommand ≡ codes "solve") ⊎ (subcommand ≡ codes "empty")
 HasOption subcommand name.Game = subcommand ≡ codes "verify"
 HasOption subcommand name.Automaton = subcommand ≡ codes "verify"
-HasOption subcommand name.Explain = subcommand ≡ codes "verify"
+HasOption subcommand name.Explain =
+    (subcommand ≡ codes "verify") ⊎ (subcommand ≡ codes "contained") ⊎ (subcommand ≡ codes "equal")
 HasOption subcommand name.Word = subcommand ≡ codes "empty"
 HasOption subcommand name.With = subcommand ≡ codes "meet"
+HasOption subcommand name.In = subcommand ≡ codes "contained"
+HasOption subcommand name.To = subcommand ≡ codes "equal"
 HasOption subcommand name.Solution = subcommand ≡ codes "draw"
 HasOption subcommand name.Legend = subcommand ≡ codes "draw"
 HasOption subcommand name.Lasso = subcommand ≡ codes "draw"
@@ -211,6 +220,8 @@ IsRequired name.Automaton options = ⊥
 IsRequired name.Explain options = ⊥
 IsRequired name.Word options = ⊥
 IsRequired name.With options = Unit {0}
+IsRequired name.In options = Unit {0}
+IsRequired name.To options = Unit {0}
 IsRequired name.Solution options = ⊥
 IsRequired name.Legend options = ⊥
 IsRequired name.Lasso options = ⊥
@@ -231,6 +242,8 @@ StandsForNothing name.Automaton text = ⊥
 StandsForNothing name.Explain text = (flag : Bool) → IsTruthText text flag → ⊥
 StandsForNothing name.Word text = (flag : Bool) → IsTruthText text flag → ⊥
 StandsForNothing name.With text = ⊥
+StandsForNothing name.In text = ⊥
+StandsForNothing name.To text = ⊥
 StandsForNothing name.Solution text = ⊥
 StandsForNothing name.Legend text = (flag : Bool) → IsTruthText text flag → ⊥
 StandsForNothing name.Lasso text = (flag : Bool) → IsTruthText text flag → ⊥
@@ -259,6 +272,8 @@ pub record IsUnknownSubcommand (subcommand : List ℕ) : Type 0 where
   pub empty : subcommand ≢ codes "empty"
   pub game : subcommand ≢ codes "game"
   pub meet : subcommand ≢ codes "meet"
+  pub contained : subcommand ≢ codes "contained"
+  pub equal : subcommand ≢ codes "equal"
   pub complement : subcommand ≢ codes "complement"
   pub draw : subcommand ≢ codes "draw"
 
@@ -274,6 +289,8 @@ IsUsed name.Automaton options = text_of name.Automaton options ≢ None
 IsUsed name.Explain options = GivesFlag (text_of name.Explain options) true
 IsUsed name.Word options = GivesFlag (text_of name.Word options) true
 IsUsed name.With options = text_of name.With options ≢ None
+IsUsed name.In options = text_of name.In options ≢ None
+IsUsed name.To options = text_of name.To options ≢ None
 IsUsed name.Solution options = text_of name.Solution options ≢ None
 IsUsed name.Legend options = GivesFlag (text_of name.Legend options) true
 IsUsed name.Lasso options = GivesFlag (text_of name.Lasso options) true

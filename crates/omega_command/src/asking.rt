@@ -65,6 +65,12 @@ fn task_for<'a>(alloc: Global, subcommand: &str, options: &Options<'a>) -> Resul
     if subcommand == "meet" {
         return meeting_for(alloc, options);
     }
+    if subcommand == "contained" {
+        return contained_for(alloc, options);
+    }
+    if subcommand == "equal" {
+        return equal_for(alloc, options);
+    }
     if subcommand == "complement" {
         return Ok(Task::Run(Command::Complement, MOST_BUDGET));
     }
@@ -188,6 +194,42 @@ fn meeting_for<'a>(alloc: Global, options: &Options<'a>) -> Result<Task, Mistake
         Ok(file) => Ok(Task::Beside {
             file,
             asked: Beside::Meet,
+        }),
+        Err(_) => Err(Mistake::Memory),
+    }
+}
+
+/// Returns the task that `contained` requests with `options`, or what is wrong with them.
+fn contained_for<'a>(alloc: Global, options: &Options<'a>) -> Result<Task, Mistake<'a>>
+    ensures asked { IfOk result (AsksFor (codes "contained") options.now) }
+    ensures mistaken { IfErr result (IsMistake (codes "contained") options.now) }
+{
+    let explain = is_explained(options)?;
+    let Some(name) = options.within else {
+        return Err(Mistake::Missing(OptionName::In));
+    };
+    match String::from_str(alloc, name) {
+        Ok(file) => Ok(Task::Beside {
+            file,
+            asked: Beside::Contained { explain },
+        }),
+        Err(_) => Err(Mistake::Memory),
+    }
+}
+
+/// Returns the task that `equal` requests with `options`, or what is wrong with them.
+fn equal_for<'a>(alloc: Global, options: &Options<'a>) -> Result<Task, Mistake<'a>>
+    ensures asked { IfOk result (AsksFor (codes "equal") options.now) }
+    ensures mistaken { IfErr result (IsMistake (codes "equal") options.now) }
+{
+    let explain = is_explained(options)?;
+    let Some(name) = options.to else {
+        return Err(Mistake::Missing(OptionName::To));
+    };
+    match String::from_str(alloc, name) {
+        Ok(file) => Ok(Task::Beside {
+            file,
+            asked: Beside::Equal { explain },
         }),
         Err(_) => Err(Mistake::Memory),
     }

@@ -15,6 +15,16 @@ pub enum Beside {
     },
     /// Writes an automaton that accepts the words that both accept, the one of the input and the one of the file.
     Meet,
+    /// Says whether the automaton of the file accepts each word that the one of the input accepts.
+    Contained {
+        /// Whether a `no` is explained.
+        explain: bool,
+    },
+    /// Says whether the automata of the file and of the input accept the same words.
+    Equal {
+        /// Whether a `no` is explained.
+        explain: bool,
+    },
     /// Draws the game that the input has with the solution of it in the file; whole, or the part that one node reaches.
     DrawSolution {
         /// The identifier of the node whose part is drawn.

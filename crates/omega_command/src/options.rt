@@ -13,6 +13,8 @@ pub enum OptionName {
     Explain,
     Word,
     With,
+    In,
+    To,
     Solution,
     Legend,
     Lasso,
@@ -36,6 +38,8 @@ impl fmt::Display for OptionName {
             OptionName::Explain => "--explain",
             OptionName::Word => "--word",
             OptionName::With => "--with <FILE>",
+            OptionName::In => "--in <FILE>",
+            OptionName::To => "--to <FILE>",
             OptionName::Solution => "--solution <FILE>",
             OptionName::Legend => "--legend",
             OptionName::Lasso => "--lasso",
@@ -70,6 +74,10 @@ pub struct Options<'a> {
     pub word: Option<&'a str>,
     /// The name of the file of the other automaton.
     pub with: Option<&'a str>,
+    /// The name of the file of the automaton in whose words those of another are to be.
+    pub within: Option<&'a str>,
+    /// The name of the file of the automaton with which another is compared.
+    pub to: Option<&'a str>,
     /// The name of the file of a solution.
     pub solution: Option<&'a str>,
     /// As `search`.

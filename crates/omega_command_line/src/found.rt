@@ -22,6 +22,8 @@ pub fn options_in<'a>(found: &ArgMatches<'a>) -> Options<'a>
         explain: found.get_str("explain"),
         word: found.get_str("word"),
         with: found.get_str("with"),
+        within: found.get_str("in"),
+        to: found.get_str("to"),
         solution: found.get_str("solution"),
         legend: found.get_str("legend"),
         lasso: found.get_str("lasso"),

@@ -61,6 +61,12 @@ empty =
 abbrev pub game : Shape
 game = with_options (codes "game") (verbose ∷ operand (codes "file") ∷ [])
 
+abbrev pub contained : Shape
+contained = with_options (codes "contained") (required (codes "in") ∷ flag (codes "explain") ∷ verbose ∷ operand (codes "file") ∷ [])
+
+abbrev pub equal : Shape
+equal = with_options (codes "equal") (required (codes "to") ∷ flag (codes "explain") ∷ verbose ∷ operand (codes "file") ∷ [])
+
 abbrev pub meet : Shape
 meet = with_options (codes "meet") (required (codes "with") ∷ verbose ∷ operand (codes "file") ∷ [])
 
@@ -79,5 +85,5 @@ draw =
 abbrev pub program : App
 program = record {
   top = record (new_shape (codes "omega")) { is_leaf = false; has_version = true; subcommand_required = true };
-  subs = show ∷ check ∷ canon ∷ solve ∷ verify ∷ empty ∷ game ∷ meet ∷ complement ∷ draw ∷ [];
+  subs = show ∷ check ∷ canon ∷ solve ∷ verify ∷ empty ∷ game ∷ contained ∷ equal ∷ meet ∷ complement ∷ draw ∷ [];
 }

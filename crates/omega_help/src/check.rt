@@ -23,23 +23,41 @@ also has the place of the byte, counted from 0.
   $ echo 'HOA: v1 Acceptance: 0 t --BODY-- State: 0' | omega check --format hoa
   omega: 3 Syntax at 42
 
-In both formats 1 Lex and 2 Number are bytes that are no token, 3 Syntax is a token that can't stand
-there or an end that comes too early, and 4 TooLong is a text of over 16777216 bytes.
+In both formats:
 
-Of a game, 10 DuplicateNode is an identifier that is specified twice, 11 UndefinedSuccessor one that is
-not specified, 12 HeaderTooSmall a header whose number is below an identifier, 13 TooManyNodes and
-14 TooManyEdges are games of over 1048576 nodes or 8388608 successors. If several apply, 4 comes first,
-then the first of 1 and 2 in the text, then 3, then the least number of the others.
+1 Lex: bytes that are no token
+2 Number: digits that are no number: with a needless 0 before them, or over 2147483647
+3 Syntax: a token that can't stand there, or an end that comes too early
+4 TooLong: a text of over 16777216 bytes
 
-Of an automaton, 20 Version is a version other than v1. 21 RepeatedHeader is an item that stands twice
-and may not. 22 MissingAcceptance means that there is no `Acceptance:`. 23 UnknownHeader is an unknown
-item whose name begins with a capital. 24 StateRange is a state, and 25 SetRange a set, whose number is
-not below the count. 26 Proposition is a wrong count of propositions, a repeated one, one out of range,
-or over 1024 of them. 27 Alias is an alias that is used before it is defined, or is defined twice.
-28 StateTwice is a state that is defined twice. 29 MixedLabels means labels on some edges of a state and
-not on others, or on a state and its edges. 30 ImplicitCount means edges without labels that are not one
-for each set of propositions. 31 AcceptanceAtom is an atom that is neither Fin nor Inf. 32 TooDeep is a
-formula nested over 256 deep. 33 Expansion means labels that are too large with their aliases replaced.
+Of a game:
+
+10 DuplicateNode: an identifier that is specified twice
+11 UndefinedSuccessor: a successor that is not specified
+12 HeaderTooSmall: a header whose number is below an identifier
+13 TooManyNodes: a game of over 1048576 nodes
+14 TooManyEdges: a game of over 8388608 successors
+
+If several apply, 4 comes first, then the first of 1 and 2 in the text, then 3, then the least number of
+the others.
+
+Of an automaton:
+
+20 Version: a version other than v1
+21 RepeatedHeader: an item that stands twice and may not
+22 MissingAcceptance: there is no `Acceptance:`
+23 UnknownHeader: an unknown item whose name begins with a capital
+24 StateRange: a state whose number is not below the count
+25 SetRange: a set whose number is not below the count
+26 Proposition: a wrong count of propositions, a repeated one, one out of range, or over 1024 of them
+27 Alias: an alias that is used before it is defined, or is defined twice
+28 StateTwice: a state that is defined twice
+29 MixedLabels: labels on some edges of a state and not on others, or on a state and its edges
+30 ImplicitCount: edges without labels that are not one for each set of propositions
+31 AcceptanceAtom: an atom that is neither Fin nor Inf
+32 TooDeep: a formula nested over 256 deep
+33 Expansion: labels that are too large with their aliases replaced
+
 Inside an automaton, from `HOA:` to `--END--`, the first of 1 and 2 comes first, then 3, then the least
 number of the others. In a text of several automata, the first that is refused decides, or the first
 fault between two automata if it comes before that. But 4 comes before all else.

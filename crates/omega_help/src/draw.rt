@@ -19,14 +19,14 @@ for player 0 and orange for player 1, and each edge to a chosen successor is bol
 drawing says so in a frame of its own.
 
   $ echo '0 0 0 1,2; 1 1 1 0; 2 2 1 0 \"goal\";' > game.pg
-  $ omega solve game.pg > solution.txt
+  $ omega solve --search game.pg > solution.txt
   $ omega draw --format pg --solution solution.txt --legend game.pg | dot -Tsvg > game.svg
 
 --from ID draws the part of the game that is reached from the node with that identifier. With --depth N,
 it draws only the nodes to which at most N steps lead from that node, and the edges between these; from a
 node that leads on to others, an edge leads to `...`. If no node has the identifier, the refusal is
-54 UnknownNode. A solution is of the whole game here too, and an edge to a chosen successor is bold if
-the successor is drawn.
+54 UnknownNode. Then a solution is one of that part, as `omega solve --from ID` writes it, and an edge to
+a chosen successor is bold if the successor is drawn.
 
   $ omega draw --format pg --from 1 --depth 1 game.pg
   digraph game {

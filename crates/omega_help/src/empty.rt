@@ -68,9 +68,10 @@ same without it, even if standard error cannot be written.
 automaton for a cycle whose marks satisfy the formula. For the names above, and for Rabin, Streett and
 generalized Rabin, its time is polynomial in automaton and formula. Where Fin stands below both & and |,
 it may grow with two to the number of different Fin. Its answers are proved as those of lifting are, but
-the lasso may be another one. With --search, 13 and 40 do not come, and 42 comes only where a label
-mentions over 12 propositions and 4194304 steps do not decide it. The search makes no lifts. So it goes
-neither with --budget nor with --progress, and 50 and 51 do not come.
+the lasso may be another one. With --search an automaton is never refused as 13 TooManyNodes or
+40 NotParity, and as 42 TooManyPropositions only where a label mentions over 12 propositions and 4194304
+steps do not decide it. The search makes no lifts. So it goes neither with --budget nor with --progress,
+and is never refused as 50 TooWide or 51 Budget.
 
 Faults of the text come first; `omega check --help` lists them. A text with --ABORT--, with no automaton
 or with several is not one automaton, and is refused as 3 Syntax. Then 13, 40, 41 and 42 come in this

@@ -4,8 +4,10 @@
 mod canon;
 mod check;
 mod complement;
+mod contained;
 mod draw;
 mod empty;
+mod equal;
 mod game;
 mod meet;
 mod options;

@@ -40,9 +40,10 @@ as `omega complement` writes it, to --with: if the product accepts nothing, the 
 
 Propositions are joined by name: those of the automaton in FILE come first, then those that only the
 other has. The states are the pairs of states that are reached, numbered breadth first from the starts in
-their order. Each is named by its two numbers. There is an edge for each two edges whose labels can hold
-together, and its label joins both by &. Edges without labels get those of their valuations, and labels
-and marks of states are moved to the edges that leave them. The acceptance formula joins both by &, with
+their order. Each is named by its two numbers. From a pair, an edge leads for each edge of the one state
+and each edge of the other whose labels can hold together, and its label joins both by &. Edges without
+labels get those of their valuations, and labels and marks of states are moved to the edges that leave
+them. The acceptance formula joins both by &, with
 the sets of the other automaton after those of the one in FILE. If both are Buchi or generalized-Buchi,
 the product is named generalized-Buchi with all sets. Else it has no name, and `omega empty --search`
 decides it. What `tool:`, `name:` and `properties:` say is left out.

@@ -7,8 +7,10 @@ ghost use Rattle.omega_help.specs.private.building.Building.{shape_for, without_
 use crate::canon::canon_command;
 use crate::check::check_command;
 use crate::complement::complement_command;
+use crate::contained::contained_command;
 use crate::draw::draw_command;
 use crate::empty::empty_command;
+use crate::equal::equal_command;
 use crate::game::game_command;
 use crate::meet::meet_command;
 use crate::show::show_command;
@@ -38,7 +40,8 @@ A text of the Hanoi format, version 1, holds omega-automata, one after the other
 Here one state has two edges to itself: one where a holds, which is in set 0, and one where it does not.
 A word is accepted if its run takes the first edge again and again. `omega show`, `check` and `canon`
 read both formats, and --format says which. `omega empty`, `omega game` and `omega complement` read one
-automaton, `omega meet` reads two, and `omega draw` draws one automaton or a game.
+automaton, `omega contained`, `omega equal` and `omega meet` read two, and `omega draw` draws one
+automaton or a game.
 
 A command reads the file that its last word names, as in `omega solve game.pg`. Without a name, or with
 -, it reads standard input. It writes its answer to standard output. If a text or the task is refused, a
@@ -53,7 +56,7 @@ Exit status:
   3  the budget is used up
   4  out of memory
   5  a read or a write failed
-  6  the answer of `omega verify` is no
+  6  the answer of `omega verify`, `omega contained` or `omega equal` is no
 
 `omega <COMMAND> --help` says more about a command.";
 
@@ -78,13 +81,15 @@ enum Subcommand {
     Verify,
     Empty,
     Game,
+    Contained,
+    Equal,
     Meet,
     Complement,
     Draw,
 }
 
 /// The subcommands in the order in which help lists them.
-const SUBCOMMANDS: [Subcommand; 10] = [
+const SUBCOMMANDS: [Subcommand; 12] = [
     Subcommand::Show,
     Subcommand::Check,
     Subcommand::Canon,
@@ -92,6 +97,8 @@ const SUBCOMMANDS: [Subcommand; 10] = [
     Subcommand::Verify,
     Subcommand::Empty,
     Subcommand::Game,
+    Subcommand::Contained,
+    Subcommand::Equal,
     Subcommand::Meet,
     Subcommand::Complement,
     Subcommand::Draw,
@@ -109,6 +116,8 @@ impl Subcommand {
             Subcommand::Verify => verify_command(alloc),
             Subcommand::Empty => empty_command(alloc),
             Subcommand::Game => game_command(alloc),
+            Subcommand::Contained => contained_command(alloc),
+            Subcommand::Equal => equal_command(alloc),
             Subcommand::Meet => meet_command(alloc),
             Subcommand::Complement => complement_command(alloc),
             Subcommand::Draw => draw_command(alloc),
@@ -143,6 +152,8 @@ fn subcommand_named(name: &str) -> Option<Subcommand> {
         "verify" => Some(Subcommand::Verify),
         "empty" => Some(Subcommand::Empty),
         "game" => Some(Subcommand::Game),
+        "contained" => Some(Subcommand::Contained),
+        "equal" => Some(Subcommand::Equal),
         "meet" => Some(Subcommand::Meet),
         "complement" => Some(Subcommand::Complement),
         "draw" => Some(Subcommand::Draw),
@@ -183,7 +194,8 @@ fn without_subcommands<'a>(alloc: Global) -> Result<Command<'a>, AllocError>
     Command::new(alloc, "omega")
         .about(
             "Reads, checks, writes and draws parity games and omega-automata, solves games, says whether an \
-             automaton accepts anything, verifies such answers, and forms products and complements of automata.",
+             automaton accepts anything, verifies such answers, compares what automata accept, and forms products \
+             and complements of them.",
         )
         .version(VERSION)
         .after_help("`omega <COMMAND> --help` says more about a command.")

@@ -56,7 +56,7 @@ searched for.
 
   $ echo 'HOA: v1 States: 2 Start: 0 acc-name: co-Buchi Acceptance: 1 Fin(0)
     --BODY-- State: 0 [t] 0 {0} [t] 1 State: 1 [t] 1 --END--' > automaton.hoa
-  $ omega empty automaton.hoa | omega verify --automaton automaton.hoa
+  $ omega empty --search automaton.hoa | omega verify --automaton automaton.hoa
   yes
   $ echo 'stem cycle 0' | omega verify --automaton automaton.hoa --explain
   no
@@ -67,11 +67,11 @@ there, or that can't be taken where it stands; or that the cycle does not close,
 
 A lasso text is what `omega empty` writes: `stem` and numbers of edges, then `cycle` and at least one,
 with white space between them. What --word adds is passed over: a line that begins with `word ` and all
-after it. The edges of the body are numbered from 0 in the order of the text, through all states. If no
-edge has a number of the lasso, the text is not refused: the answer is `no`. A start or an edge of the
-automaton that lists several states joined by & is refused as 41 UniversalBranch. 42 TooManyPropositions
-comes only where a label of one of the lasso's edges mentions over 12 propositions, and 4194304 steps do
-not decide whether it can hold.
+after it. The edges of the body are numbered from 0 in the order of the text, through all states. A
+number that no edge has is no fault of the text: the answer is `no`. A start or an edge of the automaton
+that lists several states joined by & is refused as 41 UniversalBranch. 42 TooManyPropositions comes only
+where a label of one of the lasso's edges mentions over 12 propositions, and 4194304 steps do not decide
+whether it can hold.
 
 If both texts are at fault, the fault of the game or the automaton is reported. With --verbose a second
 line says which text has the fault: `omega: in the game` or `omega: in the solution`, and

@@ -1,19 +1,23 @@
 -- Runs over two texts: what one of the texts is refused for refuses the run.
-use Rattle.std.proofs.Common.{◌≡◌, ◌⊎◌, List, ℕ, Option, None, Some, Result, Ok, Err, IfErr, inl, inr, refl}
+use Rattle.std.proofs.Common.{◌≡◌, ◌⊎◌, List, ℕ, Option, None, Some, false, Result, Ok, Err, IfErr, inl, inr, refl}
 use Rattle.omega_text.specs.Cases.{or_io, or_memory}
 use Rattle.omega_text.specs.declared.refusal.Refusal.{Refusal}
 use Rattle.omega_text.specs.declared.refusal.Refusal.TheVariants.{Automaton, Game, Io, Memory, Task, Text}
 use Rattle.omega_command.specs.declared.beside.Beside.{Beside}
-use Rattle.omega_command.specs.declared.beside.Beside.TheVariants.{DrawSolution, Meet, Verify, VerifyLasso}
+use Rattle.omega_command.specs.declared.beside.Beside.TheVariants.{Contained, DrawSolution, Equal, Meet, Verify, VerifyLasso}
 use Rattle.omega_io.specs.Failures.{IsTransferRefusal, failures_in, failures_of}
 use Rattle.omega_io.specs.Reading.{IsRead, ReadsText}
+use Rattle.omega_containment.specs.Refusing.{IsContainmentRefusal, not_complemented, not_met, not_searched}
+use Rattle.omega_containment_answers.specs.Contained as contained
+use Rattle.omega_containment_answers.specs.Equal as equal
+use Rattle.omega_automaton.specs.Automaton.{Description}
 use Rattle.omega_hoa.specs.Alone.{IsAutomatonRefusal}
 use Rattle.omega_io.specs.Refused.{IsAbout, IsRefusedOf}
 use Rattle.omega_io.specs.declared.refused.Refused.{Refused}
 use Rattle.omega_io.specs.declared.refused.Which.{Which}
 use Rattle.omega_io.specs.declared.refused.Which.TheVariants.{File, Input}
 use Rattle.omega_run.specs.Beside.{IsRefusalAbout, RefusesBoth, RefusesFile, RefusesInput}
-use Rattle.omega_run.specs.Respond.{AnswersBeside, IsRunRefusal, RefusesText}
+use Rattle.omega_run.specs.Respond.{AnswersBeside, IsContainedRefusal, IsEqualRefusal, IsRunRefusal, RefusesText}
 use Rattle.omega_run.specs.private.steps.Beside.{plain}
 
 -- what holds of a refusal, or want of memory, or a failed read or write
@@ -34,6 +38,23 @@ transfer_refuses P (Task fault) h = absurd h
 transfer_refuses P Memory h = tt
 transfer_refuses P Io h = tt
 
+-- what refuses one of the texts, or both, refuses `contained` and `equal`
+contained_file : (file input : List ℕ) (refusal : Refusal) → contained.IsFileRefusal file input refusal → IsContainedRefusal file input refusal
+contained_file file input refusal (inl text) = inl text
+contained_file file input refusal (inr (pair, choice)) = inr (inr pair)
+
+equal_file : (file input : List ℕ) (refusal : Refusal) → equal.IsFileRefusal file input refusal → IsEqualRefusal file input refusal
+equal_file file input refusal (inl text) = inl (inl text)
+equal_file file input refusal (inr (pair, choice)) = inl (inr (inr pair))
+
+equal_input : (file input : List ℕ) (refusal : Refusal) → equal.IsInputRefusal file input refusal → IsEqualRefusal file input refusal
+equal_input file input refusal (inl text) = inl (inr (inl text))
+equal_input file input refusal (inr (pair, choice)) = inr pair
+
+equal_both : (file input : List ℕ) (refusal : Refusal) → RefusesBoth (Equal false) file input refusal → IsEqualRefusal file input refusal
+equal_both file input refusal (inl pair, other) = inl (inr (inr pair))
+equal_both file input refusal (inr pair, other) = inr pair
+
 module _ (file : List ℕ) (before after : Option (List ℕ)) where
   -- the text of the file is refused
   file_refuses : (asked : Beside) (refusal : Refusal) → ReadsText before after (λ input. RefusesFile asked file input refusal)
@@ -41,6 +62,8 @@ module _ (file : List ℕ) (before after : Option (List ℕ)) where
   file_refuses (Verify from explain) refusal h = record { text = h.text; read = h.read; holds = inl h.holds }
   file_refuses (VerifyLasso explain) refusal h = record { text = h.text; read = h.read; holds = inl h.holds }
   file_refuses Meet refusal h = record { text = h.text; read = h.read; holds = inl (inl h.holds) }
+  file_refuses (Contained explain) refusal h = record { text = h.text; read = h.read; holds = contained_file file h.text refusal h.holds }
+  file_refuses (Equal explain) refusal h = record { text = h.text; read = h.read; holds = equal_file file h.text refusal h.holds }
   file_refuses (DrawSolution from depth legend) refusal h = record { text = h.text; read = h.read; holds = inr h.holds }
 
   -- that of the input is
@@ -49,6 +72,8 @@ module _ (file : List ℕ) (before after : Option (List ℕ)) where
   input_refuses (Verify from explain) refusal h = record { text = h.text; read = h.read; holds = inr h.holds }
   input_refuses (VerifyLasso explain) refusal h = record { text = h.text; read = h.read; holds = inr h.holds }
   input_refuses Meet refusal h = record { text = h.text; read = h.read; holds = inl (inr h.holds) }
+  input_refuses (Contained explain) refusal h = record { text = h.text; read = h.read; holds = inr (inl h.holds) }
+  input_refuses (Equal explain) refusal h = record { text = h.text; read = h.read; holds = equal_input file h.text refusal h.holds }
   input_refuses (DrawSolution from depth legend) refusal h = record { text = h.text; read = h.read; holds = inl h.holds }
 
   -- both are
@@ -57,6 +82,8 @@ module _ (file : List ℕ) (before after : Option (List ℕ)) where
   both_refuse (Verify from explain) refusal h = absurd h.holds
   both_refuse (VerifyLasso explain) refusal h = absurd h.holds
   both_refuse Meet refusal h = record { text = h.text; read = h.read; holds = inr h.holds }
+  both_refuse (Contained explain) refusal h = record { text = h.text; read = h.read; holds = inr (inr h.holds.0) }
+  both_refuse (Equal explain) refusal h = record { text = h.text; read = h.read; holds = equal_both file h.text refusal h.holds }
   both_refuse (DrawSolution from depth legend) refusal h = absurd h.holds
 
 pub about_refuses : (asked : Beside) (file : List ℕ) (before after : Option (List ℕ)) (which : Option Which) (refusal : Refusal)
@@ -106,6 +133,18 @@ automaton_io text (inr (short, inr (lexemes, cut, inr segment))) = elim segment.
   | inr (raw, (next, more, rest, e)) ↦ cc
 ]
 
+-- nor is containment
+containment_io : (one other : Description) → IsContainmentRefusal one other Io → ⊥
+containment_io one other (not_complemented refused) = refused
+containment_io one other (not_met complement given is refused) = refused
+containment_io one other (not_searched complement both given is met refused) = refused
+
+pair_io : (outer inner : List ℕ) → contained.IsPairRefused outer inner Io → ⊥
+pair_io outer inner pair = containment_io pair.one pair.other pair.refused
+
+choice_io : contained.IsChoice Io → ⊥
+choice_io (state, is) = cc
+
 -- neither text is refused for a failed read or write
 io_about : (asked : Beside) (file input : List ℕ) (which : Option Which)
     → IsRefusedBeside asked file input which Io → ⊥
@@ -113,6 +152,9 @@ io_about asked file input None (inl h) = absurd (cc h)
 io_about (Verify from explain) file input None (inr h) = h
 io_about (VerifyLasso explain) file input None (inr h) = h
 io_about Meet file input None (inr h) = h.refused
+io_about (Contained explain) file input None (inr h) = pair_io file input h.0
+io_about (Equal explain) file input None (inr (inl pair, other)) = pair_io file input pair
+io_about (Equal explain) file input None (inr (inr pair, other)) = pair_io input file pair
 io_about (DrawSolution from depth legend) file input None (inr h) = h
 io_about (Verify None explain) file input (Some File) h = h
 io_about (Verify (Some identifier) explain) file input (Some File) h = h
@@ -120,10 +162,17 @@ io_about (VerifyLasso explain) file input (Some File) (inl (inl h)) = automaton_
 io_about (VerifyLasso explain) file input (Some File) (inl (inr h)) = cc h.refused
 io_about (VerifyLasso explain) file input (Some File) (inr h) = h.refused
 io_about Meet file input (Some File) h = automaton_io file h
+io_about (Contained explain) file input (Some File) (inl text) = automaton_io file text
+io_about (Contained explain) file input (Some File) (inr (pair, choice)) = pair_io file input pair
+io_about (Equal explain) file input (Some File) (inl text) = automaton_io file text
+io_about (Equal explain) file input (Some File) (inr (pair, choice)) = pair_io file input pair
 io_about (DrawSolution from depth legend) file input (Some File) h = h.refused
 io_about (Verify from explain) file input (Some Input) h = h.refused
 io_about (VerifyLasso explain) file input (Some Input) h = h.refused
 io_about Meet file input (Some Input) h = automaton_io input h.refused
+io_about (Contained explain) file input (Some Input) h = automaton_io input h.refused
+io_about (Equal explain) file input (Some Input) (inl text) = automaton_io input text.refused
+io_about (Equal explain) file input (Some Input) (inr (pair, choice)) = pair_io input file pair
 io_about (DrawSolution None depth legend) file input (Some Input) h = h
 io_about (DrawSolution (Some identifier) depth legend) file input (Some Input) h = h
 

@@ -1,10 +1,11 @@
 -- What is done with the texts of a file and of the input: what each is called, and which of them a refusal is about.
 use Rattle.std.specs.Prelude.{◌≡◌, ◌⊎◌, Bool, true, false, List, Option, None, Some, Result, Err, ℕ, IfErr, codes}
 use Rattle.omega_text.specs.declared.refusal.Refusal.{Refusal}
-use Rattle.omega_game_answers.specs.Draw.{RefusesDrawnSolution}
 use Rattle.omega_game_answers.specs.Verify.{IsJudgedGameRefusal, RefusesSolution}
 use Rattle.omega_command.specs.declared.beside.Beside.{Beside}
-use Rattle.omega_command.specs.declared.beside.Beside.TheVariants.{DrawSolution, Meet, Verify, VerifyLasso}
+use Rattle.omega_command.specs.declared.beside.Beside.TheVariants.{Contained, DrawSolution, Equal, Meet, Verify, VerifyLasso}
+use Rattle.omega_containment_answers.specs.Contained as contained
+use Rattle.omega_containment_answers.specs.Equal as equal
 use Rattle.omega_hoa.specs.Alone.{IsAutomatonRefusal}
 use Rattle.omega_io.specs.declared.exit.Exit.{Exit}
 use Rattle.omega_language_answers.specs.Verify.{RefusesAutomaton, RefusesLasso}
@@ -29,6 +30,10 @@ name_of (VerifyLasso explain) File = codes "automaton"
 name_of (VerifyLasso explain) Input = codes "lasso"
 name_of Meet File = codes "other automaton"
 name_of Meet Input = codes "automaton"
+name_of (Contained explain) File = codes "other automaton"
+name_of (Contained explain) Input = codes "automaton"
+name_of (Equal explain) File = codes "other automaton"
+name_of (Equal explain) Input = codes "automaton"
 name_of (DrawSolution from depth legend) File = codes "solution"
 name_of (DrawSolution from depth legend) Input = codes "game"
 
@@ -37,13 +42,17 @@ abbrev pub RefusesFile : Beside → (file input : List ℕ) → Refusal → Type
 RefusesFile (Verify from explain) file input refusal = IsJudgedGameRefusal file from refusal
 RefusesFile (VerifyLasso explain) file input refusal = RefusesAutomaton file input refusal
 RefusesFile Meet file input refusal = IsAutomatonRefusal file refusal
-RefusesFile (DrawSolution from depth legend) file input refusal = RefusesDrawnSolution input from depth file refusal
+RefusesFile (Contained explain) file input refusal = contained.IsFileRefusal file input refusal
+RefusesFile (Equal explain) file input refusal = equal.IsFileRefusal file input refusal
+RefusesFile (DrawSolution from depth legend) file input refusal = RefusesSolution input from file refusal
 
 -- why the text of the input is
 abbrev pub RefusesInput : Beside → (file input : List ℕ) → Refusal → Type 0
 RefusesInput (Verify from explain) file input refusal = RefusesSolution file from input refusal
 RefusesInput (VerifyLasso explain) file input refusal = RefusesLasso file input refusal
 RefusesInput Meet file input refusal = IsTextRefused file input refusal
+RefusesInput (Contained explain) file input refusal = IsTextRefused file input refusal
+RefusesInput (Equal explain) file input refusal = equal.IsInputRefusal file input refusal
 RefusesInput (DrawSolution from depth legend) file input refusal = IsJudgedGameRefusal input from refusal
 
 -- why the two texts are refused together, though each is good by itself
@@ -51,6 +60,9 @@ abbrev pub RefusesBoth : Beside → (file input : List ℕ) → Refusal → Type
 RefusesBoth (Verify from explain) file input refusal = ⊥
 RefusesBoth (VerifyLasso explain) file input refusal = ⊥
 RefusesBoth Meet file input refusal = IsProductRefused file input refusal
+RefusesBoth (Contained explain) file input refusal = contained.IsPairRefused file input refusal × ¬ contained.IsChoice refusal
+RefusesBoth (Equal explain) file input refusal =
+    (contained.IsPairRefused file input refusal ⊎ contained.IsPairRefused input file refusal) × ¬ contained.IsChoice refusal
 RefusesBoth (DrawSolution from depth legend) file input refusal = ⊥
 
 -- the input was read and the refusal is one of the text that is named; if none is named, it is one of both texts

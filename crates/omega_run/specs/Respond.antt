@@ -1,16 +1,18 @@
 -- The answers to one text and to two, the refusals, and what was read for an answer.
-use Rattle.std.specs.Prelude.{◌≡◌, List, Option, Some, None, Result, Ok, Err, ℕ}
+use Rattle.std.specs.Prelude.{◌≡◌, ◌⊎◌, List, Option, Some, None, Result, Ok, Err, ℕ}
 use Rattle.omega_text.specs.Cases.{or_io, or_memory}
 use Rattle.omega_text.specs.declared.refusal.Refusal.{Refusal}
 use Rattle.omega_pg.specs.game.Refusing.{IsRefusal}
 use Rattle.omega_parity_game.specs.declared.player.Player.{Player}
 use Rattle.omega_command.specs.declared.beside.Beside.{Beside}
-use Rattle.omega_command.specs.declared.beside.Beside.TheVariants.{DrawSolution, Meet, Verify, VerifyLasso}
+use Rattle.omega_command.specs.declared.beside.Beside.TheVariants.{Contained, DrawSolution, Equal, Meet, Verify, VerifyLasso}
 use Rattle.omega_command.specs.declared.command.Command.{Command}
 use Rattle.omega_command.specs.declared.command.Command.TheVariants.{Canon, CanonPart, Check, Complement, Draw, DrawLasso, DrawPart, Empty, EmptySearch, Game, Search, Show, Solve}
 use Rattle.omega_command.specs.declared.command.Format.TheVariants.{Hoa, Pg}
 use Rattle.omega_io.specs.declared.exit.Exit.{Exit}
 use Rattle.omega_io.specs.declared.exit.Exit.TheVariants.{Done}
+use Rattle.omega_containment_answers.specs.Contained.{IsContainedAnswer, IsPairRefused}
+use Rattle.omega_containment_answers.specs.Equal.{IsEqualAnswer}
 use Rattle.omega_empty_answers.specs.Game.{IsEmptinessGameAnswer, IsEmptinessGameRefusal}
 use Rattle.omega_game_answers.specs.Part.{IsPartTextRefusal}
 use Rattle.omega_game_answers.specs.Verify.{IsVerifyAnswer, IsVerifyRefusal}
@@ -19,7 +21,7 @@ use Rattle.omega_game_answers.specs.Canon.{IsCanonAnswer, IsCanonPartAnswer}
 use Rattle.omega_stream_answers.specs.Check.{IsStreamCheckAnswer}
 use Rattle.omega_game_answers.specs.Check.{IsCheckAnswer}
 use Rattle.omega_empty_answers.specs.Draw.{IsAutomatonDrawingAnswer, IsLassoDrawingAnswer}
-use Rattle.omega_game_answers.specs.Draw.{IsGameDrawingAnswer, IsSolutionDrawingAnswer, IsSolutionDrawingRefusal}
+use Rattle.omega_game_answers.specs.Draw.{IsGameDrawingAnswer, IsSolutionDrawingAnswer}
 use Rattle.omega_empty_answers.specs.empty.Answer.{IsEmptyAnswer, IsEmptyRefusal, IsEmptySearchAnswer, IsEmptySearchRefusal}
 use Rattle.omega_stream_answers.specs.Show.{IsStreamShowAnswer}
 use Rattle.omega_game_answers.specs.Show.{IsShowAnswer}
@@ -32,7 +34,7 @@ use Rattle.omega_hoa.specs.Alone.{IsAutomatonRefusal}
 use Rattle.omega_hoa.specs.Stream.{IsStreamRefusal}
 use Rattle.omega_io.specs.Reading.{ReadsText, ReadsWhole}
 use Rattle.omega_language_answers.specs.Verify.{IsLassoAnswer, IsLassoAnswerRefusal}
-use Rattle.omega_language_answers.specs.Meet.{IsMeetAnswer, IsMeetRefusal}
+use Rattle.omega_language_answers.specs.Meet.{IsMeetAnswer, IsMeetRefusal, IsTextRefused}
 
 -- for which players a game is solved: for one, or for both if none is named
 abbrev pub asked_for : Option Player → Asked
@@ -70,13 +72,24 @@ Answers (Draw Hoa) budget text = Replies (IsAutomatonDrawingAnswer text) (IsAuto
 Answers (DrawPart from depth) budget text = Replies (IsGameDrawingAnswer text (Some from) depth) (IsPartTextRefusal text from)
 Answers DrawLasso budget text = Replies (IsLassoDrawingAnswer text) (IsEmptySearchRefusal text)
 
+-- the refusal of `contained`: that of the other automaton's text, or of the text of the input, or of containment
+abbrev pub IsContainedRefusal : (file input : List ℕ) → Refusal → Type 0
+IsContainedRefusal file input refusal =
+    IsAutomatonRefusal file refusal ⊎ (IsTextRefused file input refusal ⊎ IsPairRefused file input refusal)
+
+-- the refusal of `equal`: the same, or that of containment the other way round
+abbrev pub IsEqualRefusal : (file input : List ℕ) → Refusal → Type 0
+IsEqualRefusal file input refusal = IsContainedRefusal file input refusal ⊎ IsPairRefused input file refusal
+
 -- the same of the text of a file and that of the input: the budget bounds none of these
 abbrev pub AnswersBeside : Beside → (file input : List ℕ) → Result (Exit × List ℕ) Refusal → Type 0
 AnswersBeside (Verify from explain) file input = Concludes (IsVerifyAnswer file from input explain) (IsVerifyRefusal file from input)
 AnswersBeside (VerifyLasso explain) file input = Concludes (IsLassoAnswer file input explain) (IsLassoAnswerRefusal file input)
 AnswersBeside Meet file input = Replies (IsMeetAnswer file input) (IsMeetRefusal file input)
+AnswersBeside (Contained explain) file input = Concludes (IsContainedAnswer file input explain) (IsContainedRefusal file input)
+AnswersBeside (Equal explain) file input = Concludes (IsEqualAnswer file input explain) (IsEqualRefusal file input)
 AnswersBeside (DrawSolution from depth legend) file input =
-    Replies (IsSolutionDrawingAnswer input file from depth legend) (IsSolutionDrawingRefusal input from depth file)
+    Replies (IsSolutionDrawingAnswer input file from depth legend) (IsVerifyRefusal input from file)
 
 -- the whole input was read, and this is the answer to its text
 abbrev pub Responds : (List ℕ → Result (Exit × List ℕ) Refusal → Type 0) → (unread_before unread_after : Option (List ℕ)) → Exit → List ℕ → Type 0

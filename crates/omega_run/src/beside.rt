@@ -12,6 +12,7 @@ ghost use Rattle.omega_run.specs.private.steps.Beside.{plain, text_in};
 
 use crate::reporting::{report_about, report_file};
 use omega_command::Beside;
+use omega_containment_answers::{contained_texts, equal_texts};
 use omega_game_answers::{draw_solution_text, verify_solution};
 use omega_io::{Exit, Input, InputFiles, Output, Refused, read_all, write_text};
 use omega_language_answers::{meet_texts, verify_lasso};
@@ -112,6 +113,8 @@ fn answer_texts(
             Ok(made) => Ok((Exit::Done, made)),
             Err(refused) => Err(refused),
         },
+        Beside::Contained { explain } => contained_texts(alloc, file, input, explain),
+        Beside::Equal { explain } => equal_texts(alloc, file, input, explain),
         Beside::DrawSolution {
             from,
             depth,

@@ -137,7 +137,7 @@ fn name_of(asked: Beside, which: Which) -> &'static str
             Which::File => "automaton",
             Which::Input => "lasso",
         },
-        Beside::Meet => match which {
+        Beside::Meet | Beside::Contained { .. } | Beside::Equal { .. } => match which {
             Which::File => "other automaton",
             Which::Input => "automaton",
         },

@@ -65,7 +65,7 @@ State: 0
 ";
 
 /// A command line, the text of the file, the text of the input, and the status, the output and the lines of the run.
-static RUNS: [(&str, &str, &str, u8, &str, &str); 21] = [
+static RUNS: [(&str, &str, &str, u8, &str, &str); 22] = [
     (
         "omega verify --game g",
         THREE,
@@ -134,11 +134,20 @@ static RUNS: [(&str, &str, &str, u8, &str, &str); 21] = [
     // No edge leads from node 2 to another.
     (
         "omega draw --format pg --solution g --from 2",
-        "paritysol 2; 0 0 2; 1 1; 2 0;",
+        "paritysol 2; 2 0;",
         CHOICE,
         0,
         "digraph game {\n  2 [shape=box, label=\"2\\ngoal\\npriority 2\\n\", style=filled, fillcolor=lightblue];\n  2 -> 2;\n}\n",
         "",
+    ),
+    // The solution of the whole game is none of the part.
+    (
+        "omega draw --format pg --solution g --from 2",
+        "paritysol 2; 0 0 2; 1 1; 2 0;",
+        CHOICE,
+        1,
+        "",
+        "omega: 53 BadSolution\n",
     ),
     // That no node has the identifier comes before what is wrong with the solution.
     (

@@ -2,7 +2,7 @@
 use Rattle.std.specs.Prelude.{List, [], ◌∷◌, true, codes}
 use Rattle.clap.specs.Simple.{new_shape}
 use Rattle.clap.specs.Words.{App, Rule, Shape, Text, with_rule, with_subcommand}
-use Rattle.omega_help.specs.Program.{canon, check, complement, draw, empty, flag, game, lettered, meet, operand, optional, required, show, solve, verify}
+use Rattle.omega_help.specs.Program.{canon, check, complement, contained, draw, empty, equal, flag, game, lettered, meet, operand, optional, required, show, solve, verify}
 use Rattle.omega_help.specs.declared.options.OptionHelp.{OptionHelp}
 use Rattle.omega_help.specs.declared.options.Value.{Value}
 use Rattle.omega_help.specs.declared.options.Value.TheVariants as value
@@ -30,6 +30,8 @@ shape_for subcommand.Solve = solve
 shape_for subcommand.Verify = verify
 shape_for subcommand.Empty = empty
 shape_for subcommand.Game = game
+shape_for subcommand.Contained = contained
+shape_for subcommand.Equal = equal
 shape_for subcommand.Meet = meet
 shape_for subcommand.Complement = complement
 shape_for subcommand.Draw = draw
