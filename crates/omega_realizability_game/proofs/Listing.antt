@@ -10,6 +10,7 @@ use Rattle.omega_runs.specs.Places.{ArePlaces, EdgeStandsAt}
 use Rattle.omega_runs.specs.declared.place.EdgePlace.{EdgePlace}
 use Rattle.omega_controllers.specs.Controllers.{Answers}
 use Rattle.omega_realizability_game.specs.Answering.{AreAnswersAmong, IsSomeUnanswered, IsUnanswered}
+use Rattle.omega_realizability_game.specs.Making.{IsSomeLetterUnanswered}
 
 -- the place of a number
 pub stands_at : (a : Description) (places : List EdgePlace) (number : ℕ) (d : EdgePlace) → ArePlaces a places → number < length places
@@ -60,11 +61,20 @@ pub answers_none_yet : (a : Description) (controlled : List ℕ) (given : ℕ �
 answers_none_yet a controlled given numbers none n =
     (λ has. absurd (omega (arith, has.1)), λ found. absurd (omega (arith, found.0.1, ap length none)))
 
-pub some_unanswered : (a : Description) (controlled letter : List ℕ) (number : ℕ) (e : Refusal) → IsUnanswered a controlled letter number e
-    → IsSomeUnanswered a controlled letter e
-some_unanswered a controlled letter number (Task fault) refused = (number, refused)
-some_unanswered a controlled letter number Memory refused = refused
-some_unanswered a controlled letter number (Text fault) refused = absurd refused
-some_unanswered a controlled letter number (Game fault) refused = absurd refused
-some_unanswered a controlled letter number (Automaton fault) refused = absurd refused
-some_unanswered a controlled letter number Io refused = absurd refused
+module _ (a : Description) (controlled numbers letter : List ℕ) where
+  pub some_unanswered : (number : ℕ) (e : Refusal) → Contains numbers number → IsUnanswered a controlled letter number e
+      → IsSomeUnanswered a controlled numbers letter e
+  some_unanswered number (Task fault) has refused = (number, has, refused.0, refused.1, refused.2)
+  some_unanswered number Memory has refused = refused
+  some_unanswered number (Text fault) has refused = absurd refused
+  some_unanswered number (Game fault) has refused = absurd refused
+  some_unanswered number (Automaton fault) has refused = absurd refused
+  some_unanswered number Io has refused = absurd refused
+
+  pub letter_unanswered : (e : Refusal) → IsSomeUnanswered a controlled numbers letter e → IsSomeLetterUnanswered a controlled numbers e
+  letter_unanswered (Task fault) refused = (letter, refused.0, refused.1, refused.2, refused.3, refused.4)
+  letter_unanswered Memory refused = refused
+  letter_unanswered (Text fault) refused = absurd refused
+  letter_unanswered (Game fault) refused = absurd refused
+  letter_unanswered (Automaton fault) refused = absurd refused
+  letter_unanswered Io refused = absurd refused

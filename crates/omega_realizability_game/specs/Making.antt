@@ -80,21 +80,22 @@ pub record AreQuestionsOf (a : Description) (controlled numbers : List ℕ) (let
       → (question : ℕ) × (question < length letters) × AllAnswer a controlled given (slice_index_or answers question [])
   pub count : length letters ≡ 2 ^ length (inputs_of a controlled numbers)
 
--- the label of some edge cannot be judged in some letter
-abbrev pub IsSomeUnjudged : Description → List ℕ → TaskFault → Type 0
-IsSomeUnjudged a controlled fault =
-    (letter : List ℕ) × ((number : ℕ) × ((edge : BodyEdge) × (edge_at a number ≡ Some edge)
-    × IsUnjudged controlled letter (whole_label a number edge) fault))
+-- the label of one of the edges with these numbers cannot be judged in some letter
+abbrev pub IsSomeUnjudged : Description → List ℕ → List ℕ → TaskFault → Type 0
+IsSomeUnjudged a controlled numbers fault =
+    (letter : List ℕ) × (number : ℕ) × Contains numbers number × (edge : BodyEdge) × (edge_at a number ≡ Some edge)
+    × IsUnjudged controlled letter (whole_label a number edge) fault
 
--- some letter has an edge that cannot be judged, or want of memory
-abbrev pub IsSomeLetterUnanswered : Description → List ℕ → Refusal → Type 0
-IsSomeLetterUnanswered a controlled = or_task (IsSomeUnjudged a controlled) (or_memory never)
+-- one of the edges cannot be judged in some letter, or want of memory
+abbrev pub IsSomeLetterUnanswered : Description → List ℕ → List ℕ → Refusal → Type 0
+IsSomeLetterUnanswered a controlled numbers = or_task (IsSomeUnjudged a controlled numbers) (or_memory never)
 
--- the fault of the questions of a state: too many inputs, or an edge that cannot be judged in some letter
+-- the fault of the questions of a state that the edges with these numbers leave: too many inputs, or an edge that
+-- cannot be judged in some letter
 abbrev pub IsAskingFault : Description → List ℕ → List ℕ → TaskFault → Type 0
 IsAskingFault a controlled numbers fault =
     ((fault ≡ TooManyPropositions) × (most_mentioned < length (inputs_of a controlled numbers)))
-    ⊎ IsSomeUnjudged a controlled fault
+    ⊎ IsSomeUnjudged a controlled numbers fault
 
 -- the refusal of the questions of a state
 abbrev pub IsUnasked : Description → List ℕ → List ℕ → Refusal → Type 0

@@ -27,7 +27,7 @@ pub fn answering_edges(
     requires numbers { All (λ number. number < length places.now) numbers.now }
     ensures answers { IfOk result
         (AreAnswersAmong automaton.now controlled.now numbers.now (holds_in letter.now)) }
-    ensures refused { IfErr result (IsSomeUnanswered automaton.now controlled.now letter.now) }
+    ensures refused { IfErr result (IsSomeUnanswered automaton.now controlled.now numbers.now letter.now) }
 {
     let mut answers = Numbers::new();
     for number in numbers {

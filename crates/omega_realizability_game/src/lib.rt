@@ -18,3 +18,4 @@ pub use answering::can_answer;
 pub use laws::{answerings_are_controllers, askings_are_counter_strategies, no_start_is_refused};
 pub use letters::{answering_edges, answers_letter};
 pub use making::{LetteredRounds, rounds_of};
+pub use questions::{Questions, questions_of};

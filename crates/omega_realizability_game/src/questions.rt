@@ -64,7 +64,7 @@ fn answers_to(
     requires numbers { All (λ number. number < length places.now) numbers.now }
     ensures answers { IfOk result (λ answers. AreAnswered automaton.now controlled.now numbers.now
         letters.now (length letters.now) answers.items) }
-    ensures refused { IfErr result (IsSomeLetterUnanswered automaton.now controlled.now) }
+    ensures refused { IfErr result (IsSomeLetterUnanswered automaton.now controlled.now numbers.now) }
 {
     let mut answers = Vec::new(alloc);
     for letter in letters {

@@ -4,7 +4,7 @@ use Rattle.std.proofs.lemmas.Bool.{cases_eq}
 use Rattle.std.proofs.lemmas.List.{get_or_append_left, get_or_push, length_push}
 use Rattle.std.proofs.lemmas.List.Elements.{Contains-append_cases, Contains-append_left, Contains-append_right, Contains-push, Contains-push_cases}
 use Rattle.omega_parity_game.specs.Winning.{Chooses}
-use Rattle.omega_rounds.specs.Extracting.{AreChosenAnswers, AreChosenQuestions, IsAnswerAt, IsChosenAnswer, IsChosenQuestion, IsKeptAnswer}
+use Rattle.omega_rounds.specs.Extracting.{AreChosenAnswers, AreChosenQuestions, HaveSameNumbers, IsAnswerAt, IsChosenAnswer, IsChosenQuestion, IsKeptAnswer}
 use Rattle.omega_rounds.specs.Rounds.{answers_of, asked_in}
 use Rattle.omega_rounds.specs.RoundsGame.{edge_place, question_place}
 use Rattle.omega_rounds.specs.declared.rounds.Rounds.{Rounds}
@@ -107,4 +107,20 @@ module _ (rounds : Rounds) (choices : List (Option ℕ)) where
     entries = are.entries;
     each = λ state question chosen. are.each state question chosen.below chosen;
     answers = λ number. (are.sound number, λ answer. are.whole number answer answer.chosen.below);
+  }
+
+module _ (rounds : Rounds) (choices : List (Option ℕ)) (kept others : List ℕ) where
+  -- other lists of the same numbers serve as well
+  pub chosen_same : HaveSameNumbers kept others → AreChosenAnswers rounds choices others → AreChosenAnswers rounds choices kept
+  chosen_same same are number = (λ has. (are number).0 ((same number).0 has), λ chosen. (same number).1 ((are number).1 chosen))
+
+  pub asked_same : (asked : List ℕ) → HaveSameNumbers kept others → AreChosenQuestions rounds choices others asked
+      → AreChosenQuestions rounds choices kept asked
+  asked_same asked same are = record {
+    entries = are.entries;
+    each = are.each;
+    answers = λ number. (
+      (λ has. (are.answers number).0 ((same number).0 has)),
+      (λ answer. (same number).1 ((are.answers number).1 answer)),
+    );
   }

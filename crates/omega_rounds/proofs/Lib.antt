@@ -3,4 +3,5 @@ pub mod Placing
 pub mod Walks
 pub mod Winning
 pub mod Making
+pub mod Named
 pub mod Found

@@ -25,7 +25,7 @@ use Rattle.omega_rounds.specs.declared.rounds.Rounds.{Rounds}
 use Rattle.omega_rounds.proofs.Placing.{id_is, in_range, low_at, range_has, range_rises}
 
 -- the last one is changed
-with_last_push : (change : NodeSpec → NodeSpec) (specs : List NodeSpec) (spec : NodeSpec)
+pub with_last_push : (change : NodeSpec → NodeSpec) (specs : List NodeSpec) (spec : NodeSpec)
     → with_last change (specs ++ spec ∷ []) ≡ specs ++ change spec ∷ []
 with_last_push change [] spec = refl
 with_last_push change (one ∷ []) spec = refl

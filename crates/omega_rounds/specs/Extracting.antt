@@ -15,6 +15,10 @@ pub record IsWinningFrom (game : List Node) (player : Player) (choices : List (O
   pub chosen : (w : ℕ) → w < length game → owner_at game w ≡ player → Wins game player choices w
       → (u : ℕ) × Chooses choices w u
 
+-- two lists have the same numbers, however often and in whatever order
+abbrev pub HaveSameNumbers : List ℕ → List ℕ → Type 0
+HaveSameNumbers one other = (number : ℕ) → Contains one number ↔ Contains other number
+
 -- player 0 chooses the edge at the question
 pub record IsAnswerAt (rounds : Rounds) (choices : List (Option ℕ)) (question number : ℕ) : Type 0 where
   pub asked : question < length rounds.questions

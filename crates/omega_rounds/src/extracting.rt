@@ -1,6 +1,7 @@
 ghost use Rattle.std.specs.Prelude.{◌≡◌, ℕ, ◌<◌, ◌≤◌, IfOk, IsOkUnless, MatchOption, length};
+ghost use Rattle.std.specs.List.Sorted.{IsStrictlyIncreasing};
 ghost use Rattle.omega_parity_game.specs.Limits.{most_nodes};
-ghost use Rattle.omega_rounds.specs.Extracting.{AreChosenAnswers, AreChosenQuestions, IsAnswerAt, IsChosenQuestion};
+ghost use Rattle.omega_rounds.specs.Extracting.{AreChosenAnswers, AreChosenQuestions, HaveSameNumbers, IsAnswerAt, IsChosenQuestion};
 ghost use Rattle.omega_rounds.specs.RoundsGame.{node_count};
 
 use crate::nodes::answers_of;
@@ -11,14 +12,14 @@ use std::alloc::Global;
 /// What player 1 asks by state, and the edges that answer it.
 #[derive(Drop)]
 pub struct AskedQuestions {
-    /// The numbers of the edges that answer the questions asked.
+    /// The numbers of the edges that answer the questions asked, each once, in rising order.
     pub kept: Vec<u32>,
     /// The number of the question asked in each state; 0 where none is chosen.
     pub asked: Vec<u32>,
 }
 
-/// Returns the numbers of the edges that player 0 chooses at questions, by the `choices` in the game of `rounds`. An
-/// edge that is chosen at several questions comes as often.
+/// Returns the numbers of the edges that player 0 chooses at questions, by the `choices` in the game of `rounds`, each
+/// once, in rising order.
 pub fn chosen_answers(
     alloc: Global,
     rounds: &Rounds,
@@ -27,6 +28,7 @@ pub fn chosen_answers(
     requires fits { node_count rounds.now ≤ most_nodes }
     requires entries { length choices.now ≡ node_count rounds.now }
     ensures chosen { IfOk result (λ kept. AreChosenAnswers rounds.now choices.now kept.items) }
+    ensures rising { IfOk result (λ kept. IsStrictlyIncreasing kept.items) }
     ensures memory { IsOkUnless result Refusal.Memory }
 {
     let mut kept = Vec::new(alloc);
@@ -35,7 +37,17 @@ pub fn chosen_answers(
             kept.push(number)?;
         }
     }
-    Ok(kept)
+    Ok(rising(kept))
+}
+
+/// Returns `numbers` in rising order, each once.
+fn rising(mut numbers: Vec<u32>) -> Vec<u32>
+    ensures same { HaveSameNumbers result.items numbers.items }
+    ensures rising { IsStrictlyIncreasing result.items }
+{
+    numbers.sort_unstable();
+    numbers.dedup();
+    numbers
 }
 
 /// Returns the number of the edge that player 0 chooses at `question`, if there is one.
@@ -65,7 +77,9 @@ pub fn asked_questions(
 ) -> Result<AskedQuestions, Refusal>
     requires fits { node_count rounds.now ≤ most_nodes }
     requires entries { length choices.now ≡ node_count rounds.now }
-    ensures chosen { IfOk result (λ found. AreChosenQuestions rounds.now choices.now found.kept.items found.asked.items) }
+    ensures chosen { IfOk result
+        (λ found. AreChosenQuestions rounds.now choices.now found.kept.items found.asked.items) }
+    ensures rising { IfOk result (λ found. IsStrictlyIncreasing found.kept.items) }
     ensures memory { IsOkUnless result Refusal.Memory }
 {
     let mut kept = Vec::new(alloc);
@@ -78,7 +92,10 @@ pub fn asked_questions(
             asked.push(0)?;
         }
     }
-    Ok(AskedQuestions { kept, asked })
+    Ok(AskedQuestions {
+        kept: rising(kept),
+        asked,
+    })
 }
 
 /// Returns the number of the question that player 1 chooses in `state`, if there is one.

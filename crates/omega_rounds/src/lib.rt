@@ -7,11 +7,12 @@
 mod extracting;
 mod games;
 mod laws;
+mod naming;
 mod nodes;
 mod rounds;
 
 pub use extracting::{AskedQuestions, asked_questions, chosen_answers};
-pub use games::rounds_game;
+pub use games::{named_rounds_game, rounds_game};
 pub use laws::{chosen_answers_win, chosen_questions_win};
 pub use omega_parity_game::{Game, Refusal};
 pub use omega_text::{Numbers, Seq};

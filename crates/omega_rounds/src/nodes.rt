@@ -51,7 +51,7 @@ fn add_state(builder: &mut GameBuilder, rounds: &Rounds, state: u32) -> Result<(
 }
 
 /// Returns the range of the questions of `state`.
-fn range_of(rounds: &Rounds, state: u32) -> QuestionRange
+pub(crate) fn range_of(rounds: &Rounds, state: u32) -> QuestionRange
     requires { state < length rounds.now.states }
     ensures { result ≡ range_at rounds.now state }
 {

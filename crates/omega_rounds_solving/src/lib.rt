@@ -8,6 +8,7 @@ mod outcome;
 mod solving;
 mod winning;
 
+pub use lifting::lift_rounds;
 pub use omega_rounds::{QuestionRange, RoundEdge, Rounds};
 pub use omega_text::{Numbers, Refusal, Seq};
 pub use outcome::Outcome;

@@ -1,73 +1,165 @@
-ghost use Rattle.std.specs.Prelude.{◌≡◌, ◌<◌, ◌↔◌, IfErr, IfOk, IsTrue, Some, true, length, slice_get};
+ghost use Rattle.std.specs.Prelude.{◌≡◌, ◌≤◌, ◌<◌, ◌↔◌, ℕ, IfErr, IfOk, IsOk, IsTrue, Some, false, true, length, slice_get};
+ghost use Rattle.omega_parity_game.specs.Game.{priorities};
+ghost use Rattle.omega_measure.specs.Table.{is_too_wide};
 ghost use Rattle.omega_solve.specs.Headline.{IsExact};
+ghost use Rattle.omega_solve.specs.Limits.{most_lifts};
+ghost use Rattle.omega_budget.specs.Observing.{IsObserved, ReportsSolving, refusal_in};
 ghost use Rattle.omega_rounds.specs.Rounds.{IsRounds};
 ghost use Rattle.omega_rounds.specs.RoundsGame.{IsRoundsGame};
-ghost use Rattle.omega_rounds_solving.specs.Solving.{IsLiftingRefusal, IsOutcome, IsUndecided};
+ghost use Rattle.omega_rounds_solving.specs.Solving.{IsLiftingRefusal, IsNarrow, IsOutcome, IsUndecided, IsWide, LiftsGame, LiftsRounds};
 
 use crate::outcome::Outcome;
 use crate::winning::{answered, asked};
-use omega_budget::{Found, NoObserver, Reordered};
-use omega_parity_game::Player;
+use omega_budget::{Found, Reordered, Reporter};
+use omega_measure::fits;
+use omega_parity_game::{ForwardGame, Player};
 use omega_region_laws::regions_cover;
-use omega_rounds::{Game, Rounds};
-use omega_solve::MOST_LIFTS;
-use omega_text::Refusal;
+use omega_rounds::{Game, Rounds, rounds_game};
+use omega_text::{Refusal, TaskFault};
 use std::alloc::Global;
 
-/// Returns the outcome that lifting in the `game` gives. Fails with [TaskFault::TooWide] or [TaskFault::Budget].
-pub(crate) fn by_lifting(
+/// Decides who wins `rounds` from the state `start` by lifting within `budget`, and returns what wins. Lifts for player
+/// 0, and for player 1 if player 0 does not win; each may make the whole budget of lifts. Each run is reported to
+/// `observer`.
+///
+/// Fails with [GameFault::TooManyNodes] or [GameFault::TooManyEdges] if the game is too large, or else with
+/// [TaskFault::TooWide] if the table of measures would be too wide for one of the players, or else with
+/// [TaskFault::Budget] if a lift is due when the budget is used up.
+pub fn lift_rounds<L, W: Reporter<L>>(
+    alloc: Global,
+    rounds: &Rounds,
+    start: u32,
+    budget: u64,
+    reporter: &W,
+    observer: &mut L,
+) -> Result<Outcome, Refusal>
+    requires rounds { IsRounds rounds.now }
+    requires start { start < length rounds.now.states }
+    requires budget { budget ≤ most_lifts }
+    ensures outcome { IfOk result (IsOutcome rounds.now start) }
+    ensures refused { IfErr result (IsUndecided rounds.now budget) }
+    ensures reported { IsObserved (LiftsRounds rounds.now) (refusal_in result)
+        (W.tells reporter.now) (W.pace reporter.now) budget observer.old observer.new }
+{
+    let game = rounds_game(alloc, rounds)?;
+    lift_in(alloc, rounds, &game, start, budget, reporter, observer)
+}
+
+/// Decides who wins `rounds` from `start` by lifting in their `game`. Fails with [TaskFault::TooWide], or else with
+/// [TaskFault::Budget].
+pub(crate) fn lift_in<L, W: Reporter<L>>(
     alloc: Global,
     rounds: &Rounds,
     game: &Game,
     start: u32,
+    budget: u64,
+    reporter: &W,
+    observer: &mut L,
 ) -> Result<Outcome, Refusal>
     requires rounds { IsRounds rounds.now }
     requires game { IsRoundsGame rounds.now game.now }
     requires start { start < length rounds.now.states }
+    requires budget { budget ≤ most_lifts }
     ensures outcome { IfOk result (IsOutcome rounds.now start) }
-    ensures refused { IfErr result (IsUndecided rounds.now) }
+    ensures refused { IfErr result (IsUndecided rounds.now budget) }
+    ensures reported { IsObserved (LiftsGame game.now) (refusal_in result)
+        (W.tells reporter.now) (W.pace reporter.now) budget observer.old observer.new }
 {
+    fits_both(game.forward())?;
     let reordered = Reordered::of(alloc, game.forward())?;
-    lifted(alloc, rounds, game, &reordered, start)
+    lifted(
+        alloc, rounds, game, &reordered, start, budget, reporter, observer,
+    )
+}
+
+/// Fails with [TaskFault::TooWide] alone, if the game is too wide for one of the players.
+fn fits_both(game: &ForwardGame) -> Result<(), Refusal>
+    ensures narrow { IsOk result → IsNarrow game.now }
+    ensures refused { IfErr result (IsWide game.now) }
+{
+    fits_for(game, Player::Zero)?;
+    fits_for(game, Player::One)
+}
+
+/// Fails with [TaskFault::TooWide] alone, if the game is too wide for `player`.
+fn fits_for(game: &ForwardGame, player: Player) -> Result<(), Refusal>
+    ensures narrow { IsOk result → is_too_wide player (priorities game.now) ≡ false }
+    ensures refused { IfErr result (IsWide game.now) }
+{
+    if fits(game, player) {
+        Ok(())
+    } else {
+        Err(Refusal::Task(TaskFault::TooWide))
+    }
 }
 
 /// Lifts for player 0, and for player 1 if player 0 does not win from `start`, and returns the outcome.
-fn lifted(
+fn lifted<L, W: Reporter<L>>(
     alloc: Global,
     rounds: &Rounds,
     game: &Game,
     reordered: &Reordered<'_>,
     start: u32,
+    budget: u64,
+    reporter: &W,
+    observer: &mut L,
 ) -> Result<Outcome, Refusal>
     requires rounds { IsRounds rounds.now }
     requires game { IsRoundsGame rounds.now game.now }
     requires given { reordered.now.given ≡ game.now }
     requires start { start < length rounds.now.states }
+    requires narrow { IsNarrow game.now }
+    requires budget { budget ≤ most_lifts }
     ensures outcome { IfOk result (IsOutcome rounds.now start) }
-    ensures refused { IfErr result (IsLiftingRefusal game.now) }
+    ensures refused { IfErr result (IsLiftingRefusal game.now budget) }
+    ensures reported { IsObserved (LiftsGame game.now) (refusal_in result)
+        (W.tells reporter.now) (W.pace reporter.now) budget observer.old observer.new }
 {
     regions_cover();
     game.keeps_limits();
-    let zero = found_for(alloc, game, reordered, Player::Zero)?;
+    let zero = found_for(
+        alloc,
+        game,
+        reordered,
+        Player::Zero,
+        budget,
+        reporter,
+        observer,
+    )?;
     if has_won(&zero, start) {
         return answered(alloc, rounds, game, zero.choice.as_slice(), start);
     }
-    let one = found_for(alloc, game, reordered, Player::One)?;
+    let one = found_for(
+        alloc,
+        game,
+        reordered,
+        Player::One,
+        budget,
+        reporter,
+        observer,
+    )?;
     asked(alloc, rounds, game, one.choice.as_slice(), start)
 }
 
-/// Lifts for `player`. Fails with [TaskFault::TooWide] or [TaskFault::Budget].
-fn found_for(
+/// Lifts for `player`. Fails with [TaskFault::Budget].
+fn found_for<L, W: Reporter<L>>(
     alloc: Global,
     _game: &Game,
     reordered: &Reordered<'_>,
     player: Player,
+    budget: u64,
+    reporter: &W,
+    observer: &mut L,
 ) -> Result<Found, Refusal>
-    requires { reordered.now.given ≡ _game.now }
+    requires given { reordered.now.given ≡ _game.now }
+    requires narrow { IsNarrow _game.now }
+    requires budget { budget ≤ most_lifts }
     ensures exact { IfOk result (λ found. IsExact _game.now player found.won.items found.choice.items) }
-    ensures refused { IfErr result (IsLiftingRefusal _game.now) }
+    ensures refused { IfErr result (IsLiftingRefusal _game.now budget) }
+    ensures reported { ReportsSolving (W.tells reporter.now) (W.pace reporter.now)
+        _game.now player budget result observer.old observer.new }
 {
-    reordered.solve(alloc, player, MOST_LIFTS, &NoObserver, &mut ())
+    reordered.solve(alloc, player, budget, reporter, observer)
 }
 
 /// Whether the player for whom this was found wins from `start`.

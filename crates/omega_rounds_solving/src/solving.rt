@@ -1,29 +1,31 @@
 ghost use Rattle.std.specs.Prelude.{◌<◌, IfErr, IfOk, IsOkUnless, length};
 ghost use Rattle.omega_parity_game.specs.Solution.{IsExactSolution};
+ghost use Rattle.omega_solve.specs.Limits.{most_lifts};
 ghost use Rattle.omega_rounds.specs.Rounds.{IsRounds};
 ghost use Rattle.omega_rounds.specs.RoundsGame.{IsRoundsGame};
 ghost use Rattle.omega_rounds_solving.specs.Solving.{IsOutcome, IsUndecided};
 
-use crate::lifting::by_lifting;
+use crate::lifting::lift_in;
 use crate::outcome::Outcome;
 use crate::winning::{answered, asked};
+use omega_budget::NoObserver;
 use omega_judged_search::solve_by_search;
 use omega_parity_game::{Player, Solution, choices_are_entries};
 use omega_rounds::{Game, Rounds, rounds_game};
+use omega_solve::MOST_LIFTS;
 use omega_text::Refusal;
 use std::alloc::Global;
 
 /// Decides who wins `rounds` from the state `start`, and returns what wins. The game of the rounds is solved by a
 /// judged search, and by lifting where that gives nothing.
 ///
-/// Fails with [GameFault::TooManyNodes] or [GameFault::TooManyEdges] if the game is too large. Where it is solved by
-/// lifting, fails with [TaskFault::TooWide] if a table of measures would be too wide, and with [TaskFault::Budget] if
-/// `MOST_LIFTS` lifts do not suffice.
+/// Fails with [GameFault::TooManyNodes] or [GameFault::TooManyEdges] if the game is too large. Where the search gives
+/// nothing, fails as `lift_rounds` does for a budget of `MOST_LIFTS`.
 pub fn solve_rounds(alloc: Global, rounds: &Rounds, start: u32) -> Result<Outcome, Refusal>
     requires rounds { IsRounds rounds.now }
     requires start { start < length rounds.now.states }
     ensures outcome { IfOk result (IsOutcome rounds.now start) }
-    ensures refused { IfErr result (IsUndecided rounds.now) }
+    ensures refused { IfErr result (IsUndecided rounds.now most_lifts) }
 {
     let game = rounds_game(alloc, rounds)?;
     solve_in(alloc, rounds, &game, start)
@@ -35,14 +37,14 @@ fn solve_in(alloc: Global, rounds: &Rounds, game: &Game, start: u32) -> Result<O
     requires game { IsRoundsGame rounds.now game.now }
     requires start { start < length rounds.now.states }
     ensures outcome { IfOk result (IsOutcome rounds.now start) }
-    ensures refused { IfErr result (IsUndecided rounds.now) }
+    ensures refused { IfErr result (IsUndecided rounds.now most_lifts) }
 {
     match solve_by_search(alloc, game)? {
         Some(solution) => {
             let outcome = by_solution(alloc, rounds, game, &solution, start)?;
             Ok(outcome)
         }
-        None => by_lifting(alloc, rounds, game, start),
+        None => lift_in(alloc, rounds, game, start, MOST_LIFTS, &NoObserver, &mut ()),
     }
 }
 

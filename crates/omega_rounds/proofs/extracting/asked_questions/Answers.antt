@@ -1,7 +1,7 @@
 -- one state more
 use Rattle.std.proofs.Common.{◌≡◌, ◌++◌, ℕ, List, ap, ◌∙◌, length, subst, arith}
 use Rattle.omega_rounds.specs.Rounds.{answers_of}
-use Rattle.omega_rounds.proofs.Found.{AreAskedBelow, asked_all, asked_more, asked_none}
+use Rattle.omega_rounds.proofs.Found.{AreAskedBelow, asked_all, asked_more, asked_none, asked_same}
 use Rattle.omega_rounds.proofs.extracting.asked_questions.Goals as goal
 use Rattle.omega_rounds.proofs.extracting.asked_questions.Goals.{in-Some+in_ok-extend_from_slice+in_ok-push, in_default+in_ok-push-2}
 
@@ -19,5 +19,6 @@ loop-state-preserved c = elim c.match-question_at.branch [
 pub returns-clause-chosen : goal.returns-clause-chosen
 returns-clause-chosen c =
     let all : c.loop-state.state ≡ length c.args.rounds.now.states = omega (arith, c.loop-state.auto.state-end, c.len-state-end.ensures) in
-    asked_all c.args.rounds.now c.args.choices.now c.loop-state.kept.items c.loop-state.asked.items
-    (subst (λ (n : ℕ). AreAskedBelow c.args.rounds.now c.args.choices.now c.loop-state.kept.items c.loop-state.asked.items n) all c.loop-state.invariant)
+    asked_same c.args.rounds.now c.args.choices.now c.rising.result.items c.loop-state.kept.items c.loop-state.asked.items c.rising.ensures.same
+    (asked_all c.args.rounds.now c.args.choices.now c.loop-state.kept.items c.loop-state.asked.items
+    (subst (λ (n : ℕ). AreAskedBelow c.args.rounds.now c.args.choices.now c.loop-state.kept.items c.loop-state.asked.items n) all c.loop-state.invariant))

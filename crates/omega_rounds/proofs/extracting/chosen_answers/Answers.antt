@@ -1,6 +1,6 @@
 -- one question more
 use Rattle.std.proofs.Common.{◌≡◌, ℕ, length, subst, arith}
-use Rattle.omega_rounds.proofs.Found.{AreChosenBelow, chosen_all, chosen_more, chosen_none}
+use Rattle.omega_rounds.proofs.Found.{AreChosenBelow, chosen_all, chosen_more, chosen_none, chosen_same}
 use Rattle.omega_rounds.proofs.extracting.chosen_answers.Goals as goal
 use Rattle.omega_rounds.proofs.extracting.chosen_answers.Goals.{in-Some+in_ok-push, in_default}
 
@@ -15,5 +15,6 @@ loop-question-preserved c = elim c.match-answer_at.branch [
 pub returns-clause-chosen : goal.returns-clause-chosen
 returns-clause-chosen c =
     let all : c.loop-question.question ≡ length c.args.rounds.now.questions = omega (arith, c.loop-question.auto.question-end, c.len-question-end.ensures) in
-    chosen_all c.args.rounds.now c.args.choices.now c.loop-question.kept.items
-    (subst (λ (n : ℕ). AreChosenBelow c.args.rounds.now c.args.choices.now c.loop-question.kept.items n) all c.loop-question.invariant)
+    chosen_same c.args.rounds.now c.args.choices.now c.rising.result.items c.loop-question.kept.items c.rising.ensures.same
+    (chosen_all c.args.rounds.now c.args.choices.now c.loop-question.kept.items
+    (subst (λ (n : ℕ). AreChosenBelow c.args.rounds.now c.args.choices.now c.loop-question.kept.items n) all c.loop-question.invariant))

@@ -1,5 +1,6 @@
 -- the game has a node for each place, and what is chosen wins
 use Rattle.std.proofs.Common.{List, ℕ, sym, ◌∙◌, subst, arith}
+use Rattle.std.specs.List.Sorted.{IsStrictlyIncreasing}
 use Rattle.omega_rounds.specs.Rounds.{IsAnswering}
 use Rattle.omega_rounds_solving.proofs.Strategies.{game_count}
 use Rattle.omega_rounds_solving.proofs.winning.answered.Goals as goal
@@ -14,6 +15,8 @@ chosen_answers-requires-clause-entries c =
 
 pub returns-clause-outcome : goal.returns-clause-outcome
 returns-clause-outcome c =
-    subst (λ (kept : List ℕ). IsAnswering c.args.rounds.now c.args.start kept) (sym c.from_vec.ensures)
-    (c.chosen_answers_win.ensures c.args.rounds.now c.args.game.now c.args.choices.now c.in_ok-kept.kept.items c.args.start
-    c.requires.rounds c.requires.game c.requires.start c.requires.winning c.in_ok-kept.ensures.chosen)
+    subst (λ (kept : List ℕ). IsAnswering c.args.rounds.now c.args.start kept × IsStrictlyIncreasing kept) (sym c.from_vec.ensures) (
+      c.chosen_answers_win.ensures c.args.rounds.now c.args.game.now c.args.choices.now c.in_ok-kept.kept.items c.args.start
+          c.requires.rounds c.requires.game c.requires.start c.requires.winning c.in_ok-kept.ensures.chosen,
+      c.in_ok-kept.ensures.rising,
+    )
