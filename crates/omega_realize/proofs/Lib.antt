@@ -1,3 +1,4 @@
 -- Lemmas of realizability.
+pub mod Gamed
 pub mod Realized
 pub mod Refused

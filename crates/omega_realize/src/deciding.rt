@@ -1,38 +1,39 @@
 //! Whether an automaton is realizable.
 
-ghost use Rattle.std.specs.Prelude.{◌≡◌, ◌≤◌, false, length, IfErr, IfOk, OnOk};
-ghost use Rattle.omega_automaton.specs.AcceptanceKind.{HasKind};
-ghost use Rattle.omega_automaton.specs.Branching.{has_universal_branching};
-ghost use Rattle.omega_formula.specs.declared.kind.AccKind.TheVariants as kinds;
-ghost use Rattle.omega_runs.specs.Lasso.{IsStart};
+ghost use Rattle.std.specs.Prelude.{◌≤◌, IfErr, IfOk, OnOk};
+ghost use Rattle.omega_solve.specs.Limits.{most_lifts};
+ghost use Rattle.omega_budget.specs.Observing.{IsObserved, refusal_in};
+ghost use Rattle.omega_rounds.specs.Rounds.{IsRounds};
+ghost use Rattle.omega_realizability_game.specs.Laws.{IsParted};
+ghost use Rattle.omega_realize.specs.Lifting.{LiftsAutomaton, LiftsParted};
 ghost use Rattle.omega_realize.specs.Realizing.{IsRealizability};
-ghost use Rattle.omega_realize.specs.Refusing.{IsJudgeable, IsSingle, IsUnrealized};
+ghost use Rattle.omega_realize.specs.Refusing.{IsJudgeable, IsUndecidedRounds, IsUnrealized};
 
-use crate::posing::{judge_starts, kind_of};
+use crate::parting::{Parted, parted_rounds};
 use crate::realizability::Realizability;
-use crate::realizing::realize_rounds;
-use omega_automaton::{Automaton, has_universal_branching};
-use omega_formula::ParityKind;
-use omega_realizability_game::{no_start_is_refused, rounds_of};
-use omega_text::{Refusal, Seq, TaskFault};
+use crate::realizing::{realizability_of, without_start};
+use omega_automaton::Automaton;
+use omega_budget::Reporter;
+use omega_rounds_solving::{lift_rounds, solve_rounds};
+use omega_text::Refusal;
 use std::alloc::Global;
 
 /// Decides whether `automaton` is realizable where the system controls the propositions with the numbers `controlled`
 /// and the environment all others. Returns a controller or a counter-strategy. A number that no proposition has
 /// controls nothing, and without a start there is a counter-strategy.
 ///
-/// Whether two edges of a state can be taken at one letter is not judged. A controller means the same for any
-/// automaton; that a counter-strategy leaves the system no strategy can be said of deterministic automata alone.
-///
 /// Refusals, the first of these steps that has one:
 ///
 /// - [TaskFault::UniversalBranch] if a start or an edge lists several states.
 /// - [TaskFault::NotDeterministic] with the state of the second start, if there are two.
+/// - [TaskFault::NotDeterministic] with the first state by number of which two edges can be taken at one letter, as
+///   `judge_states` finds it.
 /// - [TaskFault::NotParity] unless the acceptance has the name and the formula of a parity kind.
+/// - [TaskFault::TooManyPropositions] or [TaskFault::TooLarge] if `judge_states` fails so.
 /// - If there is a start, [TaskFault::TooManyPropositions] or [TaskFault::TooLarge] if the labels of a state mention
 ///   over `MOST_MENTIONED` inputs or if it is not decided whether an edge answers a letter, and
 ///   [GameFault::TooManyNodes] if there are over `MOST_NODES` questions.
-/// - The refusals of `solve_rounds`: the game is too large, or lifting is.
+/// - The refusals of `solve_rounds`: the game is too large, or lifting is where the search gives nothing.
 ///
 /// For each state up to `2^m` letters are tried for `m` inputs that its labels mention.
 pub fn realize(
@@ -42,42 +43,79 @@ pub fn realize(
 ) -> Result<Realizability, Refusal>
     ensures realizability { IfOk result (IsRealizability automaton.now controlled.now) }
     ensures judgeable { OnOk result (IsJudgeable automaton.now) }
-    ensures refused { IfErr result (IsUnrealized automaton.now controlled.now) }
+    ensures refused { IfErr result (IsUnrealized automaton.now controlled.now most_lifts) }
 {
-    if has_universal_branching(automaton) {
-        return Err(Refusal::Task(TaskFault::UniversalBranch));
-    }
-    judge_starts(automaton)?;
-    let kind = kind_of(automaton)?;
-    automaton.keeps_limits();
-    match automaton.starts().first() {
-        Some(start) => realize_from(alloc, automaton, controlled, kind, start.as_slice()[0]),
-        None => {
-            no_start_is_refused();
-            Ok(Realizability::Unrealizable {
-                kept: Seq::new(alloc),
-                letters: Seq::new(alloc),
-            })
-        }
+    let found = parted_rounds(alloc, automaton, controlled)?;
+    match found {
+        None => Ok(without_start(alloc, automaton, controlled)),
+        Some(parted) => realize_parted(alloc, automaton, controlled, &parted),
     }
 }
 
-/// Decides whether `automaton`, whose only start is `start`, is realizable.
-fn realize_from(
+/// Decides whether `automaton`, whose rounds are `parted`, is realizable.
+fn realize_parted(
     alloc: Global,
     automaton: &Automaton,
     controlled: &[u32],
-    kind: ParityKind,
-    start: u32,
+    parted: &Parted,
 ) -> Result<Realizability, Refusal>
-    requires single { IsSingle automaton.now }
-    requires kind { HasKind automaton.now (kinds.Parity kind) }
-    requires start { IsStart automaton.now start }
+    requires parted { IsParted automaton.now controlled.now parted.now.rounds parted.now.letters parted.now.start }
+    requires rounds { IsRounds parted.now.rounds }
     ensures realizability { IfOk result (IsRealizability automaton.now controlled.now) }
-    ensures refused { IfErr result (IsUnrealized automaton.now controlled.now) }
+    ensures refused { IfErr result (IsUndecidedRounds automaton.now controlled.now most_lifts) }
 {
-    automaton.keeps_limits();
-    let made = rounds_of(alloc, automaton, kind, controlled)?;
-    let letters = made.letters.as_slice();
-    realize_rounds(alloc, automaton, controlled, &made.rounds, letters, start)
+    let outcome = solve_rounds(alloc, &parted.rounds, parted.start)?;
+    realizability_of(alloc, automaton, controlled, parted, outcome)
+}
+
+/// Decides as `realize` does, by lifting within `budget`, and reports each run to `observer`.
+///
+/// Fails as `realize` does up to the game, or else with [TaskFault::TooWide] if a table of measures would be too wide
+/// for one of the players, or else with [TaskFault::Budget] if a lift is due when a player's budget is used up. Each of
+/// the two may make the whole budget of lifts; for player 1 none is made if player 0 wins.
+pub fn realize_by_lifting<L, W: Reporter<L>>(
+    alloc: Global,
+    automaton: &Automaton,
+    controlled: &[u32],
+    budget: u64,
+    reporter: &W,
+    observer: &mut L,
+) -> Result<Realizability, Refusal>
+    requires { budget ≤ most_lifts }
+    ensures realizability { IfOk result (IsRealizability automaton.now controlled.now) }
+    ensures judgeable { OnOk result (IsJudgeable automaton.now) }
+    ensures refused { IfErr result (IsUnrealized automaton.now controlled.now budget) }
+    ensures reported { IsObserved (LiftsAutomaton automaton.now controlled.now) (refusal_in result)
+        (W.tells reporter.now) (W.pace reporter.now) budget observer.old observer.new }
+{
+    let found = parted_rounds(alloc, automaton, controlled)?;
+    match found {
+        None => Ok(without_start(alloc, automaton, controlled)),
+        Some(parted) => lift_parted(
+            alloc, automaton, controlled, &parted, budget, reporter, observer,
+        ),
+    }
+}
+
+/// Decides by lifting whether `automaton`, whose rounds are `parted`, is realizable.
+fn lift_parted<L, W: Reporter<L>>(
+    alloc: Global,
+    automaton: &Automaton,
+    controlled: &[u32],
+    parted: &Parted,
+    budget: u64,
+    reporter: &W,
+    observer: &mut L,
+) -> Result<Realizability, Refusal>
+    requires parted { IsParted automaton.now controlled.now parted.now.rounds parted.now.letters parted.now.start }
+    requires rounds { IsRounds parted.now.rounds }
+    requires budget { budget ≤ most_lifts }
+    ensures realizability { IfOk result (IsRealizability automaton.now controlled.now) }
+    ensures refused { IfErr result (IsUndecidedRounds automaton.now controlled.now budget) }
+    ensures reported { IsObserved (LiftsParted automaton.now controlled.now) (refusal_in result)
+        (W.tells reporter.now) (W.pace reporter.now) budget observer.old observer.new }
+{
+    let rounds = &parted.rounds;
+    let outcome = lift_rounds(alloc, rounds, parted.start, budget, reporter, observer)?;
+    realizability_of(alloc, automaton, controlled, parted, outcome)
 }

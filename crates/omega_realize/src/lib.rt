@@ -5,11 +5,15 @@
 #![tactic(auto)]
 
 mod deciding;
+mod games;
+mod parting;
 mod posing;
 mod realizability;
 mod realizing;
 
-pub use deciding::realize;
+pub use deciding::{realize, realize_by_lifting};
+pub use games::realizability_game;
 pub use omega_automaton::{Automaton, Refusal};
+pub use omega_rounds::Game;
 pub use omega_rounds_solving::{Numbers, Seq};
 pub use realizability::Realizability;

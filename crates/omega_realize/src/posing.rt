@@ -1,34 +1,66 @@
 //! Whether it can be asked of an automaton if it is realizable.
 
-ghost use Rattle.std.specs.Prelude.{◌≡◌, ◌≤◌, length, IfErr, IfOk, OnOk, ℕ};
+ghost use Rattle.std.specs.Prelude.{◌≡◌, IfErr, IfOk, OnOk};
 ghost use Rattle.omega_automaton.specs.AcceptanceKind.{HasKind};
-ghost use Rattle.omega_complement.specs.Refusing.{IsSecondStart};
+ghost use Rattle.omega_complement.specs.Refusing.{AreUnjudged};
 ghost use Rattle.omega_formula.specs.Names.{IsNotParity};
 ghost use Rattle.omega_formula.specs.declared.kind.AccKind.TheVariants as kinds;
-ghost use Rattle.omega_text.specs.Cases.{never, or_task};
-ghost use Rattle.omega_text.specs.declared.refusal.task.TaskFault.TheVariants as faults;
-ghost use Rattle.omega_realize.specs.Refusing.{HasParityKind};
+ghost use Rattle.omega_realize.specs.Refusing.{HasParityKind, IsJudgeable, IsSingle, IsUnjudgeable};
+ghost use Rattle.omega_realize.specs.private.Undecided.{is_undecided};
 
-use omega_automaton::Automaton;
+use omega_automaton::{Automaton, has_universal_branching};
+use omega_complement::{judge_starts, judge_states};
 use omega_formula::{ParityKind, parity_of};
 use omega_text::{Refusal, TaskFault};
+use std::alloc::Global;
 
-/// Judges that there is at most one start. Fails with [TaskFault::NotDeterministic] with the state of the second.
-pub(crate) fn judge_starts(automaton: &Automaton) -> Result<(), Refusal>
-    ensures one { OnOk result (length automaton.now.starts ≤ 1) }
-    ensures err { IfErr result (or_task (λ fault. (state : ℕ) × (fault ≡ faults.NotDeterministic state) × IsSecondStart automaton.now state) never) }
+/// Judges that `automaton` is deterministic, and returns its parity kind. Fails with the first of
+/// [TaskFault::UniversalBranch], [TaskFault::NotDeterministic], [TaskFault::NotParity], and
+/// [TaskFault::TooManyPropositions] or [TaskFault::TooLarge] where it is not decided whether it is deterministic.
+pub(crate) fn judged_kind(alloc: Global, automaton: &Automaton) -> Result<ParityKind, Refusal>
+    ensures judgeable { OnOk result (IsJudgeable automaton.now) }
+    ensures kind { IfOk result (λ kind. HasKind automaton.now (kinds.Parity kind)) }
+    ensures refused { IfErr result (IsUnjudgeable automaton.now) }
 {
-    match automaton.starts() {
-        [_, second, ..] => {
-            let state = second.as_slice().first().copied().unwrap_or(0);
-            Err(Refusal::Task(TaskFault::NotDeterministic(state as usize)))
+    if has_universal_branching(automaton) {
+        return Err(Refusal::Task(TaskFault::UniversalBranch));
+    }
+    judge_starts(automaton)?;
+    match judge_states(alloc, automaton) {
+        Ok(()) => kind_of(automaton),
+        Err(refusal) => Err(unless_no_kind(automaton, refusal)),
+    }
+}
+
+/// Returns the `refusal` of judging the states, or [TaskFault::NotParity] if that comes before it.
+fn unless_no_kind(automaton: &Automaton, refusal: Refusal) -> Refusal
+    requires single { IsSingle automaton.now }
+    requires unjudged { AreUnjudged automaton.now refusal }
+    ensures { IsUnjudgeable automaton.now result }
+{
+    if is_undecided(refusal) {
+        match kind_of(automaton) {
+            Ok(_) => refusal,
+            Err(first) => first,
         }
-        _ => Ok(()),
+    } else {
+        refusal
+    }
+}
+
+/// Whether the `refusal` says that it is not judged whether two edges can be taken at one letter.
+fn is_undecided(refusal: Refusal) -> bool
+    ensures { result ≡ is_undecided refusal }
+{
+    match refusal {
+        Refusal::Task(TaskFault::TooManyPropositions) => true,
+        Refusal::Task(TaskFault::TooLarge) => true,
+        _ => false,
     }
 }
 
 /// Returns the parity kind of `automaton`. Fails with [TaskFault::NotParity] if it has none. Takes no memory.
-pub(crate) fn kind_of(automaton: &Automaton) -> Result<ParityKind, Refusal>
+fn kind_of(automaton: &Automaton) -> Result<ParityKind, Refusal>
     ensures kind { IfOk result (λ kind. HasKind automaton.now (kinds.Parity kind)) }
     ensures err { IfErr result (IsNotParity (HasParityKind automaton.now → ⊥)) }
 {

@@ -5,12 +5,12 @@ use omega_text::{Numbers, Seq};
 pub enum Realizability {
     /// There is a controller.
     Realizable {
-        /// The numbers of its edges. One that answers several letters is listed for each of them.
+        /// The numbers of its edges, each once, in rising order.
         kept: Seq<u32>,
     },
     /// There is a counter-strategy.
     Unrealizable {
-        /// The numbers of the edges that answer its letters.
+        /// The numbers of the edges that answer its letters, each once, in rising order.
         kept: Seq<u32>,
         /// For each state the environment's letter: the propositions that hold.
         letters: Seq<Numbers>,

@@ -1,45 +1,64 @@
-ghost use Rattle.std.specs.Prelude.{◌≡◌, IfErr, IfOk, IsOkUnless, map};
+ghost use Rattle.std.specs.Prelude.{◌≡◌, [], IfOk, IsOkUnless, map};
 ghost use Rattle.std.specs.List.{range_with_len};
-ghost use Rattle.omega_rounds.specs.Rounds.{IsRounds, asked_in};
-ghost use Rattle.omega_rounds_solving.specs.Solving.{IsUndecided};
+ghost use Rattle.omega_rounds.specs.Rounds.{asked_in};
+ghost use Rattle.omega_rounds_solving.specs.Solving.{IsOutcome};
 ghost use Rattle.omega_realizability_game.specs.Laws.{IsParted};
 ghost use Rattle.omega_realizability_game.specs.RoundsOf.{letter_of};
 ghost use Rattle.omega_realize.specs.Realizing.{IsRealizability};
 
+use crate::parting::Parted;
 use crate::realizability::Realizability;
 use omega_automaton::Automaton;
-use omega_realizability_game::{answerings_are_controllers, askings_are_counter_strategies};
-use omega_rounds_solving::{Outcome, Rounds, solve_rounds};
+use omega_realizability_game::{
+    answerings_are_controllers, askings_are_counter_strategies, no_start_is_refused,
+};
+use omega_rounds_solving::Outcome;
 use omega_text::{Numbers, Refusal, Seq};
 use std::alloc::Global;
 
-/// Decides whether `automaton` is realizable where the system controls the propositions `_controlled`. The `rounds` are
-/// those of the automaton, with a letter for each question, and `start` is its start. Returns a controller or a
-/// counter-strategy.
-///
-/// Fails as `solve_rounds` does.
-pub(crate) fn realize_rounds(
+/// Returns the controller or the counter-strategy that the `outcome` of the rounds of `automaton` gives.
+pub(crate) fn realizability_of(
     alloc: Global,
     automaton: &Automaton,
     _controlled: &[u32],
-    rounds: &Rounds,
-    letters: &[Numbers],
-    start: u32,
+    parted: &Parted,
+    outcome: Outcome,
 ) -> Result<Realizability, Refusal>
-    requires parted { IsParted automaton.now _controlled.now rounds.now letters.now start }
-    requires rounds { IsRounds rounds.now }
+    requires parted { IsParted automaton.now _controlled.now parted.now.rounds parted.now.letters parted.now.start }
+    requires outcome { IsOutcome parted.now.rounds parted.now.start outcome }
     ensures realizability { IfOk result (IsRealizability automaton.now _controlled.now) }
-    ensures refused { IfErr result (IsUndecided rounds.now) }
+    ensures memory { IsOkUnless result Refusal.Memory }
 {
     answerings_are_controllers();
     askings_are_counter_strategies();
-    match solve_rounds(alloc, rounds, start)? {
+    match outcome {
         Outcome::Answered { kept } => Ok(Realizability::Realizable { kept }),
         Outcome::Asked { kept, asked } => {
             let count = automaton.state_count();
-            let letters = letters_by_state(alloc, count, letters, asked.as_slice())?;
+            let letters = letters_by_state(
+                alloc,
+                count,
+                parted.letters.as_slice(),
+                asked.as_slice(),
+            )?;
             Ok(Realizability::Unrealizable { kept, letters })
         }
+    }
+}
+
+/// Returns the counter-strategy of an automaton without a start, which keeps no edges.
+pub(crate) fn without_start(
+    alloc: Global,
+    _automaton: &Automaton,
+    _controlled: &[u32],
+) -> Realizability
+    requires { _automaton.now.starts ≡ [] }
+    ensures { IsRealizability _automaton.now _controlled.now result }
+{
+    no_start_is_refused();
+    Realizability::Unrealizable {
+        kept: Seq::new(alloc),
+        letters: Seq::new(alloc),
     }
 }
 
