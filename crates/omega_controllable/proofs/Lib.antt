@@ -1,0 +1,4 @@
+-- Lemmas by theme.
+mod Only
+mod Numbers
+mod Stated

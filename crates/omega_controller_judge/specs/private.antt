@@ -1,0 +1,4 @@
+-- What private contracts alone cite.
+pub mod Leaving
+pub mod Meeting
+pub mod Searching

@@ -1,0 +1,3 @@
+-- Lemmas by theme.
+mod Refused
+mod Observed
