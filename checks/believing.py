@@ -50,6 +50,8 @@ COMMANDS = {
     "empty": ("Empty",),
     "empty --search": ("EmptySearch",),
     "verify --automaton": ("VerifyLasso",),
+    "contained": ("Contained",),
+    "equal": ("Equal",),
     "meet": ("Meet",),
     "complement": ("Complement",),
     "game": ("Game",),

@@ -254,9 +254,9 @@ def part_solution_fault(text: bytes, solution: bytes, start: int, depth: int | N
     judged = "game"
     try:
         nodes = read_game(text)
-        part_of(nodes, start)
+        part = part_of(nodes, start)
         judged = "solution"
-        read = read_solution(nodes, solution)
+        read = read_solution(part, solution)
     except Refused as refused:
         return fault_with_file(words, solution, text, 1, b"", f"omega: {refused}\nomega: in the {judged}\n".encode())
     return fault_with_file(words, solution, text, 0, game_drawing(nodes, read, start, depth, legend))
@@ -269,10 +269,12 @@ def part_checks(text: bytes, solution: bytes) -> Cases:
     except Refused:
         identifiers = []
     for start in sorted({*identifiers[:3], *identifiers[-1:], 3}):
+        of_part = output_of(["solve", "--from", str(start)], text)
         for depth in (None, 0, 1, 2):
             label = f"the drawing of {shown(text)} from {start} to {depth}"
             yield label, partial(part_fault, text, start, depth)
-            yield f"{label} with a solution", partial(part_solution_fault, text, solution, start, depth, depth == 1)
+            yield f"{label} with its solution", partial(part_solution_fault, text, of_part, start, depth, depth == 1)
+            yield f"{label} with one of the game", partial(part_solution_fault, text, solution, start, depth, False)
 
 
 def automaton_fault(text: bytes) -> Fault:

@@ -31,6 +31,9 @@ WRITTEN = (b'HOA: v1 States: 1 Start: 0 AP: 1 "a" Alias: @b 0|t Acceptance: 1 In
 TWO_SETS = (b"HOA: v1 States: 2 Start: 0 acc-name: generalized-Buchi 2 Acceptance: 2 Inf(0)&Inf(1) --BODY-- "
             b"State: 0 [t] 0 {0} [t] 1 State: 1 [t] 0 {1} --END--")
 
+OFTEN = (b'HOA: v1 States: 1 Start: 0 AP: 1 "a" acc-name: Buchi Acceptance: 1 Inf(0) --BODY-- '
+         b"State: 0 [0] 0 {0} [!0] 0 --END--")
+
 NONE: list[str] = []
 # Words, the text on standard input, and the text in the file that is the last word, where there is one.
 Run = tuple[list[str], bytes, bytes | None]
@@ -52,6 +55,9 @@ RUNS: list[Run] = [
       for text in (b"stem cycle 1 2 0", b"stem 0 cycle 2", b"stem")),
     *((["meet", "--with"], BUCHI, text) for text in (BUCHI, TWO_SETS, WRITTEN, b"HOA: v1")),
     (["meet", "-v", "--with"], BUCHI, b"HOA: v1"),
+    *(([*words, *more, option], one, other) for words, option in ((["contained"], "--in"), (["equal"], "--to"))
+      for one, other in ((BUCHI, OFTEN), (OFTEN, BUCHI), (BUCHI, BUCHI), (BUCHI, b"HOA: v1"))
+      for more in (NONE, ["--explain"])),
     *((["draw", "--format", "pg"], text, None) for text in (GAPS, CHOICE)),
     (["draw", "--format", "pg", "--from", "1", "--depth", "1"], CHOICE, None),
     (["draw", "--format", "pg", "--from", "9"], CHOICE, None),
