@@ -20,4 +20,4 @@ pub use lasso::LassoText;
 pub use lines::read_lasso_lines;
 pub use omega_text::{Refusal, Seq};
 pub use reading::read_lasso;
-pub use writing::write_lasso;
+pub use writing::{append_numbers, write_lasso};

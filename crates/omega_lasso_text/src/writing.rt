@@ -21,8 +21,8 @@ pub fn write_lasso(alloc: Global, stem: &[u32], cycle: &[u32]) -> Result<Vec<u8>
     Ok(out)
 }
 
-/// Appends `numbers`, a space before each.
-fn append_numbers(numbers: &[u32], out: &mut Vec<u8>) -> Result<(), Refusal>
+/// Appends `numbers`, those of the edges of a stem or of a cycle, a space before each.
+pub fn append_numbers(numbers: &[u32], out: &mut Vec<u8>) -> Result<(), Refusal>
     ensures text { OnOk result (out.new.items ≡ out.old.items ++ numbers_text numbers.now) }
     ensures memory { IsOkUnless result Refusal.Memory }
 {

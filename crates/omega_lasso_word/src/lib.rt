@@ -8,5 +8,6 @@ mod letters;
 mod names;
 mod word;
 
+pub use names::write_name;
 pub use omega_automaton::{Automaton, Refusal};
 pub use word::word_of;

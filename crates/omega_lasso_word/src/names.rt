@@ -6,8 +6,8 @@ ghost use Rattle.omega_lasso_word.specs.Names as written;
 use omega_edge_labels::is_identifier;
 use omega_text::Refusal;
 
-/// Appends `name`, in quotes unless Spot reads it as a name without them.
-pub(crate) fn write_name(name: &[u8], out: &mut Vec<u8>) -> Result<(), Refusal>
+/// Appends `name`, in quotes unless it is an identifier that Spot reads as a name (tl.pdf, atomic propositions).
+pub fn write_name(name: &[u8], out: &mut Vec<u8>) -> Result<(), Refusal>
     ensures text { OnOk result (out.new.items ≡ out.old.items ++ written.name_text name.now) }
     ensures memory { IsOkUnless result Refusal.Memory }
 {
