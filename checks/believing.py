@@ -54,6 +54,9 @@ COMMANDS = {
     "equal": ("Equal",),
     "meet": ("Meet",),
     "complement": ("Complement",),
+    "realize": ("Realize",),
+    "realize --lift": ("RealizeByLifting",),
+    "realize --game": ("RealizabilityGame",),
     "game": ("Game",),
     "draw --format hoa": ("Draw Hoa", "DrawLasso"),
 }

@@ -86,6 +86,9 @@ text_of name.Word options = option_map (λ text. text.now) options.word
 text_of name.With options = option_map (λ text. text.now) options.with
 text_of name.In options = option_map (λ text. text.now) options.within
 text_of name.To options = option_map (λ text. text.now) options.to
+text_of name.Controller options = option_map (λ text. text.now) options.controller
+text_of name.AsGame options = option_map (λ text. text.now) options.as_game
+text_of name.Lift options = option_map (λ text. text.now) options.lift
 text_of name.Solution options = option_map (λ text. text.now) options.solution
 text_of name.Legend options = option_map (λ text. text.now) options.legend
 text_of name.Lasso options = option_map (λ text. text.now) options.lasso
@@ -114,7 +117,17 @@ AsksToLift subcommand options (command.Search from) budget =
 AsksToLift subcommand options (command.Empty word) budget =
     (subcommand ≡ codes "empty") × GivesFlag (text_of name.Search options) false
     × GivesFlag (text_of name.Word options) word × GivesBudget (text_of name.Budget options) budget
+AsksToLift subcommand options (command.RealizeByLifting controller) budget =
+    (subcommand ≡ codes "realize") × GivesFlag (text_of name.Lift options) true × GivesFlag (text_of name.AsGame options) false
+    × GivesFlag (text_of name.Controller options) controller × GivesBudget (text_of name.Budget options) budget
 AsksToLift subcommand options other budget = ⊥
+
+-- the subcommand `realize`, with these options, asks for what makes no lifts that are bounded: no option that goes with
+-- lifting is given
+abbrev pub AsksUnlifted : List ℕ → Options → ℕ → Type 0
+AsksUnlifted subcommand options budget =
+    (subcommand ≡ codes "realize") × GivesFlag (text_of name.Lift options) false × (text_of name.Budget options ≡ None)
+    × GivesFlag (text_of name.Progress options) false × (budget ≡ most_budget)
 
 -- the subcommand of this name, with these options, asks for what is done with the file of this name beside the input
 abbrev pub AsksBeside : List ℕ → Options → (file : List ℕ) → Beside → Type 0
@@ -155,6 +168,14 @@ AsksFor subcommand options (task.Run (command.Empty word) budget) =
 AsksFor subcommand options (task.Run (command.EmptySearch word) budget) =
     (subcommand ≡ codes "empty") × GivesFlag (text_of name.Search options) true × GivesFlag (text_of name.Word options) word
     × (text_of name.Budget options ≡ None) × GivesFlag (text_of name.Progress options) false × (budget ≡ most_budget)
+AsksFor subcommand options (task.Run (command.RealizeByLifting controller) budget) =
+    AsksToLift subcommand options (command.RealizeByLifting controller) budget × GivesFlag (text_of name.Progress options) false
+AsksFor subcommand options (task.Run (command.Realize controller) budget) =
+    AsksUnlifted subcommand options budget × GivesFlag (text_of name.AsGame options) false
+    × GivesFlag (text_of name.Controller options) controller
+AsksFor subcommand options (task.Run command.RealizabilityGame budget) =
+    AsksUnlifted subcommand options budget × GivesFlag (text_of name.AsGame options) true
+    × GivesFlag (text_of name.Controller options) false
 AsksFor subcommand options (task.Run command.Game budget) = (subcommand ≡ codes "game") × (budget ≡ most_budget)
 AsksFor subcommand options (task.Run command.Complement budget) = (subcommand ≡ codes "complement") × (budget ≡ most_budget)
 AsksFor subcommand options (task.Run (command.Draw format) budget) =
@@ -190,7 +211,8 @@ HasOption subcommand name.Format =
 HasOption subcommand name.Player = subcommand ≡ codes "solve"
 HasOption subcommand name.From =
     (subcommand ≡ codes "solve") ⊎ (subcommand ≡ codes "canon") ⊎ (subcommand ≡ codes "verify") ⊎ (subcommand ≡ codes "draw")
-HasOption subcommand name.Budget = (subcommand ≡ codes "solve") ⊎ (subcommand ≡ codes "empty")
+HasOption subcommand name.Budget =
+    (subcommand ≡ codes "solve") ⊎ (subcommand ≡ codes "empty") ⊎ (subcommand ≡ codes "realize")
 HasOption subcommand name.Search = (subcommand ≡ codes "solve") ⊎ (subcommand ≡ codes "empty")
 HasOption subcommand name.Game = subcommand ≡ codes "verify"
 HasOption subcommand name.Automaton = subcommand ≡ codes "verify"
@@ -200,11 +222,15 @@ HasOption subcommand name.Word = subcommand ≡ codes "empty"
 HasOption subcommand name.With = subcommand ≡ codes "meet"
 HasOption subcommand name.In = subcommand ≡ codes "contained"
 HasOption subcommand name.To = subcommand ≡ codes "equal"
+HasOption subcommand name.Controller = subcommand ≡ codes "realize"
+HasOption subcommand name.AsGame = subcommand ≡ codes "realize"
+HasOption subcommand name.Lift = subcommand ≡ codes "realize"
 HasOption subcommand name.Solution = subcommand ≡ codes "draw"
 HasOption subcommand name.Legend = subcommand ≡ codes "draw"
 HasOption subcommand name.Lasso = subcommand ≡ codes "draw"
 HasOption subcommand name.Depth = subcommand ≡ codes "draw"
-HasOption subcommand name.Progress = (subcommand ≡ codes "solve") ⊎ (subcommand ≡ codes "empty")
+HasOption subcommand name.Progress =
+    (subcommand ≡ codes "solve") ⊎ (subcommand ≡ codes "empty") ⊎ (subcommand ≡ codes "realize")
 HasOption subcommand name.Verbose = Unit {0}
 HasOption subcommand name.File = Unit {0}
 
@@ -222,6 +248,9 @@ IsRequired name.Word options = ⊥
 IsRequired name.With options = Unit {0}
 IsRequired name.In options = Unit {0}
 IsRequired name.To options = Unit {0}
+IsRequired name.Controller options = ⊥
+IsRequired name.AsGame options = ⊥
+IsRequired name.Lift options = ⊥
 IsRequired name.Solution options = ⊥
 IsRequired name.Legend options = ⊥
 IsRequired name.Lasso options = ⊥
@@ -244,6 +273,9 @@ StandsForNothing name.Word text = (flag : Bool) → IsTruthText text flag → �
 StandsForNothing name.With text = ⊥
 StandsForNothing name.In text = ⊥
 StandsForNothing name.To text = ⊥
+StandsForNothing name.Controller text = (flag : Bool) → IsTruthText text flag → ⊥
+StandsForNothing name.AsGame text = (flag : Bool) → IsTruthText text flag → ⊥
+StandsForNothing name.Lift text = (flag : Bool) → IsTruthText text flag → ⊥
 StandsForNothing name.Solution text = ⊥
 StandsForNothing name.Legend text = (flag : Bool) → IsTruthText text flag → ⊥
 StandsForNothing name.Lasso text = (flag : Bool) → IsTruthText text flag → ⊥
@@ -275,6 +307,7 @@ pub record IsUnknownSubcommand (subcommand : List ℕ) : Type 0 where
   pub contained : subcommand ≢ codes "contained"
   pub equal : subcommand ≢ codes "equal"
   pub complement : subcommand ≢ codes "complement"
+  pub realize : subcommand ≢ codes "realize"
   pub draw : subcommand ≢ codes "draw"
 
 -- the option is given; a flag is set
@@ -291,6 +324,9 @@ IsUsed name.Word options = GivesFlag (text_of name.Word options) true
 IsUsed name.With options = text_of name.With options ≢ None
 IsUsed name.In options = text_of name.In options ≢ None
 IsUsed name.To options = text_of name.To options ≢ None
+IsUsed name.Controller options = GivesFlag (text_of name.Controller options) true
+IsUsed name.AsGame options = GivesFlag (text_of name.AsGame options) true
+IsUsed name.Lift options = GivesFlag (text_of name.Lift options) true
 IsUsed name.Solution options = text_of name.Solution options ≢ None
 IsUsed name.Legend options = GivesFlag (text_of name.Legend options) true
 IsUsed name.Lasso options = GivesFlag (text_of name.Lasso options) true
@@ -300,12 +336,15 @@ IsUsed name.Verbose options = GivesFlag (text_of name.Verbose options) true
 IsUsed name.File options = text_of name.File options ≢ None
 
 -- the option of the subcommand that conflicts with this one: the search of `solve` is for both players, that of `empty`
--- makes no lifts, and `--automaton` conflicts with `--game` and `--from`
+-- makes no lifts, `--automaton` conflicts with `--game` and `--from`, and the game of `realize` is written without being
+-- solved
 abbrev pub IsApartFrom : OptionName → List ℕ → OptionName → Type 0
 IsApartFrom name.Search subcommand option =
     ((subcommand ≡ codes "solve") × (option ≡ name.Player))
     ⊎ ((subcommand ≡ codes "empty") × ((option ≡ name.Budget) ⊎ (option ≡ name.Progress)))
 IsApartFrom name.Automaton subcommand option = (subcommand ≡ codes "verify") × ((option ≡ name.Game) ⊎ (option ≡ name.From))
+IsApartFrom name.Controller subcommand option = (subcommand ≡ codes "realize") × (option ≡ name.AsGame)
+IsApartFrom name.Lift subcommand option = (subcommand ≡ codes "realize") × (option ≡ name.AsGame)
 IsApartFrom one subcommand option = ⊥
 
 -- two options that are not given together, and both are
@@ -314,11 +353,13 @@ pub record IsConflict (subcommand : List ℕ) (options : Options) (one other : O
   pub one_used : IsUsed one options
   pub other_used : IsUsed other options
 
--- the option of the subcommand that has to be given if this one is: the steps of a depth are counted from a node, and a
--- legend is of a solution
+-- the option of the subcommand that has to be given if this one is: the steps of a depth are counted from a node, a
+-- legend is of a solution, and the lifts of `realize` are bounded and reported where it lifts
 abbrev pub IsNeededBy : OptionName → List ℕ → OptionName → Type 0
 IsNeededBy name.Depth subcommand option = (subcommand ≡ codes "draw") × (option ≡ name.From)
 IsNeededBy name.Legend subcommand option = (subcommand ≡ codes "draw") × (option ≡ name.Solution)
+IsNeededBy name.Budget subcommand option = (subcommand ≡ codes "realize") × (option ≡ name.Lift)
+IsNeededBy name.Progress subcommand option = (subcommand ≡ codes "realize") × (option ≡ name.Lift)
 IsNeededBy one subcommand option = ⊥
 
 -- an option is given without this one, which has to be given with it
@@ -326,7 +367,7 @@ pub record IsWanting (subcommand : List ℕ) (options : Options) (option : Optio
   pub one : OptionName
   pub needed : IsNeededBy one subcommand option
   pub one_used : IsUsed one options
-  pub missing : text_of option options ≡ None
+  pub missing : IsUsed option options → ⊥
 
 -- the option of the subcommand goes with this format only
 abbrev pub IsForFormat : List ℕ → OptionName → Format → Type 0

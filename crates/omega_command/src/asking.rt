@@ -11,8 +11,9 @@ use crate::mistake::Mistake;
 use crate::options::{OptionName, Options};
 use crate::source::source_in;
 use crate::values::{
-    budget_in, depth_in, format_in, identifier_in, is_explained, is_observed, is_search,
-    is_verbose, is_with_lasso, is_with_legend, is_with_word, player_in,
+    budget_in, depth_in, format_in, identifier_in, is_as_game, is_explained, is_lifting,
+    is_observed, is_search, is_verbose, is_with_controller, is_with_lasso, is_with_legend,
+    is_with_word, player_in,
 };
 use std::alloc::Global;
 
@@ -73,6 +74,9 @@ fn task_for<'a>(alloc: Global, subcommand: &str, options: &Options<'a>) -> Resul
     }
     if subcommand == "complement" {
         return Ok(Task::Run(Command::Complement, MOST_BUDGET));
+    }
+    if subcommand == "realize" {
+        return realizing_for(options);
     }
     if subcommand == "draw" {
         return drawing_for(alloc, options);
@@ -233,6 +237,38 @@ fn equal_for<'a>(alloc: Global, options: &Options<'a>) -> Result<Task, Mistake<'
         }),
         Err(_) => Err(Mistake::Memory),
     }
+}
+
+/// Returns the task that `realize` requests with `options`, or what is wrong with them.
+fn realizing_for<'a>(options: &Options<'a>) -> Result<Task, Mistake<'a>>
+    ensures asked { IfOk result (AsksFor (codes "realize") options.now) }
+    ensures mistaken { IfErr result (IsMistake (codes "realize") options.now) }
+{
+    let controller = is_with_controller(options)?;
+    let as_game = is_as_game(options)?;
+    let budget = budget_in(options)?;
+    let observed = is_observed(options)?;
+    if is_lifting(options)? {
+        if as_game {
+            return Err(Mistake::Conflict(OptionName::Lift, OptionName::AsGame));
+        }
+        let command = Command::RealizeByLifting { controller };
+        return Ok(if observed {
+            Task::Observed(command, budget)
+        } else {
+            Task::Run(command, budget)
+        });
+    }
+    if options.budget.is_some() || observed {
+        return Err(Mistake::Missing(OptionName::Lift));
+    }
+    if !as_game {
+        return Ok(Task::Run(Command::Realize { controller }, MOST_BUDGET));
+    }
+    if controller {
+        return Err(Mistake::Conflict(OptionName::Controller, OptionName::AsGame));
+    }
+    Ok(Task::Run(Command::RealizabilityGame, MOST_BUDGET))
 }
 
 /// Returns the task that `draw` requests with `options`, or what is wrong with them.

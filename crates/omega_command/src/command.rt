@@ -40,6 +40,19 @@ pub enum Command {
     Game,
     /// Writes an automaton that accepts the words that a deterministic one does not.
     Complement,
+    /// Says whether an automaton is realizable. Decided by a search whose answer is judged, and by lifting where the
+    /// search finds nothing.
+    Realize {
+        /// Whether the winner's automaton is written in place of the line.
+        controller: bool,
+    },
+    /// The same, decided by lifting.
+    RealizeByLifting {
+        /// Whether the winner's automaton is written in place of the line.
+        controller: bool,
+    },
+    /// Writes the game in which it is decided whether an automaton is realizable.
+    RealizabilityGame,
     /// Draws the one game or automaton of the text.
     Draw(Format),
     /// Draws the part of a game that one node reaches.

@@ -15,6 +15,10 @@ pub enum OptionName {
     With,
     In,
     To,
+    Controller,
+    /// The flag `--game`, which names no file.
+    AsGame,
+    Lift,
     Solution,
     Legend,
     Lasso,
@@ -40,6 +44,9 @@ impl fmt::Display for OptionName {
             OptionName::With => "--with <FILE>",
             OptionName::In => "--in <FILE>",
             OptionName::To => "--to <FILE>",
+            OptionName::Controller => "--controller",
+            OptionName::AsGame => "--game",
+            OptionName::Lift => "--lift",
             OptionName::Solution => "--solution <FILE>",
             OptionName::Legend => "--legend",
             OptionName::Lasso => "--lasso",
@@ -78,6 +85,12 @@ pub struct Options<'a> {
     pub within: Option<&'a str>,
     /// The name of the file of the automaton with which another is compared.
     pub to: Option<&'a str>,
+    /// As `search`.
+    pub controller: Option<&'a str>,
+    /// As `search`.
+    pub as_game: Option<&'a str>,
+    /// As `search`.
+    pub lift: Option<&'a str>,
     /// The name of the file of a solution.
     pub solution: Option<&'a str>,
     /// As `search`.

@@ -114,6 +114,48 @@ pub fn is_with_word<'a>(options: &Options<'a>) -> Result<bool, Mistake<'a>>
     }
 }
 
+/// Whether the winner's automaton is written in place of a line.
+pub fn is_with_controller<'a>(options: &Options<'a>) -> Result<bool, Mistake<'a>>
+    ensures given { IfOk result (GivesFlag (text_of name.Controller options.now)) }
+    ensures faulty { IfErr result (IsFaulty name.Controller options.now) }
+{
+    let Some(text) = options.controller else {
+        return Ok(false);
+    };
+    match truth_in(text) {
+        Some(flag) => Ok(flag),
+        None => Err(Mistake::Value(OptionName::Controller, text, Reason::NoTruth)),
+    }
+}
+
+/// Whether the game is written in place of its answer.
+pub fn is_as_game<'a>(options: &Options<'a>) -> Result<bool, Mistake<'a>>
+    ensures given { IfOk result (GivesFlag (text_of name.AsGame options.now)) }
+    ensures faulty { IfErr result (IsFaulty name.AsGame options.now) }
+{
+    let Some(text) = options.as_game else {
+        return Ok(false);
+    };
+    match truth_in(text) {
+        Some(flag) => Ok(flag),
+        None => Err(Mistake::Value(OptionName::AsGame, text, Reason::NoTruth)),
+    }
+}
+
+/// Whether the task is done by lifting in place of a search.
+pub fn is_lifting<'a>(options: &Options<'a>) -> Result<bool, Mistake<'a>>
+    ensures given { IfOk result (GivesFlag (text_of name.Lift options.now)) }
+    ensures faulty { IfErr result (IsFaulty name.Lift options.now) }
+{
+    let Some(text) = options.lift else {
+        return Ok(false);
+    };
+    match truth_in(text) {
+        Some(flag) => Ok(flag),
+        None => Err(Mistake::Value(OptionName::Lift, text, Reason::NoTruth)),
+    }
+}
+
 /// Whether the drawing has a legend of its colours.
 pub fn is_with_legend<'a>(options: &Options<'a>) -> Result<bool, Mistake<'a>>
     ensures given { IfOk result (GivesFlag (text_of name.Legend options.now)) }

@@ -12,6 +12,10 @@ flag name = record (new_rule name) { long = Some name; action = Some SetTrue }
 abbrev pub lettered : ℕ → Text → Rule
 lettered letter name = record (flag name) { short = Some letter }
 
+-- an option without a text, which has another name on the command line
+abbrev pub named : (shown : Text) → Text → Rule
+named shown name = record (flag name) { long = Some shown }
+
 -- an option with a text, which may be left out
 abbrev pub optional : Text → Rule
 optional name = record (new_rule name) { long = Some name; value_names = 1 }
@@ -73,6 +77,12 @@ meet = with_options (codes "meet") (required (codes "with") ∷ verbose ∷ oper
 abbrev pub complement : Shape
 complement = with_options (codes "complement") (verbose ∷ operand (codes "file") ∷ [])
 
+abbrev pub realize : Shape
+realize =
+    with_options (codes "realize")
+    (flag (codes "controller") ∷ named (codes "game") (codes "as-game") ∷ flag (codes "lift") ∷ optional (codes "budget")
+    ∷ flag (codes "progress") ∷ verbose ∷ operand (codes "file") ∷ [])
+
 abbrev pub draw : Shape
 draw =
     with_options (codes "draw")
@@ -85,5 +95,5 @@ draw =
 abbrev pub program : App
 program = record {
   top = record (new_shape (codes "omega")) { is_leaf = false; has_version = true; subcommand_required = true };
-  subs = show ∷ check ∷ canon ∷ solve ∷ verify ∷ empty ∷ game ∷ contained ∷ equal ∷ meet ∷ complement ∷ draw ∷ [];
+  subs = show ∷ check ∷ canon ∷ solve ∷ verify ∷ empty ∷ game ∷ contained ∷ equal ∷ meet ∷ complement ∷ realize ∷ draw ∷ [];
 }

@@ -12,6 +12,7 @@ mod game;
 mod meet;
 mod options;
 mod program;
+mod realize;
 mod show;
 mod solve;
 mod subcommand;

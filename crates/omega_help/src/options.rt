@@ -20,6 +20,8 @@ pub enum Value {
     None,
     /// A flag that also has this letter, after one dash.
     Letter(char),
+    /// A flag that has this name after its two dashes, in place of the one by which it is found.
+    Long(&'static str),
     /// A text. The option may be left out.
     Optional(&'static str),
     /// A text. The option has to be given.
@@ -40,6 +42,7 @@ impl OptionHelp {
             Value::Letter(letter) => {
                 arg.long(self.name).short(letter).action(ArgAction::SetTrue)
             }
+            Value::Long(name) => arg.long(name).action(ArgAction::SetTrue),
             Value::Optional(name) => arg.long(self.name).value_name(name),
             Value::Required(name) => arg.long(self.name).value_name(name).required(true),
             Value::Operand(name) => arg.value_name(name),

@@ -13,6 +13,7 @@ use crate::empty::empty_command;
 use crate::equal::equal_command;
 use crate::game::game_command;
 use crate::meet::meet_command;
+use crate::realize::realize_command;
 use crate::show::show_command;
 use crate::solve::solve_command;
 use crate::verify::verify_command;
@@ -39,9 +40,9 @@ A text of the Hanoi format, version 1, holds omega-automata, one after the other
 
 Here one state has two edges to itself: one where a holds, which is in set 0, and one where it does not.
 A word is accepted if its run takes the first edge again and again. `omega show`, `check` and `canon`
-read both formats, and --format says which. `omega empty`, `omega game` and `omega complement` read one
-automaton, `omega contained`, `omega equal` and `omega meet` read two, and `omega draw` draws one
-automaton or a game.
+read both formats, and --format says which. `omega empty`, `omega game`, `omega complement` and
+`omega realize` read one automaton, `omega contained`, `omega equal` and `omega meet` read two, and
+`omega draw` draws one automaton or a game.
 
 A command reads the file that its last word names, as in `omega solve game.pg`. Without a name, or with
 -, it reads standard input. It writes its answer to standard output. If a text or the task is refused, a
@@ -56,7 +57,7 @@ Exit status:
   3  the budget is used up
   4  out of memory
   5  a read or a write failed
-  6  the answer of `omega verify`, `omega contained` or `omega equal` is no
+  6  the answer of `omega verify`, `contained`, `equal` or `realize` is no
 
 `omega <COMMAND> --help` says more about a command.";
 
@@ -85,11 +86,12 @@ enum Subcommand {
     Equal,
     Meet,
     Complement,
+    Realize,
     Draw,
 }
 
 /// The subcommands in the order in which help lists them.
-const SUBCOMMANDS: [Subcommand; 12] = [
+const SUBCOMMANDS: [Subcommand; 13] = [
     Subcommand::Show,
     Subcommand::Check,
     Subcommand::Canon,
@@ -101,6 +103,7 @@ const SUBCOMMANDS: [Subcommand; 12] = [
     Subcommand::Equal,
     Subcommand::Meet,
     Subcommand::Complement,
+    Subcommand::Realize,
     Subcommand::Draw,
 ];
 
@@ -120,6 +123,7 @@ impl Subcommand {
             Subcommand::Equal => equal_command(alloc),
             Subcommand::Meet => meet_command(alloc),
             Subcommand::Complement => complement_command(alloc),
+            Subcommand::Realize => realize_command(alloc),
             Subcommand::Draw => draw_command(alloc),
         }
     }
@@ -156,6 +160,7 @@ fn subcommand_named(name: &str) -> Option<Subcommand> {
         "equal" => Some(Subcommand::Equal),
         "meet" => Some(Subcommand::Meet),
         "complement" => Some(Subcommand::Complement),
+        "realize" => Some(Subcommand::Realize),
         "draw" => Some(Subcommand::Draw),
         _ => None,
     }
@@ -194,8 +199,8 @@ fn without_subcommands<'a>(alloc: Global) -> Result<Command<'a>, AllocError>
     Command::new(alloc, "omega")
         .about(
             "Reads, checks, writes and draws parity games and omega-automata, solves games, says whether an \
-             automaton accepts anything, verifies such answers, compares what automata accept, and forms products \
-             and complements of them.",
+             automaton accepts anything, verifies such answers, compares what automata accept, forms products and \
+             complements of them, and finds controllers.",
         )
         .version(VERSION)
         .after_help("`omega <COMMAND> --help` says more about a command.")

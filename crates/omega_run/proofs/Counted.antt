@@ -8,17 +8,19 @@ use Rattle.omega_game_answers.specs.declared.solve.asked.Asked.TheVariants as wa
 use Rattle.omega_io.specs.declared.exit.Exit.{Exit}
 use Rattle.omega_io.specs.Reading.{IsRead}
 use Rattle.omega_command.specs.declared.command.Command.{Command}
-use Rattle.omega_command.specs.declared.command.Command.TheVariants.{Canon, CanonPart, Check, Complement, Draw, DrawLasso, DrawPart, Empty, EmptySearch, Game, Search, Show, Solve}
+use Rattle.omega_command.specs.declared.command.Command.TheVariants.{Canon, CanonPart, Check, Complement, Draw, DrawLasso, DrawPart, Empty, EmptySearch, Game, RealizabilityGame, Realize, RealizeByLifting, Search, Show, Solve}
 use Rattle.omega_budget.specs.Observing.{IsObserved, ReportsRun, refusal_in}
 use Rattle.omega_budget.specs.declared.observing.Progress.{Progress}
 use Rattle.omega_budget.proofs.Observed.{one_made}
 use Rattle.omega_run.proofs.ProgressLines.{HasLines, TellsLines, nothing_reported, run_lines, observed_lines}
 use Rattle.omega_run.specs.declared.kinds.Kind.{Kind}
 use Rattle.omega_run.specs.declared.kinds.Kind.TheVariants as kind
+use Rattle.omega_run.specs.declared.kinds.OfQuestion.{OfQuestion}
+use Rattle.omega_run.specs.declared.kinds.OfQuestion.TheVariants as question
 use Rattle.omega_run.specs.declared.kinds.OfStream.{OfStream}
 use Rattle.omega_run.specs.declared.kinds.OfStream.TheVariants as stream
 use Rattle.omega_run.specs.declared.kinds.OfText.{OfText}
-use Rattle.omega_run.specs.private.steps.Kinds.{of_kind, of_stream, of_text}
+use Rattle.omega_run.specs.private.steps.Kinds.{of_kind, of_question, of_stream, of_text}
 use Rattle.omega_run.specs.Progress.{AreProgressLines, CountsLines, CountsReportedOfInput, CountsWritten, GoesOnByLine, LiftsInput}
 
 -- what holds of all holds of what a result gives
@@ -33,10 +35,19 @@ streams_count_none tells every budget stream.Show unread_before unread_after out
 streams_count_none tells every budget stream.Check unread_before unread_after output before after = tt
 streams_count_none tells every budget stream.Canon unread_before unread_after output before after = tt
 
+-- a question counts none either
+questions_count_none : {L : Type 0} (tells : Progress → L → L → Type 0) (every budget : ℕ) (one : OfQuestion) (unread_before unread_after : Option (List ℕ))
+    (output : List ℕ) (before after : L) → CountsReportedOfInput tells every (of_question one) unread_before unread_after budget output before after
+questions_count_none tells every budget (question.Realize controller) unread_before unread_after output before after = tt
+questions_count_none tells every budget (question.RealizeByLifting controller) unread_before unread_after output before after = tt
+
 module _ {L : Type 0} (tells : Progress → L → L → Type 0) (every budget : ℕ) (unread_before unread_after : Option (List ℕ)) (output : List ℕ)
     (before after : L) (sort : Kind) (command : Command) (same : of_kind sort ≡ command) where
   pub stream_counted : (one : OfStream) → sort ≡ kind.Stream one → CountsReportedOfInput tells every command unread_before unread_after budget output before after
   stream_counted one is = rw (sym same, is) (streams_count_none tells every budget one unread_before unread_after output before after)
+
+  pub question_counted : (one : OfQuestion) → sort ≡ kind.Question one → CountsReportedOfInput tells every command unread_before unread_after budget output before after
+  question_counted one is = rw (sym same, is) (questions_count_none tells every budget one unread_before unread_after output before after)
 
   -- what is counted for a command of one text is counted for the command
   pub text_counted : (one : OfText) → sort ≡ kind.Text one
@@ -98,6 +109,9 @@ module _ {L : Type 0} (held : L → Option (List ℕ)) (failed : L → ℕ) (eve
   counted_lines (EmptySearch word) observed counted = uncounted_lines (EmptySearch word) (λ lines. tt) observed
   counted_lines Complement observed counted = uncounted_lines Complement (λ lines. tt) observed
   counted_lines Game observed counted = uncounted_lines Game (λ lines. tt) observed
+  counted_lines (Realize controller) observed counted = uncounted_lines (Realize controller) (λ lines. tt) observed
+  counted_lines (RealizeByLifting controller) observed counted = uncounted_lines (RealizeByLifting controller) (λ lines. tt) observed
+  counted_lines RealizabilityGame observed counted = uncounted_lines RealizabilityGame (λ lines. tt) observed
   counted_lines (Draw format) observed counted = uncounted_lines (Draw format) (λ lines. tt) observed
   counted_lines (DrawPart from depth) observed counted = uncounted_lines (DrawPart from depth) (λ lines. tt) observed
   counted_lines DrawLasso observed counted = uncounted_lines DrawLasso (λ lines. tt) observed

@@ -11,7 +11,8 @@ use Rattle.omega_budget.specs.Observing.{IsObserved}
 use Rattle.omega_game_answers.specs.declared.solve.asked.Asked.TheVariants as way
 use Rattle.omega_budget.specs.declared.observing.Progress.{Progress}
 use Rattle.omega_command.specs.declared.command.Command.{Command}
-use Rattle.omega_command.specs.declared.command.Command.TheVariants.{Empty, Search, Solve}
+use Rattle.omega_command.specs.declared.command.Command.TheVariants.{Empty, RealizeByLifting, Search, Solve}
+use Rattle.omega_realize_answers.specs.Observing as realize
 use Rattle.omega_io.specs.declared.exit.Exit.{Exit}
 use Rattle.omega_io.specs.Reading.{ReadsText}
 use Rattle.omega_io.specs.Writing.{Tells}
@@ -34,6 +35,8 @@ LiftsInput (Search from) unread_before unread_after refusal nodes players =
     ReadsText unread_before unread_after (λ text. LiftsText text way.Search from refusal nodes players)
 LiftsInput (Empty word) unread_before unread_after refusal nodes players =
     ReadsText unread_before unread_after (λ text. LiftsAutomatonText text refusal nodes players)
+LiftsInput (RealizeByLifting controller) unread_before unread_after refusal nodes players =
+    ReadsText unread_before unread_after (λ text. realize.LiftsText text refusal nodes players)
 LiftsInput other unread_before unread_after refusal nodes players = players ≡ []
 
 -- the progress lines of a command that ended with this refusal or none: a line for every `every` lifts

@@ -1,5 +1,5 @@
 -- The answers to one text and to two, the refusals, and what was read for an answer.
-use Rattle.std.specs.Prelude.{◌≡◌, ◌⊎◌, List, Option, Some, None, Result, Ok, Err, ℕ}
+use Rattle.std.specs.Prelude.{◌≡◌, ◌⊎◌, Bool, false, true, List, Option, Some, None, Result, Ok, Err, ℕ}
 use Rattle.omega_text.specs.Cases.{or_io, or_memory}
 use Rattle.omega_text.specs.declared.refusal.Refusal.{Refusal}
 use Rattle.omega_pg.specs.game.Refusing.{IsRefusal}
@@ -7,7 +7,7 @@ use Rattle.omega_parity_game.specs.declared.player.Player.{Player}
 use Rattle.omega_command.specs.declared.beside.Beside.{Beside}
 use Rattle.omega_command.specs.declared.beside.Beside.TheVariants.{Contained, DrawSolution, Equal, Meet, Verify, VerifyLasso}
 use Rattle.omega_command.specs.declared.command.Command.{Command}
-use Rattle.omega_command.specs.declared.command.Command.TheVariants.{Canon, CanonPart, Check, Complement, Draw, DrawLasso, DrawPart, Empty, EmptySearch, Game, Search, Show, Solve}
+use Rattle.omega_command.specs.declared.command.Command.TheVariants.{Canon, CanonPart, Check, Complement, Draw, DrawLasso, DrawPart, Empty, EmptySearch, Game, RealizabilityGame, Realize, RealizeByLifting, Search, Show, Solve}
 use Rattle.omega_command.specs.declared.command.Format.TheVariants.{Hoa, Pg}
 use Rattle.omega_io.specs.declared.exit.Exit.{Exit}
 use Rattle.omega_io.specs.declared.exit.Exit.TheVariants.{Done}
@@ -30,6 +30,11 @@ use Rattle.omega_game_answers.specs.declared.solve.asked.Asked.TheVariants as wa
 use Rattle.omega_game_answers.specs.solve.Refusing.{IsSolveRefusal}
 use Rattle.omega_game_answers.specs.solve.Solving.{IsSolveAnswer}
 use Rattle.omega_language_answers.specs.Complement.{IsComplementAnswer, IsComplementRefusal}
+use Rattle.omega_realize_answers.specs.Decide.{IsDecisionAnswer}
+use Rattle.omega_realize_answers.specs.Game.{IsGameAnswer, IsGameRefusal}
+use Rattle.omega_realize_answers.specs.Refusing.{IsRealizeRefusal}
+use Rattle.omega_realize_answers.specs.Winner.{IsWinnerAnswer}
+use Rattle.omega_solve.specs.Limits.{most_lifts}
 use Rattle.omega_hoa.specs.Alone.{IsAutomatonRefusal}
 use Rattle.omega_hoa.specs.Stream.{IsStreamRefusal}
 use Rattle.omega_io.specs.Reading.{ReadsText, ReadsWhole}
@@ -51,6 +56,11 @@ abbrev pub Concludes : (Exit → List ℕ → Type 0) → (Refusal → Type 0) �
 Concludes IsAnswer IsReason (Ok reply) = IsAnswer reply.0 reply.1
 Concludes IsAnswer IsReason (Err refusal) = IsReason refusal
 
+-- the answer of `realize`: whether the automaton is realizable, or with `controller` the winner's automaton
+abbrev pub IsRealizeAnswer : (controller : Bool) → List ℕ → Exit → List ℕ → Type 0
+IsRealizeAnswer false text = IsDecisionAnswer text
+IsRealizeAnswer true text = IsWinnerAnswer text
+
 -- what the command makes of the text, with this budget: how it ends and its output, or the refusal
 abbrev pub Answers : Command → ℕ → List ℕ → Result (Exit × List ℕ) Refusal → Type 0
 Answers (Show Pg) budget text = Replies (IsShowAnswer text) (IsRefusal text)
@@ -67,6 +77,9 @@ Answers (Empty word) budget text = Replies (IsEmptyAnswer text budget word) (IsE
 Answers (EmptySearch word) budget text = Replies (IsEmptySearchAnswer text word) (IsEmptySearchRefusal text)
 Answers Complement budget text = Replies (IsComplementAnswer text) (IsComplementRefusal text)
 Answers Game budget text = Replies (IsEmptinessGameAnswer text) (IsEmptinessGameRefusal text)
+Answers (Realize controller) budget text = Concludes (IsRealizeAnswer controller text) (IsRealizeRefusal text most_lifts)
+Answers (RealizeByLifting controller) budget text = Concludes (IsRealizeAnswer controller text) (IsRealizeRefusal text budget)
+Answers RealizabilityGame budget text = Replies (IsGameAnswer text) (IsGameRefusal text)
 Answers (Draw Pg) budget text = Replies (IsGameDrawingAnswer text None None) (IsRefusal text)
 Answers (Draw Hoa) budget text = Replies (IsAutomatonDrawingAnswer text) (IsAutomatonRefusal text)
 Answers (DrawPart from depth) budget text = Replies (IsGameDrawingAnswer text (Some from) depth) (IsPartTextRefusal text from)

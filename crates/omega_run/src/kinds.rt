@@ -9,8 +9,10 @@ use omega_parity_game::Player;
 pub(crate) enum Kind {
     /// Of a stream of automata, which is answered while it is read.
     Stream(OfStream),
-    /// Of one text.
+    /// Of one text, with one exit.
     Text(OfText),
+    /// Of one text, with the exit that its answer has.
+    Question(OfQuestion),
 }
 
 /// A command of a stream of automata.
@@ -45,6 +47,7 @@ pub(crate) enum OfText {
     },
     Complement,
     Game,
+    RealizabilityGame,
     DrawGame,
     DrawPart {
         from: u32,
@@ -52,6 +55,13 @@ pub(crate) enum OfText {
     },
     DrawAutomaton,
     DrawLasso,
+}
+
+/// A command that reads one text and answers a question about it. The exit is `No` if the answer is.
+#[derive(Clone, Copy)]
+pub(crate) enum OfQuestion {
+    Realize { controller: bool },
+    RealizeByLifting { controller: bool },
 }
 
 /// Returns the kind of a command, with its options.
@@ -72,6 +82,11 @@ pub(crate) fn kind_of(command: Command) -> Kind
         Command::EmptySearch { word } => Kind::Text(OfText::EmptySearch { word }),
         Command::Complement => Kind::Text(OfText::Complement),
         Command::Game => Kind::Text(OfText::Game),
+        Command::Realize { controller } => Kind::Question(OfQuestion::Realize { controller }),
+        Command::RealizeByLifting { controller } => {
+            Kind::Question(OfQuestion::RealizeByLifting { controller })
+        }
+        Command::RealizabilityGame => Kind::Text(OfText::RealizabilityGame),
         Command::Draw(Format::Pg) => Kind::Text(OfText::DrawGame),
         Command::Draw(Format::Hoa) => Kind::Text(OfText::DrawAutomaton),
         Command::DrawLasso => Kind::Text(OfText::DrawLasso),

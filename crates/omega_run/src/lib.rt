@@ -10,6 +10,7 @@ mod laws;
 mod obeying;
 mod observing;
 mod progress;
+mod questions;
 mod reporting;
 mod respond;
 mod run;

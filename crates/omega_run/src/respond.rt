@@ -12,6 +12,7 @@ ghost use Rattle.omega_io.specs.Reading.{IsRead};
 ghost use Rattle.omega_io.specs.declared.exit.Exit.TheVariants.{Done};
 
 use crate::kinds::{Kind, OfStream, OfText, kind_of};
+use crate::questions::answer_question;
 use omega_budget::Reporter;
 use omega_command::Command;
 use omega_empty_answers::{
@@ -23,6 +24,7 @@ use omega_game_answers::{
 use omega_io::{Exit, Input, Refusal, read_all};
 use omega_language_answers::complement_text;
 use omega_parity_game::Player;
+use omega_realize_answers::write_realizability_game;
 use omega_stream_answers::{canon_stream, check_stream, show_stream};
 use std::alloc::Global;
 
@@ -57,6 +59,10 @@ pub(crate) fn answer<R: Input, L, T: Reporter<L>>(
             let text = read_all(alloc, input)?;
             let made = answer_text(alloc, command, text, budget, reporter, observer)?;
             Ok((Exit::Done, made))
+        }
+        Kind::Question(question) => {
+            let read = read_all(alloc, input)?;
+            answer_question(alloc, question, read, budget, reporter, observer)
         }
     }
 }
@@ -99,6 +105,7 @@ fn answer_text<L, T: Reporter<L>>(
         OfText::EmptySearch { word } => search_emptiness(alloc, text, word),
         OfText::Complement => complement_text(alloc, text.as_slice()),
         OfText::Game => write_emptiness_game(alloc, text),
+        OfText::RealizabilityGame => write_realizability_game(alloc, text),
         OfText::DrawGame => draw_game_text(alloc, text, None, None),
         OfText::DrawPart { from, depth } => draw_game_text(alloc, text, Some(from), depth),
         OfText::DrawAutomaton => draw_automaton_text(alloc, text),

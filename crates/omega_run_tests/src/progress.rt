@@ -112,6 +112,27 @@ fn emptiness_is_reported_for_player_0(rt: HostRuntime) -> Result<(), Fail> {
     Ok(())
 }
 
+/// The game has a node for the state and one for the edge, a sink, and one for each of two classes of letters; only the
+/// sink has a priority that loses for player 0.
+#[test]
+fn realizability_is_reported_for_player_0_first(rt: HostRuntime) -> Result<(), Fail> {
+    let alloc = rt.alloc();
+    let automaton =
+        "HOA: v1 States: 1 Start: 0 AP: 1 \"r\" acc-name: parity max even 1 Acceptance: 1 Inf(0) --BODY-- \
+        State: 0 [!0] 0 {0} --END--";
+    let left = observed(
+        alloc,
+        Command::RealizeByLifting { controller: false },
+        automaton,
+        1000,
+        1,
+        Filling::without_end(alloc),
+    );
+    assert!(rt; left.ended.is_ok() && left.output.as_slice() == b"unrealizable\n".as_slice());
+    assert!(rt; left.error.starts_with(b"player 0: 1 lifts of at most 10\n"));
+    Ok(())
+}
+
 #[test]
 fn a_short_run_is_not_reported(rt: HostRuntime) -> Result<(), Fail> {
     for line in [

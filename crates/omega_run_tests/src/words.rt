@@ -5,7 +5,7 @@ use std::alloc::Global;
 use std::test::Fail;
 
 /// Command lines, and what each asks for, as it shows itself to a programmer. A budget that is not given is 2^40.
-static ASKED: [(&str, &str); 27] = [
+static ASKED: [(&str, &str); 32] = [
     (
         "omega check --format=hoa",
         "Do { task: Run(Check(Hoa), 1099511627776), source: Input, verbose: false }",
@@ -71,6 +71,26 @@ static ASKED: [(&str, &str); 27] = [
         "Do { task: Run(Complement, 1099511627776), source: Input, verbose: false }",
     ),
     (
+        "omega realize",
+        "Do { task: Run(Realize { controller: false }, 1099511627776), source: Input, verbose: false }",
+    ),
+    (
+        "omega realize --controller -v g",
+        "Do { task: Run(Realize { controller: true }, 1099511627776), source: File(\"g\"), verbose: true }",
+    ),
+    (
+        "omega realize --lift --budget 9",
+        "Do { task: Run(RealizeByLifting { controller: false }, 9), source: Input, verbose: false }",
+    ),
+    (
+        "omega realize --progress --controller --lift",
+        "Do { task: Observed(RealizeByLifting { controller: true }, 1099511627776), source: Input, verbose: false }",
+    ),
+    (
+        "omega realize --game",
+        "Do { task: Run(RealizabilityGame, 1099511627776), source: Input, verbose: false }",
+    ),
+    (
         "omega verify --automaton g --explain",
         "Do { task: Beside { file: \"g\", asked: VerifyLasso { explain: true } }, source: Input, verbose: false }",
     ),
@@ -117,7 +137,7 @@ static ASKED: [(&str, &str); 27] = [
 ];
 
 /// Command lines that are at fault, and what is said of each.
-static FAULTS: [(&str, &str); 4] = [
+static FAULTS: [(&str, &str); 7] = [
     ("omega", "requires a subcommand"),
     (
         "omega show --format xyz",
@@ -131,6 +151,15 @@ static FAULTS: [(&str, &str); 4] = [
         "omega canon --format hoa --from 4",
         "the argument '--from <ID>' can only be used with '--format pg'",
     ),
+    (
+        "omega realize --game --controller",
+        "the argument '--controller' cannot be used with '--game'",
+    ),
+    (
+        "omega realize --game --lift",
+        "the argument '--lift' cannot be used with '--game'",
+    ),
+    ("omega realize --budget 9", "were not provided:\\n  --lift"),
 ];
 
 /// Requests for help or the version, and what the text says.

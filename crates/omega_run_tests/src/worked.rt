@@ -81,8 +81,52 @@ static AUTOMATA: [(&str, &str, &str); 6] = [
     ),
 ];
 
+/// A grant answers each request at once: the system, which controls `g`, grants always or not.
+const ARBITER: &str =
+    "HOA: v1 States: 1 Start: 0 AP: 2 \"r\" \"g\" controllable-AP: 1 acc-name: parity max even 1 Acceptance: 1 Inf(0) --BODY-- State: 0 [!0|1] 0 {0} --END--";
+
+/// The same automaton where the system controls nothing: a request without a grant has no answer.
+const UNCONTROLLED: &str =
+    "HOA: v1 States: 1 Start: 0 AP: 2 \"r\" \"g\" controllable-AP: acc-name: parity max even 1 Acceptance: 1 Inf(0) --BODY-- State: 0 [!0|1] 0 {0} --END--";
+
+/// The system guesses by `s` whether `e` comes in the next round.
+const GUESS: &str =
+    "HOA: v1 States: 4 Start: 0 AP: 2 \"e\" \"s\" controllable-AP: 1 acc-name: parity max even 1 Acceptance: 1 Inf(0) --BODY-- State: 0 [1] 1 [!1] 2 State: 1 [0] 3 State: 2 [!0] 3 State: 3 [t] 3 {0} --END--";
+
+/// A command line, an automaton, and the status and the output of a run that answers a question about it.
+static QUESTIONS: [(&str, &str, u8, &str); 7] = [
+    ("omega realize", ARBITER, 0, "realizable\n"),
+    ("omega realize --lift", UNCONTROLLED, 6, "unrealizable\n"),
+    (
+        "omega realize --lift --controller",
+        ARBITER,
+        0,
+        "HOA: v1\nStates: 1\nStart: 0\nAP: 2 \"r\" \"g\"\nacc-name: all\nAcceptance: 0 t\ncontrollable-AP: 1\n--BODY--\nState: 0\n[!0|1] 0\n--END--\n",
+    ),
+    (
+        "omega realize --controller",
+        GUESS,
+        6,
+        "HOA: v1\nStates: 3\nStart: 0\nAP: 2 \"e\" \"s\"\nacc-name: all\nAcceptance: 0 t\ncontrollable-AP: 1\n--BODY--\nState: 0\n[1&!0] 1\n[!1&!0] 2\nState: 1\nState: 2\n--END--\n",
+    ),
+    (
+        "omega realize --game",
+        ARBITER,
+        0,
+        "parity 3;\n0 0 1 3 \"state 0\";\n1 2 0 0 \"edge 0\";\n3 0 0 1 \"state 0 class 0\";\n",
+    ),
+    ("omega realize", GUESS, 6, "unrealizable\n"),
+    // Two lifts, of the sink that no play reaches.
+    (
+        "omega realize --lift --budget 2",
+        ARBITER,
+        0,
+        "realizable\n",
+    ),
+];
+
 /// A command line, an input, and the status and the line of a run that is refused, after the program's name.
-static REFUSALS: [(&str, &str, u8, &str); 7] = [
+static REFUSALS: [(&str, &str, u8, &str); 9] = [
     (
         "omega solve --budget 3",
         "0 1 0 1; 1 2 1 0;",
@@ -125,6 +169,18 @@ static REFUSALS: [(&str, &str, u8, &str); 7] = [
         1,
         "omega: 40 NotParity\n",
     ),
+    (
+        "omega realize --lift --budget 1",
+        ARBITER,
+        3,
+        "omega: 51 Budget\n",
+    ),
+    (
+        "omega realize",
+        "HOA: v1 States: 1 Start: 0 AP: 1 \"r\" controllable-AP: 1 Acceptance: 0 t --BODY-- State: 0 --END--",
+        1,
+        "omega: 58 Controllable\n",
+    ),
 ];
 
 /// A fault of the command line that is found after `clap`, and its text.
@@ -145,6 +201,18 @@ fn answers(alloc: Global, rows: &[(&str, &str, &str)]) -> Result<(), Fail> {
 fn answers_games_and_automata(rt: HostRuntime) -> Result<(), Fail> {
     answers(rt.alloc(), GAMES.as_slice())?;
     answers(rt.alloc(), AUTOMATA.as_slice())
+}
+
+#[test]
+fn answers_questions(rt: HostRuntime) -> Result<(), Fail> {
+    for (line, text, status, output) in QUESTIONS.as_slice() {
+        expect(
+            rt.alloc(),
+            Asked::of(line, text),
+            Left::of(*status, output, ""),
+        )?;
+    }
+    Ok(())
 }
 
 #[test]

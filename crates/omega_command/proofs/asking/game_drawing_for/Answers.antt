@@ -13,8 +13,8 @@ returns-then-is_none-clause-mistaken c =
       needed = (refl, refl);
       one_used =
           given_some (IsNumberText most_number) (text_of name.Depth c.args.options.now) c.in_ok-depth.depth c.in_ok-depth.ensures.given (sym c.if-is_some.ensures);
-      missing =
-          given_none (IsNumberText most_number) (text_of name.From c.args.options.now) c.in_ok-from.from c.in_ok-from.ensures.given c.if-is_none.ensures;
+      missing = λ used. used
+          (given_none (IsNumberText most_number) (text_of name.From c.args.options.now) c.in_ok-from.from c.in_ok-from.ensures.given c.if-is_none.ensures);
     })
 
 pub returns-then-legend-clause-mistaken : goal.returns-then-legend-clause-mistaken
@@ -23,5 +23,5 @@ returns-then-legend-clause-mistaken c =
       one = name.Legend;
       needed = (refl, refl);
       one_used = rw c.if-legend.true at c.in_ok-legend.ensures.given;
-      missing = rw c.in_default.is refl;
+      missing = λ used. used (rw c.in_default.is refl);
     })

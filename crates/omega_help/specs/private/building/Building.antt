@@ -2,7 +2,7 @@
 use Rattle.std.specs.Prelude.{List, [], ◌∷◌, true, codes}
 use Rattle.clap.specs.Simple.{new_shape}
 use Rattle.clap.specs.Words.{App, Rule, Shape, Text, with_rule, with_subcommand}
-use Rattle.omega_help.specs.Program.{canon, check, complement, contained, draw, empty, equal, flag, game, lettered, meet, operand, optional, required, show, solve, verify}
+use Rattle.omega_help.specs.Program.{canon, check, complement, contained, draw, empty, equal, flag, game, lettered, meet, named, operand, optional, realize, required, show, solve, verify}
 use Rattle.omega_help.specs.declared.options.OptionHelp.{OptionHelp}
 use Rattle.omega_help.specs.declared.options.Value.{Value}
 use Rattle.omega_help.specs.declared.options.Value.TheVariants as value
@@ -13,6 +13,7 @@ use Rattle.omega_help.specs.declared.program.Subcommand.TheVariants as subcomman
 abbrev pub rule_by : Value → Text → Rule
 rule_by value.None name = flag name
 rule_by (value.Letter letter) name = lettered letter name
+rule_by (value.Long shown) name = named shown.now name
 rule_by (value.Optional shown) name = optional name
 rule_by (value.Required shown) name = required name
 rule_by (value.Operand shown) name = operand name
@@ -34,6 +35,7 @@ shape_for subcommand.Contained = contained
 shape_for subcommand.Equal = equal
 shape_for subcommand.Meet = meet
 shape_for subcommand.Complement = complement
+shape_for subcommand.Realize = realize
 shape_for subcommand.Draw = draw
 
 -- the command with these options more

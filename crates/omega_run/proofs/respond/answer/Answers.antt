@@ -1,8 +1,8 @@
 -- `answer`: if nothing is lifted nothing is reported, and else what the answer to the text that was read reports.
 use Rattle.omega_io.specs.Failures.{IsTransferRefusal}
 use Rattle.omega_budget.proofs.Observed.{none_observed, spares, observed_alike}
-use Rattle.omega_run.proofs.Counted.{stream_counted, text_counted}
-use Rattle.omega_run.proofs.Lifted.{stream_observed, text_observed}
+use Rattle.omega_run.proofs.Counted.{of_all, question_counted, stream_counted, text_counted}
+use Rattle.omega_run.proofs.Lifted.{question_observed, stream_observed, text_observed}
 use Rattle.omega_run.proofs.respond.answer.Goals as goal
 
 pub returns-in_err-show_stream-in-Stream-Show-clause-reported : goal.returns-in_err-show_stream-in-Stream-Show-clause-reported
@@ -52,3 +52,16 @@ pub returns-in_ok-made-in-Text-clause-printed : goal.returns-in_ok-made-in-Text-
 returns-in_ok-made-in-Text-clause-printed g c =
     text_counted _ _ _ _ _ _ _ _ _ _ c.kind_of.ensures _ c.in-Text.is
     (rw c.in_ok-made-in-Text.was at c.answer_text.ensures.printed _ _ c.in_ok-text-in-Text.ensures.read)
+
+pub returns-in_err-read-in-Question-clause-reported : goal.returns-in_err-read-in-Question-clause-reported
+returns-in_err-read-in-Question-clause-reported g c =
+    observed_alike _ _ _ _ c.from_residual-in_err-read-in-Question.result _ c.in_err-read-in-Question.field-0.0 _ _ c.from_residual-in_err-read-in-Question.ensures.1
+    (λ e same. same) (none_observed _ _ _ _ _ _ (spares IsTransferRefusal _ c.in_err-read-in-Question.ensures.refused (λ no. no)))
+
+pub returns-in_ok-read-in-Question-clause-reported : goal.returns-in_ok-read-in-Question-clause-reported
+returns-in_ok-read-in-Question-clause-reported g c =
+    question_observed _ _ _ _ _ _ _ _ _ _ _ c.kind_of.ensures c.in-Question.is (c.answer_question.ensures.reported _ _ c.in_ok-read-in-Question.ensures.read)
+
+pub returns-in_ok-read-in-Question-clause-printed : goal.returns-in_ok-read-in-Question-clause-printed
+returns-in_ok-read-in-Question-clause-printed g c =
+    of_all c.answer_question.result _ (λ made. question_counted _ _ _ _ _ _ _ _ _ _ c.kind_of.ensures _ c.in-Question.is)

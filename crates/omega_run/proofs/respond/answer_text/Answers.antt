@@ -101,3 +101,9 @@ pub returns-in-Solve-clause-printed : goal.returns-in-Solve-clause-printed
 returns-in-Solve-clause-printed g c =
     rw c.in-Solve.is (λ before after read. IfOk-weaker c.solve_game.result _ _
     (λ output counted. record { text = c.args.text.items; read = read; holds = rw c.asked_for-asked.ensures at counted }) c.solve_game.ensures.counted)
+
+pub returns-in-RealizabilityGame-clause-reported : goal.returns-in-RealizabilityGame-clause-reported
+returns-in-RealizabilityGame-clause-reported g c = rw c.in-RealizabilityGame.is (λ before after read. nothing_lifted _ _ _ _ _ _ refl)
+
+pub returns-in-RealizabilityGame-clause-printed : goal.returns-in-RealizabilityGame-clause-printed
+returns-in-RealizabilityGame-clause-printed g c = rw c.in-RealizabilityGame.is (λ before after read. of_all c.write_realizability_game.result _ (λ output. tt))

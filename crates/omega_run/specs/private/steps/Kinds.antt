@@ -1,9 +1,11 @@
--- The kind of a command: it reads a stream, or one text.
+-- The kind of a command: it reads a stream, or one text, of which it may ask a question.
 use Rattle.omega_command.specs.declared.command.Command.{Command}
 use Rattle.omega_command.specs.declared.command.Command.TheVariants as command
 use Rattle.omega_command.specs.declared.command.Format.TheVariants.{Hoa, Pg}
 use Rattle.omega_run.specs.declared.kinds.Kind.{Kind}
 use Rattle.omega_run.specs.declared.kinds.Kind.TheVariants as kind
+use Rattle.omega_run.specs.declared.kinds.OfQuestion.{OfQuestion}
+use Rattle.omega_run.specs.declared.kinds.OfQuestion.TheVariants as question
 use Rattle.omega_run.specs.declared.kinds.OfStream.{OfStream}
 use Rattle.omega_run.specs.declared.kinds.OfStream.TheVariants as stream
 use Rattle.omega_run.specs.declared.kinds.OfText.{OfText}
@@ -27,12 +29,19 @@ of_text (text.Empty word) = command.Empty word
 of_text (text.EmptySearch word) = command.EmptySearch word
 of_text text.Complement = command.Complement
 of_text text.Game = command.Game
+of_text text.RealizabilityGame = command.RealizabilityGame
 of_text text.DrawGame = command.Draw Pg
 of_text (text.DrawPart from depth) = command.DrawPart from depth
 of_text text.DrawAutomaton = command.Draw Hoa
 of_text text.DrawLasso = command.DrawLasso
 
--- the command of one of the two kinds
+-- the command of a question about one text
+abbrev pub of_question : OfQuestion → Command
+of_question (question.Realize controller) = command.Realize controller
+of_question (question.RealizeByLifting controller) = command.RealizeByLifting controller
+
+-- the command of one of the kinds
 abbrev pub of_kind : Kind → Command
 of_kind (kind.Stream one) = of_stream one
 of_kind (kind.Text one) = of_text one
+of_kind (kind.Question one) = of_question one

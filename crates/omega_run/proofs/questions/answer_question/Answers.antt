@@ -1,0 +1,13 @@
+-- `answer_question`: what lifts reports its runs, and nothing else reports any.
+use Rattle.std.proofs.Common.{refl}
+use Rattle.omega_budget.proofs.Observed.{observed_as}
+use Rattle.omega_run.proofs.Lifted.{nothing_lifted}
+use Rattle.omega_run.proofs.questions.answer_question.Goals as goal
+
+pub returns-in-Realize-clause-reported : goal.returns-in-Realize-clause-reported
+returns-in-Realize-clause-reported g c = rw c.in-Realize.is (λ before after read. nothing_lifted _ _ _ _ _ _ refl)
+
+pub returns-in-RealizeByLifting-clause-reported : goal.returns-in-RealizeByLifting-clause-reported
+returns-in-RealizeByLifting-clause-reported g c =
+    rw c.in-RealizeByLifting.is (λ before after read. observed_as _ _ _ _ _ _ _ _
+    (λ nodes players lifted. record { text = c.args.text.items; read = read; holds = lifted }) c.realized_by_lifting.ensures.reported)
