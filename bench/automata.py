@@ -176,6 +176,50 @@ def generalized_rabin(states: int) -> str:
     return without_lasso(states, sets_of, formula, 3 * PAIRS, f"generalized-Rabin {PAIRS} {' '.join(['2'] * PAIRS)}")
 
 
+def cubes(draw: random.Random, propositions: list[int], count: int) -> list[str]:
+    """So many labels of which each letter has exactly one: the ways down a tree that asks for one proposition after
+    another."""
+    ways: list[list[int]] = [[]]
+    while len(ways) < count:
+        way = ways.pop(draw.randrange(len(ways)))
+        free = [number for number in propositions if number not in way and ~number not in way]
+        if not free:
+            ways.append(way)
+            continue
+        number = draw.choice(free)
+        # `~n` stands for the negation of n, which may be 0.
+        ways += [[*way, number], [*way, ~number]]
+    return ["&".join(f"!{~number}" if number < 0 else str(number) for number in way) or "t" for way in ways]
+
+
+def controlled(text: str, propositions: range) -> str:
+    """The text with an item more: the system controls these propositions."""
+    return text.replace("acc-name", f"controllable-AP: {' '.join(map(str, propositions))}\nacc-name", 1)
+
+
+def specification(states: int, inputs: int = 4, outputs: int = 4, sets: int = 4, seed: float = DEFAULT_SEED) -> str:
+    """A deterministic automaton of a parity kind that has 4 to 8 edges a state, one for each letter. The environment
+    gives the first propositions, and the system the others. Half of the edges have a mark."""
+    draw = random.Random(seed)
+    propositions = inputs + outputs
+    text = header(states, propositions, parity_formula(sets), sets, f"parity max even {sets}")
+    return controlled(text, range(inputs, propositions)) + body(
+        ([], [(label, draw.randrange(states), [draw.randrange(sets)] if draw.randrange(2) else [])
+              for label in cubes(draw, list(range(propositions)), draw.randrange(4, 9))])
+        for _ in range(states)
+    )
+
+
+def wide(edges: int, inputs: int = 12, outputs: int = 4, sets: int = 4, seed: float = DEFAULT_SEED) -> str:
+    """A specification of one state, whose edges mention so many of the environment's propositions at once."""
+    draw = random.Random(seed)
+    propositions = inputs + outputs
+    text = header(1, propositions, parity_formula(sets), sets, f"parity max even {sets}")
+    labelled = cubes(draw, list(range(propositions)), edges)
+    return controlled(text, range(inputs, propositions)) + body(
+        [([], [(label, 0, [draw.randrange(sets)]) for label in labelled])])
+
+
 # name: (what is measured with it, the text of a quick run, the text of a full run)
 AUTOMATA = {
     "buchi": ("emptiness", lambda: buchi(10000), lambda: buchi(50000)),
@@ -189,6 +233,8 @@ AUTOMATA = {
     "alias-chain": ("automata", lambda: aliases(1000, 120, True), lambda: aliases(10000, 120, True)),
     "stream": ("automata", lambda: stream(2000), lambda: stream(20000)),
     "stream-with-aborts": ("automata", lambda: stream_with_aborts(2_097_152), lambda: stream_with_aborts()),
+    "specification": ("synthesis", lambda: specification(2000), lambda: specification(20000)),
+    "wide": ("synthesis", lambda: wide(16), lambda: wide(256)),
     "rabin": ("search", lambda: rabin(20000), lambda: rabin(200000)),
     "streett": ("search", lambda: streett(20000), lambda: streett(200000)),
     "generalized-rabin": ("search", lambda: generalized_rabin(20000), lambda: generalized_rabin(200000)),

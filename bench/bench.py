@@ -30,12 +30,13 @@ import threading
 import time
 
 from automata import AUTOMATA
+from comparing import COMPARED
 from explaining import EXPLAINED
 from families import FAMILIES
 
 ROOT = os.path.dirname(os.path.dirname(os.path.abspath(__file__)))
 GNU_TIME = shutil.which("time")
-# The exit status of `verify` where the solution does not win.
+# The exit status of `verify` where the solution does not win, and of `realize` where the environment wins.
 NOT_WON = 6
 OMEGA = os.path.join(ROOT, "crates", "omega_tool", "out", "omega_tool")
 TASKS = {
@@ -45,9 +46,10 @@ TASKS = {
     "emptiness": [["check", "--format", "hoa"], ["canon", "--format", "hoa"], ["empty"], ["empty", "--search"]],
     # Automata whose acceptance the search alone decides.
     "search": [["check", "--format", "hoa"], ["empty", "--search"]],
+    "synthesis": [["canon", "--format", "hoa"], ["realize"], ["realize", "--controller"], ["realize", "--game"]],
 }
 # Of these any right answer does, and two programs may give two.
-ANY_ANSWER = (["solve", "--search"], ["empty", "--search"])
+ANY_ANSWER = (["solve", "--search"], ["empty", "--search"], ["realize", "--controller"])
 # Where it is told how far the run has come.
 SAID = sys.stdout
 # How often the loop goes round by which the machine is measured.
@@ -106,12 +108,13 @@ def lifts_in(output: bytes) -> int | None:
 
 
 class Figures:
-    """What the runs of one command on one input gave. A plain command has the words of its task in it."""
+    """What the runs of one command on one input gave. A plain command has the words of its task in it. Each run has to
+    end with one of the statuses."""
 
-    def __init__(self, name: str, command: list[str], status: int = 0, plain: bool = False) -> None:
+    def __init__(self, name: str, command: list[str], statuses: tuple[int, ...] = (0,), plain: bool = False) -> None:
         self.name = name
         self.command = command
-        self.status = status
+        self.statuses = statuses
         self.plain = plain
         self.output: bytes | None = None
         self.fault: str | None = None
@@ -124,7 +127,7 @@ class Figures:
         made = measured(self.command, self.words(words), path, seconds)
         if made is None:
             self.fault = f"over {seconds} s"
-        elif made[1] != self.status:
+        elif made[1] not in self.statuses:
             self.fault = f"exit status {made[1]}"
         elif self.output is None:
             self.output = made[2]
@@ -169,11 +172,14 @@ def compared(figures: list[Figures], words: list[str], path: str, options: argpa
 
 
 def decided(words: list[str], output: bytes) -> object:
-    """What of an output two programs must agree on: of a search the winners, or whether there is a lasso."""
+    """What of an output two programs must agree on: of a search the winners, or whether there is a lasso; of the
+    automaton of a winner its propositions."""
     if words not in ANY_ANSWER:
         return without_lifts(output)
     if words[0] == "empty":
         return output.split(b"\n", 1)[0].split()[:1]
+    if words[0] == "realize":
+        return [line for line in output.split(b"--BODY--")[0].split(b"\n") if line[:3] == b"AP:"]
     return [line.rstrip(b";").split()[:2] for line in output.split(b"\n")]
 
 
@@ -200,9 +206,28 @@ def explained(commands: list[tuple[str, list[str]]], options: argparse.Namespace
             given.write(solution)
             given.flush()
             say(f"{family}: {len(game):,} bytes, {game.count(';'):,} nodes, and a solution of {len(solution):,} bytes")
-            figures = [Figures(name, command, NOT_WON) for name, command in commands]
+            figures = [Figures(name, command, (NOT_WON,)) for name, command in commands]
             words = ["verify", "--explain", "--game", file.name]
             all_well = row_of(family, "verify --explain", figures, words, given.name, options, table) and all_well
+    return all_well
+
+
+def pairs_compared(commands: list[tuple[str, list[str]]], options: argparse.Namespace, table: list[TableRow]) -> bool:
+    """Runs the commands on pairs of automata: is one contained in the other? Whether all went well."""
+    all_well = True
+    for family, (quick, full) in COMPARED.items():
+        if options.only and family not in options.only:
+            continue
+        one, other = (quick if options.quick else full)()
+        with tempfile.NamedTemporaryFile("w") as file, tempfile.NamedTemporaryFile("w") as given:
+            file.write(other)
+            file.flush()
+            given.write(one)
+            given.flush()
+            say(f"{family}: {len(one):,} and {len(other):,} bytes, {one.count('State:'):,} states each")
+            figures = [Figures(name, command, (0, NOT_WON)) for name, command in commands]
+            words = ["contained", "--in", file.name]
+            all_well = row_of(family, "contained", figures, words, given.name, options, table) and all_well
     return all_well
 
 
@@ -277,10 +302,12 @@ def plain_commands(pairs: list[str], parser: argparse.ArgumentParser) -> dict[st
 
 def figures_of(task: str, commands: list[tuple[str, list[str]]], plain: dict[str, list[str]]) -> list[Figures]:
     """Figures for each command that does a task. Plain commands of one task are numbered, if there are several."""
-    figures = [Figures(name, command) for name, command in commands]
+    statuses = (0, NOT_WON) if task.startswith("realize") else (0,)
+    figures = [Figures(name, command, statuses) for name, command in commands]
     given = plain.get(task, [])
     for at, command in enumerate(given):
-        figures.append(Figures("plain" if len(given) == 1 else f"plain {at + 1}", shlex.split(command), plain=True))
+        name = "plain" if len(given) == 1 else f"plain {at + 1}"
+        figures.append(Figures(name, shlex.split(command), statuses, plain=True))
     return figures
 
 
@@ -300,7 +327,7 @@ def asked() -> argparse.Namespace:
     options = parser.parse_args()
     if options.runs < 1:
         parser.error("at least one run is counted")
-    names = [*FAMILIES, *AUTOMATA, *EXPLAINED]
+    names = [*FAMILIES, *AUTOMATA, *EXPLAINED, *COMPARED]
     if options.only and not set(options.only) <= set(names):
         parser.error("the families are " + ", ".join(names))
     if not options.omega and not os.path.exists(OMEGA):
@@ -338,6 +365,8 @@ def main() -> int:
                 all_well = row_of(family, task, figures, words, file.name, options, table) and all_well
     if not options.task or "verify --explain" in options.task:
         all_well = explained(commands, options, table) and all_well
+    if not options.task or "contained" in options.task:
+        all_well = pairs_compared(commands, options, table) and all_well
     for (task, name), found in ratios_of(table).items():
         say(f"omega / {name}, {task}: {mean_of(found):.2f} in the geometric mean, {max(found):.2f} at worst")
     if options.table:
