@@ -10,6 +10,7 @@ from collections.abc import Iterator, Sequence
 from functools import partial
 
 from program import OMEGA, SECONDS, Cases, Fault, Left, shown
+from specifications import ARBITER, ARBITRATES, ASKS, GOALS, SERVANT, SERVES
 
 HERE = os.path.dirname(os.path.abspath(__file__))
 REFUSED = (4, b"", b"omega: 60 Memory\n")
@@ -58,6 +59,12 @@ RUNS: list[Run] = [
     *(([*words, *more, option], one, other) for words, option in ((["contained"], "--in"), (["equal"], "--to"))
       for one, other in ((BUCHI, OFTEN), (OFTEN, BUCHI), (BUCHI, BUCHI), (BUCHI, b"HOA: v1"))
       for more in (NONE, ["--explain"])),
+    *((["realize", *more], text, None) for text in (ARBITER, SERVANT, GOALS, ARBITER.replace(b"AP: 1 ", b"AP: 1 1 "))
+      for more in (NONE, ["--controller"], ["--game"], ["--lift"], ["--lift", "--controller"],
+                   ["--lift", "--budget", "0"])),
+    *((["verify", *more, "--specification"], one, other) for more in (NONE, ["--explain"])
+      for one, other in ((ARBITRATES, ARBITER), (ASKS, SERVANT), (SERVES, GOALS), (SERVES, ARBITER),
+                         (ARBITRATES, b"HOA: v1"))),
     *((["draw", "--format", "pg"], text, None) for text in (GAPS, CHOICE)),
     (["draw", "--format", "pg", "--from", "1", "--depth", "1"], CHOICE, None),
     (["draw", "--format", "pg", "--from", "9"], CHOICE, None),
