@@ -1,12 +1,13 @@
 """What the pages say: each command of the README, CONTRIBUTING.md, `docs/`, the manual and the help writes what stands
-below it. Links lead to files, examples of `docs/library.md` are proved, the version and the toolchain are those named,
-manual and help name the same, `docs/believe.md`, the tables of `docs/map.md` and this list are what the sources make,
-comments have at most 120 columns.
+below it. Pictures show what a command draws. Links lead to files, examples of `docs/library.md` are proved, the version
+and the toolchain are those named, manual and help name the same, `docs/believe.md`, the tables of `docs/map.md` and
+this list are what the sources make, comments have at most 120 columns.
 
-Commands that need `dot` or `parallel` are passed over where these are not installed. The README links every page. The
-examples of docs/library.md stand in the crate that is proved, word for word. Each crate's README.md agrees with
-crates.txt. The manual names the subcommands, options,
-refusals, statuses and numbers that the help names, and no others.
+Commands that need `dot` or `parallel` are passed over where these are not installed. What is drawn for `dot` is compared
+with the picture of that name in docs/pictures/ in any case, and each picture is made on some page. The README links
+every page. The examples of docs/library.md stand in the crate that is proved, word for word. Each crate's README.md
+agrees with crates.txt. The manual names the subcommands, options, refusals, statuses and numbers that the help names,
+and no others.
 
 A command stands in an indented block, behind `$ `. It goes on with the next line where it ends with a backslash or a
 pipe, or inside single quotes. Up to the next command stands what it writes, on standard output and standard error
@@ -26,6 +27,7 @@ from believing import believing_checks
 from listing import listing_checks
 from manual import examples_of_manual, manual_checks
 from map import map_checks
+from pictures import PICTURES, picture_checks
 from program import OMEGA, ROOT, SECONDS, Cases, help_of, output_of, subcommands
 from widths import width_checks
 
@@ -33,6 +35,8 @@ MARK = "\x01done\x01"
 SHELL = "sh"
 # Programs that a command may need, and without which it is passed over, by how the command calls them.
 PERHAPS = {"dot": r"\bdot -T", "parallel": r"\bparallel -"}
+# A command that makes a picture: what draws, and the name of the picture.
+DRAWING = re.compile(r"(.*\bomega draw .*) \| dot -Tsvg > (\w+)\.svg", re.DOTALL)
 # Solvers that are shown in blocks that are not run.
 ELSEWHERE = ("pgsolver ", "oink ")
 
@@ -99,8 +103,17 @@ def is_passed_over(command: str) -> bool:
     return any(re.search(call, command) and not shutil.which(name) for name, call in PERHAPS.items())
 
 
+def run_of_block(block: list[str]) -> Iterator[tuple[str, str]]:
+    """The commands that are run: those that need what is not installed left out, and what is drawn put into a file."""
+    for command, wanted in commands_of(block):
+        if drawing := DRAWING.fullmatch(command):
+            yield f"{drawing[1]} > {drawing[2]}.dot", ""
+        if not is_passed_over(command):
+            yield command, wanted
+
+
 def block_checks(label: str, block: list[str], folder: str) -> Cases:
-    made = [(command, wanted) for command, wanted in commands_of(block) if not is_passed_over(command)]
+    made = list(run_of_block(block))
     came = outputs_of([command for command, _ in made], folder) if made else []
     for index, (command, wanted) in enumerate(made):
         shown = command if len(command) < 70 else command[:67] + "..."
@@ -115,6 +128,7 @@ def command_checks(label: str, blocks: Iterable[list[str]]) -> Cases:
         prepare(folder)
         for block in blocks:
             yield from block_checks(label, block, folder)
+        yield from picture_checks(label, folder)
 
 
 def unrun_lines(text: str) -> Iterator[str]:
@@ -129,6 +143,16 @@ def link_checks(label: str, text: str) -> Cases:
         if "://" not in target:
             path = os.path.join(ROOT, os.path.dirname(label), target)
             yield f"{label}: the link {name}", None if os.path.exists(path) else f"{target} is not there"
+
+
+def made_checks(texts: Iterable[str]) -> Cases:
+    """Each picture is made by a command of a page."""
+    made = {name for text in texts for block in indented_blocks(text, 4) for command, _ in commands_of(block)
+            for _, name in DRAWING.findall(command)}
+    for path in sorted(glob.glob(os.path.join(ROOT, PICTURES, "*.svg"))):
+        name = os.path.basename(path)
+        fault = None if name.removesuffix(".svg") in made else "no command of a page makes it"
+        yield f"the picture {name}", fault
 
 
 def example_checks() -> Cases:
@@ -182,6 +206,7 @@ def page_checks() -> Cases:
     for label in texts:
         if label.startswith("docs/"):
             yield f"README.md links {label}", None if f"({label})" in texts["README.md"] else "it does not"
+    yield from made_checks(texts.values())
     yield from example_checks()
     yield from version_checks()
     for name in ("", *subcommands()):
