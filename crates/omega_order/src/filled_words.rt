@@ -5,9 +5,6 @@ use std::alloc::{AllocError, Global};
 /// The number of positions in a word of the set.
 const POSITIONS: usize = 64;
 
-/// The number of positions that a word here accounts for.
-const POSITIONS_NOTED: usize = 4096;
-
 /// A bit for each word of a set of positions: whether it is filled. Only safety is proved. A position that is found by
 /// it is looked up in the set.
 #[derive(Drop)]
@@ -41,13 +38,20 @@ impl FilledWords {
         }
     }
 
+    /// Notes that `word` of the set is empty.
+    fn note_empty(&mut self, word: usize) {
+        let at = word / 64;
+        if at < self.bits.len() {
+            self.bits[at] &= !(1 << (word % 64));
+        }
+    }
+
     /// Notes that `position` was taken out of the set, whose words are now `words`.
     #[inline(always)]
     pub fn note_removed(&mut self, words: &[u64], position: usize) {
         let word = position / POSITIONS;
-        let at = position / POSITIONS_NOTED;
-        if at < self.bits.len() && word < words.len() && words[word] == 0 {
-            self.bits[at] &= !(1 << (word % 64));
+        if word < words.len() && words[word] == 0 {
+            self.note_empty(word);
         }
     }
 

@@ -13,6 +13,8 @@ use omega_measure::{Game, MeasureTable, Player};
 ///
 /// The place was lifted towards `towards`. If `player` owns it, no lift is due there again unless that is the place
 /// itself.
+// Inlined, so that a place which does not lead to itself costs no call.
+#[inline(always)]
 pub(crate) fn lift_again<T: MeasureTable, S: Schedule>(
     game: &Game,
     player: Player,
@@ -30,11 +32,36 @@ pub(crate) fn lift_again<T: MeasureTable, S: Schedule>(
     ensures lifted { LiftsAgain game.now player place result
         (T.content table.old) (T.content table.new) (S.waiting schedule.old) (S.waiting schedule.new) }
 {
+    if !may_repeat(game, player, place, towards) {
+        return 0;
+    }
+    lift_while_due(game, player, table, schedule, place, most)
+}
+
+/// Lifts `place`, which leads to itself, again while a lift is due there and the schedule takes it again, at most `most`
+/// times. Returns how often.
+// A call, since few places lead to themselves.
+#[inline(never)]
+fn lift_while_due<T: MeasureTable, S: Schedule>(
+    game: &Game,
+    player: Player,
+    table: &mut T,
+    schedule: &mut S,
+    place: u32,
+    most: u64,
+) -> u64
+    requires inside { place < length game.now }
+    requires game { IsGame game.now }
+    requires itself { HasEdge game.now place place }
+    requires table { IsTableOf game.now player (T.content table.old) }
+    requires counted { (S.waiting schedule.old).taken + most ≤ 2 ^ 64 - 1 }
+    ensures within { result ≤ most }
+    ensures lifted { LiftsAgain game.now player place result
+        (T.content table.old) (T.content table.new) (S.waiting schedule.old) (S.waiting schedule.new) }
+{
     let mut made = 0u64;
-    if may_repeat(game, player, place, towards) {
-        while made < most && lift_once_more(game, player, table, schedule, place) {
-            made += 1;
-        }
+    while made < most && lift_once_more(game, player, table, schedule, place) {
+        made += 1;
     }
     made
 }
@@ -74,6 +101,7 @@ fn lift_once_more<T: MeasureTable, S: Schedule>(
 }
 
 /// Whether a lift may be due again at `place`, which leads to itself and was lifted towards `towards`.
+#[inline(always)]
 fn may_repeat(game: &Game, player: Player, place: u32, towards: u32) -> bool
     requires { place < length game.now }
     ensures { IsTrue result → HasEdge game.now place place }
@@ -85,6 +113,7 @@ fn may_repeat(game: &Game, player: Player, place: u32, towards: u32) -> bool
 }
 
 /// Whether `place` is one of its own successors.
+#[inline(always)]
 fn leads_to_itself(game: &Game, place: u32) -> bool
     requires { place < length game.now }
     ensures { IsTrue result → HasEdge game.now place place }

@@ -1,7 +1,7 @@
 -- One lift more.
 use Rattle.std.proofs.Common.{arith}
 use Rattle.omega_solve.proofs.lifting.Repeating.{again_more}
-use Rattle.omega_solve.proofs.repeating.lift_again.Goals as goal
+use Rattle.omega_solve.proofs.repeating.lift_while_due.Goals as goal
 
 pub loop-made-preserved : goal.loop-made-preserved
 loop-made-preserved g c =

@@ -1,7 +1,7 @@
 -- The lifts so far, at most as many as are allowed.
 use Rattle.std.proofs.Common.{◌-◌, ◌≤◌}
 use Rattle.omega_solve.specs.private.solving.Repeating.{LiftsAgain}
-use Rattle.omega_solve.proofs.repeating.lift_again.Given as goal
+use Rattle.omega_solve.proofs.repeating.lift_while_due.Given as goal
 
 abbrev pub invariant-loop-made : goal.invariant-loop-made
 invariant-loop-made g l = record {
