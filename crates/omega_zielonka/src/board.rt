@@ -108,6 +108,7 @@ impl Board {
 
     /// Takes out at `depth` the attractor of `player`, among the places deeper in play, to the places of the trail from
     /// the position `from` on.
+    #[inline(never)]
     pub(crate) fn attract(
         &mut self,
         game: &Game,
@@ -127,6 +128,8 @@ impl Board {
 
     /// Takes out at `depth` the predecessors of `place` from which `player` forces the step to places out of play.
     /// `place` itself is out already.
+    // Inlined, since the loops over places take most of a search.
+    #[inline(always)]
     pub(crate) fn attract_to(
         &mut self,
         game: &Game,
