@@ -25,7 +25,7 @@ module _ (a : Description) (controlled numbers : List ℕ) (letters answers : Li
       let answered : List ℕ = get_or answers question.0 [] in
       let there : 0 < length answered = each question.0 (omega (arith, question.1, are.answered.entries)) in
       let has : Contains answered (get_or answered 0 0) = Contains-get_or answered 0 0 there in
-      (get_or answered 0 0, ((are.answered.each question.0 question.1 (get_or answered 0 0)).0 has).0, question.2 (get_or answered 0 0) has)
+      let answer = (question.2 (get_or answered 0 0)).0 has in (get_or answered 0 0, answer.0, answer.1)
 
 module _ (a : Description) (automaton : IsAutomaton a) (plain : has_universal_branching a ≡ false) (controlled : List ℕ) (state : ℕ) (numbers : List ℕ)
     (leavers : AreLeavers a state numbers) where

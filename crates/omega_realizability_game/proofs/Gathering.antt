@@ -1,10 +1,10 @@
 -- The questions of one state more.
-use Rattle.std.proofs.Common.{◌≡◌, ℕ, zero, suc, ◌+◌, ◌-◌, ◌^◌, ◌<◌, inl, inr, false, All, List, [], ◌∷◌, ◌++◌, length, get_or, take, sym, ap, refl, ◌∙◌, subst, arith, add-zero, length-append, Result, Ok, Err}
-use Rattle.std.specs.Prelude.{IfErr, sum_by}
+use Rattle.std.proofs.Common.{◌≡◌, ℕ, zero, suc, ◌+◌, ◌-◌, ◌<◌, ◌≤◌, inl, inr, Bool, false, All, List, [], ◌∷◌, ◌++◌, length, get_or, sym, ap, refl, ◌∙◌, subst, arith, length-append, Result, Ok, Err}
+use Rattle.std.specs.Prelude.{IfErr, sum}
 use Rattle.std.proofs.Math.Seq.{get_or-append_seam}
 use Rattle.std.proofs.lemmas.Bool.{cases_eq, cases_lt}
-use Rattle.std.proofs.lemmas.List.{get_or-append-add, get_or-take, get_or_append_left, length-take, take_more}
-use Rattle.std.proofs.lemmas.List.Sums.{sum_by-append, sum_by-cons}
+use Rattle.std.proofs.lemmas.List.{get_or-append-add, get_or_append_left}
+use Rattle.std.proofs.lemmas.List.Sums.{sum_by-append}
 use Rattle.std.proofs.lemmas.Option.{slice_get_within}
 use Rattle.omega_text.specs.declared.refusal.Refusal.{Refusal}
 use Rattle.omega_text.specs.declared.refusal.Refusal.TheVariants.{Automaton, Game, Io, Memory, Task, Text}
@@ -12,11 +12,13 @@ use Rattle.omega_automaton.specs.Automaton.{Description, edges_of}
 use Rattle.omega_parity_game.specs.Limits.{most_nodes}
 use Rattle.omega_runs.specs.Places.{ArePlaces}
 use Rattle.omega_runs.specs.declared.place.EdgePlace.{EdgePlace}
+use Rattle.omega_rounds.specs.Extracting.{HaveSameNumbers}
 use Rattle.omega_rounds.specs.Rounds.{no_range}
 use Rattle.omega_rounds.specs.declared.rounds.QuestionRange.{QuestionRange}
 use Rattle.omega_realizability_game.specs.Answering.{AreAnswersAmong}
-use Rattle.omega_realizability_game.specs.Making.{AllAnswer, AllLeave, AreQuestionsOf, AreStatesAsked, HasManyQuestions, IsInRange, IsUnasked, IsUnmade, StatesLeave, inputs_of, range_of}
-use Rattle.omega_realizability_game.specs.RoundsOf.{holds_in, letter_of}
+use Rattle.omega_realizability_game.specs.Classes.{IsFirstLetter}
+use Rattle.omega_realizability_game.specs.Making.{AllLeave, AreQuestionsOf, AreStatesAsked, HasClasses, HasManyQuestions, IsInRange, IsUnasked, IsUnmade, StatesLeave, range_of}
+use Rattle.omega_realizability_game.specs.Letters.{holds_in, letter_of}
 
 same_default : (xs : List ℕ) (k : ℕ) (d e : ℕ) → k < length xs → get_or xs k d ≡ get_or xs k e
 same_default [] k d e below = absurd (omega arith)
@@ -38,6 +40,16 @@ module _ (a : Description) (controlled : List ℕ) where
       subst (λ (list : List ℕ). AreAnswersAmong a controlled other (holds_in its) list) r
       (subst (λ (l : List ℕ). AreAnswersAmong a controlled other (holds_in l) answers) q
       (subst (λ (list : List ℕ). AreAnswersAmong a controlled list (holds_in letter) answers) p are))
+
+  moved_given : (one other answers same : List ℕ) (given : ℕ → Bool) → one ≡ other → answers ≡ same → AreAnswersAmong a controlled one given answers
+      → AreAnswersAmong a controlled other given same
+  moved_given one other answers same given p r are =
+      subst (λ (list : List ℕ). AreAnswersAmong a controlled other given list) r
+      (subst (λ (list : List ℕ). AreAnswersAmong a controlled list given answers) p are)
+
+  moved_first : (one other letter its : List ℕ) → one ≡ other → letter ≡ its → IsFirstLetter a controlled one letter → IsFirstLetter a controlled other its
+  moved_first one other letter its p q first =
+      subst (λ (l : List ℕ). IsFirstLetter a controlled other l) q (subst (λ (list : List ℕ). IsFirstLetter a controlled list letter) p first)
 
   module _ (leaving : List (List ℕ)) (index : ℕ) (ranges : List QuestionRange) (letters answers : List (List ℕ))
       (are : AreStatesAsked a controlled leaving index ranges letters answers)
@@ -69,6 +81,10 @@ module _ (a : Description) (controlled : List ℕ) where
 
     some_question : 0 < length fresh
     some_question = let found = of.every (λ p. false) in omega (arith, found.1, of.answered.entries)
+
+    same_numbers : (one other its same : List ℕ) → one ≡ its → other ≡ same → HaveSameNumbers its same → HaveSameNumbers one other
+    same_numbers one other its same p q have =
+        subst (λ (list : List ℕ). HaveSameNumbers list other) (sym p) (subst (λ (list : List ℕ). HaveSameNumbers its list) (sym q) have)
 
     in_old : (s q : ℕ) → s < index → IsInRange (range_of longer s) q → IsInRange (range_of ranges s) q
     in_old s q below inside = subst (λ (range : QuestionRange). IsInRange range q) (sym (old_range s below)) inside
@@ -120,7 +136,8 @@ module _ (a : Description) (controlled : List ℕ) where
             let q : ℕ = length answers + found.0 in (
               q,
               subst (λ (range : QuestionRange). IsInRange range q) (new_range s same) (omega arith, omega (arith, found.1, of.answered.entries)),
-              subst (λ (list : List ℕ). AllAnswer a controlled given list) (new_answer found.0 q refl) found.2,
+              moved_given numbers (get_or leaving s []) (get_or fresh found.0 []) (get_or (answers ++ fresh) q []) given
+                  (here ∙ ap (λ n. get_or leaving n []) (sym same)) (new_answer found.0 q refl) found.2,
             )
         | inr apart ↦
             let earlier : s < index = omega (arith, below, apart) in
@@ -128,8 +145,44 @@ module _ (a : Description) (controlled : List ℕ) where
             let early : found.0 < length answers = omega (arith, found.1.1, are.within s earlier) in (
               found.0,
               subst (λ (range : QuestionRange). IsInRange range found.0) (old_range s earlier) found.1,
-              subst (λ (list : List ℕ). AllAnswer a controlled given list) (old_answer found.0 early) found.2,
+              moved_given (get_or leaving s []) (get_or leaving s []) (get_or answers found.0 []) (get_or (answers ++ fresh) found.0 []) given
+                  refl (old_answer found.0 early) found.2,
             )
+      ];
+      apart = λ s one other below in_one in_other have. elim (cases_eq s index) [
+        | inl same ↦
+            let own_one : IsInRange next one = in_new s one same in_one in
+            let own_other : IsInRange next other = in_new s other same in_other in
+            let i : ℕ = one - length answers in
+            let j : ℕ = other - length answers in
+            let one_is : one ≡ length answers + i = omega (arith, own_one.0) in
+            let other_is : other ≡ length answers + j = omega (arith, own_other.0) in
+            let equal : i ≡ j =
+            of.apart i j (omega (arith, own_one.0, own_one.1)) (omega (arith, own_other.0, own_other.1))
+            (same_numbers (get_or fresh i []) (get_or fresh j []) (get_or (answers ++ fresh) one []) (get_or (answers ++ fresh) other [])
+            (new_answer i one one_is) (new_answer j other other_is) have) in
+            omega (arith, one_is, other_is, equal)
+        | inr apart ↦
+            let earlier : s < index = omega (arith, below, apart) in
+            let own_one : IsInRange (range_of ranges s) one = in_old s one earlier in_one in
+            let own_other : IsInRange (range_of ranges s) other = in_old s other earlier in_other in
+            are.apart s one other earlier own_one own_other
+            (same_numbers (get_or answers one []) (get_or answers other []) (get_or (answers ++ fresh) one []) (get_or (answers ++ fresh) other [])
+            (old_answer one (omega (arith, own_one.1, are.within s earlier))) (old_answer other (omega (arith, own_other.1, are.within s earlier))) have)
+      ];
+      least = λ s q below inside. elim (cases_eq s index) [
+        | inl same ↦
+            let own : IsInRange next q = in_new s q same inside in
+            let k : ℕ = q - length answers in
+            let is : q ≡ length answers + k = omega (arith, own.0) in
+            moved_first numbers (get_or leaving s []) (letter_of ls k) (letter_of (letters ++ ls) q)
+            (here ∙ ap (λ n. get_or leaving n []) (sym same)) (new_letter k q is)
+            (of.least k (omega (arith, own.0, own.1, of.answered.entries)))
+        | inr apart ↦
+            let earlier : s < index = omega (arith, below, apart) in
+            let own : IsInRange (range_of ranges s) q = in_old s q earlier inside in
+            moved_first (get_or leaving s []) (get_or leaving s []) (letter_of letters q) (letter_of (letters ++ ls) q)
+            refl (old_letter q (omega (arith, own.1, are.within s earlier))) (are.least s q earlier own)
       ];
     }
 
@@ -140,15 +193,42 @@ module _ (a : Description) (controlled : List ℕ) where
         (subst (λ (list : List (List ℕ)). AreStatesAsked a controlled leaving (index + 1) rs list (answers ++ fresh)) (sym q)
         (subst (λ (list : List QuestionRange). AreStatesAsked a controlled leaving (index + 1) list (letters ++ ls) (answers ++ fresh)) (sym p) states_more))
 
--- the letters over the inputs of one state more
-pub count_more : (a : Description) (controlled : List ℕ) (leaving : List (List ℕ)) (index : ℕ) (numbers : List ℕ) → index < length leaving
-    → numbers ≡ get_or leaving index []
-    → sum_by (λ list. 2 ^ length (inputs_of a controlled list)) (take (index + 1) leaving)
-    ≡ sum_by (λ list. 2 ^ length (inputs_of a controlled list)) (take index leaving) + 2 ^ length (inputs_of a controlled numbers)
-count_more a controlled leaving index numbers below here =
-    let f : List ℕ → ℕ = λ list. 2 ^ length (inputs_of a controlled list) in
-    ap (sum_by f) (take_more leaving index [] below ∙ ap (λ (n : List ℕ). take index leaving ++ n ∷ []) (sym here))
-    ∙ sum_by-append f (take index leaving) (numbers ∷ []) ∙ ap (λ n. sum_by f (take index leaving) + n) (sum_by-cons f numbers [] ∙ add-zero (f numbers))
+-- the classes of the first states, counted
+pub record AreCounted (a : Description) (controlled : List ℕ) (leaving : List (List ℕ)) (states total : ℕ) : Type 0 where
+  pub counts : List ℕ
+  pub entries : length counts ≡ states
+  pub each : (state : ℕ) → state < states → HasClasses a controlled (get_or leaving state []) (get_or counts state 0)
+  pub total_is : sum counts ≡ total
+
+-- those of one state more
+pub counted_more : (a : Description) (controlled : List ℕ) (leaving : List (List ℕ)) (index total : ℕ) (numbers : List ℕ) (ls fresh : List (List ℕ))
+    → AreCounted a controlled leaving index total → numbers ≡ get_or leaving index [] → AreQuestionsOf a controlled numbers ls fresh
+    → AreCounted a controlled leaving (index + 1) (total + length fresh)
+counted_more a controlled leaving index total numbers ls fresh are here of = record {
+  counts = are.counts ++ length fresh ∷ [];
+  entries = length-append are.counts (length fresh ∷ []) ∙ omega (arith, are.entries);
+  each = λ state below. elim (cases_eq state index) [
+    | inl same ↦
+        let last : length fresh ≡ get_or (are.counts ++ length fresh ∷ []) state 0 =
+        sym (ap (λ n. get_or (are.counts ++ length fresh ∷ []) n 0) (same ∙ sym are.entries) ∙ get_or-append_seam are.counts (length fresh) [] 0) in
+        subst (λ (count : ℕ). HasClasses a controlled (get_or leaving state []) count) last
+        (subst (λ (list : List ℕ). HasClasses a controlled list (length fresh)) (here ∙ ap (λ n. get_or leaving n []) (sym same))
+        (record { letters = ls; answers = fresh; questions = of; counted = refl }))
+    | inr apart ↦
+        let earlier : state < index = omega (arith, below, apart) in
+        subst (λ (count : ℕ). HasClasses a controlled (get_or leaving state []) count)
+        (sym (get_or_append_left are.counts (length fresh ∷ []) 0 state (omega (arith, earlier, are.entries)))) (are.each state earlier)
+  ];
+  total_is = sum_by-append (λ n. n) are.counts (length fresh ∷ []) ∙ omega (arith, are.total_is);
+}
+
+pub counted_none : (a : Description) (controlled : List ℕ) (leaving : List (List ℕ)) → AreCounted a controlled leaving 0 0
+counted_none a controlled leaving = record {
+  counts = [];
+  entries = refl;
+  each = λ state below. absurd (omega (arith, below));
+  total_is = refl;
+}
 
 item_is : (xs : List (List ℕ)) (k : ℕ) (d e : List ℕ) → k < length xs → get_or xs k d ≡ get_or xs k e
 item_is [] k d e below = absurd (omega arith)
@@ -161,16 +241,15 @@ pub listed : (leaving : List (List ℕ)) (index : ℕ) (item numbers : List ℕ)
 listed leaving index item numbers below here is = is ∙ here ∙ item_is leaving index item [] below
 
 -- the first states have too many questions
-pub many : (a : Description) (controlled : List ℕ) (leaving : List (List ℕ)) (index : ℕ) → StatesLeave a leaving → index < length leaving
-    → most_nodes < sum_by (λ list. 2 ^ length (inputs_of a controlled list)) (take (index + 1) leaving) → HasManyQuestions a controlled
-many a controlled leaving index leave below more = record {
-  lists = take (index + 1) leaving;
-  few = omega (arith, length-take (index + 1) leaving, leave.0);
-  leave = λ state state_below.
-      subst (λ (list : List ℕ). AllLeave a state list)
-      (sym (get_or-take (index + 1) leaving state [] (omega (arith, state_below, length-take (index + 1) leaving))))
-      (leave.1 state (omega (arith, state_below, length-take (index + 1) leaving)));
-  many = more;
+pub many : (a : Description) (controlled : List ℕ) (leaving : List (List ℕ)) (states total : ℕ) → StatesLeave a leaving → states ≤ length leaving
+    → AreCounted a controlled leaving states total → most_nodes < total → HasManyQuestions a controlled
+many a controlled leaving states total leave within are more = record {
+  counts = are.counts;
+  few = omega (arith, are.entries, leave.0);
+  each = λ state below.
+      (let early : state < states = omega (arith, below, are.entries) in
+      record { numbers = get_or leaving state []; leave = leave.1 state (omega (arith, early)); classes = are.each state early });
+  many = omega (arith, are.total_is);
 }
 
 -- what hinders the questions of a state hinders the rounds
@@ -197,4 +276,6 @@ states_none a controlled leaving = record {
   owned = λ q below. absurd (omega (arith, below));
   each = λ s q below inside. absurd (omega (arith, below));
   every = λ s given below. absurd (omega (arith, below));
+  apart = λ s one other below in_one in_other have. absurd (omega (arith, below));
+  least = λ s q below inside. absurd (omega (arith, below));
 }

@@ -1,49 +1,63 @@
--- Letters over inputs, one input more.
-use Rattle.std.proofs.Common.{◌≡◌, ℕ, zero, suc, ◌+◌, ◌*◌, ◌^◌, ◌<◌, Bool, true, false, cond, List, [], ◌∷◌, ◌++◌, length, map, take, get_or, Contains, sym, ap, refl, ◌∙◌, subst, arith, add-one, pow-suc, length-append}
+-- Letters over inputs by number.
+use Rattle.std.proofs.Common.{◌≡◌, ℕ, ◌+◌, ◌*◌, ◌/◌, ◌%◌, ◌^◌, ◌<◌, Bool, true, false, cond, eqb, List, [], ◌∷◌, ◌++◌, length, drop, get_or, suc, sym, ap, refl, ◌∙◌, add-one, arith, append_assoc, drop-cons, pow-suc}
 use Rattle.std.specs.Prelude.{filter}
-use Rattle.std.proofs.lemmas.List.{append-nil, length-map, take_more}
-use Rattle.std.proofs.lemmas.List.Elements.{Contains-append_left, Contains-append_right, filter-append}
+use Rattle.std.proofs.lemmas.Bool.{cond-false, cond-true}
+use Rattle.omega_realizability_game.specs.Letters.{letter_numbered}
 
--- the letters have each choice of the inputs
-pub record AreLettersFor (inputs : List ℕ) (count : ℕ) (letters : List (List ℕ)) : Type 0 where
-  pub each : (given : ℕ → Bool) → Contains letters (filter given inputs)
-  pub doubled : length letters ≡ 2 ^ count
+digit : Bool → ℕ
+digit value = cond value 1 0
 
-contains_map : (f : List ℕ → List ℕ) (xs : List (List ℕ)) (x : List ℕ) → Contains xs x → Contains (map f xs) (f x)
-contains_map f [] x has = absurd (omega (arith, has.1))
-contains_map f (y ∷ ys) x (zero, below, here) = (zero, omega arith, ap f here)
-contains_map f (y ∷ ys) x (suc k, below, here) =
-    let rest = contains_map f ys x (k, omega arith, here) in (suc rest.0, omega (arith, rest.1), rest.2)
+digit_low : (value : Bool) → digit value < 2
+unfolding digit
+digit_low true = omega arith
+digit_low false = omega arith
 
-module _ (inputs : List ℕ) (index input : ℕ) (below : index < length inputs) (here : input ≡ get_or inputs index 0)
-    (letters : List (List ℕ)) (are : AreLettersFor (take index inputs) index letters) where
-  one_more : take (index + 1) inputs ≡ take index inputs ++ input ∷ []
-  one_more = take_more inputs index 0 below ∙ ap (λ n. take index inputs ++ n ∷ []) (sym here)
+-- each choice of the inputs has a number
+pub numbered : (given : ℕ → Bool) (inputs : List ℕ) → (number : ℕ) × (number < 2 ^ length inputs) × (letter_numbered inputs number ≡ filter given inputs)
+unfolding digit
+numbered given [] = (0, omega arith, refl)
+numbered given (input ∷ inputs) =
+    let rest = numbered given inputs in
+    go (given input) refl rest.0 rest.1 rest.2
+  where
+    go : (holds : Bool) → given input ≡ holds → (more : ℕ) → more < 2 ^ length inputs → letter_numbered inputs more ≡ filter given inputs
+        → (number : ℕ) × (number < 2 ^ length (input ∷ inputs)) × (letter_numbered (input ∷ inputs) number ≡ filter given (input ∷ inputs))
+    go true holds more low is =
+        let odd : (2 * more + 1) % 2 ≡ 1 = omega arith in
+        let half : (2 * more + 1) / 2 ≡ more = omega arith in (
+          2 * more + 1,
+          omega (arith, low, pow-suc 2 (length inputs)),
+          ap (λ n. cond (eqb n 1) (input ∷ letter_numbered inputs ((2 * more + 1) / 2)) (letter_numbered inputs ((2 * more + 1) / 2))) odd
+              ∙ ap (λ n. input ∷ letter_numbered inputs n) half ∙ ap (λ list. input ∷ list) is
+              ∙ sym (cond-true (given input) (input ∷ filter given inputs) (filter given inputs) holds),
+        )
+    go false holds more low is =
+        let even : (2 * more) % 2 ≡ 0 = omega arith in
+        let half : (2 * more) / 2 ≡ more = omega arith in (
+          2 * more,
+          omega (arith, low, pow-suc 2 (length inputs)),
+          ap (λ n. cond (eqb n 1) (input ∷ letter_numbered inputs ((2 * more) / 2)) (letter_numbered inputs ((2 * more) / 2))) even
+              ∙ ap (letter_numbered inputs) half ∙ is
+              ∙ sym (cond-false (given input) (input ∷ filter given inputs) (filter given inputs) holds),
+        )
 
-  chosen : (given : ℕ → Bool) → filter given (take (index + 1) inputs) ≡ filter given (take index inputs) ++ cond (given input) (input ∷ []) []
-  chosen given = ap (filter given) one_more ∙ filter-append given (take index inputs) (input ∷ [])
+-- one input more of a letter
+module _ (letter inputs : List ℕ) (index input digits : ℕ) (d : ℕ) (below : index < length inputs) (here : input ≡ get_or inputs index d) where
+  abbrev after : List ℕ
+  after = letter_numbered (drop (index + 1) inputs) (digits / 2)
 
-  pub letters_more : AreLettersFor (take (index + 1) inputs) (index + 1) (letters ++ map (λ letter. letter ++ input ∷ []) letters)
-  letters_more = record {
-    each = λ given. subst (λ (letter : List ℕ). Contains (letters ++ map (λ letter. letter ++ input ∷ []) letters) letter) (sym (chosen given)) (go given (given input));
-    doubled =
-        length-append letters (map (λ letter. letter ++ input ∷ []) letters)
-        ∙ omega (arith, length-map letters (λ letter. letter ++ input ∷ []), are.doubled, power index);
-  }
-    where
-      go : (given : ℕ → Bool) (b : Bool) → Contains (letters ++ map (λ letter. letter ++ input ∷ []) letters) (filter given (take index inputs) ++ cond b (input ∷ []) [])
-      go given true =
-          Contains-append_right letters (map (λ letter. letter ++ input ∷ []) letters) (filter given (take index inputs) ++ input ∷ [])
-          (contains_map (λ letter. letter ++ input ∷ []) letters (filter given (take index inputs)) (are.each given))
-      go given false =
-          subst (λ (letter : List ℕ). Contains (letters ++ map (λ letter. letter ++ input ∷ []) letters) letter) (sym (append-nil (filter given (take index inputs))))
-          (Contains-append_left letters (map (λ letter. letter ++ input ∷ []) letters) (filter given (take index inputs)) (are.each given))
+  opened : letter_numbered (drop index inputs) digits ≡ cond (eqb (digits % 2) 1) (input ∷ after) after
+  opened =
+      ap (λ list. letter_numbered list digits) (drop-cons inputs index d below)
+      ∙ ap (λ n. cond (eqb (digits % 2) 1) (n ∷ letter_numbered (drop (suc index) inputs) (digits / 2)) (letter_numbered (drop (suc index) inputs) (digits / 2))) (sym here)
+      ∙ ap (λ k. cond (eqb (digits % 2) 1) (input ∷ letter_numbered (drop k inputs) (digits / 2)) (letter_numbered (drop k inputs) (digits / 2))) (sym (add-one index))
 
-      power : (n : ℕ) → 2 ^ (n + 1) ≡ 2 ^ n * 2
-      power n = ap (λ m. 2 ^ m) (add-one n) ∙ pow-suc 2 n
+  pub input_holds : digits % 2 ≡ 1 → (letter ++ input ∷ []) ++ after ≡ letter ++ letter_numbered (drop index inputs) digits
+  input_holds odd =
+      append_assoc letter (input ∷ []) after
+      ∙ ap (λ list. letter ++ list) (sym (opened ∙ ap (λ n. cond (eqb n 1) (input ∷ after) after) odd))
 
-pub letters_none : (inputs : List ℕ) → inputs ≡ [] → AreLettersFor inputs 0 ([] ∷ [])
-letters_none inputs none = record {
-  each = λ given. (0, omega arith, sym (ap (filter given) none));
-  doubled = refl;
-}
+  pub input_fails : (digits % 2 ≡ 1 → ⊥) → letter ++ after ≡ letter ++ letter_numbered (drop index inputs) digits
+  input_fails even =
+      let zero_is : digits % 2 ≡ 0 = omega (arith, even) in
+      ap (λ list. letter ++ list) (sym (opened ∙ ap (λ n. cond (eqb n 1) (input ∷ after) after) zero_is))

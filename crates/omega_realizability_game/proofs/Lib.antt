@@ -1,13 +1,21 @@
 -- Lemmas of the rounds of automata.
+pub mod Those
+pub mod FirstPlaces
+pub mod Mentions
 pub mod Meaning
 pub mod Restricting
 pub mod Whole
 pub mod Listing
 pub mod Mentioning
 pub mod Lettering
+pub mod LaneWords
+pub mod Choices
 pub mod EdgesMade
 pub mod Leavers
 pub mod Asking
 pub mod Agreeing
+pub mod AllInputs
+pub mod EdgesInLanes
+pub mod ExclusiveStates
 pub mod Gathering
 pub mod Rounding

@@ -17,7 +17,9 @@ use Rattle.omega_controllers.specs.Controllers.{Answers, IsController, IsCounter
 use Rattle.omega_rounds.specs.Rounds.{IsAnswering, IsAsking, IsKeptRound, IsReached, IsRoundStep, LeadOn, asked_in, edge_at as round_edge_at, greatest_priority}
 use Rattle.omega_rounds.specs.declared.rounds.Rounds.{Rounds}
 use Rattle.omega_realizability_game.specs.Laws.{AnsweringsAreControllers, AskingsAreCounterStrategies, IsParted, NoStartIsRefused}
-use Rattle.omega_realizability_game.specs.RoundsOf.{AreLettersAsked, IsAskedBy, holds_in, letter_of, letters_by_state}
+use Rattle.omega_realizability_game.specs.Classes.{IsLeastInState}
+use Rattle.omega_realizability_game.specs.Letters.{holds_in, letter_of}
+use Rattle.omega_realizability_game.specs.RoundsOf.{AreLeastLetters, AreLettersAsked, IsAnswerOf, IsAskedBy, letters_by_state}
 
 -- a list with one entry at most
 one_entry : {X : Type 0} (xs : List X) (x y : X) → length xs ≤ 1 → Contains xs x → Contains xs y → x ≡ y
@@ -135,7 +137,7 @@ module _ (parity : ParityIsPriority) (a : Description) (controlled : List ℕ) (
     answered = λ state given met.
         (let asked : IsAskedBy a controlled rounds state given = parted.rounds_are.every state given (met_below kept state met) in
         let found = answering.answered state asked.question (reached_from kept state met) asked.asked in
-        let answer = (parted.rounds_are.asked state asked.question found.0 asked.asked).0 found.2 in
+        let answer : IsAnswerOf a controlled state found.0 given = (asked.answer found.0).0 found.2 in
         record {
           number = found.0;
           next = (round_edge_at rounds found.0).target;
@@ -143,11 +145,11 @@ module _ (parity : ParityIsPriority) (a : Description) (controlled : List ℕ) (
           step = record {
             edge = answer.edge;
             numbered = answer.numbered;
-            usable = answer_usable a controlled found.0 given answer.edge answer.numbered (asked.answer found.0 found.2);
+            usable = answer_usable a controlled found.0 given answer.edge answer.numbered answer.answers;
             leaves = answer.leaves;
             enters = (parted.rounds_are.each found.0 answer.edge answer.numbered).target;
           };
-          answers = asked.answer found.0 found.2;
+          answers = answer.answers;
         });
     accepted = λ state cycle kept_cycle.
         (accepted_is state cycle state kept_cycle.leads kept_cycle.longer).1 (answering.even state cycle (round_from kept state cycle kept_cycle));
@@ -179,13 +181,21 @@ module _ (parity : ParityIsPriority) (a : Description) (controlled : List ℕ) (
           omega (arith, odd, (accepted_is state cycle state kept_cycle.leads kept_cycle.longer).0 accepted)));
     }
 
+    -- its letters are the first of their classes
+    pub least_letters : AreLeastLetters a controlled kept by_state
+    least_letters state met =
+        subst (λ (letter : List ℕ). IsLeastInState a controlled state letter) (letter_is state met)
+        (parted.rounds_are.least state (asked_in asked state) (asking.asks state (reached_from kept state met)))
+
 pub answerings_are_controllers : ParityIsPriority → AnsweringsAreControllers
 answerings_are_controllers parity a controlled rounds letters start kept parted answering =
     controller parity a controlled rounds letters start parted kept answering
 
 pub askings_are_counter_strategies : ParityIsPriority → AskingsAreCounterStrategies
-askings_are_counter_strategies parity a controlled rounds letters start kept asked by_state parted asking are =
-    counter_strategy parity a controlled rounds letters start parted kept asked by_state asking are
+askings_are_counter_strategies parity a controlled rounds letters start kept asked by_state parted asking are = (
+  counter_strategy parity a controlled rounds letters start parted kept asked by_state asking are,
+  least_letters parity a controlled rounds letters start parted kept asked by_state asking are,
+)
 
 -- without a start nothing is met
 nothing_met : (a : Description) (kept : List ℕ) (state : ℕ) → a.starts ≡ [] → IsMet a kept state → ⊥
@@ -194,8 +204,11 @@ nothing_met a kept state none met =
     omega (arith, has.1)
 
 pub no_start_is_refused : NoStartIsRefused
-no_start_is_refused a controlled letters none = record {
-  answers_kept = λ state number next met step answers. absurd (nothing_met a [] state none met);
-  kept_answers = λ state number next met step has. absurd (nothing_met a [] state none met);
-  refused = λ state cycle kept_cycle. absurd (nothing_met a [] state none kept_cycle.met);
-}
+no_start_is_refused a controlled by_state none = (
+  record {
+    answers_kept = λ state number next met step answers. absurd (nothing_met a [] state none met);
+    kept_answers = λ state number next met step has. absurd (nothing_met a [] state none met);
+    refused = λ state cycle kept_cycle. absurd (nothing_met a [] state none kept_cycle.met);
+  },
+  λ state met. absurd (nothing_met a [] state none met),
+)

@@ -9,7 +9,7 @@ use Rattle.omega_satisfying.specs.Satisfiable.{each_once}
 use Rattle.omega_satisfying.proofs.Valuations.{length-each_once}
 use Rattle.omega_automaton.specs.Automaton.{Description}
 use Rattle.omega_realizability_game.specs.Answering.{is_controlled}
-use Rattle.omega_realizability_game.specs.Making.{input_mentions, inputs_of, label_of_number}
+use Rattle.omega_realizability_game.specs.Classes.{input_mentions, inputs_of, label_of_number}
 
 pub each_once-append : (seen xs ys : List ℕ) → each_once seen (xs ++ ys) ≡ each_once (each_once seen xs) ys
 each_once-append seen [] ys = refl

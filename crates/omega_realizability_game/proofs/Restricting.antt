@@ -11,7 +11,7 @@ use Rattle.omega_label.specs.Shape.{FitsALabel, IsOversized, fault_of_label}
 use Rattle.omega_satisfying.specs.Satisfiable.{IsSatisfiable}
 use Rattle.omega_controllers.specs.Controllers.{AgreeOnInputs}
 use Rattle.omega_realizability_game.specs.Answering.{CanAnswer, is_controlled, restricted}
-use Rattle.omega_realizability_game.specs.RoundsOf.{holds_in}
+use Rattle.omega_realizability_game.specs.Letters.{holds_in}
 
 -- what is among numbers is contained in them
 pub uncontrolled : (controlled : List ℕ) (p : ℕ) → is_controlled controlled p ≡ false → Contains controlled p → ⊥

@@ -1,15 +1,18 @@
 -- Edges, the edges that leave each state and the questions of the states make the rounds of an automaton.
-use Rattle.std.proofs.Common.{◌≡◌, ◌↔◌, ℕ, zero, suc, ◌<◌, All, List, [], ◌∷◌, length, get_or, Contains, Some, sym, refl, ◌∙◌, subst, arith}
+use Rattle.std.proofs.Common.{◌≡◌, ◌↔◌, ℕ, zero, suc, ◌<◌, Bool, All, List, [], ◌∷◌, length, get_or, Contains, Some, sym, refl, ◌∙◌, subst, arith}
 use Rattle.std.specs.Prelude.{slice_get}
 use Rattle.std.proofs.lemmas.Option.{slice_get_within}
 use Rattle.omega_formula.specs.declared.kind.ParityKind.{ParityKind}
 use Rattle.omega_automaton.specs.Automaton.{BodyEdge, Description, edge_count, edges_of}
+use Rattle.omega_controllers.specs.Controllers.{Answers}
 use Rattle.omega_rounds.specs.Rounds.{IsAskedIn, IsRounds, answers_of, no_edge}
 use Rattle.omega_rounds.specs.declared.rounds.QuestionRange.{QuestionRange}
 use Rattle.omega_rounds.specs.declared.rounds.RoundEdge.{RoundEdge}
 use Rattle.omega_rounds.specs.declared.rounds.Rounds.{Rounds}
-use Rattle.omega_realizability_game.specs.Making.{AreLeaving, AreRoundEdges, AreStatesAsked, IsLeaving, LeavesBelow, StatesLeave}
-use Rattle.omega_realizability_game.specs.RoundsOf.{AreRoundsOf, IsAnswerOf, holds_in, letter_of}
+use Rattle.omega_realizability_game.specs.Classes.{AreEdgesFrom, IsLeaving}
+use Rattle.omega_realizability_game.specs.Letters.{holds_in, letter_of}
+use Rattle.omega_realizability_game.specs.Making.{AreLeaving, AreRoundEdges, AreStatesAsked, LeavesBelow, StatesLeave}
+use Rattle.omega_realizability_game.specs.RoundsOf.{AreRoundsOf, IsAnswerOf}
 
 -- there is an edge of each number below the count
 edge_there : (edges : List BodyEdge) (k : ℕ) → k < length edges → (edge : BodyEdge) × (slice_get edges k ≡ Some edge)
@@ -39,8 +42,26 @@ module _ (a : Description) (kind : ParityKind) (edges : List RoundEdge) (are : A
           leaves = sym ((are.each number below).each found.0 found.1).source ∙ leaves.1;
         }
 
+    -- an edge that leaves a state has a number below the end
+    leaves_below : (state number : ℕ) → IsLeaving a state number → LeavesBelow edges (length edges) state number
+    leaves_below state number leaving_it =
+        let below : number < edge_count a = slice_get_within (edges_of a) number leaving_it.edge leaving_it.numbered in (
+          omega (arith, below, are.entries),
+          ((are.each number below).each leaving_it.edge leaving_it.numbered).source ∙ leaving_it.leaves,
+        )
+
+    pub edges_from : (state : ℕ) → state < a.states → AreEdgesFrom a state (get_or lists state [])
+    edges_from state below = record {
+      rising = leaving.rising state below;
+      each = λ number.
+          (let both = leaving.each state number below in (
+            λ has. leaves_from state number (both.0 has),
+            λ leaves. both.1 (leaves_below state number leaves),
+          ));
+    }
+
     pub states_leave : StatesLeave a lists
-    states_leave = (leaving.entries, λ state below number has. leaves_from state number ((leaving.each state number (omega (arith, below, leaving.entries))).0 has))
+    states_leave = (leaving.entries, λ state below. edges_from state (omega (arith, below, leaving.entries)))
 
     module _ (controlled : List ℕ) (ranges : List QuestionRange) (letters answers : List (List ℕ))
         (asked : AreStatesAsked a controlled lists (length lists) ranges letters answers) where
@@ -50,22 +71,27 @@ module _ (a : Description) (kind : ParityKind) (edges : List RoundEdge) (are : A
       state_below : (state : ℕ) → state < length ranges → state < length lists
       state_below state below = omega (arith, below, asked.entries)
 
+      -- the edges listed for a state that answer a letter
+      answers_from : (state number : ℕ) (given : ℕ → Bool) → state < length lists
+          → (Contains (get_or lists state []) number × Answers a controlled number given) ↔ IsAnswerOf a controlled state number given
+      answers_from state number given below =
+          let both = (edges_from state (omega (arith, below, leaving.entries))).each number in (
+            λ found. (let it : IsLeaving a state number = both.0 found.0 in
+                record { edge = it.edge; numbered = it.numbered; leaves = it.leaves; answers = found.1 }),
+            λ answer. (
+              both.1 (record { edge = answer.edge; numbered = answer.numbered; leaves = answer.leaves }),
+              answer.answers,
+            ),
+          )
+
       answer_is : (state question number : ℕ) → IsAskedIn made state question
           → Contains (answers_of made question) number ↔ IsAnswerOf a controlled state number (holds_in (letter_of letters question))
       answer_is state question number is =
           let below : state < length lists = state_below state is.below in
           let both = asked.each state question below (is.from, is.until) number in
-          let leave = leaving.each state number (omega (arith, below, leaving.entries)) in (
-            λ has. (let found = both.0 has in
-                let it : IsLeaving a state number = leaves_from state number (leave.0 found.0) in
-                record { edge = it.edge; numbered = it.numbered; leaves = it.leaves; answers = found.1 }),
-            λ answer. both.1 (
-              leave.1 (
-                omega (arith, slice_get_within (edges_of a) number answer.edge answer.numbered, are.entries),
-                ((are.each number (slice_get_within (edges_of a) number answer.edge answer.numbered)).each answer.edge answer.numbered).source ∙ answer.leaves,
-              ),
-              answer.answers,
-            ),
+          let answers_it = answers_from state number (holds_in (letter_of letters question)) below in (
+            λ has. answers_it.0 (both.0 has),
+            λ answer. both.1 (answers_it.1 answer),
           )
 
       pub rounds_are : AreRoundsOf a controlled kind made letters
@@ -79,7 +105,19 @@ module _ (a : Description) (kind : ParityKind) (edges : List RoundEdge) (are : A
             record {
               question = found.0;
               asked = record { below = omega (arith, below, leaving.entries, asked.entries); from = found.1.0; until = found.1.1 };
-              answer = found.2;
+              answer = λ number.
+                  (let both = found.2 number in
+                  let answers_it = answers_from state number given (omega (arith, below, leaving.entries)) in
+                  (λ has. answers_it.0 (both.0 has), λ answer. both.1 (answers_it.1 answer)));
+            });
+        apart = λ state one other in_one in_other have.
+            asked.apart state one other (state_below state in_one.below) (in_one.from, in_one.until) (in_other.from, in_other.until) have;
+        least = λ state question is.
+            (let below : state < length lists = state_below state is.below in
+            record {
+              numbers = get_or lists state [];
+              leave = edges_from state (omega (arith, below, leaving.entries));
+              first = asked.least state question below (is.from, is.until);
             });
       }
 

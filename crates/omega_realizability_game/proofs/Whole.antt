@@ -18,7 +18,7 @@ use Rattle.omega_runs.specs.Words.{index_in}
 use Rattle.omega_runs.specs.declared.place.EdgePlace.{EdgePlace}
 use Rattle.omega_controllers.specs.Controllers.{Answers}
 use Rattle.omega_realizability_game.specs.Answering.{CanAnswer, IsUnanswered, restricted, whole_label}
-use Rattle.omega_realizability_game.specs.RoundsOf.{holds_in}
+use Rattle.omega_realizability_game.specs.Letters.{holds_in}
 
 is_index_label : (a : Description) (number : ℕ) → IsIndexLabel a number (valuation_label (index_in a.defined number) (length a.propositions))
 is_index_label a number held =
@@ -53,7 +53,7 @@ module _ (a : Description) (number : ℕ) (place : EdgePlace) (stands : EdgeStan
   pub edge_is : (d : Edge) → get_or stands.state.edges place.index d ≡ stands.edge
   edge_is d = get_or_from_slice_get stands.state.edges place.index stands.edge d stands.edge_there
 
-  abbrev body : BodyEdge
+  abbrev pub body : BodyEdge
   body = record { source = stands.state; edge = stands.edge }
 
   -- the label that is made is the whole label

@@ -14,7 +14,8 @@ use Rattle.omega_edge_labels.specs.Labels.{valuation_label}
 use Rattle.omega_runs.specs.Lasso.{label_of}
 use Rattle.omega_runs.specs.Words.{index_in}
 use Rattle.omega_controllers.specs.Controllers.{AgreeOnInputs, Answers}
-use Rattle.omega_realizability_game.specs.RoundsOf.{holds_in}
+use Rattle.omega_realizability_game.specs.Letters.{holds_in}
+use Rattle.omega_realizability_game.specs.Those.{AreThoseWith}
 
 -- whether the system controls a proposition
 abbrev pub is_controlled : List ℕ → ℕ → Bool
@@ -64,3 +65,13 @@ IsSomeUnanswered a controlled numbers letter =
 abbrev pub AreAnswersAmong : Description → List ℕ → List ℕ → (ℕ → Bool) → List ℕ → Type 0
 AreAnswersAmong a controlled numbers given answers =
     (number : ℕ) → Contains answers number ↔ (Contains numbers number × Answers a controlled number given)
+
+-- so they are, in the order of the numbers
+abbrev pub AreAnswersInOrder : Description → List ℕ → (ℕ → Bool) → List ℕ → List ℕ → Type 0
+AreAnswersInOrder a controlled given numbers answers =
+    AreThoseWith (λ number. Answers a controlled number given) numbers answers
+
+-- the same of these edges answer two letters
+abbrev pub HaveSameAnswers : Description → List ℕ → List ℕ → (ℕ → Bool) → (ℕ → Bool) → Type 0
+HaveSameAnswers a controlled numbers one other =
+    (number : ℕ) → Contains numbers number → Answers a controlled number one ↔ Answers a controlled number other

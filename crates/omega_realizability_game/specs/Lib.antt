@@ -1,7 +1,14 @@
 -- The rounds of a parity automaton whose propositions are parted, and what winning them means for the automaton.
 pub use Rattle.omega_controllers.specs.Controllers
 pub use Rattle.omega_rounds.specs.Rounds
-pub mod RoundsOf
+pub mod Those
+pub mod Letters
 pub mod Answering
+pub mod Classes
+pub mod RoundsOf
 pub mod Laws
 pub mod Making
+pub mod Firsts
+pub mod Lanes
+pub mod EdgeWords
+pub mod Exclusive

@@ -1,8 +1,8 @@
 -- How the rounds of an automaton are made: their edges, the edges that leave each state, and for each state a question
--- for each letter over the inputs that the labels of its edges mention.
-use Rattle.std.specs.Prelude.{◌≡◌, ◌⊎◌, ◌↔◌, ℕ, ◌^◌, ◌<◌, ◌≤◌, Bool, true, not, List, [], Contains, Some, filter, length, option_map, slice_index_or, sum_by}
-use Rattle.std.specs.List.{flat_map}
-use Rattle.std.specs.Option.{unwrap_or}
+-- for each class of letters.
+pub use Rattle.omega_realizability_game.specs.Classes.{IsLeaving, inputs_of}
+use Rattle.std.specs.Prelude.{◌≡◌, ◌⊎◌, ◌↔◌, ℕ, ◌<◌, ◌≤◌, Bool, List, [], Contains, Some, length, slice_index, slice_index_or, sum}
+use Rattle.std.specs.List.Sorted.{IsStrictlyIncreasing}
 use Rattle.omega_text.specs.Cases.{never, or_game, or_memory, or_task}
 use Rattle.omega_text.specs.Limits.{most_number}
 use Rattle.omega_text.specs.declared.refusal.Refusal.{Refusal}
@@ -11,16 +11,16 @@ use Rattle.omega_text.specs.declared.refusal.task.TaskFault.{TaskFault}
 use Rattle.omega_text.specs.declared.refusal.task.TaskFault.TheVariants.{TooManyPropositions}
 use Rattle.omega_expression.specs.Limits.{most_mentioned}
 use Rattle.omega_formula.specs.declared.kind.ParityKind.{ParityKind}
-use Rattle.omega_label.specs.Label.{LabelTree, constant, propositions}
-use Rattle.omega_satisfying.specs.Satisfiable.{each_once}
 use Rattle.omega_automaton.specs.Automaton.{BodyEdge, Description, edge_at}
 use Rattle.omega_parity_game.specs.Limits.{most_nodes}
-use Rattle.omega_controllers.specs.Controllers.{Answers}
+use Rattle.omega_rounds.specs.Extracting.{HaveSameNumbers}
 use Rattle.omega_rounds.specs.Rounds.{no_edge, no_range}
 use Rattle.omega_rounds.specs.declared.rounds.QuestionRange.{QuestionRange}
 use Rattle.omega_rounds.specs.declared.rounds.RoundEdge.{RoundEdge}
-use Rattle.omega_realizability_game.specs.Answering.{AreAnswersAmong, IsUnjudged, is_controlled, whole_label}
-use Rattle.omega_realizability_game.specs.RoundsOf.{IsRoundEdgeOf, holds_in, letter_of}
+use Rattle.omega_realizability_game.specs.Answering.{AreAnswersAmong, AreAnswersInOrder, IsUnjudged, whole_label}
+use Rattle.omega_realizability_game.specs.Classes.{AreEdgesFrom, IsFirstLetter}
+use Rattle.omega_realizability_game.specs.Letters.{holds_in, letter_numbered, letter_of}
+use Rattle.omega_realizability_game.specs.RoundsOf.{IsRoundEdgeOf}
 
 -- the edge of the rounds for the edge of the automaton with a number
 pub record IsRoundEdgeAt (a : Description) (kind : ParityKind) (number : ℕ) (round_edge : RoundEdge) : Type 0 where
@@ -43,19 +43,7 @@ pub record AreLeaving (edges : List RoundEdge) (states end : ℕ) (lists : List 
   pub entries : length lists ≡ states
   pub each : (state number : ℕ) → state < states
       → Contains (slice_index_or lists state []) number ↔ LeavesBelow edges end state number
-
--- the inputs of a label from left to right, each as often as it occurs
-abbrev pub input_mentions : List ℕ → LabelTree → List ℕ
-input_mentions controlled label = filter (λ p. not (is_controlled controlled p)) (propositions label)
-
--- the label of the edge with a number
-abbrev pub label_of_number : Description → ℕ → LabelTree
-label_of_number a number = unwrap_or (option_map (whole_label a number) (edge_at a number)) (constant true)
-
--- the inputs that the labels of edges, given by number, mention, each once
-abbrev pub inputs_of : Description → List ℕ → List ℕ → List ℕ
-inputs_of a controlled numbers =
-    each_once [] (flat_map (λ number. input_mentions controlled (label_of_number a number)) numbers)
+  pub rising : (state : ℕ) → state < states → IsStrictlyIncreasing (slice_index_or lists state [])
 
 -- the refusal of edges that mention more inputs than the limit, or want of memory
 abbrev pub HasManyInputs : Description → List ℕ → List ℕ → Refusal → Type 0
@@ -68,17 +56,31 @@ pub record AreAnswered (a : Description) (controlled numbers : List ℕ) (letter
   pub each : (question : ℕ) → question < end
       → AreAnswersAmong a controlled numbers (holds_in (letter_of letters question)) (slice_index_or answers question [])
 
--- all answers answer the environment's letter
-abbrev pub AllAnswer : Description → List ℕ → (ℕ → Bool) → List ℕ → Type 0
-AllAnswer a controlled given answers = (number : ℕ) → Contains answers number → Answers a controlled number given
+-- for each letter over inputs, by its number up to an end, the edges with these numbers that answer it, in order
+pub record AreAnswersByLetter (a : Description) (controlled numbers inputs : List ℕ) (end : ℕ) (answers : List (List ℕ)) : Type 0 where
+  pub entries : length answers ≡ end
+  pub each : (letter : ℕ) → letter < end
+      → AreAnswersInOrder a controlled (holds_in (letter_numbered inputs letter)) numbers
+      (slice_index_or answers letter [])
 
--- the questions of a state that the edges with these numbers leave: each environment's letter has one whose answers
--- answer that letter too, and there is one for each letter over the inputs
+-- the questions of a state that the edges with these numbers leave: one for each class of letters, whose letter is the
+-- first of the class
 pub record AreQuestionsOf (a : Description) (controlled numbers : List ℕ) (letters answers : List (List ℕ)) : Type 0 where
   pub answered : AreAnswered a controlled numbers letters (length letters) answers
   pub every : (given : ℕ → Bool)
-      → (question : ℕ) × (question < length letters) × AllAnswer a controlled given (slice_index_or answers question [])
-  pub count : length letters ≡ 2 ^ length (inputs_of a controlled numbers)
+      → (question : ℕ) × (question < length letters)
+      × AreAnswersAmong a controlled numbers given (slice_index_or answers question [])
+  pub apart : (one other : ℕ) → one < length answers → other < length answers
+      → HaveSameNumbers (slice_index_or answers one []) (slice_index_or answers other []) → one ≡ other
+  pub least : (question : ℕ) → question < length letters
+      → IsFirstLetter a controlled numbers (letter_of letters question)
+
+-- the letters have so many classes where the edges with these numbers answer them
+pub record HasClasses (a : Description) (controlled numbers : List ℕ) (count : ℕ) : Type 0 where
+  pub letters : List (List ℕ)
+  pub answers : List (List ℕ)
+  pub questions : AreQuestionsOf a controlled numbers letters answers
+  pub counted : length answers ≡ count
 
 -- the label of one of the edges with these numbers cannot be judged in some letter
 abbrev pub IsSomeUnjudged : Description → List ℕ → List ℕ → TaskFault → Type 0
@@ -122,30 +124,35 @@ pub record AreStatesAsked (a : Description) (controlled : List ℕ) (leaving : L
       (slice_index_or answers question [])
   pub every : (state : ℕ) (given : ℕ → Bool) → state < states
       → (question : ℕ) × IsInRange (range_of ranges state) question
-      × AllAnswer a controlled given (slice_index_or answers question [])
-
--- the edge with a number leaves the state
-pub record IsLeaving (a : Description) (state number : ℕ) : Type 0 where
-  pub edge : BodyEdge
-  pub numbered : edge_at a number ≡ Some edge
-  pub leaves : edge.source.number ≡ state
+      × AreAnswersAmong a controlled (slice_index_or leaving state []) given (slice_index_or answers question [])
+  pub apart : (state one other : ℕ) → state < states → IsInRange (range_of ranges state) one
+      → IsInRange (range_of ranges state) other
+      → HaveSameNumbers (slice_index_or answers one []) (slice_index_or answers other []) → one ≡ other
+  pub least : (state question : ℕ) → state < states → IsInRange (range_of ranges state) question
+      → IsFirstLetter a controlled (slice_index_or leaving state []) (letter_of letters question)
 
 -- the edges with these numbers leave the state
 abbrev pub AllLeave : Description → ℕ → List ℕ → Type 0
 AllLeave a state numbers = (number : ℕ) → Contains numbers number → IsLeaving a state number
 
--- for each state the edges with these numbers leave it
+-- for each state the numbers of the edges that leave it
 abbrev pub StatesLeave : Description → List (List ℕ) → Type 0
 StatesLeave a lists =
-    (length lists ≡ a.states) × ((state : ℕ) → state < length lists → AllLeave a state (slice_index_or lists state []))
+    (length lists ≡ a.states)
+    × ((state : ℕ) → state < length lists → AreEdgesFrom a state (slice_index_or lists state []))
 
--- the first states have more questions than a game may have nodes: two to the number of the inputs that their edges
--- mention
+-- in the state the letters have so many classes
+pub record HasClassesIn (a : Description) (controlled : List ℕ) (state count : ℕ) : Type 0 where
+  pub numbers : List ℕ
+  pub leave : AreEdgesFrom a state numbers
+  pub classes : HasClasses a controlled numbers count
+
+-- the first states have more questions, one for each class of letters, than a game may have nodes
 pub record HasManyQuestions (a : Description) (controlled : List ℕ) : Type 0 where
-  pub lists : List (List ℕ)
-  pub few : length lists ≤ a.states
-  pub leave : (state : ℕ) → state < length lists → AllLeave a state (slice_index_or lists state [])
-  pub many : most_nodes < sum_by (λ numbers. 2 ^ length (inputs_of a controlled numbers)) lists
+  pub counts : List ℕ
+  pub few : length counts ≤ a.states
+  pub each : (state : ℕ) → state < length counts → HasClassesIn a controlled state (slice_index counts state)
+  pub many : most_nodes < sum counts
 
 -- the fault of the questions of some state
 pub record IsMakingFault (a : Description) (controlled : List ℕ) (fault : TaskFault) : Type 0 where

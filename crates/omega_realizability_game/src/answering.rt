@@ -5,7 +5,7 @@ ghost use Rattle.omega_label.specs.Label.{proposition};
 ghost use Rattle.omega_label.specs.Shape.{FitsALabel, label_tree_of_shape};
 ghost use Rattle.omega_satisfying.specs.Undecided.{IsUndecidedLabel};
 ghost use Rattle.omega_realizability_game.specs.Answering.{CanAnswer, is_controlled, restricted};
-ghost use Rattle.omega_realizability_game.specs.RoundsOf.{holds_in};
+ghost use Rattle.omega_realizability_game.specs.Letters.{holds_in};
 
 use omega_label::{Label, LabelShape};
 use omega_satisfying::is_satisfiable;

@@ -1,21 +1,23 @@
 //! The inputs that the labels of edges mention, and the letters over them.
 
-ghost use Rattle.std.specs.Prelude.{◌≡◌, ◌<◌, ◌≤◌, ◌^◌, ◌++◌, ◌∷◌, [], ℕ, Bool, All, Contains, IfErr, IfOk, IsOkUnless, OnOk, filter, length, map};
+ghost use Rattle.std.specs.Prelude.{◌≡◌, ◌<◌, ◌≤◌, ◌^◌, All, IfErr, IfOk, IsOkUnless, OnOk, length};
 ghost use Rattle.omega_expression.specs.Limits.{most_mentioned};
 ghost use Rattle.omega_label.specs.Label.{proposition};
 ghost use Rattle.omega_label.specs.Shape.{label_tree_of_shape};
 ghost use Rattle.omega_runs.specs.Places.{ArePlaces, EdgeStandsAt};
 ghost use Rattle.omega_satisfying.specs.Satisfiable.{each_once};
-ghost use Rattle.omega_realizability_game.specs.Making.{HasManyInputs, input_mentions, inputs_of, label_of_number};
+ghost use Rattle.omega_realizability_game.specs.Classes.{input_mentions, inputs_of, label_of_number};
+ghost use Rattle.omega_realizability_game.specs.Letters.{letter_numbered};
+ghost use Rattle.omega_realizability_game.specs.Making.{HasManyInputs};
 
 use crate::answering::is_among;
 use omega_automaton::Automaton;
 use omega_edge_labels::label_at;
 use omega_expression::MOST_MENTIONED;
-use omega_label::LabelShape;
+use omega_label::{Label, LabelNode, LabelShape, ROOM};
 use omega_runs::EdgePlace;
 use omega_text::{Numbers, Refusal, TaskFault};
-use std::alloc::Global;
+use std::alloc::{AllocError, Global};
 
 /// Returns the propositions that the labels of the edges with these `numbers` mention and that are not `controlled`,
 /// each once. Reads the `places` of all edges. Fails with [TaskFault::TooManyPropositions] if they are over
@@ -30,6 +32,7 @@ pub fn mentioned_inputs(
     requires places { ArePlaces automaton.now places.now }
     requires numbers { All (λ number. number < length places.now) numbers.now }
     ensures inputs { IfOk result (λ inputs. inputs ≡ inputs_of automaton.now controlled.now numbers.now) }
+    ensures few { IfOk result (λ inputs. length inputs ≤ most_mentioned) }
     ensures refused { IfErr result (HasManyInputs automaton.now controlled.now numbers.now) }
 {
     let mut inputs = Numbers::new();
@@ -60,8 +63,35 @@ fn add_inputs_at(
     let count = automaton.propositions().len();
     let state = &automaton.defined()[place.state];
     let edge = state.edges.edge(place.index);
-    let shape = label_at(alloc, count, state, &edge, place.index)?;
-    add_inputs(alloc, &shape, controlled, inputs)
+    match (&state.label, edge.label()) {
+        (Some(label), _) => add_inputs_of(alloc, label, controlled, inputs),
+        (None, Some(label)) => add_inputs_of(alloc, label, controlled, inputs),
+        (None, None) => {
+            let shape = label_at(alloc, count, state, &edge, place.index)?;
+            add_inputs(alloc, &shape, controlled, inputs)
+        }
+    }
+}
+
+/// Appends the inputs of `label`, each once.
+pub(crate) fn add_inputs_of(
+    alloc: Global,
+    label: &Label,
+    controlled: &[u32],
+    inputs: &mut Numbers,
+) -> Result<(), Refusal>
+    ensures inputs { OnOk result
+        (inputs.new ≡ each_once inputs.old (input_mentions controlled.now label.now)) }
+    ensures memory { IsOkUnless result Refusal.Memory }
+{
+    let mut room = ROOM;
+    let nodes = label.nodes(&mut room);
+    for node in nodes {
+        if let LabelNode::Proposition(number) = node {
+            add_input(alloc, *number, controlled, inputs)?;
+        }
+    }
+    Ok(())
 }
 
 /// Appends the inputs of a label, each once. Recurses as deep as the tree is.
@@ -112,32 +142,30 @@ fn add_input(
     Ok(())
 }
 
-/// Returns the letters over `inputs`, `2^n` for `n` of them: each lists the inputs that hold, in the order given.
-pub fn letters_over(alloc: Global, inputs: &[u32]) -> Result<Vec<Numbers>, Refusal>
-    ensures each { IfOk result
-        (λ letters. (given : ℕ → Bool) → Contains letters.items (filter given inputs.now)) }
-    ensures count { IfOk result (λ letters. length letters.items ≡ 2 ^ length inputs.now) }
-    ensures memory { IsOkUnless result Refusal.Memory }
+/// Returns the number of letters over `count` propositions.
+pub(crate) fn letter_count(count: usize) -> u32
+    requires { count ≤ most_mentioned }
+    ensures { result ≡ 2 ^ count }
 {
-    let mut letters = Vec::new(alloc);
-    letters.push(Numbers::new())?;
-    for input in inputs {
-        let mut more = letters_with(alloc, letters.as_slice(), *input)?;
-        letters.append(&mut more)?;
-    }
-    Ok(letters)
+    1 << count
 }
 
-/// Returns `letters` with `input` appended to each.
-fn letters_with(alloc: Global, letters: &[Numbers], input: u32) -> Result<Vec<Numbers>, Refusal>
-    ensures letters { IfOk result (λ more. more.items ≡ map (λ letter. letter ++ input ∷ []) letters.now) }
-    ensures memory { IsOkUnless result Refusal.Memory }
+/// Returns the letter over `inputs` with this `number`: the inputs that hold, in the order given. Input `k` holds if the
+/// binary digit `k` of the number is 1, the lowest digit being digit 0.
+pub(crate) fn letter_numbered(
+    alloc: Global,
+    inputs: &[u32],
+    number: u32,
+) -> Result<Numbers, AllocError>
+    ensures { IfOk result (λ letter. letter ≡ letter_numbered inputs.now number) }
 {
-    let mut more = Vec::new(alloc);
-    for letter in letters {
-        let mut longer = Numbers::from_slice(alloc, letter.as_slice())?;
-        longer.push(alloc, input)?;
-        more.push(longer)?;
+    let mut letter = Numbers::new();
+    let mut digits = number;
+    for input in inputs {
+        if digits % 2 == 1 {
+            letter.push(alloc, *input)?;
+        }
+        digits /= 2;
     }
-    Ok(more)
+    Ok(letter)
 }

@@ -12,7 +12,7 @@ pub fn answerings_are_controllers()
 }
 
 /// States that questions that win the rounds of an automaton for player 1 are a counter-strategy of the automaton, with
-/// their letters.
+/// their letters, each the first of its class.
 pub fn askings_are_counter_strategies()
     ensures { AskingsAreCounterStrategies }
 {

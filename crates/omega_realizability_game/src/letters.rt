@@ -3,8 +3,8 @@
 ghost use Rattle.std.specs.Prelude.{◌↔◌, ◌<◌, All, IfErr, IfOk, IsTrue, length};
 ghost use Rattle.omega_controllers.specs.Controllers.{Answers};
 ghost use Rattle.omega_runs.specs.Places.{ArePlaces, EdgeStandsAt};
-ghost use Rattle.omega_realizability_game.specs.Answering.{AreAnswersAmong, IsSomeUnanswered, IsUnanswered};
-ghost use Rattle.omega_realizability_game.specs.RoundsOf.{holds_in};
+ghost use Rattle.omega_realizability_game.specs.Answering.{AreAnswersInOrder, IsSomeUnanswered, IsUnanswered};
+ghost use Rattle.omega_realizability_game.specs.Letters.{holds_in};
 
 use crate::answering::can_answer;
 use omega_automaton::{Automaton, Refusal};
@@ -13,8 +13,8 @@ use omega_runs::{EdgePlace, edges_are_taken_where_true};
 use omega_text::Numbers;
 use std::alloc::Global;
 
-/// Returns those of the edges of `automaton` with these `numbers` that answer the environment's `letter`. Reads the
-/// `places` of all edges. Fails as `answers_letter` does.
+/// Returns those of the edges of `automaton` with these `numbers` that answer the environment's `letter`, in their order.
+/// Reads the `places` of all edges. Fails as `answers_letter` does.
 pub fn answering_edges(
     alloc: Global,
     automaton: &Automaton,
@@ -26,7 +26,7 @@ pub fn answering_edges(
     requires places { ArePlaces automaton.now places.now }
     requires numbers { All (λ number. number < length places.now) numbers.now }
     ensures answers { IfOk result
-        (AreAnswersAmong automaton.now controlled.now numbers.now (holds_in letter.now)) }
+        (AreAnswersInOrder automaton.now controlled.now (holds_in letter.now) numbers.now) }
     ensures refused { IfErr result (IsSomeUnanswered automaton.now controlled.now numbers.now letter.now) }
 {
     let mut answers = Numbers::new();

@@ -5,16 +5,23 @@
 #![tactic(auto)]
 
 mod answering;
+mod edge_words;
+mod exclusive;
+mod firsts;
+mod in_lane;
 mod inputs;
+mod lanes;
 mod laws;
 mod leaving;
 mod letters;
 mod making;
 mod questions;
 mod round_edges;
+mod stack;
 mod states;
 
 pub use answering::can_answer;
+pub use exclusive::are_seen_apart;
 pub use laws::{answerings_are_controllers, askings_are_counter_strategies, no_start_is_refused};
 pub use letters::{answering_edges, answers_letter};
 pub use making::{LetteredRounds, rounds_of};

@@ -6,6 +6,7 @@ use Rattle.omega_automaton.specs.Automaton.{Description}
 use Rattle.omega_parity_game.specs.Game.{Node}
 use Rattle.omega_parity_game.specs.Part.{IsPart}
 use Rattle.omega_rounds.specs.Naming.{IsNamedGame}
+use Rattle.omega_rounds.specs.Rounds.{IsRounds}
 use Rattle.omega_rounds.specs.declared.rounds.Rounds.{Rounds}
 use Rattle.omega_realizability_game.specs.Laws.{IsParted}
 use Rattle.omega_realize.specs.Refusing.{IsPartingFault, IsRealizingGameFault}
@@ -20,6 +21,7 @@ pub record IsPartedGame (a : Description) (controlled : List ℕ) (game : List N
   pub letters : List (List ℕ)
   pub start : ℕ
   pub parted : IsParted a controlled rounds letters start
+  pub rounds_kept : IsRounds rounds
   pub whole : List Node
   pub named : IsNamedGame rounds whole
   pub part : IsPart whole start game

@@ -3,13 +3,14 @@ use Rattle.std.specs.Prelude.{List, ℕ}
 use Rattle.std.specs.List.Sorted.{IsStrictlyIncreasing}
 use Rattle.omega_automaton.specs.Automaton.{Description}
 use Rattle.omega_controllers.specs.Controllers.{IsController, IsCounterStrategy}
-use Rattle.omega_realizability_game.specs.RoundsOf.{letters_by_state}
+use Rattle.omega_realizability_game.specs.RoundsOf.{AreLeastLetters, letters_by_state}
 use Rattle.omega_realize.specs.declared.realizability.Realizability.{Realizability}
 use Rattle.omega_realize.specs.declared.realizability.Realizability.TheVariants.{Realizable, Unrealizable}
 
--- the answer is right: its edges are a controller, or with its letters a counter-strategy; they are listed in rising
--- order, each once
+-- the answer is right: its edges are a controller, or with its letters a counter-strategy, each letter the first of those
+-- that the same edges answer; the edges are listed in rising order, each once
 abbrev pub IsRealizability : Description → List ℕ → Realizability → Type 0
 IsRealizability a controlled (Realizable kept) = IsController a controlled kept × IsStrictlyIncreasing kept
 IsRealizability a controlled (Unrealizable kept letters) =
     IsCounterStrategy a controlled kept (letters_by_state letters) × IsStrictlyIncreasing kept
+    × AreLeastLetters a controlled kept letters

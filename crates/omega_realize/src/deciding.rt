@@ -32,10 +32,11 @@ use std::alloc::Global;
 /// - [TaskFault::TooManyPropositions] or [TaskFault::TooLarge] if `judge_states` fails so.
 /// - If there is a start, [TaskFault::TooManyPropositions] or [TaskFault::TooLarge] if the labels of a state mention
 ///   over `MOST_MENTIONED` inputs or if it is not decided whether an edge answers a letter, and
-///   [GameFault::TooManyNodes] if there are over `MOST_NODES` questions.
+///   [GameFault::TooManyNodes] if the states have over `MOST_NODES` questions, one for each class of letters that the
+///   same edges answer.
 /// - The refusals of `solve_rounds`: the game is too large, or lifting is where the search gives nothing.
 ///
-/// For each state up to `2^m` letters are tried for `m` inputs that its labels mention.
+/// For each state all `2^m` letters over the `m` inputs that its labels mention are tried, 64 at once.
 pub fn realize(
     alloc: Global,
     automaton: &Automaton,

@@ -4,8 +4,8 @@ use Rattle.std.proofs.lemmas.Bool.{false≢true}
 use Rattle.std.proofs.lemmas.List.{take_all}
 use Rattle.std.proofs.lemmas.List.Elements.{Contains-get_or}
 use Rattle.std.proofs.lemmas.Result.{err_from_is_err_and}
-use Rattle.omega_realizability_game.specs.Answering.{AreAnswersAmong}
-use Rattle.omega_realizability_game.specs.RoundsOf.{holds_in}
+use Rattle.omega_realizability_game.specs.Answering.{AreAnswersInOrder}
+use Rattle.omega_realizability_game.specs.Letters.{holds_in}
 use Rattle.omega_realizability_game.proofs.Listing.{answer_more, answer_none, some_unanswered}
 use Rattle.omega_realizability_game.proofs.letters.answering_edges.Goals as goal
 use Rattle.omega_realizability_game.proofs.letters.answering_edges.Goals.{then-here+in_ok-push, else-here}
@@ -27,7 +27,7 @@ loop-number-preserved c =
 
 pub returns-clause-answers : goal.returns-clause-answers
 returns-clause-answers c =
-    subst (λ (list : List ℕ). AreAnswersAmong c.args.automaton.now c.args.controlled.now list (holds_in c.args.letter.now) c.loop-number.answers)
+    subst (λ (list : List ℕ). AreAnswersInOrder c.args.automaton.now c.args.controlled.now (holds_in c.args.letter.now) list c.loop-number.answers)
     (take_all c.loop-number.number-index c.args.numbers.now (omega (arith, c.loop-number-test.false))) c.loop-number.invariant
 
 pub returns-in_err-here-clause-refused : goal.returns-in_err-here-clause-refused

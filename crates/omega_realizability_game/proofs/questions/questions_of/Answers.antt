@@ -1,21 +1,22 @@
--- each environment's letter has a question
-use Rattle.std.proofs.Common.{◌≡◌, ◌^◌, ℕ, Bool, List, length, Contains, ap, ◌∙◌, subst}
-use Rattle.std.specs.Prelude.{filter}
-use Rattle.omega_realizability_game.specs.Making.{AreAnswered}
-use Rattle.omega_realizability_game.proofs.Agreeing.{questions_made}
+-- the first letter of each class
+use Rattle.std.proofs.Common.{◌≡◌, ◌<◌, ◌≤◌, ◌^◌, ℕ, List, length, get_or, ap, sym, subst, arith}
+use Rattle.std.proofs.Math.Pow.{pow_mono}
+use Rattle.omega_realizability_game.specs.Making.{AreAnswersByLetter}
+use Rattle.omega_realizability_game.proofs.Asking.{all_below, questions_held}
 use Rattle.omega_realizability_game.proofs.questions.questions_of.Goals as goal
+
+pub first_places-requires : goal.first_places-requires
+first_places-requires c =
+    let few : length c.as_slice-inputs.result.now ≤ 12 = omega (arith, ap length c.as_slice-inputs.ensures, c.in_ok-mentioned.ensures.few) in
+    let low : 2 ^ length c.as_slice-inputs.result.now ≤ 2 ^ 12 = pow_mono few in
+    omega (arith, low, ap length c.as_slice-answers.ensures.value, c.in_ok-listed.ensures.answers.entries)
+
+pub questions_at-requires : goal.questions_at-requires
+questions_at-requires c =
+    all_below c.as_slice-answers.result.now c.in_ok-firsts.firsts.items c.as_slice.result.now c.as_slice.ensures.value c.in_ok-firsts.ensures.firsts
 
 pub returns-clause-questions : goal.returns-clause-questions
 returns-clause-questions c =
-    let a = c.args.automaton.now in
-    let controlled : List ℕ = c.args.controlled.now in
-    let numbers : List ℕ = c.args.numbers.now in
-    let inputs : List ℕ = c.in_ok-inputs.inputs in
-    let letters : List (List ℕ) = c.in_ok-letters.letters.items in
-    let each : (given : ℕ → Bool) → Contains letters (filter given inputs) =
-    subst (λ (list : List ℕ). (given : ℕ → Bool) → Contains letters (filter given list)) c.as_slice.ensures c.in_ok-letters.ensures.each in
-    let count : length letters ≡ 2 ^ length inputs = c.in_ok-letters.ensures.count ∙ ap (λ (list : List ℕ). 2 ^ length list) c.as_slice.ensures in
-    let are : AreAnswered a controlled numbers letters (length letters) c.in_ok-answers.answers.items =
-    subst (λ (list : List (List ℕ)). AreAnswered a controlled numbers list (length list) c.in_ok-answers.answers.items) c.as_slice-2.ensures.value c.in_ok-answers.ensures.answers in
-    questions_made c.edges_are_taken_where_true.ensures a controlled numbers inputs letters c.in_ok-answers.answers.items
-    c.in_ok-inputs.ensures.inputs each count are
+    questions_held c.edges_are_taken_where_true.ensures c.args.automaton.now c.args.controlled.now c.args.numbers.now c.in_ok-mentioned.mentioned c.in_ok-mentioned.ensures.inputs
+    c.as_slice-inputs.result.now c.as_slice-inputs.ensures c.in_ok-listed.listed.items c.as_slice-answers.result.now c.as_slice-answers.ensures.value c.in_ok-listed.ensures.answers
+    c.in_ok-firsts.firsts.items c.as_slice.result.now c.as_slice.ensures.value c.in_ok-firsts.ensures.firsts c.questions_at.result c.questions_at.ensures.letters c.questions_at.ensures.answers

@@ -28,6 +28,7 @@ returns-clause-game c =
       letters = c.args.parted.now.letters;
       start = c.args.parted.now.start;
       parted = c.requires.parted;
+      rounds_kept = c.requires.rounds;
       whole = c.in_ok-whole.whole;
       named = c.in_ok-whole.ensures.game;
       part = part;

@@ -23,7 +23,7 @@ returns-in-Ok-clause-judgeable c =
       one_start = c.in_ok-judge_starts.ensures.one;
       apart = c.in-Ok.ensures.apart;
     } in
-    kind_judgeable c.args.automaton.now c.kind_of.result deterministic c.kind_of.ensures.kind
+    kind_judgeable c.args.automaton.now c.kind_of-in-Ok.result deterministic c.kind_of-in-Ok.ensures.kind
 
 pub returns-in-Ok-clause-refused : goal.returns-in-Ok-clause-refused
 returns-in-Ok-clause-refused c =
@@ -31,11 +31,29 @@ returns-in-Ok-clause-refused c =
       plain = sym c.has_universal_branching.ensures ∙ c.if-has_universal_branching.false;
       one_start = c.in_ok-judge_starts.ensures.one;
     } in
-    IfErr-weaker c.kind_of.result _ _ (λ e refused. kind_unjudgeable c.args.automaton.now single (inl c.in-Ok.ensures.apart) e refused)
-    c.kind_of.ensures.err
+    IfErr-weaker c.kind_of-in-Ok.result _ _ (λ e refused. kind_unjudgeable c.args.automaton.now single (inl c.in-Ok.ensures.apart) e refused)
+    c.kind_of-in-Ok.ensures.err
 
 pub unless_no_kind-requires-clause-single : goal.unless_no_kind-requires-clause-single
 unless_no_kind-requires-clause-single c = record {
   plain = sym c.has_universal_branching.ensures ∙ c.if-has_universal_branching.false;
   one_start = c.in_ok-judge_starts.ensures.one;
 }
+
+pub returns-then-apart-clause-judgeable : goal.returns-then-apart-clause-judgeable
+returns-then-apart-clause-judgeable c =
+    let deterministic : IsDeterministic c.args.automaton.now = record {
+      plain = sym c.has_universal_branching.ensures ∙ c.if-has_universal_branching.false;
+      one_start = c.in_ok-judge_starts.ensures.one;
+      apart = c.in_ok-apart.ensures.apart c.if-apart.true;
+    } in
+    kind_judgeable c.args.automaton.now c.kind_of.result deterministic c.kind_of.ensures.kind
+
+pub returns-then-apart-clause-refused : goal.returns-then-apart-clause-refused
+returns-then-apart-clause-refused c =
+    let single : IsSingle c.args.automaton.now = record {
+      plain = sym c.has_universal_branching.ensures ∙ c.if-has_universal_branching.false;
+      one_start = c.in_ok-judge_starts.ensures.one;
+    } in
+    IfErr-weaker c.kind_of.result _ _ (λ e refused. kind_unjudgeable c.args.automaton.now single (inl (c.in_ok-apart.ensures.apart c.if-apart.true)) e refused)
+    c.kind_of.ensures.err

@@ -28,9 +28,8 @@ returns-in_ok-letters-in-Asked-clause-realizability c =
     c.in_ok-letters-in-Asked.ensures.letters
     ∙ ap (λ (list : List (List ℕ)). map (λ state. letter_of list (asked_in c.as_slice-in-Asked.result.now state)) (range_with_len 0 c.state_count-count.result)) c.as_slice.ensures
     ∙ ap (λ (asked : List ℕ). map (λ state. letter_of letters (asked_in asked state)) (range_with_len 0 c.state_count-count.result)) c.as_slice-in-Asked.ensures
-    ∙ ap (λ (n : ℕ). map (λ state. letter_of letters (asked_in c.in-Asked.asked state)) (range_with_len 0 n)) c.state_count-count.ensures in (
-      c.askings_are_counter_strategies.ensures a c.args._controlled.now parted.rounds letters parted.start
-          c.in-Asked.kept c.in-Asked.asked c.in_ok-letters-in-Asked.letters c.requires.parted won.0
-          (letters_are a.states letters c.in-Asked.asked c.in_ok-letters-in-Asked.letters found),
-      won.1,
-    )
+    ∙ ap (λ (n : ℕ). map (λ state. letter_of letters (asked_in c.in-Asked.asked state)) (range_with_len 0 n)) c.state_count-count.ensures in
+    let won_by =
+    c.askings_are_counter_strategies.ensures a c.args._controlled.now parted.rounds letters parted.start
+    c.in-Asked.kept c.in-Asked.asked c.in_ok-letters-in-Asked.letters c.requires.parted won.0
+    (letters_are a.states letters c.in-Asked.asked c.in_ok-letters-in-Asked.letters found) in (won_by.0, won.1, won_by.1)

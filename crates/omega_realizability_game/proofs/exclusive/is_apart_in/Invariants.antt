@@ -1,0 +1,12 @@
+-- the labels so far are apart, and what they have is seen
+use Rattle.std.proofs.Common.{◌≡◌, ℕ, ◌<◌, true}
+use Rattle.omega_label.specs.Label.{LabelTree}
+use Rattle.omega_realizability_game.specs.Exclusive.{AreApartIn, HasLabelAt, block_word}
+use Rattle.omega_realizability_game.specs.Lanes.{is_set}
+use Rattle.omega_realizability_game.proofs.exclusive.is_apart_in.Given as goal
+
+abbrev pub invariant-loop-at : goal.invariant-loop-at
+invariant-loop-at l =
+    AreApartIn l.lanes.inputs.now l.lanes.block l.state l.at
+    × ((at lane : ℕ) (one : LabelTree) → at < l.at → HasLabelAt l.state at one
+    → is_set (block_word l.lanes.inputs.now l.lanes.block one) lane ≡ true → is_set l.seen lane ≡ true)

@@ -1,0 +1,42 @@
+-- Labels judged at 64 letters at once: each lane of a word, a bit, has one of the letters of a block.
+use Rattle.std.specs.Prelude.{◌≡◌, ◌↔◌, ℕ, ◌+◌, ◌*◌, ◌^◌, ◌<◌, ◌==◌, Bool, true, false, IsTrue, if◌then◌else◌, List, [], ◌∷◌, length}
+use Rattle.std.specs.Int.{bit_at}
+use Rattle.std.specs.List.{list_any}
+use Rattle.omega_label.specs.Label.{LabelTree, propositions}
+use Rattle.omega_satisfying.specs.private.Words.{word_among, word_of_truth}
+use Rattle.omega_realizability_game.specs.Answering.{CanAnswer, is_controlled}
+use Rattle.omega_realizability_game.specs.Letters.{holds_in, letter_numbered}
+
+-- the most propositions of the system in a label whose valuations are all tried
+abbrev pub most_free : ℕ
+most_free = 8
+
+-- whether a proposition is one of some
+abbrev pub is_one_of : List ℕ → ℕ → Bool
+is_one_of numbers p = list_any (λ q. q == p) numbers
+
+-- each of the numbers occurs once
+abbrev pub AreApart : List ℕ → Type 0
+AreApart [] = Unit {0}
+AreApart (number ∷ numbers) = (is_one_of numbers number ≡ false) × AreApart numbers
+
+-- the inputs, each once, are all that the label mentions
+pub record AreInputsFor (controlled inputs : List ℕ) (label : LabelTree) : Type 0 where
+  pub apart : AreApart inputs
+  pub covers : (p : ℕ) → is_controlled controlled p ≡ false → is_one_of (propositions label) p ≡ true
+      → is_one_of inputs p ≡ true
+
+-- the word of a proposition in a block, if of the system's propositions the chosen ones hold
+abbrev pub lane_word : List ℕ → List ℕ → List ℕ → ℕ → ℕ → ℕ
+lane_word controlled inputs chosen block p =
+    if is_controlled controlled p then word_of_truth (holds_in chosen p) else word_among block 0 inputs p
+
+-- whether a lane of a word is set
+abbrev pub is_set : ℕ → ℕ → Bool
+is_set word lane = bit_at word lane == 1
+
+-- in the lane of each letter over the inputs a word says whether the label can answer the letter
+abbrev pub IsAnswerWord : List ℕ → List ℕ → ℕ → LabelTree → ℕ → Type 0
+IsAnswerWord controlled inputs block label word =
+    (lane : ℕ) → lane < 64 → block * 64 + lane < 2 ^ length inputs
+    → IsTrue (is_set word lane) ↔ CanAnswer controlled label (holds_in (letter_numbered inputs (block * 64 + lane)))
