@@ -150,8 +150,8 @@ pub(crate) fn letter_count(count: usize) -> u32
     1 << count
 }
 
-/// Returns the letter over `inputs` with this `number`: the inputs that hold, in the order given. Input `k` holds if the
-/// binary digit `k` of the number is 1, the lowest digit being digit 0.
+/// Returns the letter over `inputs` with this `number`: the inputs that hold, in the order given. Input `k` holds if
+/// the binary digit `k` of the number is 1, the lowest digit being digit 0.
 pub(crate) fn letter_numbered(
     alloc: Global,
     inputs: &[u32],

@@ -13,8 +13,8 @@ use omega_runs::{EdgePlace, edges_are_taken_where_true};
 use omega_text::Numbers;
 use std::alloc::Global;
 
-/// Returns those of the edges of `automaton` with these `numbers` that answer the environment's `letter`, in their order.
-/// Reads the `places` of all edges. Fails as `answers_letter` does.
+/// Returns those of the edges of `automaton` with these `numbers` that answer the environment's `letter`, in their
+/// order. Reads the `places` of all edges. Fails as `answers_letter` does.
 pub fn answering_edges(
     alloc: Global,
     automaton: &Automaton,

@@ -3,6 +3,7 @@
 pub use Rattle.omega_controllers.specs.Controllers
 pub use Rattle.omega_realizability_game.specs.RoundsOf
 pub mod Gaming
+pub mod Laws
 pub mod Lifting
 pub mod Realizing
 pub mod Refusing

@@ -7,8 +7,8 @@ use Rattle.omega_realizability_game.specs.RoundsOf.{AreLeastLetters, letters_by_
 use Rattle.omega_realize.specs.declared.realizability.Realizability.{Realizability}
 use Rattle.omega_realize.specs.declared.realizability.Realizability.TheVariants.{Realizable, Unrealizable}
 
--- the answer is right: its edges are a controller, or with its letters a counter-strategy, each letter the first of those
--- that the same edges answer; the edges are listed in rising order, each once
+-- the answer is right: its edges are a controller, or with its letters a counter-strategy, each letter the first of
+-- those that the same edges answer; the edges are listed in rising order, each once
 abbrev pub IsRealizability : Description → List ℕ → Realizability → Type 0
 IsRealizability a controlled (Realizable kept) = IsController a controlled kept × IsStrictlyIncreasing kept
 IsRealizability a controlled (Unrealizable kept letters) =

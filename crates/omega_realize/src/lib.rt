@@ -6,6 +6,7 @@
 
 mod deciding;
 mod games;
+mod laws;
 mod parting;
 mod posing;
 mod realizability;
@@ -13,6 +14,7 @@ mod realizing;
 
 pub use deciding::{realize, realize_by_lifting};
 pub use games::realizability_game;
+pub use laws::games_decide;
 pub use omega_automaton::{Automaton, Refusal};
 pub use omega_rounds::Game;
 pub use omega_rounds_solving::{Numbers, Seq};
