@@ -1,0 +1,2 @@
+-- Symbolic words: what public contracts cite.
+pub mod Admitted

@@ -1,0 +1,10 @@
+-- Laws of the texts of words, whatever reads them.
+use Rattle.std.specs.Prelude.{ℕ, List}
+use Rattle.std.specs.List.{AllByRecursion}
+use Rattle.omega_symbolic_word.specs.declared.symbolic_word.SymbolicWord.{SymbolicWord}
+use Rattle.omega_text.specs.hoa.Forms.{IsQuotable}
+use Rattle.omega_word_text.specs.Text.{IsWordText}
+
+-- the names of a word that a text says are strings
+abbrev pub NamesAreStrings : Type 0
+NamesAreStrings = (source : List ℕ) (word : SymbolicWord) → IsWordText source word → AllByRecursion IsQuotable word.names
