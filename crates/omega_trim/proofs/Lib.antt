@@ -1,0 +1,10 @@
+pub mod Among
+pub mod Traced
+pub mod Turned
+pub mod ComponentGoals
+pub mod UsefulStates
+pub mod Flags
+pub mod Kept
+pub mod Deep
+pub mod Said
+pub mod Meant

@@ -1,0 +1,17 @@
+-- the sources are those of the automaton
+use Rattle.std.proofs.Common.{◌≡◌, ℕ, List, sym, subst, ◌∙◌}
+use Rattle.omega_components.specs.Graph.{AreStates, Shape}
+use Rattle.omega_components.specs.Reaching.{TellReached}
+use Rattle.omega_trim.specs.private.Placed.{shape_of, sources_of}
+use Rattle.omega_trim.proofs.Traced.{sources_inside}
+use Rattle.omega_trim.proofs.useful.reached_states.Goals as goal
+
+pub reached-requires-clause-sources : goal.reached-requires-clause-sources
+reached-requires-clause-sources c =
+    subst (λ (shape : Shape). AreStates shape c.as_slice.result.now) (sym c.requires.graph)
+    (subst (AreStates (shape_of c.args.automaton.now)) (sym (c.as_slice.ensures.value ∙ c.in_ok-sources.ensures.sources)) (sources_inside c.args.automaton.now))
+
+pub returns-clause-reached : goal.returns-clause-reached
+returns-clause-reached c =
+    subst (λ (sources : List ℕ). TellReached (shape_of c.args.automaton.now) c.args.edges.now sources c.in_ok-flags.flags.items) (c.as_slice.ensures.value ∙ c.in_ok-sources.ensures.sources)
+    (subst (λ (shape : Shape). TellReached shape c.args.edges.now c.as_slice.result.now c.in_ok-flags.flags.items) c.requires.graph c.in_ok-flags.ensures.reached)

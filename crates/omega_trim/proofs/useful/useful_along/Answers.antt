@@ -1,0 +1,13 @@
+-- the states with both flags are the useful ones
+use Rattle.std.proofs.Common.{◌≡◌, Bool, List, sym, ap, subst}
+use Rattle.omega_components.specs.Reaching.{TellReached}
+use Rattle.omega_trim.specs.private.Placed.{TellLive, shape_of, sources_of}
+use Rattle.omega_trim.proofs.UsefulStates.{both_useful}
+use Rattle.omega_trim.proofs.useful.useful_along.Goals as goal
+
+pub returns-clause-useful : goal.returns-clause-useful
+returns-clause-useful c =
+    both_useful c.args.automaton.now c.keeps_limits.ensures c.requires.plain c.args.edges.now c.requires.usable c.as_slice.result.now c.as_slice-2.result.now c.in_ok-kept.kept.keys
+    (subst (TellReached (shape_of c.args.automaton.now) c.args.edges.now (sources_of c.args.automaton.now)) (sym c.as_slice.ensures.value) c.in_ok-reached.ensures.reached)
+    (subst (TellLive c.args.automaton.now c.args.edges.now) (sym c.as_slice-2.ensures.value) c.in_ok-live.ensures.live)
+    c.in_ok-kept.ensures.both

@@ -1,0 +1,103 @@
+//! The header of a trimmed automaton, as a text writes it.
+
+ghost use Rattle.std.specs.Prelude.{◌≡◌, ◌∷◌, ◌++◌, [], length, map, IfOk, IsOkUnless, OnOk};
+ghost use Rattle.omega_formula.specs.Writing.{acc_written};
+ghost use Rattle.omega_raw.specs.declared.raw_item.RawItem.TheVariants as item;
+ghost use Rattle.omega_trim.specs.Trimmed.{starts_kept, trimmed};
+ghost use Rattle.omega_trim.specs.Written.{acc_name_items, header, name_items, start_item};
+ghost use Rattle.omega_trim.specs.private.Placed.{IsFew};
+
+use crate::names::{copied_acc_name, copied_names};
+use crate::numbers::{all_stay, renumbered};
+use indexmap::IndexSet;
+use omega_automaton::{Automaton, Refusal};
+use omega_formula::RawAcc;
+use omega_raw::RawItem;
+use omega_text::{ByteString, Seq};
+use std::alloc::Global;
+
+/// Returns the header, whose acceptance is `formula`.
+pub(crate) fn header(
+    alloc: Global,
+    automaton: &Automaton,
+    kept: &IndexSet<u32>,
+    formula: RawAcc,
+) -> Result<Vec<RawItem>, Refusal>
+    requires few { IsFew kept.now.keys }
+    requires formula { formula ≡ acc_written automaton.now.acceptance }
+    ensures items { IfOk result (λ items. items.items ≡ header (trimmed kept.now.keys automaton.now)) }
+    ensures memory { IsOkUnless result Refusal.Memory }
+{
+    let mut items = Vec::new(alloc);
+    items.push(RawItem::States(kept.len() as u32))?;
+    items.push(propositions(alloc, automaton)?)?;
+    items.push(RawItem::Acceptance {
+        count: automaton.set_count(),
+        formula,
+    })?;
+    push_name(alloc, &mut items, automaton)?;
+    push_acc_name(alloc, &mut items, automaton)?;
+    push_starts(alloc, &mut items, automaton, kept)?;
+    Ok(items)
+}
+
+/// Appends the name of `automaton`, if it has one.
+fn push_name(alloc: Global, items: &mut Vec<RawItem>, automaton: &Automaton) -> Result<(), Refusal>
+    ensures items { OnOk result (items.new.items ≡ items.old.items ++ name_items automaton.now.name) }
+    ensures memory { IsOkUnless result Refusal.Memory }
+{
+    if let Some(name) = automaton.name() {
+        items.push(RawItem::Name(ByteString::from_slice(alloc, name)?))?;
+    }
+    Ok(())
+}
+
+/// Appends the starts that stay.
+fn push_starts(
+    alloc: Global,
+    items: &mut Vec<RawItem>,
+    automaton: &Automaton,
+    kept: &IndexSet<u32>,
+) -> Result<(), Refusal>
+    requires { IsFew kept.now.keys }
+    ensures items { OnOk result
+        (items.new.items ≡ items.old.items ++ map start_item (starts_kept kept.now.keys automaton.now.starts)) }
+    ensures memory { IsOkUnless result Refusal.Memory }
+{
+    for start in automaton.starts() {
+        if all_stay(kept, start.as_slice()) {
+            items.push(RawItem::Start(renumbered(alloc, kept, start.as_slice())?))?;
+        }
+    }
+    Ok(())
+}
+
+/// Returns the header item of the propositions.
+fn propositions(alloc: Global, automaton: &Automaton) -> Result<RawItem, Refusal>
+    ensures item { IfOk result (λ made.
+        made ≡ item.Propositions (length automaton.now.propositions) automaton.now.propositions) }
+    ensures memory { IsOkUnless result Refusal.Memory }
+{
+    automaton.keeps_limits();
+    let names = automaton.propositions();
+    let count = names.len() as u32;
+    Ok(RawItem::Propositions {
+        count,
+        names: Seq::from_vec(copied_names(alloc, names)?),
+    })
+}
+
+/// Appends the name of the acceptance of `automaton`, if it has one.
+fn push_acc_name(
+    alloc: Global,
+    items: &mut Vec<RawItem>,
+    automaton: &Automaton,
+) -> Result<(), Refusal>
+    ensures items { OnOk result (items.new.items ≡ items.old.items ++ acc_name_items automaton.now.acc_name) }
+    ensures memory { IsOkUnless result Refusal.Memory }
+{
+    if let Some(name) = automaton.acc_name() {
+        items.push(RawItem::AccName(copied_acc_name(alloc, name)?))?;
+    }
+    Ok(())
+}

@@ -1,0 +1,24 @@
+//! Automata without useless states: those that no start reaches, and those in which no accepting lasso starts.
+//!
+//! docs/formats.md says when each refusal comes.
+#![tactic(auto)]
+
+mod edges;
+mod forming;
+mod goals;
+mod graph;
+mod header;
+mod keeping;
+mod labels;
+mod live;
+mod marks;
+mod names;
+mod numbers;
+mod places;
+mod states;
+mod trimming;
+mod usable;
+mod useful;
+
+pub use omega_automaton::{Automaton, Refusal};
+pub use trimming::trim;

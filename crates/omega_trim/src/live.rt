@@ -1,0 +1,49 @@
+//! The states in which accepting lassos start.
+
+ghost use Rattle.std.specs.Prelude.{◌≡◌, IfOk, IsOkUnless, vec_len};
+ghost use Rattle.omega_lasso_search.specs.private.Searched.{AreUsableEdges};
+ghost use Rattle.omega_trim.specs.private.Placed.{HasGoals, TellLive, shape_of};
+
+use crate::goals::goals;
+use crate::graph::reversed;
+use crate::marks::edge_marks;
+use omega_automaton::{Automaton, Refusal};
+use omega_components::{Graph, reached};
+use std::alloc::Global;
+
+/// Returns for each state of `graph` whether `edges` lead from it to an accepting closed walk.
+pub(crate) fn live_states(
+    alloc: Global,
+    automaton: &Automaton,
+    graph: &Graph,
+    edges: &[u32],
+) -> Result<Vec<bool>, Refusal>
+    requires graph { graph.now ≡ shape_of automaton.now }
+    requires usable { AreUsableEdges automaton.now edges.now }
+    ensures count { IfOk result (λ flags. vec_len flags ≡ graph.now.states) }
+    ensures live { IfOk result (λ flags. TellLive automaton.now edges.now flags.items) }
+    ensures memory { IsOkUnless result Refusal.Memory }
+{
+    let goals = goals_of(alloc, automaton, graph, edges)?;
+    let back = reversed(alloc, graph)?;
+    let flags = reached(alloc, &back, edges, goals.as_slice())?;
+    Ok(flags)
+}
+
+/// Returns states in which accepting closed walks begin, such that `edges` lead to one from each other such state.
+fn goals_of(
+    alloc: Global,
+    automaton: &Automaton,
+    graph: &Graph,
+    edges: &[u32],
+) -> Result<Vec<u32>, Refusal>
+    requires graph { graph.now ≡ shape_of automaton.now }
+    requires usable { AreUsableEdges automaton.now edges.now }
+    ensures goals { IfOk result (λ goals. HasGoals automaton.now edges.now goals.items) }
+    ensures memory { IsOkUnless result Refusal.Memory }
+{
+    let marks = edge_marks(alloc, automaton)?;
+    let formula = automaton.acceptance().shape(alloc)?;
+    let goals = goals(alloc, graph, marks.as_slice(), edges, &formula)?;
+    Ok(goals)
+}

@@ -1,0 +1,95 @@
+//! Which edges of an automaton are usable.
+ghost use Rattle.std.specs.Prelude.{◌≡◌, ◌++◌, ◌↔◌, [], ◌∷◌, if◌then◌else◌, IfErr, IfOk, IfSome, IsOkUnless, IsTrue, OnOk};
+ghost use Rattle.omega_satisfying.specs.Satisfiable.{IsSatisfiable};
+ghost use Rattle.omega_automaton.specs.Automaton.{edges_from};
+ghost use Rattle.omega_runs.specs.Judging.{AreUsable, GivesUpOn, HasHard, HasHardLabel, IsHard};
+ghost use Rattle.omega_runs.specs.Lasso.{IsUsable};
+ghost use Rattle.omega_lasso_search.specs.private.Judged.{AddsJudged};
+ghost use Rattle.omega_lasso_search.specs.private.Searched.{AreUsableEdges};
+
+use omega_automaton::{Automaton, EdgeRef, Refusal, State};
+use omega_runs::can_hold;
+use std::alloc::Global;
+
+/// Returns the numbers of the usable edges, in ascending order. A label of a state is judged once, and then those of
+/// its edges are not. Fails with [TaskFault::TooManyPropositions] if a label mentions over `MOST_MENTIONED`
+/// propositions and is given up.
+pub(crate) fn usable_edges(alloc: Global, automaton: &Automaton) -> Result<Vec<u32>, Refusal>
+    ensures usable { IfOk result (λ edges. AreUsableEdges automaton.now edges.items) }
+    ensures refused { IfErr result (GivesUpOn (HasHardLabel automaton.now)) }
+{
+    let flags = judged(alloc, automaton)?;
+    let edges = chosen(alloc, automaton, flags.as_slice())?;
+    Ok(edges)
+}
+
+/// Returns for each edge whether it is usable, by number. Fails with [TaskFault::TooManyPropositions] if a label is
+/// given up.
+fn judged(alloc: Global, automaton: &Automaton) -> Result<Vec<bool>, Refusal>
+    ensures usable { IfOk result (λ usable. AreUsable automaton.now usable.items) }
+    ensures refused { IfErr result (GivesUpOn (HasHardLabel automaton.now)) }
+{
+    let mut usable = Vec::with_capacity(alloc, automaton.edge_count() as usize)?;
+    for state in automaton.defined() {
+        judge_edges(alloc, state, &mut usable)?;
+    }
+    Ok(usable)
+}
+
+/// Appends for each edge of `state` whether it is usable. Fails with [TaskFault::TooManyPropositions] if a label is
+/// given up.
+fn judge_edges(alloc: Global, state: &State, usable: &mut Vec<bool>) -> Result<(), Refusal>
+    ensures judged { OnOk result (AddsJudged (edges_from state.now) usable.old.items usable.new.items) }
+    ensures refused { IfErr result (GivesUpOn (HasHard state.now)) }
+{
+    let possible = can_hold(alloc, state.label.as_ref())?;
+    for at in 0..state.edges.len() {
+        let edge = state.edges.edge(at);
+        let judged = is_usable(alloc, state, possible, &edge)?;
+        usable.push(judged)?;
+    }
+    Ok(())
+}
+
+/// Whether `edge` of `state` is usable, given in `possible` whether the label of `state` can be true. Fails with
+/// [TaskFault::TooManyPropositions] if the label of `edge` is given up.
+fn is_usable(
+    alloc: Global,
+    state: &State,
+    possible: bool,
+    edge: &EdgeRef<'_>,
+) -> Result<bool, Refusal>
+    requires { IsTrue possible ↔ IfSome state.now.label IsSatisfiable }
+    ensures judged { IfOk result (λ judged. IsTrue judged ↔ IsUsable (record { source = state.now; edge = edge.now })) }
+    ensures refused { IfErr result (GivesUpOn (IsHard edge.now.label)) }
+{
+    match &state.label {
+        Some(_) => Ok(possible),
+        None => can_hold(alloc, edge.label()),
+    }
+}
+
+/// Returns the numbers of the edges whose `flags` are set, in ascending order.
+fn chosen(alloc: Global, automaton: &Automaton, flags: &[bool]) -> Result<Vec<u32>, Refusal>
+    requires { AreUsable automaton.now flags.now }
+    ensures usable { IfOk result (λ edges. AreUsableEdges automaton.now edges.items) }
+    ensures memory { IsOkUnless result Refusal.Memory }
+{
+    let mut edges = Vec::with_capacity(alloc, automaton.edge_count() as usize)?;
+    for number in 0..automaton.edge_count() {
+        add_chosen(&mut edges, flags[number as usize], number)?;
+    }
+    Ok(edges)
+}
+
+/// Appends `number` if `flag` is set.
+fn add_chosen(numbers: &mut Vec<u32>, flag: bool, number: u32) -> Result<(), Refusal>
+    ensures numbers { OnOk result
+        (numbers.new.items ≡ (if flag then numbers.old.items ++ number ∷ [] else numbers.old.items)) }
+    ensures memory { IsOkUnless result Refusal.Memory }
+{
+    if flag {
+        numbers.push(number)?;
+    }
+    Ok(())
+}

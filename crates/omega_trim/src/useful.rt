@@ -1,0 +1,148 @@
+//! The useful states of an automaton.
+
+ghost use Rattle.std.specs.Prelude.{◌≡◌, ◌+◌, ◌<◌, ◌&&◌, false, if◌then◌else◌, length, nat_eq, IfErr, IfOk, IsOkUnless, OnOk, vec_len};
+ghost use Rattle.std.specs.List.Sorted.{IsPermutation, IsStrictlyIncreasing};
+ghost use Rattle.indexmap.specs.IndexSet.{insert_key};
+ghost use Rattle.omega_automaton.specs.Branching.{has_universal_branching};
+ghost use Rattle.omega_components.specs.Reaching.{TellReached};
+ghost use Rattle.omega_runs.specs.Judging.{GivesUpOn, HasHardLabel};
+ghost use Rattle.omega_lasso_search.specs.private.Searched.{AreUsableEdges};
+ghost use Rattle.omega_trim.specs.Useful.{AreUsefulStates};
+ghost use Rattle.omega_trim.specs.private.Placed.{HaveBoth, IsFew, defined_numbers, flag_at, shape_of, sources_of};
+
+use crate::graph::{graph_of, sources_of};
+use crate::live::live_states;
+use crate::places::{place_in, places_of};
+use crate::usable::usable_edges;
+use indexmap::IndexSet;
+use omega_automaton::{Automaton, Refusal};
+use omega_components::{Graph, reached};
+use std::alloc::Global;
+
+/// For each state of a graph whether it is reached, and whether an accepting lasso starts in it.
+#[derive(Clone, Copy)]
+struct Flags<'a> {
+    reached: &'a [bool],
+    live: &'a [bool],
+}
+
+/// Returns the numbers of the useful states, in ascending order. Fails with [TaskFault::TooManyPropositions] if a label
+/// is given up.
+pub(crate) fn useful_states(alloc: Global, automaton: &Automaton) -> Result<IndexSet<u32>, Refusal>
+    requires plain { has_universal_branching automaton.now ≡ false }
+    ensures useful { IfOk result (λ kept. AreUsefulStates automaton.now kept.keys) }
+    ensures few { IfOk result (λ kept. IsFew kept.keys) }
+    ensures refused { IfErr result (GivesUpOn (HasHardLabel automaton.now)) }
+{
+    let edges = usable_edges(alloc, automaton)?;
+    let kept = useful_along(alloc, automaton, edges.as_slice())?;
+    Ok(kept)
+}
+
+/// Returns the numbers of the useful states, given the usable `edges`.
+fn useful_along(
+    alloc: Global,
+    automaton: &Automaton,
+    edges: &[u32],
+) -> Result<IndexSet<u32>, Refusal>
+    requires plain { has_universal_branching automaton.now ≡ false }
+    requires usable { AreUsableEdges automaton.now edges.now }
+    ensures useful { IfOk result (λ kept. AreUsefulStates automaton.now kept.keys) }
+    ensures few { IfOk result (λ kept. IsFew kept.keys) }
+    ensures memory { IsOkUnless result Refusal.Memory }
+{
+    automaton.keeps_limits();
+    let places = places_of(alloc, automaton)?;
+    let graph = graph_of(alloc, automaton, &places)?;
+    let reached = reached_states(alloc, automaton, &places, &graph, edges)?;
+    let live = live_states(alloc, automaton, &graph, edges)?;
+    let flags = Flags {
+        reached: reached.as_slice(),
+        live: live.as_slice(),
+    };
+    let kept = with_both(alloc, automaton, &places, &flags)?;
+    Ok(kept)
+}
+
+/// Returns for each state of `graph` whether `edges` lead to it from a start.
+fn reached_states(
+    alloc: Global,
+    automaton: &Automaton,
+    places: &IndexSet<u32>,
+    graph: &Graph,
+    edges: &[u32],
+) -> Result<Vec<bool>, Refusal>
+    requires places { places.now.keys ≡ defined_numbers automaton.now }
+    requires few { IsFew places.now.keys }
+    requires graph { graph.now ≡ shape_of automaton.now }
+    requires usable { AreUsableEdges automaton.now edges.now }
+    ensures count { IfOk result (λ flags. vec_len flags ≡ graph.now.states) }
+    ensures reached { IfOk result (λ flags.
+        TellReached (shape_of automaton.now) edges.now (sources_of automaton.now) flags.items) }
+    ensures memory { IsOkUnless result Refusal.Memory }
+{
+    let sources = sources_of(alloc, automaton, places)?;
+    let flags = reached(alloc, graph, edges, sources.as_slice())?;
+    Ok(flags)
+}
+
+/// Returns the numbers of the defined states with both flags, in ascending order.
+fn with_both(
+    alloc: Global,
+    automaton: &Automaton,
+    places: &IndexSet<u32>,
+    flags: &Flags<'_>,
+) -> Result<IndexSet<u32>, Refusal>
+    requires places { places.now.keys ≡ defined_numbers automaton.now }
+    requires few { IsFew places.now.keys }
+    requires reached { length flags.now.reached.now ≡ length automaton.now.defined + 1 }
+    requires live { length flags.now.live.now ≡ length automaton.now.defined + 1 }
+    ensures both { IfOk result (λ kept.
+        HaveBoth automaton.now flags.now.reached.now flags.now.live.now kept.keys) }
+    ensures few { IfOk result (λ kept. IsFew kept.keys) }
+    ensures memory { IsOkUnless result Refusal.Memory }
+{
+    let mut kept = IndexSet::new(alloc);
+    for state in automaton.defined() {
+        let place = place_in(places, state.number) as usize;
+        add_if(&mut kept, state.number, both(flags, place))?;
+    }
+    let kept = sorted(kept)?;
+    Ok(kept)
+}
+
+/// Whether both flags at `place` are set.
+fn both(flags: &Flags<'_>, place: usize) -> bool
+    requires reached { place < length flags.now.reached.now }
+    requires live { place < length flags.now.live.now }
+    ensures { result ≡ (flag_at flags.now.reached.now place && flag_at flags.now.live.now place) }
+{
+    flags.reached[place] && flags.live[place]
+}
+
+/// Adds `number` if `flag` is set.
+fn add_if(numbers: &mut IndexSet<u32>, number: u32, flag: bool) -> Result<(), Refusal>
+    ensures numbers { OnOk result
+        (numbers.new.keys ≡ (if flag then insert_key nat_eq numbers.old.keys number else numbers.old.keys)) }
+    ensures memory { IsOkUnless result Refusal.Memory }
+{
+    if flag {
+        numbers.insert(number)?;
+    }
+    Ok(())
+}
+
+/// Sorts `numbers`. Fails with [Refusal::Memory] also if there are over 2^32 - 2 of them.
+fn sorted(numbers: IndexSet<u32>) -> Result<IndexSet<u32>, Refusal>
+    ensures same { IfOk result (λ sorted. IsPermutation numbers.keys sorted.keys) }
+    ensures rising { IfOk result (λ sorted. IsStrictlyIncreasing sorted.keys) }
+    ensures few { IfOk result (λ sorted. IsFew sorted.keys) }
+    ensures memory { IsOkUnless result Refusal.Memory }
+{
+    let mut sorted = numbers;
+    sorted.sort()?;
+    if sorted.len() >= u32::MAX as usize {
+        return Err(Refusal::Memory);
+    }
+    Ok(sorted)
+}
