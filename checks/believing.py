@@ -31,9 +31,16 @@ BESIDE_HEADLINE = "; that the program keeps the bound and answers exactly is in 
 CONTAINMENT = "omega_language_laws.specs.Containment"
 CONTAINMENT_LAWS = ("EmptyMeansContained", "LassosMeanNotContained")
 CONTAINMENT_ANSWERS = frozenset({"IsComplementAnswer", "IsMeetAnswer", "IsEmptyAnswer", "IsEmptySearchAnswer"})
-# What the calls of the library on containment answer, where they answer.
-CALLED = "omega_containment.specs"
-CALLS = {"contained": ("Containing", "IsContainment"), "equal": ("Equality", "IsEquality")}
+# The laws on controllers and counter-strategies: what they are good for, and that no automaton has both.
+CONTROLLERS = "omega_controllers.specs.Laws"
+CONTROLLER_LAWS = ("ControllersRealize", "CounterStrategiesRefute", "ControllersExcludeCounterStrategies")
+# What calls of the library answer, where they answer.
+CALLS = {
+    "`contained` of `omega_containment`": ("omega_containment.specs.Containing", "IsContainment"),
+    "`equal` of `omega_containment`": ("omega_containment.specs.Equality", "IsEquality"),
+    "`realize` of `omega_realize`": ("omega_realize.specs.Realizing", "IsRealizability"),
+    "`judge` of `omega_controller_judge`": ("omega_controller_judge.specs.Judging", "IsJudgement"),
+}
 
 # Each promise, with the beginnings of the rows that are its own.
 COMMANDS = {
@@ -79,6 +86,8 @@ WORD = re.compile(r"[^\s(){}\[\],;:=λ×→↔¬⊎]+")
 
 
 CONTAINED = "containment, the laws `empty_means_contained` and `lassos_mean_not_contained`"
+CONTROLLED = ("realizability, the laws `controllers_realize`, `counter_strategies_refute` and "
+              "`controllers_exclude_counter_strategies`")
 
 FRONT = """# What to read to believe it
 
@@ -104,8 +113,17 @@ whole program.
 
 The row of containment is what the answers of `complement`, `meet` and `empty` say of two texts, one after the other. It
 counts what texts, runs and words are. What a product and a complement are is not among it, since the laws say what the
-answers mean. The two rows of the library's calls on containment are their answers alone. Their refusals are those of
-`complement`, `product` and `lasso`, and rest on what these are.
+answers mean. The rows of the library's calls `contained`, `equal`, `realize` and `judge` are their answers alone. Their
+refusals are not counted: those of the first two are those of `complement`, `product` and `lasso`, and rest on what
+these are.
+
+The row of realizability is what a controller and a counter-strategy are good for: the system realizes the automaton,
+or is refuted. That the one or the other is there is what `realize` answers, and the row of that call counts what the
+two are. No row of these has a definition of a game. Whoever has read what lassos, runs and words are needs in addition,
+of `omega_controllers`, `AgreeOnInputs`, `Answers`, `IsMet`, `IsKeptCycle`, `is_accepted`, `HasAnswer`, `IsController`
+and `IsCounterStrategy`. For the laws there are also `System`, `so_far`, `is_controlled`, `joined`, `word_of`,
+`RealizesBy`, `IsRefuted` and `RecursOrCeases`, and what a deterministic automaton is. Games are read in the row
+`omega realize` for its refusals alone, such as a game that is too large or a budget that is used up.
 
 **How to read one.** Each section below lists the files of `crates/CRATE/specs/` in an order in which nothing is cited
 before it was read, and how many lines of each file are needed. `checks/believing.py check --format pg` prints just
@@ -398,9 +416,9 @@ def promises(sources: Sources) -> Iterator[tuple[str, list[Believed]]]:
         yield f"`omega {label}`", sources.reached(sources.rows_cite(arguments))
     laws = [sources.held[CONTAINMENT, law] for law in CONTAINMENT_LAWS]
     yield CONTAINED, sources.reached(laws, CONTAINMENT_ANSWERS)
-    for call, (module, answer) in CALLS.items():
-        held = sources.held[f"{CALLED}.{module}", answer]
-        yield f"answers of `{call}` of `omega_containment`", sources.reached([held])
+    yield CONTROLLED, sources.reached([sources.held[CONTROLLERS, law] for law in CONTROLLER_LAWS])
+    for call, answer in CALLS.items():
+        yield f"answers of {call}", sources.reached([sources.held[answer]])
     read_words = clause_words("crates/omega_command_line/src/words.rt", "read_words")
     yield "the words of the command line, `read_words`", sources.reached(sources.cited(read_words))
     obey = clause_words("crates/omega_run/src/obeying.rt", "obey")
