@@ -5,8 +5,8 @@ altered ones as a slow judge says, with the reason.
 
 The automata are deterministic, of the four kinds, and have up to 6 states and up to 4 propositions; edges are missing,
 marks stand on states and on edges, labels on states, on edges and nowhere. Some have a fault, for which they are
-refused. A controller is altered by an edge that is dropped, redirected or added, among others. The judge of winners is
-tried with winners that were found by hand, and with wrong ones.
+refused. A controller is altered by an edge that is dropped, redirected or added, among others, and is judged for another
+automaton too. The judge of winners is tried with winners that were found by hand, and with wrong ones.
 """
 import itertools
 import random
@@ -19,7 +19,7 @@ from games import read_game, winners
 from program import Cases, Fault, Ran, run_of, shown
 from realizability import Parted, asked, game_fault, is_controller, is_realizable, judgeable, lack_fault, lacks
 from realizability import winner_fault, winner_text
-from specifications import WINNERS, Altered, Specifications
+from specifications import ARBITRATES, WINNERS, Altered, Specifications
 from words import NoWord
 
 REALIZABLE, UNREALIZABLE = (0, b"realizable\n"), (6, b"unrealizable\n")
@@ -135,14 +135,11 @@ def found_fault(asked_of: Parted, text: bytes, is_controller: bool) -> Fault:
     return None if winner_fault(asked_of, text, is_controller) else "it is found right"
 
 
-def altered_checks(label: str, text: bytes, drawn: random.Random) -> Cases:
-    """How the program judges the controller that it writes of a text, if it writes one, and altered ones."""
-    ran = run_of(["realize", "--controller"], text)
-    if ran.returncode or ran.stderr:
-        return
-    yield f"{label}: its own controller", partial(own_fault, text, ran.stdout)
-    for what, controller in Altered(ran.stdout, drawn).each():
-        yield f"{label}: its controller with {what}", partial(judged_fault, text, controller)
+def altered_checks(label: str, text: bytes, controller: bytes, drawn: random.Random) -> Cases:
+    """How the program judges the controller that it writes of a text, and altered ones."""
+    yield f"{label}: its own controller", partial(own_fault, text, controller)
+    for what, altered in Altered(controller, drawn).each():
+        yield f"{label}: its controller with {what}", partial(judged_fault, text, altered)
     whole = winner_of_all(asked(read_one(text))[0])
     yield f"{label}: all of its edges", partial(judged_fault, text, whole)
 
@@ -219,7 +216,7 @@ def refusal_checks() -> Cases:
 
 
 def random_checks() -> Cases:
-    maker = Specifications(2031)
+    maker, last = Specifications(2031), ARBITRATES
     for number in range(1000):
         text = maker.specification()
         label = f"the automaton {number}, {text!r}"
@@ -230,7 +227,11 @@ def random_checks() -> Cases:
         if number % 5 == 0:
             yield f"realize --controller --lift, {label}", partial(written_fault, text, LIFT)
             yield f"realize --lift --budget, {label}", partial(budget_fault, text, maker.some(0, 6))
-        yield from altered_checks(f"verify --specification, {label}", text, maker.random)
+        yield f"verify --specification, {label}: another's controller", partial(judged_fault, text, last)
+        ran = run_of(["realize", "--controller"], text)
+        if (ran.returncode, ran.stderr) == (0, b""):
+            last = ran.stdout
+            yield from altered_checks(f"verify --specification, {label}", text, last, maker.random)
 
 
 def synthesis_checks() -> Cases:
