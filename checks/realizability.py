@@ -10,14 +10,13 @@ import re
 from collections.abc import Collection, Iterator
 from dataclasses import dataclass
 
-from automata import Automaton, Refused, State, Tree, bare, leaves, read_one, written
+from automata import Automaton, Refused, Tree, bare, leaves, read_one, written
 from containing import dual, formula_of, is_contained
 from emptiness import Kind, Move, Parity, branches, has_accepting_walk, is_true, kind_of, moves_of, priority
 from emptiness import reached_from
 from games import Game, Node, winners
-from products import names_of
+from products import named, names_of
 from program import Fault, difference
-from words import Reader
 
 # The numbers of the propositions that hold.
 Held = frozenset[int]
@@ -202,7 +201,7 @@ def winner_text(asked_of: Parted, kept: Collection[int], letters: dict[int, Held
     for state in asked_of.automaton.states:
         if state.number not in numbers:
             continue
-        lines.append([b"State: %d" % numbers[state.number], *named(state)])
+        lines.append([b"State: %d" % numbers[state.number], *([] if state.name is None else [state.name])])
         for move in asked_of.leaving(state.number):
             if move.number in kept:
                 label = asked_of.label_of(move)
@@ -210,10 +209,6 @@ def winner_text(asked_of: Parted, kept: Collection[int], letters: dict[int, Held
                     label = ("&", letter_label(asked_of, letters[state.number]), label)
                 lines.append([b"[" + written(label) + b"]", b"%d" % numbers[move.targets[0]]])
     return b"".join(b" ".join(line) + b"\n" for line in [*lines, [b"--END--"]])
-
-
-def named(state: State) -> list[bytes]:
-    return [] if state.name is None else [state.name]
 
 
 class NoWinner(Exception):
@@ -347,15 +342,19 @@ def lack_fault(controller: Parted, reason: bytes) -> Fault:
         at = {move.targets[0] for move in moves}
     if state not in at:
         return f"the stem {stem} does not lead to the state {state}"
+    texts = {letter_text(controller, given): given for given in subsets(controller.inputs)}
+    if said[2] not in texts:
+        return f"{said[2]!r} is no letter of the environment"
+    if any(controller.answers(move, texts[said[2]]) for move in controller.leaving(state)):
+        return f"the letter {said[2]!r} is answered"
+    return None
+
+
+def letter_text(controller: Parted, given: Held) -> bytes:
+    """A letter of the environment as words have it."""
     names = names_of(controller.automaton)
-    formula = Reader(said[2]).formula()
-    given = {held & frozenset(controller.inputs) for held in subsets(range(len(names)))
-             if formula(frozenset(names[number] for number in held))}
-    if not given:
-        return "the letter is never true"
-    answered = [held for held in given
-                if any(controller.answers(move, held) for move in controller.leaving(state))]
-    return f"the letter {sorted(answered[0])} is answered" if answered else None
+    literals = [(b"" if number in given else b"!") + named(names[number]) for number in controller.inputs]
+    return b" & ".join(literals) or b"1"
 
 
 def game_fault(asked_of: Parted, kind: Parity, nodes: Game) -> Fault:

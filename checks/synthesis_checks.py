@@ -5,8 +5,8 @@ altered ones as a slow judge says, with the reason.
 
 The automata are deterministic, of the four kinds, and have up to 6 states and up to 4 propositions; edges are missing,
 marks stand on states and on edges, labels on states, on edges and nowhere. Some have a fault, for which they are
-refused. A controller is altered by an edge that is dropped, redirected or added, among others, and is judged for another
-automaton too. The judge of winners is tried with winners that were found by hand, and with wrong ones.
+refused. A controller is altered by an edge that is dropped, redirected or added, among others, and is judged for
+another automaton too. The judge of winners is tried with winners that were found by hand, and with wrong ones.
 """
 import itertools
 import random
@@ -20,7 +20,6 @@ from program import Cases, Fault, Ran, run_of, shown
 from realizability import Parted, asked, game_fault, is_controller, is_realizable, judgeable, lack_fault, lacks
 from realizability import winner_fault, winner_text
 from specifications import ARBITRATES, WINNERS, Altered, Specifications
-from words import NoWord
 
 REALIZABLE, UNREALIZABLE = (0, b"realizable\n"), (6, b"unrealizable\n")
 YES, NO = (0, b"yes\n"), (6, b"no\n")
@@ -110,12 +109,7 @@ def reason_fault(specification: bytes, controller: Parted, text: bytes, reason: 
         return "a reason is given" if reason else None
     if not controller.starts:
         return None if reason == b"no start\n" else "there is no start"
-    if not lacks(controller):
-        return explained_fault(text, specification, reason)
-    try:
-        return lack_fault(controller, reason)
-    except NoWord as why:
-        return f"the letter: {why}"
+    return lack_fault(controller, reason) if lacks(controller) else explained_fault(text, specification, reason)
 
 
 def judge_checks() -> Cases:
