@@ -179,9 +179,25 @@ def counter_strategy_fault(asked_of: Parted, kept: Collection[int], letters: dic
         answers = {move.number for move in asked_of.leaving(state) if asked_of.answers(move, letters[state])}
         if answers != {move.number for move in moves if move.source == state}:
             return f"state {state} keeps other edges than those that answer the letter {sorted(letters[state])}"
+        least = first_letter(asked_of, state, answers)
+        if answers and letters[state] != least:
+            return f"state {state} has the letter {sorted(letters[state])}, and not {sorted(least)}"
     if has_accepting_walk(list(asked_of.starts), moves, formula_of(asked_of.automaton)[1]):
         return "a closed walk of kept edges is accepted"
     return None
+
+
+def first_letter(asked_of: Parted, state: int, answers: set[int]) -> Held:
+    """The first letter, by number, that just these edges of a state answer. The digits of the number, the lowest first,
+    say which of the inputs hold that the labels of the state's edges mention, as they come from left to right."""
+    leaving = asked_of.leaving(state)
+    mentioned = [leaf[1] for move in leaving for leaf in leaves(asked_of.label_of(move)) if leaf[0] == "number"]
+    inputs = [number for number in dict.fromkeys(mentioned) if number in asked_of.inputs]
+    for number in range(2 ** len(inputs)):
+        given = frozenset(input for digit, input in enumerate(inputs) if number >> digit & 1)
+        if answers == {move.number for move in leaving if asked_of.answers(move, given)}:
+            return given
+    raise ValueError(f"no letter has the answers {answers}")
 
 
 def letter_label(asked_of: Parted, given: Held) -> Tree:

@@ -53,7 +53,8 @@ WINNERS: list[Winners] = [
         ("an answer kept", ASKS.replace(b"State: 0\n", b"State: 0\n[0&1&(!0|1)] 0\n")),
         ("a letter of the system alone", ASKS.replace(b"State: 0\n", b"State: 0\n[1&(!0|1)] 0\n")),
         ("a label without a letter", ASKS.replace(b"State: 0\n", b"State: 0\n[!0|1] 0\n"))]),
-    (GUESS, False, [SURPRISES, SURPRISES.replace(b"[!0&", b"[0&")], [
+    (GUESS, False, [SURPRISES], [
+        ("a letter that is not the first", SURPRISES.replace(b"[!0&", b"[0&")),
         ("an answer left out", winner(2, b'2 "e" "s"', b" 1", b"State: 0/[!0&1] 1/State: 1")),
         ("two letters of a state", SURPRISES.replace(b"[!0&!1]", b"[0&!1]")),
         ("no letter", SURPRISES.replace(b"[!0&1]", b"[1]").replace(b"[!0&!1]", b"[!1]")),
