@@ -38,8 +38,8 @@ pub(crate) fn lift_again<T: MeasureTable, S: Schedule>(
     lift_while_due(game, player, table, schedule, place, most)
 }
 
-/// Lifts `place`, which leads to itself, again while a lift is due there and the schedule takes it again, at most `most`
-/// times. Returns how often.
+/// Lifts `place`, which leads to itself, again while a lift is due there and the schedule takes it again, at most
+/// `most` times. Returns how often.
 // A call, since few places lead to themselves.
 #[inline(never)]
 fn lift_while_due<T: MeasureTable, S: Schedule>(
