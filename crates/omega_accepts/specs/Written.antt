@@ -1,5 +1,5 @@
--- The automaton of a symbolic word as a text writes it (HOA v1, header and body): a state for each letter, in a row that
--- leads back to the first letter of the cycle. Each run is accepted.
+-- The automaton of a symbolic word as a text writes it (HOA v1, header and body): a state for each letter, in a row
+-- that leads back to the first letter of the cycle. Each run is accepted.
 use Rattle.std.specs.Prelude.{ℕ, ◌+◌, ◌<◌, ◌≤◌, ◌==◌, true, if◌then◌else◌, List, [], ◌∷◌, ◌++◌, length, None, Some, codes}
 use Rattle.omega_automaton.specs.Automaton.{Description}
 use Rattle.omega_automaton.specs.Limits.{most_propositions}
@@ -62,8 +62,8 @@ written_word word = record {
 abbrev pub IsWordAutomaton : SymbolicWord → Description → Type 0
 IsWordAutomaton word a = Means (written_word word) a
 
--- a word has no automaton: it has over `most_states` letters or over `most_propositions` names, or the written automaton
--- breaks another limit
+-- a word has no automaton: it has over `most_states` letters or over `most_propositions` names, or the written
+-- automaton breaks another limit
 pub data HasNoAutomaton (word : SymbolicWord) : Type 0 where
   too_long : most_states ≤ length word.stem + length word.others → HasNoAutomaton word
   too_many_names : most_propositions < length word.names → HasNoAutomaton word

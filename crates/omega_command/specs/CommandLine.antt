@@ -336,8 +336,8 @@ IsUsed name.Verbose options = GivesFlag (text_of name.Verbose options) true
 IsUsed name.File options = text_of name.File options ≢ None
 
 -- the option of the subcommand that conflicts with this one: the search of `solve` is for both players, that of `empty`
--- makes no lifts, `--automaton` conflicts with `--game` and `--from`, and the game of `realize` is written without being
--- solved
+-- makes no lifts, `--automaton` conflicts with `--game` and `--from`, and the game of `realize` is written without
+-- being solved
 abbrev pub IsApartFrom : OptionName → List ℕ → OptionName → Type 0
 IsApartFrom name.Search subcommand option =
     ((subcommand ≡ codes "solve") × (option ≡ name.Player))

@@ -11,22 +11,24 @@ use omega_automaton::{Automaton, has_universal_branching};
 use omega_text::{Refusal, TaskFault};
 use std::alloc::Global;
 
-/// Returns `automaton` without its useless states. It accepts the same words (law `trims_accept_the_same` of `omega_trim_laws`).
+/// Returns `automaton` without its useless states. It accepts the same words (law `trims_accept_the_same` of
+/// `omega_trim_laws`).
 ///
 /// A state is useful if usable edges lead to it from a start, and an accepting lasso starts in it, whatever the
-/// acceptance formula (HOA v1, acceptance). Useful states stay, and so do the starts and edges all of whose states stay.
-/// States are numbered anew in the order of their numbers. The order of the body, labels, marks and names of states
-/// stay as they are, and so do propositions, the acceptance and its name, and the name of the automaton. If an edge of
-/// a state without labels goes, the others get the labels of their valuations. The tool, the properties and the headers
-/// that the format leaves open are left out, as what they say may no longer hold. If no state is useful, none is left.
+/// acceptance formula (HOA v1, acceptance). Useful states stay, and so do the starts and edges all of whose states
+/// stay. States are numbered anew in the order of their numbers. The order of the body, labels, marks and names of
+/// states stay as they are, and so do propositions, the acceptance and its name, and the name of the automaton. If an
+/// edge of a state without labels goes, the others get the labels of their valuations. The tool, the properties and the
+/// headers that the format leaves open are left out, as what they say may no longer hold. If no state is useful, none
+/// is left.
 ///
 /// Refusals, the first of these that applies:
 ///
 /// - [TaskFault::UniversalBranch] if a start or an edge lists several states.
 /// - [TaskFault::TooManyPropositions] if a label mentions over `MOST_MENTIONED` propositions and `is_satisfiable` gives
 ///   it up.
-/// - [TaskFault::TooLarge] if the acceptance or a label that stays is deeper than `MOST_DEPTH` with the parentheses that
-///   it needs, or if the labels that stay pass a limit of automata, as those of valuations may.
+/// - [TaskFault::TooLarge] if the acceptance or a label that stays is deeper than `MOST_DEPTH` with the parentheses
+///   that it needs, or if the labels that stay pass a limit of automata, as those of valuations may.
 ///
 /// Takes the time of `is_satisfiable` for each label. Otherwise linear in the states and edges, but for one
 /// `accepting_walk` on the usable edges inside each strongly connected component, and its scratch space, which has a
