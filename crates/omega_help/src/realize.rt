@@ -71,8 +71,8 @@ this order:
 
 41 UniversalBranch: a start or an edge that lists several states joined by &
 56 NotDeterministic: several starts, or two edges of a state that can be taken at one letter
-40 NotParity: an acceptance that is none of parity max even K, parity max odd K, parity min even K and
-   parity min odd K, by its name and by the formula that the Hanoi format gives to it
+40 NotParity: an acceptance other than all, none, Buchi, co-Buchi, parity max even K, parity max odd K,
+   parity min even K and parity min odd K, by its name and by the formula that the Hanoi format gives to it
 42 TooManyPropositions: a state whose labels mention over 12 propositions of the environment, or a label
    that mentions over 12 propositions and that 4194304 steps do not decide
 13 TooManyNodes: a game of over 1048576 nodes

@@ -85,6 +85,10 @@ static AUTOMATA: [(&str, &str, &str); 6] = [
 const ARBITER: &str =
     "HOA: v1 States: 1 Start: 0 AP: 2 \"r\" \"g\" controllable-AP: 1 acc-name: parity max even 1 Acceptance: 1 Inf(0) --BODY-- State: 0 [!0|1] 0 {0} --END--";
 
+/// The same automaton where the system controls both.
+const CONTROLLED: &str =
+    "HOA: v1 States: 1 Start: 0 AP: 2 \"r\" \"g\" controllable-AP: 0 1 acc-name: parity max even 1 Acceptance: 1 Inf(0) --BODY-- State: 0 [!0|1] 0 {0} --END--";
+
 /// The same automaton where the system controls nothing: a request without a grant has no answer.
 const UNCONTROLLED: &str =
     "HOA: v1 States: 1 Start: 0 AP: 2 \"r\" \"g\" controllable-AP: acc-name: parity max even 1 Acceptance: 1 Inf(0) --BODY-- State: 0 [!0|1] 0 {0} --END--";
@@ -107,11 +111,11 @@ static QUESTIONS: [(&str, &str, u8, &str); 7] = [
         "omega realize --controller",
         GUESS,
         6,
-        "HOA: v1\nStates: 3\nStart: 0\nAP: 2 \"e\" \"s\"\nacc-name: all\nAcceptance: 0 t\ncontrollable-AP: 1\n--BODY--\nState: 0\n[1&!0] 1\n[!1&!0] 2\nState: 1\nState: 2\n--END--\n",
+        "HOA: v1\nStates: 3\nStart: 0\nAP: 2 \"e\" \"s\"\nacc-name: all\nAcceptance: 0 t\ncontrollable-AP: 1\n--BODY--\nState: 0\n[!0&1] 1\n[!0&!1] 2\nState: 1\nState: 2\n--END--\n",
     ),
     (
         "omega realize --game",
-        ARBITER,
+        CONTROLLED,
         0,
         "parity 3;\n0 0 1 3 \"state 0\";\n1 2 0 0 \"edge 0\";\n3 0 0 1 \"state 0 class 0\";\n",
     ),
