@@ -83,6 +83,7 @@ text_of name.Game options = option_map (λ text. text.now) options.game
 text_of name.Automaton options = option_map (λ text. text.now) options.automaton
 text_of name.Explain options = option_map (λ text. text.now) options.explain
 text_of name.Word options = option_map (λ text. text.now) options.word
+text_of name.Status options = option_map (λ text. text.now) options.status
 text_of name.With options = option_map (λ text. text.now) options.with
 text_of name.In options = option_map (λ text. text.now) options.within
 text_of name.To options = option_map (λ text. text.now) options.to
@@ -114,9 +115,9 @@ AsksToLift subcommand options (command.Solve player from) budget =
 AsksToLift subcommand options (command.Search from) budget =
     (subcommand ≡ codes "solve") × GivesFlag (text_of name.Search options) true × (text_of name.Player options ≡ None)
     × Gives (IsNumberText most_number) (text_of name.From options) from × GivesBudget (text_of name.Budget options) budget
-AsksToLift subcommand options (command.Empty word) budget =
+AsksToLift subcommand options (command.Empty word status) budget =
     (subcommand ≡ codes "empty") × GivesFlag (text_of name.Search options) false
-    × GivesFlag (text_of name.Word options) word × GivesBudget (text_of name.Budget options) budget
+    × GivesFlag (text_of name.Word options) word × GivesFlag (text_of name.Status options) status × GivesBudget (text_of name.Budget options) budget
 AsksToLift subcommand options (command.RealizeByLifting controller) budget =
     (subcommand ≡ codes "realize") × GivesFlag (text_of name.Lift options) true × GivesFlag (text_of name.AsGame options) false
     × GivesFlag (text_of name.Controller options) controller × GivesBudget (text_of name.Budget options) budget
@@ -163,10 +164,11 @@ AsksFor subcommand options (task.Run (command.Solve player from) budget) =
     AsksToLift subcommand options (command.Solve player from) budget × GivesFlag (text_of name.Progress options) false
 AsksFor subcommand options (task.Run (command.Search from) budget) =
     AsksToLift subcommand options (command.Search from) budget × GivesFlag (text_of name.Progress options) false
-AsksFor subcommand options (task.Run (command.Empty word) budget) =
-    AsksToLift subcommand options (command.Empty word) budget × GivesFlag (text_of name.Progress options) false
-AsksFor subcommand options (task.Run (command.EmptySearch word) budget) =
+AsksFor subcommand options (task.Run (command.Empty word status) budget) =
+    AsksToLift subcommand options (command.Empty word status) budget × GivesFlag (text_of name.Progress options) false
+AsksFor subcommand options (task.Run (command.EmptySearch word status) budget) =
     (subcommand ≡ codes "empty") × GivesFlag (text_of name.Search options) true × GivesFlag (text_of name.Word options) word
+    × GivesFlag (text_of name.Status options) status
     × (text_of name.Budget options ≡ None) × GivesFlag (text_of name.Progress options) false × (budget ≡ most_budget)
 AsksFor subcommand options (task.Run (command.RealizeByLifting controller) budget) =
     AsksToLift subcommand options (command.RealizeByLifting controller) budget × GivesFlag (text_of name.Progress options) false
@@ -219,6 +221,7 @@ HasOption subcommand name.Automaton = subcommand ≡ codes "verify"
 HasOption subcommand name.Explain =
     (subcommand ≡ codes "verify") ⊎ (subcommand ≡ codes "contained") ⊎ (subcommand ≡ codes "equal")
 HasOption subcommand name.Word = subcommand ≡ codes "empty"
+HasOption subcommand name.Status = subcommand ≡ codes "empty"
 HasOption subcommand name.With = subcommand ≡ codes "meet"
 HasOption subcommand name.In = subcommand ≡ codes "contained"
 HasOption subcommand name.To = subcommand ≡ codes "equal"
@@ -245,6 +248,7 @@ IsRequired name.Game options = text_of name.Automaton options ≡ None
 IsRequired name.Automaton options = ⊥
 IsRequired name.Explain options = ⊥
 IsRequired name.Word options = ⊥
+IsRequired name.Status options = ⊥
 IsRequired name.With options = Unit {0}
 IsRequired name.In options = Unit {0}
 IsRequired name.To options = Unit {0}
@@ -270,6 +274,7 @@ StandsForNothing name.Game text = ⊥
 StandsForNothing name.Automaton text = ⊥
 StandsForNothing name.Explain text = (flag : Bool) → IsTruthText text flag → ⊥
 StandsForNothing name.Word text = (flag : Bool) → IsTruthText text flag → ⊥
+StandsForNothing name.Status text = (flag : Bool) → IsTruthText text flag → ⊥
 StandsForNothing name.With text = ⊥
 StandsForNothing name.In text = ⊥
 StandsForNothing name.To text = ⊥
@@ -321,6 +326,7 @@ IsUsed name.Game options = text_of name.Game options ≢ None
 IsUsed name.Automaton options = text_of name.Automaton options ≢ None
 IsUsed name.Explain options = GivesFlag (text_of name.Explain options) true
 IsUsed name.Word options = GivesFlag (text_of name.Word options) true
+IsUsed name.Status options = GivesFlag (text_of name.Status options) true
 IsUsed name.With options = text_of name.With options ≢ None
 IsUsed name.In options = text_of name.In options ≢ None
 IsUsed name.To options = text_of name.To options ≢ None

@@ -53,6 +53,7 @@ IsReason name.Game text why = ⊥
 IsReason name.Automaton text why = ⊥
 IsReason name.Explain text why = why ≡ reason.NoTruth
 IsReason name.Word text why = why ≡ reason.NoTruth
+IsReason name.Status text why = why ≡ reason.NoTruth
 IsReason name.With text why = ⊥
 IsReason name.In text why = ⊥
 IsReason name.To text why = ⊥

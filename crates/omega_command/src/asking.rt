@@ -13,7 +13,7 @@ use crate::source::source_in;
 use crate::values::{
     budget_in, depth_in, format_in, identifier_in, is_as_game, is_explained, is_lifting,
     is_observed, is_search, is_verbose, is_with_controller, is_with_lasso, is_with_legend,
-    is_with_word, player_in,
+    is_with_status, is_with_word, player_in,
 };
 use std::alloc::Global;
 
@@ -167,10 +167,11 @@ fn emptiness_for<'a>(options: &Options<'a>) -> Result<Task, Mistake<'a>>
     ensures mistaken { IfErr result (IsMistake (codes "empty") options.now) }
 {
     let word = is_with_word(options)?;
+    let status = is_with_status(options)?;
     let budget = budget_in(options)?;
     let observed = is_observed(options)?;
     if !is_search(options)? {
-        let command = Command::Empty { word };
+        let command = Command::Empty { word, status };
         return Ok(if observed {
             Task::Observed(command, budget)
         } else {
@@ -183,7 +184,8 @@ fn emptiness_for<'a>(options: &Options<'a>) -> Result<Task, Mistake<'a>>
     if observed {
         return Err(Mistake::Conflict(OptionName::Search, OptionName::Progress));
     }
-    Ok(Task::Run(Command::EmptySearch { word }, MOST_BUDGET))
+    let command = Command::EmptySearch { word, status };
+    Ok(Task::Run(command, MOST_BUDGET))
 }
 
 /// Returns the task that `meet` requests with `options`, or what is wrong with them.

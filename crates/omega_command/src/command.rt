@@ -30,11 +30,15 @@ pub enum Command {
     Empty {
         /// Whether the word that the lasso accepts is written too.
         word: bool,
+        /// Whether the exit says which of the two is written.
+        status: bool,
     },
     /// The same, decided by a search.
     EmptySearch {
         /// Whether the word that the lasso accepts is written too.
         word: bool,
+        /// Whether the exit says which of the two is written.
+        status: bool,
     },
     /// Writes the emptiness game of an automaton.
     Game,

@@ -12,6 +12,7 @@ pub enum OptionName {
     Automaton,
     Explain,
     Word,
+    Status,
     With,
     In,
     To,
@@ -41,6 +42,7 @@ impl fmt::Display for OptionName {
             OptionName::Automaton => "--automaton <FILE>",
             OptionName::Explain => "--explain",
             OptionName::Word => "--word",
+            OptionName::Status => "--status",
             OptionName::With => "--with <FILE>",
             OptionName::In => "--in <FILE>",
             OptionName::To => "--to <FILE>",
@@ -79,6 +81,8 @@ pub struct Options<'a> {
     pub explain: Option<&'a str>,
     /// As `search`.
     pub word: Option<&'a str>,
+    /// As `search`.
+    pub status: Option<&'a str>,
     /// The name of the file of the other automaton.
     pub with: Option<&'a str>,
     /// The name of the file of the automaton in whose words those of another are to be.

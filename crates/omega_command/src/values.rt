@@ -114,6 +114,20 @@ pub fn is_with_word<'a>(options: &Options<'a>) -> Result<bool, Mistake<'a>>
     }
 }
 
+/// Whether the exit says whether something is accepted.
+pub fn is_with_status<'a>(options: &Options<'a>) -> Result<bool, Mistake<'a>>
+    ensures given { IfOk result (GivesFlag (text_of name.Status options.now)) }
+    ensures faulty { IfErr result (IsFaulty name.Status options.now) }
+{
+    let Some(text) = options.status else {
+        return Ok(false);
+    };
+    match truth_in(text) {
+        Some(flag) => Ok(flag),
+        None => Err(Mistake::Value(OptionName::Status, text, Reason::NoTruth)),
+    }
+}
+
 /// Whether the winner's automaton is written in place of a line.
 pub fn is_with_controller<'a>(options: &Options<'a>) -> Result<bool, Mistake<'a>>
     ensures given { IfOk result (GivesFlag (text_of name.Controller options.now)) }

@@ -21,6 +21,7 @@ pub fn options_in<'a>(found: &ArgMatches<'a>) -> Options<'a>
         automaton: found.get_str("automaton"),
         explain: found.get_str("explain"),
         word: found.get_str("word"),
+        status: found.get_str("status"),
         with: found.get_str("with"),
         within: found.get_str("in"),
         to: found.get_str("to"),

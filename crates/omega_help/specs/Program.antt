@@ -60,7 +60,7 @@ verify =
 abbrev pub empty : Shape
 empty =
     with_options (codes "empty")
-    (flag (codes "search") ∷ flag (codes "word") ∷ optional (codes "budget") ∷ flag (codes "progress") ∷ verbose ∷ operand (codes "file") ∷ [])
+    (flag (codes "search") ∷ flag (codes "word") ∷ flag (codes "status") ∷ optional (codes "budget") ∷ flag (codes "progress") ∷ verbose ∷ operand (codes "file") ∷ [])
 
 abbrev pub game : Shape
 game = with_options (codes "game") (verbose ∷ operand (codes "file") ∷ [])

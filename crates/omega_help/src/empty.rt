@@ -45,6 +45,9 @@ name, such as true, xor or GoLeft. An edge without label has the letter of its v
 A letter stands for every set of propositions that makes it true. Here a holds at first and b does not.
 From then on b holds, with or without a. Every word that fits the letters is accepted.
 
+With --status the exit status says which of the two is written: 0 after a lasso, and 6 after `empty`, so
+that a script needs no text. Without it the exit status is 0 after both.
+
 Without --search, emptiness is decided if `acc-name:` has one of these names, and the formula is the one
 that the Hanoi format gives to it: all, none, Buchi, co-Buchi, parity max even K, parity max odd K,
 parity min even K, parity min odd K, and generalized-Buchi K with K from 1 to 16. Every other name, no
@@ -78,7 +81,7 @@ or with several is not one automaton, and is refused as 3 Syntax. Then 13, 40, 4
 order, then 50, and then 51; with --search 41, and then 42.
 
 Exit status: 0 done, 1 the text or the task is refused, 2 the command line is wrong, 3 the budget is
-used up, 4 out of memory, 5 a read or a write failed.";
+used up, 4 out of memory, 5 a read or a write failed, 6 with --status, nothing is accepted.";
 
 const OPTIONS: &[OptionHelp] = &[
     OptionHelp {
@@ -87,6 +90,11 @@ const OPTIONS: &[OptionHelp] = &[
         help: "Decide by a search without lifting, which is quicker on large automata",
     },
     WORD,
+    OptionHelp {
+        name: "status",
+        value: Value::None,
+        help: "End with status 0 if something is accepted, and with 6 if not",
+    },
     BUDGET,
     PROGRESS,
     VERBOSE,

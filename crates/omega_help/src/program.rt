@@ -57,7 +57,7 @@ Exit status:
   3  the budget is used up
   4  out of memory
   5  a read or a write failed
-  6  the answer of `omega verify`, `contained`, `equal` or `realize` is no
+  6  the answer of `omega verify`, `contained`, `equal`, `realize` or `empty --status` is no
 
 `omega <COMMAND> --help` says more about a command.";
 

@@ -1,5 +1,6 @@
 -- Lemmas by theme.
 pub mod Counted
+pub mod Emptied
 pub mod Lifted
 pub mod Performing
 pub mod ProgressLines

@@ -66,7 +66,7 @@ input_refused (Search from) unread_before unread_after refusal other nodes playe
   read = lifted.read;
   holds = (lifted.holds.0, runs_refused way.Search players refusal other lifted.holds.1);
 }
-input_refused (Empty word) unread_before unread_after refusal other nodes players lifted = record {
+input_refused (Empty word status) unread_before unread_after refusal other nodes players lifted = record {
   text = lifted.text;
   read = lifted.read;
   holds = text_refused lifted.text refusal other nodes players lifted.holds;
@@ -75,7 +75,7 @@ input_refused (Show format) unread_before unread_after refusal other nodes playe
 input_refused (Check format) unread_before unread_after refusal other nodes players lifted = lifted
 input_refused (Canon format) unread_before unread_after refusal other nodes players lifted = lifted
 input_refused (CanonPart from) unread_before unread_after refusal other nodes players lifted = lifted
-input_refused (EmptySearch word) unread_before unread_after refusal other nodes players lifted = lifted
+input_refused (EmptySearch word status) unread_before unread_after refusal other nodes players lifted = lifted
 input_refused Complement unread_before unread_after refusal other nodes players lifted = lifted
 input_refused Game unread_before unread_after refusal other nodes players lifted = lifted
 input_refused (RealizeByLifting controller) unread_before unread_after refusal other nodes players lifted = record {

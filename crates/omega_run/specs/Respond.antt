@@ -10,7 +10,7 @@ use Rattle.omega_command.specs.declared.command.Command.{Command}
 use Rattle.omega_command.specs.declared.command.Command.TheVariants.{Canon, CanonPart, Check, Complement, Draw, DrawLasso, DrawPart, Empty, EmptySearch, Game, RealizabilityGame, Realize, RealizeByLifting, Search, Show, Solve}
 use Rattle.omega_command.specs.declared.command.Format.TheVariants.{Hoa, Pg}
 use Rattle.omega_io.specs.declared.exit.Exit.{Exit}
-use Rattle.omega_io.specs.declared.exit.Exit.TheVariants.{Done}
+use Rattle.omega_io.specs.declared.exit.Exit.TheVariants.{Done, No}
 use Rattle.omega_containment_answers.specs.Contained.{IsContainedAnswer, IsPairRefused}
 use Rattle.omega_containment_answers.specs.Equal.{IsEqualAnswer}
 use Rattle.omega_empty_answers.specs.Game.{IsEmptinessGameAnswer, IsEmptinessGameRefusal}
@@ -36,6 +36,8 @@ use Rattle.omega_realize_answers.specs.Refusing.{IsRealizeRefusal}
 use Rattle.omega_realize_answers.specs.Winner.{IsWinnerAnswer}
 use Rattle.omega_solve.specs.Limits.{most_lifts}
 use Rattle.omega_hoa.specs.Alone.{IsAutomatonRefusal}
+use Rattle.omega_runs.specs.declared.verdict.Verdict.{Verdict}
+use Rattle.omega_runs.specs.declared.verdict.Verdict.TheVariants as verdict
 use Rattle.omega_hoa.specs.Stream.{IsStreamRefusal}
 use Rattle.omega_io.specs.Reading.{ReadsText, ReadsWhole}
 use Rattle.omega_language_answers.specs.Verify.{IsLassoAnswer, IsLassoAnswerRefusal}
@@ -56,6 +58,22 @@ abbrev pub Concludes : (Exit → List ℕ → Type 0) → (Refusal → Type 0) �
 Concludes IsAnswer IsReason (Ok reply) = IsAnswer reply.0 reply.1
 Concludes IsAnswer IsReason (Err refusal) = IsReason refusal
 
+-- how `empty` ends: with `status` as `No` if nothing is accepted
+abbrev pub exit_of : (status : Bool) → Verdict → Exit
+exit_of false verdict = Done
+exit_of true verdict.Empty = No
+exit_of true (verdict.Lasso stem cycle) = Done
+
+-- the answer of `empty`, and how it ends
+abbrev pub EndsEmpty : List ℕ → ℕ → (word status : Bool) → Exit → List ℕ → Type 0
+EndsEmpty text budget word status exit output =
+    (answer : IsEmptyAnswer text budget word output) × (exit ≡ exit_of status answer.decided.verdict)
+
+-- that of `empty --search`
+abbrev pub EndsEmptySearch : List ℕ → (word status : Bool) → Exit → List ℕ → Type 0
+EndsEmptySearch text word status exit output =
+    (answer : IsEmptySearchAnswer text word output) × (exit ≡ exit_of status answer.decided.verdict)
+
 -- the answer of `realize`: whether the automaton is realizable, or with `controller` the winner's automaton
 abbrev pub IsRealizeAnswer : (controller : Bool) → List ℕ → Exit → List ℕ → Type 0
 IsRealizeAnswer false text = IsDecisionAnswer text
@@ -73,8 +91,8 @@ Answers (CanonPart from) budget text = Replies (IsCanonPartAnswer text from) (Is
 Answers (Solve player from) budget text =
     Replies (IsSolveAnswer text (asked_for player) from budget) (IsSolveRefusal text (asked_for player) from budget)
 Answers (Search from) budget text = Replies (IsSolveAnswer text way.Search from budget) (IsSolveRefusal text way.Search from budget)
-Answers (Empty word) budget text = Replies (IsEmptyAnswer text budget word) (IsEmptyRefusal text budget)
-Answers (EmptySearch word) budget text = Replies (IsEmptySearchAnswer text word) (IsEmptySearchRefusal text)
+Answers (Empty word status) budget text = Concludes (EndsEmpty text budget word status) (IsEmptyRefusal text budget)
+Answers (EmptySearch word status) budget text = Concludes (EndsEmptySearch text word status) (IsEmptySearchRefusal text)
 Answers Complement budget text = Replies (IsComplementAnswer text) (IsComplementRefusal text)
 Answers Game budget text = Replies (IsEmptinessGameAnswer text) (IsEmptinessGameRefusal text)
 Answers (Realize controller) budget text = Concludes (IsRealizeAnswer controller text) (IsRealizeRefusal text most_lifts)

@@ -39,12 +39,6 @@ pub(crate) enum OfText {
     Search {
         from: Option<u32>,
     },
-    Empty {
-        word: bool,
-    },
-    EmptySearch {
-        word: bool,
-    },
     Complement,
     Game,
     RealizabilityGame,
@@ -60,6 +54,8 @@ pub(crate) enum OfText {
 /// A command that reads one text and answers a question about it. The exit is `No` if the answer is.
 #[derive(Clone, Copy)]
 pub(crate) enum OfQuestion {
+    Empty { word: bool, status: bool },
+    EmptySearch { word: bool, status: bool },
     Realize { controller: bool },
     RealizeByLifting { controller: bool },
 }
@@ -78,8 +74,10 @@ pub(crate) fn kind_of(command: Command) -> Kind
         Command::CanonPart { from } => Kind::Text(OfText::CanonPart { from }),
         Command::Solve { player, from } => Kind::Text(OfText::Solve { player, from }),
         Command::Search { from } => Kind::Text(OfText::Search { from }),
-        Command::Empty { word } => Kind::Text(OfText::Empty { word }),
-        Command::EmptySearch { word } => Kind::Text(OfText::EmptySearch { word }),
+        Command::Empty { word, status } => Kind::Question(OfQuestion::Empty { word, status }),
+        Command::EmptySearch { word, status } => {
+            Kind::Question(OfQuestion::EmptySearch { word, status })
+        }
         Command::Complement => Kind::Text(OfText::Complement),
         Command::Game => Kind::Text(OfText::Game),
         Command::Realize { controller } => Kind::Question(OfQuestion::Realize { controller }),

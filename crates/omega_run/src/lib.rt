@@ -4,6 +4,7 @@
 #![tactic(auto)]
 
 mod beside;
+mod emptiness;
 mod held_text;
 mod kinds;
 mod laws;

@@ -12,6 +12,7 @@ ghost use Rattle.omega_run.specs.private.steps.Kinds.{of_question};
 ghost use Rattle.omega_io.specs.Failures.{failures_of};
 ghost use Rattle.omega_io.specs.Reading.{IsRead};
 
+use crate::emptiness::{decided_emptiness, searched_emptiness};
 use crate::kinds::OfQuestion;
 use omega_budget::Reporter;
 use omega_io::{Exit, Refusal};
@@ -42,6 +43,10 @@ pub(crate) fn answer_question<L, T: Reporter<L>>(
         (T.tells reporter.now) (T.pace reporter.now) budget observer.old observer.new }
 {
     match question {
+        OfQuestion::Empty { word, status } => {
+            decided_emptiness(alloc, text, word, status, budget, reporter, observer)
+        }
+        OfQuestion::EmptySearch { word, status } => searched_emptiness(alloc, text, word, status),
         OfQuestion::Realize { controller } => realized(alloc, text, controller),
         OfQuestion::RealizeByLifting { controller } => {
             realized_by_lifting(alloc, text, controller, budget, reporter, observer)

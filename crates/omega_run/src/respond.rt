@@ -15,9 +15,7 @@ use crate::kinds::{Kind, OfStream, OfText, kind_of};
 use crate::questions::answer_question;
 use omega_budget::Reporter;
 use omega_command::Command;
-use omega_empty_answers::{
-    decide_emptiness, draw_automaton_text, draw_lasso_text, search_emptiness, write_emptiness_game,
-};
+use omega_empty_answers::{draw_automaton_text, draw_lasso_text, write_emptiness_game};
 use omega_game_answers::{
     Asked, canon_game, canon_part, check_game, draw_game_text, show_game, solve_game,
 };
@@ -101,8 +99,6 @@ fn answer_text<L, T: Reporter<L>>(
         OfText::Search { from } => {
             solve_game(alloc, text, Asked::Search, from, budget, reporter, observer)
         }
-        OfText::Empty { word } => decide_emptiness(alloc, text, word, budget, reporter, observer),
-        OfText::EmptySearch { word } => search_emptiness(alloc, text, word),
         OfText::Complement => complement_text(alloc, text.as_slice()),
         OfText::Game => write_emptiness_game(alloc, text),
         OfText::RealizabilityGame => write_realizability_game(alloc, text),

@@ -101,7 +101,10 @@ fn emptiness_is_reported_for_player_0(rt: HostRuntime) -> Result<(), Fail> {
         State: 0 [t] 0 {0} [t] 1 State: 1 [t] 1 --END--";
     let left = observed(
         alloc,
-        Command::Empty { word: false },
+        Command::Empty {
+            word: false,
+            status: false,
+        },
         automaton,
         1000,
         3,

@@ -5,7 +5,7 @@ use std::alloc::Global;
 use std::test::Fail;
 
 /// Command lines, and what each asks for, as it shows itself to a programmer. A budget that is not given is 2^40.
-static ASKED: [(&str, &str); 32] = [
+static ASKED: [(&str, &str); 34] = [
     (
         "omega check --format=hoa",
         "Do { task: Run(Check(Hoa), 1099511627776), source: Input, verbose: false }",
@@ -52,15 +52,23 @@ static ASKED: [(&str, &str); 32] = [
     ),
     (
         "omega empty --budget 0",
-        "Do { task: Run(Empty { word: false }, 0), source: Input, verbose: false }",
+        "Do { task: Run(Empty { word: false, status: false }, 0), source: Input, verbose: false }",
     ),
     (
         "omega empty --word",
-        "Do { task: Run(Empty { word: true }, 1099511627776), source: Input, verbose: false }",
+        "Do { task: Run(Empty { word: true, status: false }, 1099511627776), source: Input, verbose: false }",
     ),
     (
         "omega empty --word --search g",
-        "Do { task: Run(EmptySearch { word: true }, 1099511627776), source: File(\"g\"), verbose: false }",
+        "Do { task: Run(EmptySearch { word: true, status: false }, 1099511627776), source: File(\"g\"), verbose: false }",
+    ),
+    (
+        "omega empty --status --budget 7",
+        "Do { task: Run(Empty { word: false, status: true }, 7), source: Input, verbose: false }",
+    ),
+    (
+        "omega empty --status --search",
+        "Do { task: Run(EmptySearch { word: false, status: true }, 1099511627776), source: Input, verbose: false }",
     ),
     (
         "omega meet --verbose --with g h",

@@ -97,9 +97,31 @@ const UNCONTROLLED: &str =
 const GUESS: &str =
     "HOA: v1 States: 4 Start: 0 AP: 2 \"e\" \"s\" controllable-AP: 1 acc-name: parity max even 1 Acceptance: 1 Inf(0) --BODY-- State: 0 [1] 1 [!1] 2 State: 1 [0] 3 State: 2 [!0] 3 State: 3 [t] 3 {0} --END--";
 
+const LOOP: &str =
+    "HOA: v1 States: 1 Start: 0 AP: 1 \"a\" acc-name: Buchi Acceptance: 1 Inf(0) --BODY-- State: 0 [0] 0 {0} --END--";
+
+/// Its one cycle has no mark.
+const NO_LOOP: &str =
+    "HOA: v1 States: 1 Start: 0 AP: 1 \"a\" acc-name: Buchi Acceptance: 1 Inf(0) --BODY-- State: 0 [0] 0 --END--";
+
 /// A command line, an automaton, and the status and the output of a run that answers a question about it.
-static QUESTIONS: [(&str, &str, u8, &str); 7] = [
+static QUESTIONS: [(&str, &str, u8, &str); 12] = [
     ("omega realize", ARBITER, 0, "realizable\n"),
+    ("omega empty --status", LOOP, 0, "stem\ncycle 0\n"),
+    (
+        "omega empty --status --search --word",
+        LOOP,
+        0,
+        "stem\ncycle 0\nword cycle{a}\n",
+    ),
+    ("omega empty --status", NO_LOOP, 6, "empty\n"),
+    (
+        "omega empty --search --status --word",
+        NO_LOOP,
+        6,
+        "empty\n",
+    ),
+    ("omega empty --search", NO_LOOP, 0, "empty\n"),
     ("omega realize --lift", UNCONTROLLED, 6, "unrealizable\n"),
     (
         "omega realize --lift --controller",

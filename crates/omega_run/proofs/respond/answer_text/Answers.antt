@@ -1,4 +1,4 @@
--- `answer_text`: a command that solves or decides reports runs in games of the text, and no other reports any; what
+-- `answer_text`: a command that solves reports runs in games of the text, and no other reports any; what
 -- `solve` answers for one player counts the lifts of its run.
 use Rattle.std.proofs.Common.{refl}
 use Rattle.std.proofs.lemmas.Result.{IfOk-weaker}
@@ -18,9 +18,6 @@ returns-in-Canon-clause-reported g c = rw c.in-Canon.is (λ before after read. n
 
 pub returns-in-CanonPart-clause-reported : goal.returns-in-CanonPart-clause-reported
 returns-in-CanonPart-clause-reported g c = rw c.in-CanonPart.is (λ before after read. nothing_lifted _ _ _ _ _ _ refl)
-
-pub returns-in-EmptySearch-clause-reported : goal.returns-in-EmptySearch-clause-reported
-returns-in-EmptySearch-clause-reported g c = rw c.in-EmptySearch.is (λ before after read. nothing_lifted _ _ _ _ _ _ refl)
 
 pub returns-in-Complement-clause-reported : goal.returns-in-Complement-clause-reported
 returns-in-Complement-clause-reported g c = rw c.in-Complement.is (λ before after read. nothing_lifted _ _ _ _ _ _ refl)
@@ -50,11 +47,6 @@ returns-in-Search-clause-reported g c =
     rw c.in-Search.is (λ before after read. observed_as _ _ _ _ _ _ _ _
     (λ nodes players lifted. record { text = c.args.text.items; read = read; holds = lifted }) c.solve_game-in-Search.ensures.reported)
 
-pub returns-in-Empty-clause-reported : goal.returns-in-Empty-clause-reported
-returns-in-Empty-clause-reported g c =
-    rw c.in-Empty.is (λ before after read. observed_as _ _ _ _ _ _ _ _
-    (λ nodes players lifted. record { text = c.args.text.items; read = read; holds = lifted }) c.decide_emptiness.ensures.reported)
-
 pub returns-in-Show-clause-printed : goal.returns-in-Show-clause-printed
 returns-in-Show-clause-printed g c = rw c.in-Show.is (λ before after read. of_all c.show_game.result _ (λ output. tt))
 
@@ -69,12 +61,6 @@ returns-in-CanonPart-clause-printed g c = rw c.in-CanonPart.is (λ before after 
 
 pub returns-in-Search-clause-printed : goal.returns-in-Search-clause-printed
 returns-in-Search-clause-printed g c = rw c.in-Search.is (λ before after read. of_all c.solve_game-in-Search.result _ (λ output. tt))
-
-pub returns-in-Empty-clause-printed : goal.returns-in-Empty-clause-printed
-returns-in-Empty-clause-printed g c = rw c.in-Empty.is (λ before after read. of_all c.decide_emptiness.result _ (λ output. tt))
-
-pub returns-in-EmptySearch-clause-printed : goal.returns-in-EmptySearch-clause-printed
-returns-in-EmptySearch-clause-printed g c = rw c.in-EmptySearch.is (λ before after read. of_all c.search_emptiness.result _ (λ output. tt))
 
 pub returns-in-Complement-clause-refused : goal.returns-in-Complement-clause-refused
 returns-in-Complement-clause-refused g c = rw c.in-Complement.is (rw c.as_slice.ensures.value at c.complement_text.ensures.refused)

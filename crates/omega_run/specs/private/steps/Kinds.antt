@@ -25,8 +25,6 @@ of_text text.Canon = command.Canon Pg
 of_text (text.CanonPart from) = command.CanonPart from
 of_text (text.Solve player from) = command.Solve player from
 of_text (text.Search from) = command.Search from
-of_text (text.Empty word) = command.Empty word
-of_text (text.EmptySearch word) = command.EmptySearch word
 of_text text.Complement = command.Complement
 of_text text.Game = command.Game
 of_text text.RealizabilityGame = command.RealizabilityGame
@@ -37,6 +35,8 @@ of_text text.DrawLasso = command.DrawLasso
 
 -- the command of a question about one text
 abbrev pub of_question : OfQuestion → Command
+of_question (question.Empty word status) = command.Empty word status
+of_question (question.EmptySearch word status) = command.EmptySearch word status
 of_question (question.Realize controller) = command.Realize controller
 of_question (question.RealizeByLifting controller) = command.RealizeByLifting controller
 
