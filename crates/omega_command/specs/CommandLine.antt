@@ -12,6 +12,9 @@ use Rattle.omega_command.specs.declared.command.Command.{Command}
 use Rattle.omega_command.specs.declared.command.Command.TheVariants as command
 use Rattle.omega_command.specs.declared.command.Format.{Format}
 use Rattle.omega_command.specs.declared.command.Format.TheVariants.{Hoa, Pg}
+use Rattle.omega_command.specs.Either.{subcommand_of}
+use Rattle.omega_command.specs.declared.either.OfEither.{OfEither}
+use Rattle.omega_command.specs.declared.either.OfEither.TheVariants as either
 use Rattle.omega_command.specs.declared.line.Line.{Line}
 use Rattle.omega_command.specs.declared.line.Line.TheVariants as line
 use Rattle.omega_command.specs.declared.line.Source.{Source}
@@ -196,11 +199,38 @@ AsksFor subcommand options (task.Observed command budget) =
     AsksToLift subcommand options command budget × GivesFlag (text_of name.Progress options) true
 AsksFor subcommand options (task.Beside file asked) = AsksBeside subcommand options (string_bytes file) asked
 
+-- no option is given that goes with one format alone
+abbrev pub GoesWithEither : OfEither → Options → Type 0
+GoesWithEither either.Show options = Unit {0}
+GoesWithEither either.Check options = Unit {0}
+GoesWithEither either.Canon options = text_of name.From options ≡ None
+GoesWithEither either.Draw options =
+    (text_of name.From options ≡ None) × (text_of name.Depth options ≡ None) × (text_of name.Solution options ≡ None)
+    × GivesFlag (text_of name.Legend options) false × GivesFlag (text_of name.Lasso options) false
+
+-- the subcommand takes either format, and none is given, nor an option that goes with one alone
+pub record IsOfEither (subcommand : List ℕ) (options : Options) (asked : OfEither) : Type 0 where
+  pub named : subcommand ≡ subcommand_of asked
+  pub unformatted : text_of name.Format options ≡ None
+  pub either : GoesWithEither asked options
+
+-- so that the text of this file tells the format
+pub record LeavesFormat (subcommand : List ℕ) (options : Options) (asked : OfEither) (file : List ℕ) : Type 0 where
+  pub asks : IsOfEither subcommand options asked
+  pub given : text_of name.File options ≡ Some file
+  pub names_file : file ≢ codes "-"
+
+-- the format is not left to a text
+abbrev pub LeavesNoFormat : List ℕ → Options → Type 0
+LeavesNoFormat subcommand options = (asked : OfEither) (file : List ℕ) → LeavesFormat subcommand options asked file → ⊥
+
 -- the subcommand of this name, with these options, requests the line: a task with the input that the operand names, and
 -- whether a refusal is written with what it is about
 abbrev pub Asks : List ℕ → Options → Line → Type 0
 Asks subcommand options (line.Do task source verbose) =
     AsksFor subcommand options task × GivesSource (text_of name.File options) source × GivesFlag (text_of name.Verbose options) verbose
+Asks subcommand options (line.ByText asked file verbose) =
+    LeavesFormat subcommand options asked (string_bytes file) × GivesFlag (text_of name.Verbose options) verbose
 Asks subcommand options (line.Help text) = ⊥
 Asks subcommand options (line.Fault text) = ⊥
 
@@ -391,13 +421,16 @@ pub record IsOfOtherFormat (subcommand : List ℕ) (options : Options) (option :
   pub used : IsUsed option options
 
 -- what is wrong: no subcommand has the name, or memory is wanting, or options are wrong. Then an option is faulty, one
--- lacks another that it needs, two conflict, or one is for another format
+-- lacks another that it needs, two conflict, or one is for another format. A format is missing only if it is not left to
+-- a text
 abbrev pub IsMistake : List ℕ → Options → Mistake → Type 0
 IsMistake subcommand options mistake.Unknown = IsUnknownSubcommand subcommand
 IsMistake subcommand options mistake.Memory = Unit {0}
 IsMistake subcommand options (mistake.Conflict one other) = IsConflict subcommand options one other
 IsMistake subcommand options (mistake.OnlyWith option format) = IsOfOtherFormat subcommand options option format
 IsMistake subcommand options (mistake.Missing option) =
-    (HasOption subcommand option × IsFaulty option options (mistake.Missing option)) ⊎ IsWanting subcommand options option
+    (HasOption subcommand option × IsFaulty option options (mistake.Missing option)
+    × (option ≡ name.Format → LeavesNoFormat subcommand options))
+    ⊎ IsWanting subcommand options option
 IsMistake subcommand options (mistake.Value option text reason) =
     HasOption subcommand option × IsFaulty option options (mistake.Value option text reason)

@@ -3,6 +3,7 @@ pub use Rattle.omega_parity_game.specs.Player
 pub mod Limits
 pub mod Reason
 pub mod CommandLine
+pub mod Either
 pub mod Line
 pub mod Usage
 pub mod private

@@ -1,12 +1,16 @@
-ghost use Rattle.std.specs.Prelude.{IfOk, IfErr, Some, codes};
-ghost use Rattle.omega_command.specs.CommandLine.{Asks, AsksFor, Gives, IsFormatText, IsMistake, text_of};
+ghost use Rattle.std.specs.Prelude.{◌≡◌, IfErr, IfNone, IfOk, IfSome, Some, codes, string_bytes};
+ghost use Rattle.omega_command.specs.CommandLine.{Asks, AsksFor, Gives, GivesFlag, GoesWithEither, IsFormatText, IsMistake};
+ghost use Rattle.omega_command.specs.CommandLine.{IsOfEither, LeavesFormat, LeavesNoFormat, text_of};
 ghost use Rattle.omega_command.specs.declared.command.Format.TheVariants.{Hoa, Pg};
+ghost use Rattle.omega_command.specs.declared.either.OfEither.{OfEither};
+ghost use Rattle.omega_command.specs.declared.either.OfEither.TheVariants as either;
 ghost use Rattle.omega_command.specs.declared.options.OptionName.TheVariants as name;
 
 use crate::beside::Beside;
 use crate::command::{Command, Format};
+use crate::either::OfEither;
 use crate::limits::MOST_BUDGET;
-use crate::line::{Line, Task};
+use crate::line::{Line, Source, Task};
 use crate::mistake::Mistake;
 use crate::options::{OptionName, Options};
 use crate::source::source_in;
@@ -28,6 +32,29 @@ pub fn line_for<'a>(
     ensures mistaken { IfErr result (IsMistake subcommand.now options.now) }
 {
     let verbose = is_verbose(options)?;
+    match by_text(alloc, subcommand, options)? {
+        Some((asked, file)) => Ok(Line::ByText {
+            asked,
+            file,
+            verbose,
+        }),
+        None => told_line_for(alloc, subcommand, options, verbose),
+    }
+}
+
+/// Returns the line that `subcommand` requests with `options` that do not leave the format to a text, or what is wrong
+/// with them.
+fn told_line_for<'a>(
+    alloc: Global,
+    subcommand: &str,
+    options: &Options<'a>,
+    verbose: bool,
+) -> Result<Line, Mistake<'a>>
+    requires told { LeavesNoFormat subcommand.now options.now }
+    requires verbose { GivesFlag (text_of name.Verbose options.now) verbose }
+    ensures asked { IfOk result (Asks subcommand.now options.now) }
+    ensures mistaken { IfErr result (IsMistake subcommand.now options.now) }
+{
     let task = task_for(alloc, subcommand, options)?;
     let source = source_in(alloc, options)?;
     Ok(Line::Do {
@@ -39,6 +66,7 @@ pub fn line_for<'a>(
 
 /// Returns the task that `subcommand` requests with `options`, or what is wrong with them.
 fn task_for<'a>(alloc: Global, subcommand: &str, options: &Options<'a>) -> Result<Task, Mistake<'a>>
+    requires { LeavesNoFormat subcommand.now options.now }
     ensures asked { IfOk result (AsksFor subcommand.now options.now) }
     ensures mistaken { IfErr result (IsMistake subcommand.now options.now) }
 {
@@ -84,8 +112,78 @@ fn task_for<'a>(alloc: Global, subcommand: &str, options: &Options<'a>) -> Resul
     Err(Mistake::Unknown)
 }
 
+/// Returns the command and the file whose text tells the format, or nothing if it is not left to a text; or what is wrong
+/// with `options`.
+fn by_text<'a>(
+    alloc: Global,
+    subcommand: &str,
+    options: &Options<'a>,
+) -> Result<Option<(OfEither, String)>, Mistake<'a>>
+    ensures some { IfOk result (λ found. IfSome found (λ told.
+        LeavesFormat subcommand.now options.now told.0 (string_bytes told.1))) }
+    ensures none { IfOk result (λ found. IfNone found (LeavesNoFormat subcommand.now options.now)) }
+    ensures mistaken { IfErr result (IsMistake subcommand.now options.now) }
+{
+    let Some(asked) = either_for(subcommand, options)? else {
+        return Ok(None);
+    };
+    match source_in(alloc, options)? {
+        Source::File(file) => Ok(Some((asked, file))),
+        Source::Input => Ok(None),
+    }
+}
+
+/// Returns the command of `subcommand` for either format, if `options` do not say which.
+fn either_for<'a>(subcommand: &str, options: &Options<'a>) -> Result<Option<OfEither>, Mistake<'a>>
+    ensures some { IfOk result (λ found. IfSome found (IsOfEither subcommand.now options.now)) }
+    ensures none { IfOk result (λ found. IfNone found
+        ((asked : OfEither) → IsOfEither subcommand.now options.now asked → ⊥)) }
+    ensures mistaken { IfErr result (IsMistake subcommand.now options.now) }
+{
+    if options.format.is_some() {
+        return Ok(None);
+    }
+    if subcommand == "show" {
+        return Ok(Some(OfEither::Show));
+    }
+    if subcommand == "check" {
+        return Ok(Some(OfEither::Check));
+    }
+    if subcommand == "canon" {
+        return Ok(if options.from.is_none() {
+            Some(OfEither::Canon)
+        } else {
+            None
+        });
+    }
+    if subcommand == "draw" {
+        return drawing_of_either(options);
+    }
+    Ok(None)
+}
+
+/// Returns the command `draw` for either format, if `options` have none that goes with one format alone.
+fn drawing_of_either<'a>(options: &Options<'a>) -> Result<Option<OfEither>, Mistake<'a>>
+    ensures some { IfOk result (λ found. IfSome found (λ asked.
+        (asked ≡ either.Draw) × GoesWithEither either.Draw options.now)) }
+    ensures none { IfOk result (λ found. IfNone found (GoesWithEither either.Draw options.now → ⊥)) }
+    ensures mistaken { IfErr result (IsMistake (codes "draw") options.now) }
+{
+    if is_with_legend(options)? {
+        return Ok(None);
+    }
+    if is_with_lasso(options)? {
+        return Ok(None);
+    }
+    if options.solution.is_some() || options.from.is_some() || options.depth.is_some() {
+        return Ok(None);
+    }
+    Ok(Some(OfEither::Draw))
+}
+
 /// Returns the task that `canon` requests with `options`, or what is wrong with them.
 fn canonical_for<'a>(options: &Options<'a>) -> Result<Task, Mistake<'a>>
+    requires { LeavesNoFormat (codes "canon") options.now }
     ensures asked { IfOk result (AsksFor (codes "canon") options.now) }
     ensures mistaken { IfErr result (IsMistake (codes "canon") options.now) }
 {
@@ -275,6 +373,7 @@ fn realizing_for<'a>(options: &Options<'a>) -> Result<Task, Mistake<'a>>
 
 /// Returns the task that `draw` requests with `options`, or what is wrong with them.
 fn drawing_for<'a>(alloc: Global, options: &Options<'a>) -> Result<Task, Mistake<'a>>
+    requires { LeavesNoFormat (codes "draw") options.now }
     ensures asked { IfOk result (AsksFor (codes "draw") options.now) }
     ensures mistaken { IfErr result (IsMistake (codes "draw") options.now) }
 {

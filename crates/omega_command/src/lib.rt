@@ -4,6 +4,7 @@
 mod asking;
 mod beside;
 mod command;
+mod either;
 mod limits;
 mod line;
 mod mistake;
@@ -15,6 +16,7 @@ mod values;
 pub use asking::line_for;
 pub use beside::Beside;
 pub use command::{Command, Format};
+pub use either::OfEither;
 pub use limits::{MOST_BUDGET, budget_limit_is_stated};
 pub use line::{Line, Source, Task};
 pub use mistake::{Mistake, Reason};

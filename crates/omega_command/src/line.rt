@@ -1,5 +1,6 @@
 use crate::beside::Beside;
 use crate::command::Command;
+use crate::either::OfEither;
 
 /// What a command line asks for.
 #[derive(Debug, Drop)]
@@ -10,6 +11,14 @@ pub enum Line {
         /// The source of its input.
         source: Source,
         /// Whether a refusal is written with the text or the file that it is about.
+        verbose: bool,
+    },
+    /// A command with the text of a file, whose first token tells the format.
+    ByText {
+        asked: OfEither,
+        /// The name of the file.
+        file: String,
+        /// As of a task.
         verbose: bool,
     },
     /// A text of help, or the version, which goes to standard output.

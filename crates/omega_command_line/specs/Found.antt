@@ -63,3 +63,4 @@ abbrev pub IsPrinted : ErrorKind → Line → Type 0
 IsPrinted kind (line.Help text) = (kind ≡ DisplayHelp) ⊎ (kind ≡ DisplayVersion)
 IsPrinted kind (line.Fault text) = (kind ≢ DisplayHelp) × (kind ≢ DisplayVersion)
 IsPrinted kind (line.Do task source verbose) = ⊥
+IsPrinted kind (line.ByText asked file verbose) = ⊥

@@ -39,13 +39,13 @@ abbrev pub verbose : Rule
 verbose = lettered 118 (codes "verbose")
 
 abbrev pub show : Shape
-show = with_options (codes "show") (required (codes "format") ∷ verbose ∷ operand (codes "file") ∷ [])
+show = with_options (codes "show") (optional (codes "format") ∷ verbose ∷ operand (codes "file") ∷ [])
 
 abbrev pub check : Shape
-check = with_options (codes "check") (required (codes "format") ∷ verbose ∷ operand (codes "file") ∷ [])
+check = with_options (codes "check") (optional (codes "format") ∷ verbose ∷ operand (codes "file") ∷ [])
 
 abbrev pub canon : Shape
-canon = with_options (codes "canon") (required (codes "format") ∷ optional (codes "from") ∷ verbose ∷ operand (codes "file") ∷ [])
+canon = with_options (codes "canon") (optional (codes "format") ∷ optional (codes "from") ∷ verbose ∷ operand (codes "file") ∷ [])
 
 abbrev pub solve : Shape
 solve =
@@ -86,7 +86,7 @@ realize =
 abbrev pub draw : Shape
 draw =
     with_options (codes "draw")
-    (required (codes "format") ∷ optional (codes "from") ∷ optional (codes "depth") ∷ optional (codes "solution") ∷ flag (codes "legend")
+    (optional (codes "format") ∷ optional (codes "from") ∷ optional (codes "depth") ∷ optional (codes "solution") ∷ flag (codes "legend")
     ∷ flag (codes "lasso") ∷ verbose ∷ operand (codes "file") ∷ [])
 
 -- ---- the program

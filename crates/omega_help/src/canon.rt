@@ -46,6 +46,9 @@ written.
   [(0|t)&0] 0
   --END--
 
+If --format is left out, the first token of FILE says what is read: automata begin with `HOA:`, and all
+else is read as a game. Without a FILE, or with --from, --format has to be given.
+
 If a text is refused, nothing is written on standard output, and a line on standard error says why.
 `omega check --help` lists the refusals of both formats.
 

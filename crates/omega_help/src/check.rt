@@ -23,6 +23,9 @@ also has the place of the byte, counted from 0.
   $ echo 'HOA: v1 Acceptance: 0 t --BODY-- State: 0' | omega check --format hoa
   omega: 3 Syntax at 42
 
+If --format is left out, the first token of FILE says what is read: automata begin with `HOA:`, and all
+else is read as a game. Without a FILE, --format has to be given.
+
 In both formats:
 
 1 Lex: bytes that are no token

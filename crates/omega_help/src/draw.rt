@@ -53,6 +53,10 @@ is the same as without --lasso.
 --solution, --legend, --from and --depth go with --format pg only, --legend with --solution only, --depth
 with --from only, and --lasso with --format hoa only.
 
+If --format is left out, and with it all options that go with one format only, the first token of FILE
+says what is drawn: an automaton begins with `HOA:`, and all else is read as a game. Without a FILE,
+--format has to be given.
+
 Faults of the text come first; `omega check --help` lists them. A text with --ABORT--, with no automaton
 or with several is not one automaton, and is refused as 3 Syntax. Faults of a game, 54 behind them, come
 before those of its solution, 53 BadSolution among these. A solution that fits the game is drawn, right

@@ -67,8 +67,8 @@ pub const VERBOSE: OptionHelp = OptionHelp {
 /// The option that says what kind of text is read.
 pub const FORMAT: OptionHelp = OptionHelp {
     name: "format",
-    value: Value::Required("FORMAT"),
-    help: "The kind of text: pg, a game in the text of PGSolver; hoa, omega-automata in the Hanoi format",
+    value: Value::Optional("FORMAT"),
+    help: "The kind of text: pg, a game in the text of PGSolver; hoa, omega-automata in the Hanoi format; of a FILE, its first token says it if --format is left out",
 };
 
 /// The option that names the file of a game.

@@ -40,9 +40,9 @@ A text of the Hanoi format, version 1, holds omega-automata, one after the other
 
 Here one state has two edges to itself: one where a holds, which is in set 0, and one where it does not.
 A word is accepted if its run takes the first edge again and again. `omega show`, `check` and `canon`
-read both formats, and --format says which. `omega empty`, `omega game`, `omega complement` and
-`omega realize` read one automaton, `omega contained`, `omega equal` and `omega meet` read two, and
-`omega draw` draws one automaton or a game.
+read both formats, and --format says which, or of a file its first token. `omega empty`, `omega game`,
+`omega complement` and `omega realize` read one automaton, `omega contained`, `omega equal` and
+`omega meet` read two, and `omega draw` draws one automaton or a game.
 
 A command reads the file that its last word names, as in `omega solve game.pg`. Without a name, or with
 -, it reads standard input. It writes its answer to standard output. If a text or the task is refused, a

@@ -35,6 +35,9 @@ states, edges, propositions and sets it has, and its acceptance formula. An auto
   0 aborted
   1 automaton states 1 edges 1 propositions 0 sets 1 acceptance Inf(0)
 
+If --format is left out, the first token of FILE says what is read: automata begin with `HOA:`, and all
+else is read as a game. Without a FILE, --format has to be given.
+
 If a text is refused, nothing is written on standard output, and a line on standard error says why.
 `omega check --help` lists the refusals of both formats.
 

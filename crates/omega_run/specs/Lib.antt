@@ -9,6 +9,7 @@ pub use Rattle.omega_io.specs.Writing
 pub use Rattle.omega_io.specs.Lines
 pub use Rattle.omega_io.specs.Refused
 pub mod Beside
+pub mod Formats
 pub mod Obey
 pub mod Perform
 pub mod Progress

@@ -3,9 +3,13 @@ use Rattle.std.specs.Prelude.{◌≡◌, ◌+◌, ◌⊎◌, ◌++◌, Bool, Lis
 use Rattle.std.specs.Io.KnownBytes.{Appends}
 use Rattle.omega_text.specs.declared.refusal.Refusal.{Refusal}
 use Rattle.omega_text.specs.declared.refusal.Refusal.TheVariants.{Io}
+use Rattle.omega_command.specs.Either.{command_in}
+use Rattle.omega_command.specs.Limits.{most_budget}
 use Rattle.omega_command.specs.declared.command.Command.{Command}
+use Rattle.omega_command.specs.declared.command.Format.{Format}
+use Rattle.omega_command.specs.declared.either.OfEither.{OfEither}
 use Rattle.omega_command.specs.declared.line.Line.{Line}
-use Rattle.omega_command.specs.declared.line.Line.TheVariants.{Do, Fault, Help}
+use Rattle.omega_command.specs.declared.line.Line.TheVariants.{ByText, Do, Fault, Help}
 use Rattle.omega_command.specs.declared.line.Source.{Source}
 use Rattle.omega_command.specs.declared.line.Source.TheVariants.{File, Input}
 use Rattle.omega_command.specs.declared.line.Task.{Task}
@@ -20,6 +24,7 @@ use Rattle.omega_run.specs.Perform.{Performs}
 use Rattle.omega_run.specs.Progress.{AreProgressLines, CountsLines}
 use Rattle.omega_run.specs.Report.{Reports}
 use Rattle.omega_run.specs.Respond.{Answers}
+use Rattle.omega_run.specs.Formats.{IsFormatOf}
 use Rattle.omega_run.specs.World.{Streams, World}
 
 -- the command was run and observed: the lines of its progress come before those of its outcome, and both are one text;
@@ -56,6 +61,16 @@ IsDoneWithFile verbose task name status world =
     × KeepsInput world.before world.after)
     ⊎ IsFileRefused verbose name status world
 
+-- the file of this name was read as some text, the command for its format was done with that as its input, and standard
+-- input was left alone; or the file was refused
+abbrev pub IsDoneByText : (verbose : Bool) → OfEither → List ℕ → ℕ → World → Type 0
+IsDoneByText verbose asked name status world =
+    ((text : List ℕ) × (format : Format) × (rest : Option (List ℕ)) × world.reads name text × IsFormatOf text format
+    × IsPerformed verbose (Run (command_in asked format) most_budget) status
+    (record world { before = over (Some text) world.before; after = over rest world.after })
+    × KeepsInput world.before world.after)
+    ⊎ IsFileRefused verbose name status world
+
 -- the task was done with the text of standard input, or of a file
 abbrev pub IsDone : (verbose : Bool) → Task → Source → ℕ → World → Type 0
 IsDone verbose task Input status world = IsPerformed verbose task status world
@@ -71,6 +86,7 @@ Prints text (Err refusal) held_before held_after failed_before failed_after =
 -- the program obeyed the command line, or wrote why it requests nothing that can be done
 abbrev pub IsObeyed : Result Line Refusal → ℕ → World → Type 0
 IsObeyed (Ok (Do task source verbose)) status world = IsDone verbose task source status world
+IsObeyed (Ok (ByText asked name verbose)) status world = IsDoneByText verbose asked (string_bytes name) status world
 IsObeyed (Ok (Help text)) status world =
     (outcome : Result Exit Refusal)
     × Prints (string_bytes text) outcome world.before.held world.after.held world.before.failed_writes world.after.failed_writes

@@ -1,12 +1,13 @@
 ghost use Rattle.std.specs.Prelude.{◌≡◌, ◌-◌, ◌^◌, ◌<◌, ℕ, IfOk, List, Option};
 ghost use Rattle.omega_command.specs.Line.{IsRunnable, IsRunnableTask};
-ghost use Rattle.omega_run.specs.Obey.{IsDone, IsDoneWithFile, IsObeyed, Prints};
+ghost use Rattle.omega_run.specs.Obey.{IsDone, IsDoneByText, IsDoneWithFile, IsObeyed, Prints};
 ghost use Rattle.omega_run.specs.World.{streams, streams_of, world_of};
 
+use crate::format::format_of;
 use crate::held_text::HeldText;
 use crate::reporting::{report, report_file};
 use crate::task::run;
-use omega_command::{Line, Source, Task};
+use omega_command::{Line, MOST_BUDGET, OfEither, Source, Task};
 use omega_io::{Exit, Input, InputFiles, Output, Refusal, tell, write_text};
 use std::alloc::Global;
 
@@ -43,6 +44,13 @@ pub fn obey<F: InputFiles, R: Input, W: Output, E: Output>(
                 verbose,
             },
         ) => with_input(alloc, task, source, verbose, files, input, output, errors),
+        Ok(
+            Line::ByText {
+                asked,
+                file,
+                verbose,
+            },
+        ) => by_text(alloc, asked, file.as_str(), verbose, files, output, errors),
         Ok(Line::Help(text)) => {
             let outcome = print(text.as_bytes(), output);
             report(alloc, outcome, errors)
@@ -106,6 +114,35 @@ fn with_file<F: InputFiles, W: Output, E: Output>(
             run(alloc, task, verbose, files, &mut input, output, errors)
         }
         Err(refusal) => report_file(alloc, name, refusal, verbose, errors),
+    }
+}
+
+/// Does a command with the text of the file of this name as its input, in the format that the text tells, and returns
+/// the status to end with.
+fn by_text<F: InputFiles, W: Output, E: Output>(
+    alloc: Global,
+    asked: OfEither,
+    file: &str,
+    verbose: bool,
+    files: &F,
+    output: &mut W,
+    errors: &mut E,
+) -> u8
+    requires writes { W.failed output.old < 2 ^ 64 - 1 }
+    requires tells { E.failed errors.old < 2 ^ 64 - 1 }
+    ensures { (unread : Option (List ℕ)) → (failed_reads : ℕ) → IsDoneByText verbose asked file.now result
+        (world_of F.InputFiles E.Output files.now errors.old errors.new
+        (streams unread failed_reads (W.contents output.old) (W.failed output.old))
+        (streams unread failed_reads (W.contents output.new) (W.failed output.new))) }
+{
+    match files.read_file(alloc, file) {
+        Ok(text) => {
+            let command = asked.command(format_of(text.as_slice()));
+            let task = Task::Run(command, MOST_BUDGET);
+            let mut held = HeldText::new(text.as_slice());
+            run(alloc, task, verbose, files, &mut held, output, errors)
+        }
+        Err(refused) => report_file(alloc, file, refused, verbose, errors),
     }
 }
 

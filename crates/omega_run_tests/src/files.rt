@@ -65,7 +65,7 @@ State: 0
 ";
 
 /// A command line, the text of the file, the text of the input, and the status, the output and the lines of the run.
-static RUNS: [(&str, &str, &str, u8, &str, &str); 22] = [
+static RUNS: [(&str, &str, &str, u8, &str, &str); 25] = [
     (
         "omega verify --game g",
         THREE,
@@ -206,6 +206,23 @@ static RUNS: [(&str, &str, &str, u8, &str, &str); 22] = [
         5,
         "",
         "omega: 61 Io\n",
+    ),
+    ("omega check g", ALWAYS, "", 0, "accepted\n", ""),
+    (
+        "omega canon g",
+        "0 0 0 0;",
+        "",
+        0,
+        "parity 0;\n0 0 0 0;\n",
+        "",
+    ),
+    (
+        "omega show -v h",
+        "0 0 0 0;",
+        "",
+        5,
+        "",
+        "omega: 61 Io\nomega: cannot read 'h'\n",
     ),
     ("omega meet --with g", ALWAYS, TURNS, 0, TURNS_ALWAYS, ""),
     ("omega complement g", OFTEN, "", 0, NOT_OFTEN, ""),

@@ -5,7 +5,7 @@ use std::alloc::Global;
 use std::test::Fail;
 
 /// Command lines, and what each asks for, as it shows itself to a programmer. A budget that is not given is 2^40.
-static ASKED: [(&str, &str); 34] = [
+static ASKED: [(&str, &str); 36] = [
     (
         "omega check --format=hoa",
         "Do { task: Run(Check(Hoa), 1099511627776), source: Input, verbose: false }",
@@ -123,6 +123,14 @@ static ASKED: [(&str, &str); 34] = [
         "Do { task: Run(DrawPart { from: 7, depth: Some(2147483647) }, 1099511627776), source: Input, verbose: false }",
     ),
     (
+        "omega check g",
+        "ByText { asked: Check, file: \"g\", verbose: false }",
+    ),
+    (
+        "omega draw -v g",
+        "ByText { asked: Draw, file: \"g\", verbose: true }",
+    ),
+    (
         "omega show --format pg g",
         "Do { task: Run(Show(Pg), 1099511627776), source: File(\"g\"), verbose: false }",
     ),
@@ -145,7 +153,7 @@ static ASKED: [(&str, &str); 34] = [
 ];
 
 /// Command lines that are at fault, and what is said of each.
-static FAULTS: [(&str, &str); 7] = [
+static FAULTS: [(&str, &str); 9] = [
     ("omega", "requires a subcommand"),
     (
         "omega show --format xyz",
@@ -168,6 +176,11 @@ static FAULTS: [(&str, &str); 7] = [
         "the argument '--lift' cannot be used with '--game'",
     ),
     ("omega realize --budget 9", "were not provided:\\n  --lift"),
+    ("omega show", "were not provided:\\n  --format <FORMAT>"),
+    (
+        "omega draw --lasso g",
+        "were not provided:\\n  --format <FORMAT>",
+    ),
 ];
 
 /// Requests for help or the version, and what the text says.

@@ -212,7 +212,7 @@ static REFUSALS: [(&str, &str, u8, &str); 9] = [
 /// A fault of the command line that is found after `clap`, and its text.
 const FAULT: (&str, &str) = (
     "omega canon --format hoa --from 4",
-    "error: the argument '--from <ID>' can only be used with '--format pg'\n\nUsage: omega canon [OPTIONS] --format <FORMAT> [FILE]\n\nFor more information, try '--help'.\n",
+    "error: the argument '--from <ID>' can only be used with '--format pg'\n\nUsage: omega canon [OPTIONS] [FILE]\n\nFor more information, try '--help'.\n",
 );
 
 /// Runs command lines, each with an input and the whole output of a run that is done.
