@@ -1,0 +1,47 @@
+ghost use Rattle.std.specs.Prelude.{IfErr, IfOk, OnOk};
+ghost use Rattle.omega_text.specs.Cases.{or_memory};
+ghost use Rattle.omega_hoa.specs.Alone.{IsAutomatonRefusal, IsAutomatonText};
+ghost use Rattle.omega_lasso_search.specs.Searching.{IsSearchable};
+ghost use Rattle.omega_trim.specs.Refusing.{IsTrimRefusal};
+ghost use Rattle.omega_trim.specs.Trimmed.{IsTrimmed};
+ghost use Rattle.omega_trim_answers.specs.Trim.{IsTrimAnswer, IsTrimAnswerRefusal};
+
+use omega_automaton::Automaton;
+use omega_canon::canonical;
+use omega_hoa::read_one;
+use omega_text::Refusal;
+use omega_trim::trim;
+use std::alloc::Global;
+
+/// Returns the canonical text of the automaton of `text` without its useless states, those that no start reaches or in
+/// which no accepting lasso starts. `text` is dropped once it is read. The cost is that of `trim`, and linear in both
+/// texts.
+///
+/// Fails with the [Refusal::Text] or [Refusal::Automaton] of the text, or else with the first of
+/// [TaskFault::UniversalBranch], [TaskFault::TooManyPropositions] and [TaskFault::TooLarge] that `trim` meets.
+pub fn trim_text(alloc: Global, text: Vec<u8>) -> Result<Vec<u8>, Refusal>
+    ensures answer { IfOk result (λ output. IsTrimAnswer text.items output.items) }
+    ensures refused { IfErr result (or_memory (IsTrimAnswerRefusal text.items)) }
+{
+    let automaton = read(alloc, text)?;
+    let trimmed = trimmed(alloc, automaton)?;
+    trimmed.keeps_limits();
+    canonical(alloc, &trimmed)
+}
+
+/// Reads the automaton of `text`, which is dropped.
+fn read(alloc: Global, text: Vec<u8>) -> Result<Automaton, Refusal>
+    ensures automaton { IfOk result (IsAutomatonText text.items) }
+    ensures refused { IfErr result (or_memory (IsAutomatonRefusal text.items)) }
+{
+    read_one(alloc, text.as_slice())
+}
+
+/// Returns `automaton`, which is dropped, without its useless states. Fails as `trim` does.
+fn trimmed(alloc: Global, automaton: Automaton) -> Result<Automaton, Refusal>
+    ensures trimmed { IfOk result (IsTrimmed automaton) }
+    ensures given { OnOk result (IsSearchable automaton) }
+    ensures refused { IfErr result (IsTrimRefusal automaton) }
+{
+    trim(alloc, &automaton)
+}
