@@ -1,0 +1,5 @@
+pub mod Members
+pub mod Moved
+pub mod Runs
+pub mod Words
+pub mod One

@@ -1,0 +1,2 @@
+-- The laws of automata without useless states.
+pub mod Trims
