@@ -10,9 +10,10 @@
 
 A command is called as `COMMAND solve --player 0`, `COMMAND check --format pg` and so on, with the text on standard
 input; that behind --plain is called as it stands, for the task before the first `=`, which is printed beside each
-figure. The commands take turns. The first run of each warms up, and its output is compared with that of the first
-command: a difference is printed as DIFFERS, and like a refusal or a run that takes too long it makes the exit status
-1. Of a search the winners alone are compared.
+figure. For `verify` the text is the solution that the first command writes for `solve --search`, and each command is
+given the game by the words `--game FILE`. The commands take turns. The first run of each warms up, and its output is
+compared with that of the first command: a difference is printed as DIFFERS, and like a refusal or a run that takes too
+long it makes the exit status 1. Of a search the winners alone are compared.
 
 Times differ from run to run and machine to machine, so that only the ratios within one run mean something. A plain
 loop of this interpreter is timed beside each row: where that takes longer than elsewhere, the machine was busy.
@@ -39,8 +40,13 @@ GNU_TIME = shutil.which("time")
 # The exit status of `verify` where the solution does not win, and of `realize` where the environment wins.
 NOT_WON = 6
 OMEGA = os.path.join(ROOT, "crates", "omega_tool", "out", "omega_tool")
+VERIFY = ["verify"]
 TASKS = {
-    "solve": [["solve"], ["solve", "--player", "0"], ["solve", "--player", "1"], ["solve", "--search"]],
+    "solve": [["solve"], ["solve", "--player", "0"], ["solve", "--player", "1"], ["solve", "--search"], VERIFY],
+    # Games for which lifting for one player alone takes long.
+    "turns": [["solve"], ["solve", "--search"], VERIFY],
+    # Games for which lifting takes long.
+    "searched": [["solve", "--search"], VERIFY],
     "read": [["check", "--format", "pg"], ["canon", "--format", "pg"]],
     "automata": [["check", "--format", "hoa"], ["canon", "--format", "hoa"]],
     "emptiness": [["check", "--format", "hoa"], ["canon", "--format", "hoa"], ["empty"], ["empty", "--search"]],
@@ -135,8 +141,10 @@ class Figures:
             self.times.append(made[0])
 
     def words(self, words: list[str]) -> list[str]:
-        """The words that follow the command."""
-        return [] if self.plain else words
+        """The words that follow the command. A plain command is given the name of a game alone."""
+        if not self.plain:
+            return words
+        return words[words.index("--game"):] if "--game" in words else []
 
     def median(self) -> float:
         return statistics.median(self.times)
@@ -212,23 +220,19 @@ def explained(commands: list[tuple[str, list[str]]], options: argparse.Namespace
     return all_well
 
 
-def pairs_compared(commands: list[tuple[str, list[str]]], options: argparse.Namespace, table: list[TableRow]) -> bool:
-    """Runs the commands on pairs of automata: is one contained in the other? Whether all went well."""
-    all_well = True
-    for family, (quick, full) in COMPARED.items():
-        if options.only and family not in options.only:
-            continue
-        one, other = (quick if options.quick else full)()
-        with tempfile.NamedTemporaryFile("w") as file, tempfile.NamedTemporaryFile("w") as given:
-            file.write(other)
-            file.flush()
-            given.write(one)
-            given.flush()
-            say(f"{family}: {len(one):,} and {len(other):,} bytes, {one.count('State:'):,} states each")
-            figures = [Figures(name, command, (0, NOT_WON)) for name, command in commands]
-            words = ["contained", "--in", file.name]
-            all_well = row_of(family, "contained", figures, words, given.name, options, table) and all_well
-    return all_well
+def solution_of(command: list[str], path: str, seconds: float) -> bytes:
+    """The solution that the command writes for the game by the search; empty if it fails."""
+    made = measured(command, ["solve", "--search"], path, seconds)
+    return made[2] if made else b""
+
+
+def verified(family: str, path: str, figures: list["Figures"], options: argparse.Namespace,
+             table: list[TableRow]) -> bool:
+    """Runs the commands on a game and the solution that the first of them writes for it. Whether all went well."""
+    with tempfile.NamedTemporaryFile() as given:
+        given.write(solution_of(figures[0].command, path, options.seconds))
+        given.flush()
+        return row_of(family, "verify", figures, [*VERIFY, "--game", path], given.name, options, table)
 
 
 def row_of(family: str, task: str, figures: list[Figures], words: list[str], path: str,
@@ -362,7 +366,11 @@ def main() -> int:
             for words in tasks:
                 task = " ".join(words)
                 figures = figures_of(task, commands, options.plain)
-                all_well = row_of(family, task, figures, words, file.name, options, table) and all_well
+                if words == VERIFY:
+                    well = verified(family, file.name, figures, options, table)
+                else:
+                    well = row_of(family, task, figures, words, file.name, options, table)
+                all_well = well and all_well
     if not options.task or "verify --explain" in options.task:
         all_well = explained(commands, options, table) and all_well
     if not options.task or "contained" in options.task:
