@@ -8,3 +8,4 @@ pub mod Semicolons
 pub mod Spelled
 pub mod Splitting
 pub mod Strings
+pub mod Unique

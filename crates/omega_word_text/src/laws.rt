@@ -2,8 +2,9 @@
 
 ghost use Rattle.omega_text.specs.Format.{GoesOneWay};
 ghost use Rattle.omega_word_text.specs.Cut.{word_format};
-ghost use Rattle.omega_word_text.specs.Laws.{NamesAreStrings};
+ghost use Rattle.omega_word_text.specs.Laws.{NamesAreStrings, WordsAreNotRefused, WordsOfTextsAreOne};
 
+use omega_label::labels_are_one;
 use omega_text::{HoaKind, TokenKind};
 
 /// States that from each place the text of a word goes on in one way: with one token, with one fault, or with nothing
@@ -18,3 +19,18 @@ pub fn word_texts_go_on_one_way()
 pub fn names_are_strings()
     ensures { NamesAreStrings }
 {}
+
+/// States that a text says at most one word.
+pub fn words_of_texts_are_one()
+    ensures { WordsOfTextsAreOne }
+{
+    labels_are_one();
+    word_texts_go_on_one_way();
+}
+
+/// States that a text that says a word has no refusal.
+pub fn words_are_not_refused()
+    ensures { WordsAreNotRefused }
+{
+    word_texts_go_on_one_way();
+}

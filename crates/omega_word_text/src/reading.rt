@@ -27,6 +27,9 @@ use std::alloc::Global;
 /// Fails with [TextFault::TooLong] above `MOST_TEXT` bytes. Otherwise fails with [TextFault::Lex] or
 /// [TextFault::Number] at the least place, or else with [TextFault::Syntax] at the first token with which no word goes
 /// on, or at the length of the text.
+///
+/// A text says at most one word, and one that says a word has no refusal: in `laws`, `words_of_texts_are_one` and
+/// `words_are_not_refused`. Names are strings, by `names_are_strings` there.
 pub fn read_word(alloc: Global, bytes: &[u8]) -> Result<SymbolicWord, Refusal>
     ensures word { IfOk result (IsWordText bytes.now) }
     ensures refused { IfErr result (IsReadWordRefusal bytes.now) }
