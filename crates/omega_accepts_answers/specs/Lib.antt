@@ -1,0 +1,4 @@
+-- What `accepts` answers: what public contracts cite.
+pub use Rattle.omega_text.specs.Cases
+pub use Rattle.omega_text.specs.Refusal
+pub mod Accepts
