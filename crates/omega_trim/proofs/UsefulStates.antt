@@ -12,7 +12,7 @@ use Rattle.omega_runs.specs.Lasso.{Leads, marks_at}
 use Rattle.omega_lasso_search.specs.private.Searched.{AreUsableEdges}
 use Rattle.omega_lasso_search.proofs.Walks.{same_marks}
 use Rattle.omega_trim.specs.Useful.{AreUsefulStates, IsReached, IsUseful, StartsLasso}
-use Rattle.omega_trim.specs.private.Placed.{HasBoth, HaveBoth, LeadsToOne, LoopsAt, TellLive, defined_numbers, flag_at, graph_of, place_of, reversed, rows_of, shape_of, sources_of}
+use Rattle.omega_trim.specs.private.Placed.{HasBoth, HaveBoth, LeadsToLoop, LeadsToOne, LoopsAt, TellLive, defined_numbers, flag_at, graph_of, place_of, reversed, rows_of, shape_of, sources_of}
 use Rattle.omega_trim.proofs.Among.{place_one}
 use Rattle.omega_trim.proofs.Traced.{LeadsOn, StartAt, begin_defined, source_of, start_of, walk_from, walk_to}
 use Rattle.omega_trim.proofs.Turned.{reversed_are, turned_back, walk_back}
@@ -63,15 +63,19 @@ module _ (a : Description) (automaton : IsAutomaton a) (plain : has_universal_br
       let way = (live.tell marks (place_of a state)).0 flag in
       let goal : ℕ = way.1.source in
       let ahead = walk_back back (graph_of a) (listed numbers) (turned_back (graph_of a) back (reversed_are (shape_of a) marks)) goal way.0 (place_of a state) way.1.leads in
-      let loops : LoopsAt (graph_of a) (listed numbers) a.acceptance goal = live.are.sound goal way.1.begins in
-      let stem : LeadsOn a automaton plain numbers usable marks state ahead.0 goal = walk_from a automaton plain numbers usable marks state ahead.0 goal ahead.1 in
-      let cycle : LeadsOn a automaton plain numbers usable marks stem.to loops.cycle goal =
-      walk_from a automaton plain numbers usable marks stem.to loops.cycle goal
-      (subst (λ place. IsEdgeWalk (graph_of a) (listed numbers) place loops.cycle goal) (sym stem.at) loops.leads) in
+      let on : LeadsToLoop (graph_of a) (listed numbers) a.acceptance goal = live.are.sound goal way.1.begins in
+      let loops : LoopsAt (graph_of a) (listed numbers) a.acceptance on.loop_state = on.loops in
+      let there : IsEdgeWalk (graph_of a) (listed numbers) (place_of a state) (ahead.0 ++ on.walk) on.loop_state =
+      joined (graph_of a) (listed numbers) (place_of a state) ahead.0 goal on.walk on.loop_state ahead.1 on.leads in
+      let stem : LeadsOn a automaton plain numbers usable marks state (ahead.0 ++ on.walk) on.loop_state =
+      walk_from a automaton plain numbers usable marks state (ahead.0 ++ on.walk) on.loop_state there in
+      let cycle : LeadsOn a automaton plain numbers usable marks stem.to loops.cycle on.loop_state =
+      walk_from a automaton plain numbers usable marks stem.to loops.cycle on.loop_state
+      (subst (λ place. IsEdgeWalk (graph_of a) (listed numbers) place loops.cycle on.loop_state) (sym stem.at) loops.leads) in
       let defined : Contains (defined_numbers a) stem.to = begin_defined a stem.to loops.cycle cycle.to loops.longer cycle.leads in
       let same : cycle.to ≡ stem.to = place_one (defined_numbers a) stem.to cycle.to defined (cycle.at ∙ sym stem.at) in
       record {
-        stem = ahead.0;
+        stem = ahead.0 ++ on.walk;
         cycle = loops.cycle;
         loop_state = stem.to;
         stem_leads = stem.leads;

@@ -14,6 +14,7 @@ mod live;
 mod marks;
 mod names;
 mod numbers;
+mod occurring;
 mod places;
 mod states;
 mod trimming;

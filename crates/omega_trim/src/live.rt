@@ -30,7 +30,7 @@ pub(crate) fn live_states(
     Ok(flags)
 }
 
-/// Returns states in which accepting closed walks begin, such that `edges` lead to one from each other such state.
+/// Returns states from which `edges` lead to accepting closed walks, and to one of which they lead from each such walk.
 fn goals_of(
     alloc: Global,
     automaton: &Automaton,

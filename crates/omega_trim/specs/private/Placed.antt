@@ -7,7 +7,7 @@ use Rattle.omega_automaton.specs.Automaton.{BodyEdge, Description, edges_of}
 use Rattle.omega_components.specs.Graph.{AreStates, Shape, edge_of, listed}
 use Rattle.omega_components.specs.Reaching.{TellReached}
 use Rattle.omega_components.specs.declared.edge.Edge.{Edge}
-use Rattle.omega_walk_laws.specs.Walks.{EdgeSet, IsEdgeWalk, MarkedGraph, marks_on}
+use Rattle.omega_walk_laws.specs.Walks.{EdgeSet, HasAccepting, IsEdgeWalk, MarkedGraph, marks_on}
 use Rattle.omega_accepting_walk.specs.Rows.{graph_with}
 use Rattle.omega_runs.specs.Lasso.{marks_of}
 use Rattle.omega_lasso_search.specs.private.Numbering.{first_of}
@@ -60,21 +60,29 @@ pub record LoopsAt (graph : MarkedGraph) (edges : EdgeSet) (formula : AccTree) (
   pub longer : 0 < length cycle
   pub accepted : IsTrue (accepts (marks_on graph cycle) formula)
 
--- an accepting closed walk in the edges of a list begins in a state that one of them leaves
-pub record LoopsInside (graph : MarkedGraph) (edges : List ℕ) (formula : AccTree) (state : ℕ) : Type 0 where
-  pub loops : LoopsAt graph (listed edges) formula state
+-- one of some edges leaves a state, and there is an accepting closed walk in them
+pub record IsGoalOf (graph : MarkedGraph) (edges : List ℕ) (formula : AccTree) (state : ℕ) : Type 0 where
   pub edge : ℕ
   pub has : Contains edges edge
   pub leaves : (graph edge).from ≡ state
+  pub accepting : HasAccepting graph (listed edges) formula
+
+-- edges of a set lead from a state to an accepting closed walk
+pub record LeadsToLoop (graph : MarkedGraph) (edges : EdgeSet) (formula : AccTree) (from : ℕ) : Type 0 where
+  pub loop_state : ℕ
+  pub walk : List ℕ
+  pub leads : IsEdgeWalk graph edges from walk loop_state
+  pub loops : LoopsAt graph edges formula loop_state
 
 -- edges of a set lead from a state to one of some states
 abbrev pub LeadsToOne : MarkedGraph → EdgeSet → ℕ → List ℕ → Type 0
 LeadsToOne graph edges from goals =
     (goal : ℕ) × Contains goals goal × ((walk : List ℕ) × IsEdgeWalk graph edges from walk goal)
 
--- an accepting closed walk begins in each of some states, and one of them is reached from where such a walk begins
+-- edges of a list lead from each of some states to an accepting closed walk, and to one of them from where such a walk
+-- begins
 pub record AreGoals (graph : MarkedGraph) (edges : List ℕ) (formula : AccTree) (goals : List ℕ) : Type 0 where
-  pub sound : (goal : ℕ) → Contains goals goal → LoopsAt graph (listed edges) formula goal
+  pub sound : (goal : ℕ) → Contains goals goal → LeadsToLoop graph (listed edges) formula goal
   pub complete : (state : ℕ) → LoopsAt graph (listed edges) formula state → LeadsToOne graph (listed edges) state goals
 
 -- these are such states of the graph of an automaton
