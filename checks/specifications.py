@@ -20,6 +20,17 @@ GOALS = HEAD % (2, b'1 "s"', b"0", b"parity max even 3", b"3 Inf(2) | (Fin(1) & 
 LOOPS = GOALS.replace(b"controllable-AP: 0", b"controllable-AP:")
 
 
+def first_that_holds(inputs: int, marks: list[int]) -> bytes:
+    """A specification of one state that mentions so many propositions of the environment at once: an edge for each that
+    is the first that holds, and one where none does. The edges have these marks, one after the other."""
+    labels = [b"&".join([b"!%d" % before for before in range(at)] + [b"%d" % at] * (at < inputs))
+              for at in range(inputs + 1)]
+    edges = [b"[%s] 0 {%d}" % (label, marks[at % len(marks)]) for at, label in enumerate(labels)]
+    names = b" ".join(b'"p%d"' % number for number in range(inputs + 1))
+    return HEAD % (1, b"%d %s" % (inputs + 1, names), b"%d" % inputs, b"parity max even 2", b"2 Fin(1) & Inf(0)",
+                   b"State: 0 " + b" ".join(edges))
+
+
 def winner(states: int, names: bytes, controlled: bytes, body: bytes) -> bytes:
     """The text of a winner that begins in state 0. Lines of its body are parted by `/`."""
     return b"HOA: v1\nStates: %d\nStart: 0\nAP: %s\nacc-name: all\nAcceptance: 0 t\ncontrollable-AP:%s\n" % (

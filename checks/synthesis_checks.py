@@ -19,7 +19,7 @@ from games import read_game, winners
 from program import Cases, Fault, Ran, run_of, shown
 from realizability import Parted, asked, game_fault, is_controller, is_realizable, judgeable, lack_fault, lacks
 from realizability import winner_fault, winner_text
-from specifications import ARBITRATES, WINNERS, Altered, Specifications
+from specifications import ARBITRATES, WINNERS, Altered, Specifications, first_that_holds
 
 REALIZABLE, UNREALIZABLE = (0, b"realizable\n"), (6, b"unrealizable\n")
 YES, NO = (0, b"yes\n"), (6, b"no\n")
@@ -209,6 +209,16 @@ def refusal_checks() -> Cases:
         yield f"{label}, -v", partial(refusal_fault, ["verify", "-v", "--specification"], held, text, lines)
 
 
+def wide_checks() -> Cases:
+    """As many propositions of the environment in one state as there may be, and one more."""
+    text = first_that_holds(12, [0, 1])
+    yield "realize, 12 propositions of the environment at once", partial(answer_fault, text, [])
+    yield "realize --controller, 12 propositions of the environment at once", partial(written_fault, text, [])
+    yield "realize --game, 12 propositions of the environment at once", partial(played_fault, text)
+    yield "realize, 13 propositions of the environment at once", partial(
+        refusal_fault, ["realize"], None, first_that_holds(13, [0]), [b"42 TooManyPropositions"])
+
+
 def random_checks() -> Cases:
     maker, last = Specifications(2031), ARBITRATES
     for number in range(1000):
@@ -231,4 +241,5 @@ def random_checks() -> Cases:
 def synthesis_checks() -> Cases:
     yield from judge_checks()
     yield from refusal_checks()
+    yield from wide_checks()
     yield from random_checks()
