@@ -31,13 +31,17 @@ def answer_of(ran: Ran) -> tuple[int, bytes] | None:
     return None if ran.stderr else (ran.returncode, ran.stdout)
 
 
-def is_refused(ran: Ran, refused: Refused) -> bool:
-    return (ran.returncode, ran.stdout, ran.stderr) == (1, b"", f"omega: {refused}\n".encode())
+def is_refused(ran: Ran, refused: Refused, status: int = 1) -> bool:
+    return (ran.returncode, ran.stdout, ran.stderr) == (status, b"", f"omega: {refused}\n".encode())
 
 
 def answer_fault(text: bytes, words: list[str]) -> Fault:
     """What is wrong with the line that is written of a text, or nothing."""
-    ran = run_of(["realize", *words], text)
+    return line_fault(text, run_of(["realize", *words], text))
+
+
+def line_fault(text: bytes, ran: Ran) -> Fault:
+    """What is wrong with a run that is to write that line, or nothing."""
     try:
         wanted = REALIZABLE if is_realizable(*asked(read_one(text))) else UNREALIZABLE
     except Refused as refused:
@@ -79,9 +83,17 @@ def played_fault(text: bytes) -> Fault:
 
 
 def budget_fault(text: bytes, budget: int) -> Fault:
-    """What is wrong with the answer within a budget, or nothing: it is refused, or the same."""
-    ran = run_of(["realize", "--lift", "--budget", str(budget)], text)
-    return None if is_refused(ran, Refused("51 Budget")) else answer_fault(text, [])
+    """What is wrong with the answers within this budget and within the next, or nothing: each is refused or right, and
+    the second is not refused if the first is not."""
+    was_spent = True
+    for limit in (budget, budget + 1):
+        ran = run_of(["realize", "--lift", "--budget", str(limit)], text)
+        is_spent = is_refused(ran, Refused("51 Budget"), 3)
+        fault = None if is_spent and was_spent else line_fault(text, ran)
+        if fault:
+            return f"{limit}: {fault}"
+        was_spent = is_spent
+    return None
 
 
 def judged_fault(specification: bytes, text: bytes) -> Fault:
@@ -230,7 +242,7 @@ def random_checks() -> Cases:
         yield f"realize --game, {label}", partial(played_fault, text)
         if number % 5 == 0:
             yield f"realize --controller --lift, {label}", partial(written_fault, text, LIFT)
-            yield f"realize --lift --budget, {label}", partial(budget_fault, text, maker.some(0, 6))
+            yield f"realize --lift --budget, {label}", partial(budget_fault, text, maker.some(0, 40))
         yield f"verify --specification, {label}: another's controller", partial(judged_fault, text, last)
         ran = run_of(["realize", "--controller"], text)
         if (ran.returncode, ran.stderr) == (0, b""):
