@@ -421,8 +421,8 @@ pub record IsOfOtherFormat (subcommand : List ℕ) (options : Options) (option :
   pub used : IsUsed option options
 
 -- what is wrong: no subcommand has the name, or memory is wanting, or options are wrong. Then an option is faulty, one
--- lacks another that it needs, two conflict, or one is for another format. A format is missing only if it is not left to
--- a text
+-- lacks another that it needs, two conflict, or one is for another format. A format is missing only if it is not left
+-- to a text
 abbrev pub IsMistake : List ℕ → Options → Mistake → Type 0
 IsMistake subcommand options mistake.Unknown = IsUnknownSubcommand subcommand
 IsMistake subcommand options mistake.Memory = Unit {0}

@@ -112,8 +112,8 @@ fn task_for<'a>(alloc: Global, subcommand: &str, options: &Options<'a>) -> Resul
     Err(Mistake::Unknown)
 }
 
-/// Returns the command and the file whose text tells the format, or nothing if it is not left to a text; or what is wrong
-/// with `options`.
+/// Returns the command and the file whose text tells the format, or nothing if it is not left to a text; or what is
+/// wrong with `options`.
 fn by_text<'a>(
     alloc: Global,
     subcommand: &str,

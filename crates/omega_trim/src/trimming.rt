@@ -30,10 +30,10 @@ use std::alloc::Global;
 /// - [TaskFault::TooLarge] if the acceptance or a label that stays is deeper than `MOST_DEPTH` with the parentheses
 ///   that it needs, or if the labels that stay pass a limit of automata, as those of valuations may.
 ///
-/// Takes the time of `is_satisfiable` for each label. Otherwise linear in the states and edges, and in the marks for each
-/// atom of the acceptance formula, but for one `accepting_walk` for each strongly connected component whose edges
-/// together show neither that a closed walk accepts nor that none does. Its scratch space has a number for each state. A
-/// formula without `Fin` has no such component.
+/// Takes the time of `is_satisfiable` for each label. Otherwise linear in the states and edges, and in the marks for
+/// each atom of the acceptance formula, but for one `accepting_walk` for each strongly connected component whose edges
+/// together show neither that a closed walk accepts nor that none does. Its scratch space has a number for each state.
+/// A formula without `Fin` has no such component.
 pub fn trim(alloc: Global, automaton: &Automaton) -> Result<Automaton, Refusal>
     ensures trimmed { IfOk result (IsTrimmed automaton.now) }
     ensures given { OnOk result (IsSearchable automaton.now) }
