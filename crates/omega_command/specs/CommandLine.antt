@@ -371,8 +371,8 @@ IsUsed name.Progress options = GivesFlag (text_of name.Progress options) true
 IsUsed name.Verbose options = GivesFlag (text_of name.Verbose options) true
 IsUsed name.File options = text_of name.File options ≢ None
 
--- the option of the subcommand that conflicts with this one: the search of `solve` is for both players, that of `empty`
--- makes no lifts, `--automaton` conflicts with `--game` and `--from`, and the game of `realize` is written without
+-- the option of the subcommand that conflicts with this one. The search of `solve` is for both players, and that of
+-- `empty` makes no lifts. `--automaton` conflicts with `--game` and `--from`. The game of `realize` is written without
 -- being solved
 abbrev pub IsApartFrom : OptionName → List ℕ → OptionName → Type 0
 IsApartFrom name.Search subcommand option =
@@ -389,8 +389,8 @@ pub record IsConflict (subcommand : List ℕ) (options : Options) (one other : O
   pub one_used : IsUsed one options
   pub other_used : IsUsed other options
 
--- the option of the subcommand that has to be given if this one is: the steps of a depth are counted from a node, a
--- legend is of a solution, and the lifts of `realize` are bounded and reported where it lifts
+-- the option of the subcommand that has to be given if this one is. The steps of a depth are counted from a node, and a
+-- legend is of a solution. The lifts of `realize` are bounded and reported only if it lifts
 abbrev pub IsNeededBy : OptionName → List ℕ → OptionName → Type 0
 IsNeededBy name.Depth subcommand option = (subcommand ≡ codes "draw") × (option ≡ name.From)
 IsNeededBy name.Legend subcommand option = (subcommand ≡ codes "draw") × (option ≡ name.Solution)

@@ -1,6 +1,6 @@
 ghost use Rattle.std.specs.Prelude.{◌≡◌, IfErr, IfNone, IfOk, IfSome, Some, codes, string_bytes};
-ghost use Rattle.omega_command.specs.CommandLine.{Asks, AsksFor, Gives, GivesFlag, GoesWithEither, IsFormatText, IsMistake};
-ghost use Rattle.omega_command.specs.CommandLine.{IsOfEither, LeavesFormat, LeavesNoFormat, text_of};
+ghost use Rattle.omega_command.specs.CommandLine.{Asks, AsksFor, Gives, GivesFlag, GoesWithEither, IsFormatText};
+ghost use Rattle.omega_command.specs.CommandLine.{IsMistake, IsOfEither, LeavesFormat, LeavesNoFormat, text_of};
 ghost use Rattle.omega_command.specs.declared.command.Format.TheVariants.{Hoa, Pg};
 ghost use Rattle.omega_command.specs.declared.either.OfEither.{OfEither};
 ghost use Rattle.omega_command.specs.declared.either.OfEither.TheVariants as either;
@@ -112,8 +112,8 @@ fn task_for<'a>(alloc: Global, subcommand: &str, options: &Options<'a>) -> Resul
     Err(Mistake::Unknown)
 }
 
-/// Returns the command and the file whose text tells the format, or nothing if it is not left to a text; or what is
-/// wrong with `options`.
+/// Returns the command and the file whose text tells the format, or nothing if it is not left to a text. Or else
+/// returns what is wrong with `options`.
 fn by_text<'a>(
     alloc: Global,
     subcommand: &str,

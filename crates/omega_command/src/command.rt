@@ -44,7 +44,7 @@ pub enum Command {
     Game,
     /// Writes an automaton that accepts the words that a deterministic one does not.
     Complement,
-    /// Says whether an automaton is realizable. Decided by a search whose answer is judged, and by lifting where the
+    /// Says whether an automaton is realizable. Decided by a search whose answer is judged, and by lifting if the
     /// search finds nothing.
     Realize {
         /// Whether the winner's automaton is written in place of the line.

@@ -115,8 +115,8 @@ fn emptiness_is_reported_for_player_0(rt: HostRuntime) -> Result<(), Fail> {
     Ok(())
 }
 
-/// The game has a node for the state and one for the edge, a sink, and one for each of two classes of letters; only the
-/// sink has a priority that loses for player 0.
+/// Lifts a game that has a node for the state and one for the edge, a sink, and one for each of two classes of letters.
+/// Only the sink has a priority that loses for player 0.
 #[test]
 fn realizability_is_reported_for_player_0_first(rt: HostRuntime) -> Result<(), Fail> {
     let alloc = rt.alloc();

@@ -85,11 +85,11 @@ static AUTOMATA: [(&str, &str, &str); 6] = [
 const ARBITER: &str =
     "HOA: v1 States: 1 Start: 0 AP: 2 \"r\" \"g\" controllable-AP: 1 acc-name: parity max even 1 Acceptance: 1 Inf(0) --BODY-- State: 0 [!0|1] 0 {0} --END--";
 
-/// The same automaton where the system controls both.
+/// The same automaton, but the system controls both propositions.
 const CONTROLLED: &str =
     "HOA: v1 States: 1 Start: 0 AP: 2 \"r\" \"g\" controllable-AP: 0 1 acc-name: parity max even 1 Acceptance: 1 Inf(0) --BODY-- State: 0 [!0|1] 0 {0} --END--";
 
-/// The same automaton where the system controls nothing: a request without a grant has no answer.
+/// The same automaton, but the system controls nothing: a request without a grant has no answer.
 const UNCONTROLLED: &str =
     "HOA: v1 States: 1 Start: 0 AP: 2 \"r\" \"g\" controllable-AP: acc-name: parity max even 1 Acceptance: 1 Inf(0) --BODY-- State: 0 [!0|1] 0 {0} --END--";
 
