@@ -1,5 +1,5 @@
 -- Places of numbers in lists of numbers.
-use Rattle.std.proofs.Common.{◌≡◌, ◌⊎◌, ℕ, zero, suc, ◌+◌, ◌++◌, ◌<◌, ◌≤◌, Bool, true, false, nat_eq, inl, inr, List, [], ◌∷◌, length, get_or, map, take, Option, Some, None, position, cond, nat_lt, Contains, refl, sym, ap, ◌∙◌, arith, eq-eqb, true≢false}
+use Rattle.std.proofs.Common.{◌≡◌, ◌⊎◌, ℕ, zero, suc, ◌+◌, ◌++◌, ◌<◌, ◌≤◌, Bool, true, false, nat_eq, inl, inr, List, [], ◌∷◌, length, get_or, map, take, Some, None, position, cond, nat_lt, Contains, refl, sym, ap, ◌∙◌, arith, eq-eqb, true≢false}
 use Rattle.std.specs.List.{position_or_len}
 use Rattle.std.proofs.lemmas.Bool.{cases_lt, eqb-true, lt-ltb}
 use Rattle.std.proofs.lemmas.List.{get_or-map, length-map, map-append, take_more}

@@ -1,9 +1,8 @@
 -- Labels that are too deep with their parentheses.
-use Rattle.std.proofs.Common.{List, inl, inr, sym}
-use Rattle.omega_automaton.specs.Automaton.{BodyEdge, Description}
-use Rattle.omega_automaton.specs.declared.state.State.{State}
+use Rattle.std.proofs.Common.{inl, inr, sym}
+use Rattle.omega_automaton.specs.Automaton.{Description}
 use Rattle.omega_runs.proofs.Flat.{contains_flat}
-use Rattle.omega_trim.specs.Refusing.{IsDeepLabel, PassesLimit, deep_label}
+use Rattle.omega_trim.specs.Refusing.{PassesLimit, deep_label}
 use Rattle.omega_trim.specs.private.Writing.{HasDeepLabel, StatesHaveDeepLabel}
 
 -- a label of a state or of its edges is one of the automaton

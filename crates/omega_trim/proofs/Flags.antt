@@ -1,17 +1,16 @@
 -- The states with both flags, one more at a time.
-use Rattle.std.proofs.Common.{◌≡◌, ◌↔◌, ◌⊎◌, ℕ, ◌+◌, ◌<◌, Bool, true, false, ◌&&◌, nat_eq, IsTrue, inl, inr, List, [], ◌∷◌, ◌++◌, length, get_or, map, take, Contains, cond, if◌then◌else◌, refl, sym, ap, subst, ◌∙◌, arith, eqb-true, true≢false}
+use Rattle.std.proofs.Common.{◌≡◌, ◌↔◌, ◌⊎◌, ℕ, ◌<◌, Bool, true, false, ◌&&◌, nat_eq, IsTrue, inl, inr, List, [], ◌∷◌, ◌++◌, Contains, cond, if◌then◌else◌, refl, sym, ap, subst, ◌∙◌, arith, eqb-true, true≢false}
 use Rattle.std.specs.List.{IsDistinct, list_any, position_or_len}
 use Rattle.std.specs.List.Sorted.{IsPermutation, IsSorted, IsStrictlyIncreasing}
 use Rattle.std.specs.Ordering.{nat_cmp}
 use Rattle.std.proofs.lemmas.Bool.{and_from, and_parts}
-use Rattle.std.proofs.lemmas.List.{take_more}
 use Rattle.std.proofs.lemmas.List.Elements.{Contains-append_left, Contains-push, Contains-push_cases}
 use Rattle.std.proofs.lemmas.List.Sorted.{Contains-permutation, IsNonDecreasingBy-from_sort, IsPermutation-sym}
 use Rattle.std.proofs.lemmas.Map.Views.{Contains-from_any}
 use Rattle.std.proofs.lemmas.Map.Keys.{IsStrictlyIncreasing-from_distinct}
 use Rattle.indexmap.specs.IndexSet.{insert_key}
 use Rattle.omega_automaton.specs.Automaton.{Description}
-use Rattle.omega_trim.specs.private.Placed.{HasBoth, HaveBoth, defined_numbers, flag_at, place_of}
+use Rattle.omega_trim.specs.private.Placed.{HaveBoth, defined_numbers, flag_at}
 
 -- a number is in a list, and has both flags at its place among others
 pub record HasBothIn (places : List ℕ) (reached live : List Bool) (numbers : List ℕ) (state : ℕ) : Type 0 where

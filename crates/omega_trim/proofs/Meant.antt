@@ -13,7 +13,7 @@ use Rattle.omega_label.specs.Label.{LabelTree}
 use Rattle.omega_label.specs.Writing.{label_written}
 use Rattle.omega_automaton.specs.Automaton.{Description, IsAutomaton}
 use Rattle.omega_automaton.specs.Automaton as automaton
-use Rattle.omega_automaton.specs.Faults.{definitions_of, mentioned_count}
+use Rattle.omega_automaton.specs.Faults.{mentioned_count}
 use Rattle.omega_automaton.specs.Meaning.{AreMarksOf, IsEdgeOf, IsLabelOf, IsStateOf, Means}
 use Rattle.omega_automaton.specs.declared.edge.Edge.{Edge}
 use Rattle.omega_automaton.specs.declared.header.Header.{Header}

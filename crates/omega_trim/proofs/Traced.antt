@@ -1,5 +1,5 @@
 -- Walks of usable edges in the graph of an automaton are those of the automaton.
-use Rattle.std.proofs.Common.{◌≡◌, ℕ, ◌+◌, ◌<◌, Bool, false, ltb, List, [], ◌∷◌, length, get_or, map, Contains, Some, refl, sym, ap, subst, ◌∙◌, arith}
+use Rattle.std.proofs.Common.{◌≡◌, ℕ, ◌+◌, ◌<◌, false, ltb, List, [], ◌∷◌, length, get_or, map, Contains, Some, refl, sym, ap, subst, ◌∙◌, arith}
 use Rattle.std.specs.Prelude.{slice_get}
 use Rattle.std.specs.List.{AllByRecursion, list_any}
 use Rattle.std.proofs.lemmas.Bool.{ltb-false, or_parts}

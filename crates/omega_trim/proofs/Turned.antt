@@ -1,5 +1,5 @@
 -- Walks of a graph are those of the graph with its edges turned, the other way round.
-use Rattle.std.proofs.Common.{◌≡◌, ℕ, List, [], ◌∷◌, ◌++◌, get_or, refl, sym, ap, ◌∙◌}
+use Rattle.std.proofs.Common.{◌≡◌, ℕ, List, [], ◌∷◌, ◌++◌, sym, ap, ◌∙◌}
 use Rattle.std.proofs.Math.ListN.{get_or-map}
 use Rattle.omega_components.specs.Graph.{Shape, edge_of, ends_at, marked}
 use Rattle.omega_components.specs.declared.edge.Edge.{Edge}

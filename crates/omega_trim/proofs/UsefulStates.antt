@@ -1,7 +1,7 @@
 -- The states with both flags are the useful ones.
-use Rattle.std.proofs.Common.{◌≡◌, ℕ, ◌<◌, ◌↔◌, Bool, false, IsTrue, List, [], ◌∷◌, ◌++◌, length, map, Contains, refl, sym, ap, subst, ◌∙◌, arith}
+use Rattle.std.proofs.Common.{◌≡◌, ℕ, Bool, false, IsTrue, List, [], ◌∷◌, ◌++◌, map, Contains, refl, sym, ap, subst, ◌∙◌, arith}
 use Rattle.omega_formula.specs.Acceptance.{accepts}
-use Rattle.omega_automaton.specs.Automaton.{Description, IsAutomaton, edges_of}
+use Rattle.omega_automaton.specs.Automaton.{Description, IsAutomaton}
 use Rattle.omega_automaton.specs.Branching.{has_universal_branching}
 use Rattle.omega_components.specs.Graph.{listed, marked}
 use Rattle.omega_components.specs.Reaching.{TellReached}
@@ -11,7 +11,7 @@ use Rattle.omega_accepting_walk.specs.Rows.{row_at}
 use Rattle.omega_runs.specs.Lasso.{Leads, marks_at}
 use Rattle.omega_lasso_search.specs.private.Searched.{AreUsableEdges}
 use Rattle.omega_lasso_search.proofs.Walks.{same_marks}
-use Rattle.omega_trim.specs.Useful.{AreUsefulStates, IsReached, IsUseful, StartsLasso}
+use Rattle.omega_trim.specs.Useful.{AreUsefulStates, IsReached, StartsLasso}
 use Rattle.omega_trim.specs.private.Placed.{HasBoth, HaveBoth, LeadsToLoop, LeadsToOne, LoopsAt, TellLive, defined_numbers, flag_at, graph_of, place_of, reversed, rows_of, shape_of, sources_of}
 use Rattle.omega_trim.proofs.Among.{place_one}
 use Rattle.omega_trim.proofs.Traced.{LeadsOn, StartAt, begin_defined, source_of, start_of, walk_from, walk_to}

@@ -1,7 +1,7 @@
 -- The refusal of trimming: `UniversalBranch`; else `TooManyPropositions`, only if a label may be given up undecided;
 -- else `TooLarge`, only if the trimmed automaton, as a text writes it, passes a limit. Want of memory may come at each
 -- step.
-use Rattle.std.specs.Prelude.{◌≡◌, ◌<◌, ℕ, List, true, Some}
+use Rattle.std.specs.Prelude.{◌≡◌, ◌<◌, true, Some}
 use Rattle.omega_text.specs.Cases.{never, or_memory, or_task}
 use Rattle.omega_text.specs.declared.refusal.Refusal.{Refusal}
 use Rattle.omega_text.specs.declared.refusal.automaton.AutomatonFault.{AutomatonFault}

@@ -1,12 +1,12 @@
 -- one edge more, and why it can't be written
-use Rattle.std.proofs.Common.{◌≡◌, ◌++◌, ◌+◌, ◌<◌, ℕ, Bool, List, get_or, length, map, take, sym, ap, subst, ◌∙◌, arith}
+use Rattle.std.proofs.Common.{◌≡◌, ◌++◌, ◌<◌, ℕ, Bool, List, length, map, take, sym, ap, subst, ◌∙◌, arith}
 use Rattle.std.proofs.lemmas.List.{map-append, take_all}
 use Rattle.omega_automaton.specs.declared.edge.Edge.{Edge}
 use Rattle.omega_raw.specs.declared.raw_edge.RawEdge.{RawEdge}
 use Rattle.omega_edge_labels.proofs.Refusals.{large_weaker, passed_on}
 use Rattle.omega_trim.specs.Trimmed.{edges_kept, keeps_labels}
 use Rattle.omega_trim.specs.Written.{edge_written}
-use Rattle.omega_trim.specs.private.Writing.{HaveDeepLabel, kept_alone}
+use Rattle.omega_trim.specs.private.Writing.{HaveDeepLabel}
 use Rattle.omega_trim.proofs.Kept.{alone_among, edges_next, own}
 use Rattle.omega_trim.proofs.edges.kept_edges.Goals as goal
 

@@ -1,12 +1,12 @@
 -- what is meant, and why nothing is
-use Rattle.std.proofs.Common.{◌≡◌, List, ℕ, Some, refl, sym, ap, subst, ◌∙◌}
+use Rattle.std.proofs.Common.{List, ℕ, refl, sym, ap, subst, ◌∙◌}
 use Rattle.omega_automaton.specs.Automaton.{Description}
 use Rattle.omega_automaton.specs.Faults.{automaton_fault_of}
 use Rattle.omega_automaton.specs.Meaning.{Means}
 use Rattle.omega_raw.specs.declared.raw_automaton.RawAutomaton.{RawAutomaton}
 use Rattle.omega_edge_labels.proofs.Refusals.{large_weaker, passed_on}
 use Rattle.omega_trim.specs.Refusing.{IsTooLarge, PassesLimit, broken_limit}
-use Rattle.omega_trim.specs.Trimmed.{IsTrimmed, trimmed}
+use Rattle.omega_trim.specs.Trimmed.{trimmed}
 use Rattle.omega_trim.specs.private.Writing.{BreaksLimit}
 use Rattle.omega_trim.proofs.Meant.{automaton_meant, trimmed_rises}
 use Rattle.omega_trim.proofs.forming.formed.Goals as goal

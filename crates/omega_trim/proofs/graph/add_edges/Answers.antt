@@ -1,12 +1,11 @@
 -- one edge more
-use Rattle.std.proofs.Common.{◌≡◌, ◌+◌, ◌<◌, ◌++◌, ℕ, List, [], ◌∷◌, length, get_or, map, nat_eq, take, sym, ap, ◌∙◌, arith}
-use Rattle.std.specs.List.{position_or_len}
-use Rattle.std.proofs.lemmas.List.{append_assoc, map-append, take_all}
+use Rattle.std.proofs.Common.{◌≡◌, ◌<◌, ◌++◌, ℕ, List, [], ◌∷◌, length, get_or, map, take, sym, ap, ◌∙◌, arith}
+use Rattle.std.proofs.lemmas.List.{append_assoc, map-append}
 use Rattle.omega_automaton.specs.Automaton.{BodyEdge, edges_from}
 use Rattle.omega_automaton.specs.declared.edge.Edge as automata
 use Rattle.omega_components.specs.Graph.{edge_of}
 use Rattle.omega_components.specs.declared.edge.Edge.{Edge}
-use Rattle.omega_runs.proofs.Edges.{edges_take, length-edges_from}
+use Rattle.omega_runs.proofs.Edges.{edges_take}
 use Rattle.omega_lasso_search.specs.private.Numbering.{first_of}
 use Rattle.omega_lasso_search.proofs.Names.{first_is}
 use Rattle.omega_trim.specs.private.Placed.{placed_in}

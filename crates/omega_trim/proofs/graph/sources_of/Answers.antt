@@ -1,5 +1,5 @@
 -- one start more
-use Rattle.std.proofs.Common.{◌≡◌, ◌<◌, ℕ, List, get_or, length, sym, ap, ◌∙◌, arith}
+use Rattle.std.proofs.Common.{◌≡◌, ◌<◌, ℕ, List, get_or, length, ap, ◌∙◌, arith}
 use Rattle.omega_lasso_search.specs.private.Numbering.{first_of}
 use Rattle.omega_lasso_search.proofs.Names.{first_is}
 use Rattle.omega_trim.proofs.Among.{mapped_more, place_among}
@@ -16,5 +16,5 @@ loop-start-preserved c =
     let is : c.place_in.result ≡ place_among keys (first_of (get_or starts index start)) =
     c.place_in.ensures ∙ ap (λ (states : List ℕ). place_among keys (get_or states 0 0)) c.as_slice.ensures ∙ ap (place_among keys) (first_is start)
     ∙ ap (λ (s : List ℕ). place_among keys (first_of s)) here in
-    c.in_ok-push.ensures.items
-    ∙ mapped_more (λ (s : List ℕ). place_among keys (first_of s)) starts index start c.loop-start.sources.items c.place_in.result below c.loop-start.invariant is
+    ◌∙◌ {A = List ℕ} c.in_ok-push.ensures.items
+    (mapped_more (λ (s : List ℕ). place_among keys (first_of s)) starts index start c.loop-start.sources.items c.place_in.result below c.loop-start.invariant is)

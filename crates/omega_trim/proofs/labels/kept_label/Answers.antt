@@ -1,5 +1,5 @@
 -- the label that is written is the one that stays
-use Rattle.std.proofs.Common.{◌≡◌, Bool, Option, Some, IfErr, sym, ap, subst}
+use Rattle.std.proofs.Common.{Bool, Option, IfErr, sym, ap, subst}
 use Rattle.omega_label.specs.Label.{LabelTree}
 use Rattle.omega_label.specs.Shape.{label_tree_of_shape}
 use Rattle.omega_runs.specs.Judging.{IsLabelWith}

@@ -1,6 +1,6 @@
 -- the flags of the turned graph
-use Rattle.std.proofs.Common.{◌≡◌, ℕ, List, ap, subst, ◌∙◌}
-use Rattle.omega_components.specs.Graph.{AreStates, Shape}
+use Rattle.std.proofs.Common.{ℕ, List, ap, subst, ◌∙◌}
+use Rattle.omega_components.specs.Graph.{Shape}
 use Rattle.omega_components.specs.Reaching.{TellReached}
 use Rattle.omega_trim.specs.private.Placed.{reversed, shape_of}
 use Rattle.omega_trim.proofs.live.live_states.Goals as goal

@@ -1,5 +1,5 @@
 -- one number more
-use Rattle.std.proofs.Common.{◌<◌, ℕ, List, length, arith, ◌∙◌}
+use Rattle.std.proofs.Common.{◌∙◌}
 use Rattle.omega_trim.specs.Trimmed.{new_number}
 use Rattle.omega_trim.proofs.Among.{mapped_more}
 use Rattle.omega_trim.proofs.numbers.renumbered.Goals as goal

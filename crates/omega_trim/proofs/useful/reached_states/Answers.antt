@@ -1,8 +1,8 @@
 -- the sources are those of the automaton
-use Rattle.std.proofs.Common.{◌≡◌, ℕ, List, sym, subst, ◌∙◌}
+use Rattle.std.proofs.Common.{ℕ, List, sym, subst, ◌∙◌}
 use Rattle.omega_components.specs.Graph.{AreStates, Shape}
 use Rattle.omega_components.specs.Reaching.{TellReached}
-use Rattle.omega_trim.specs.private.Placed.{shape_of, sources_of}
+use Rattle.omega_trim.specs.private.Placed.{shape_of}
 use Rattle.omega_trim.proofs.Traced.{sources_inside}
 use Rattle.omega_trim.proofs.useful.reached_states.Goals as goal
 

@@ -1,5 +1,5 @@
 -- the states with both flags are the useful ones
-use Rattle.std.proofs.Common.{◌≡◌, Bool, List, sym, ap, subst}
+use Rattle.std.proofs.Common.{sym, subst}
 use Rattle.omega_components.specs.Reaching.{TellReached}
 use Rattle.omega_trim.specs.private.Placed.{TellLive, shape_of, sources_of}
 use Rattle.omega_trim.proofs.UsefulStates.{both_useful}

@@ -1,9 +1,9 @@
 -- one state more, and all
-use Rattle.std.proofs.Common.{◌≡◌, ◌+◌, ◌<◌, ◌&&◌, ◌++◌, ℕ, Bool, List, [], ◌∷◌, get_or, length, map, take, refl, sym, ap, subst, ◌∙◌, arith}
+use Rattle.std.proofs.Common.{◌≡◌, ◌+◌, ◌<◌, ◌&&◌, ◌++◌, ℕ, Bool, List, [], ◌∷◌, get_or, length, map, take, refl, ap, subst, ◌∙◌, arith}
 use Rattle.std.proofs.lemmas.List.{length-map, take_all}
 use Rattle.omega_automaton.specs.declared.state.State.{State}
-use Rattle.omega_trim.specs.private.Placed.{HaveBoth, defined_numbers, flag_at}
-use Rattle.omega_trim.proofs.Among.{mapped_more, place_among, place_bound}
+use Rattle.omega_trim.specs.private.Placed.{defined_numbers, flag_at}
+use Rattle.omega_trim.proofs.Among.{mapped_more, place_bound}
 use Rattle.omega_trim.proofs.Flags.{Have, have_both, have_next, no_both}
 use Rattle.omega_trim.proofs.useful.with_both.Goals as goal
 
