@@ -18,8 +18,8 @@ use omega_symbolic_word::SymbolicWord;
 use omega_text::{ByteString, Numbers, Refusal, Seq, TaskFault};
 use std::alloc::Global;
 
-/// Returns the automaton that accepts exactly the words that `word` admits. It has a state for each letter, with one
-/// edge that has this letter as its label, and every run is accepted.
+/// Returns the automaton that accepts exactly the words that `word` admits, by `laws::word_automata_accept_admitted`.
+/// It has a state for each letter, with one edge that has this letter as its label, and every run is accepted.
 ///
 /// Fails with [TaskFault::TooLarge] if `word` has over `MOST_STATES` letters or over `MOST_PROPOSITIONS` names, or if
 /// the letters break another limit of labels: a letter that is over 256 deep or has over 65,536 atoms and operators, or
