@@ -17,7 +17,7 @@ from automata import Refused, read_one
 from comparing_checks import beside, explained_fault, told
 from games import read_game, winners
 from program import Cases, Fault, Ran, run_of, shown
-from realizability import Parted, asked, game_fault, is_controller, is_realizable, judgeable, lack_fault, lacks
+from realizability import Parted, asked, game_fault, is_controller, is_realizable, judgeable, lack_fault, lacks, parted
 from realizability import winner_fault, winner_text
 from specifications import ARBITRATES, WINNERS, Altered, Specifications, first_that_holds
 
@@ -195,22 +195,33 @@ ITS_CONTROLLER = re.sub(rb"acc-name: .* Inf\(0\)|\{0\} ", lambda it: b"Acceptanc
                         SOUND)
 
 
+def run_beside(words: list[str], held: bytes | None, text: bytes) -> Ran:
+    return run_of(words, text) if held is None else beside(words, held, text)
+
+
+def unlike_fault(words: list[str], held: bytes | None, text: bytes, wanted: tuple[int, bytes]) -> Fault:
+    """What a run leaves other than this status and output, or nothing."""
+    ran = run_beside(words, held, text)
+    return None if answer_of(ran) == wanted else f"{told(ran)} for {wanted}"
+
+
 def refusal_fault(words: list[str], held: bytes | None, text: bytes, lines: list[bytes]) -> Fault:
     """What a run leaves other than a refusal by these lines, or nothing."""
-    ran = run_of(words, text) if held is None else beside(words, held, text)
+    ran = run_beside(words, held, text)
     wanted = (1, b"", b"".join(b"omega: %s\n" % line for line in lines))
     return None if (ran.returncode, ran.stdout, ran.stderr) == wanted else f"{told(ran)} for {wanted}"
 
 
 def refusal_checks() -> Cases:
     """Each fault, and each two: the first is refused."""
-    yield "realize without a fault", partial(answer_fault, SOUND, [])
+    yield "realize without a fault", partial(unlike_fault, ["realize"], None, SOUND, REALIZABLE)
     for (first, one), (second, other) in itertools.combinations_with_replacement(REALIZE_FAULTS.items(), 2):
         text = SOUND.replace(*one).replace(*other) if one != other else SOUND.replace(*one)
         for words in ([], ["--controller"], ["--game"], LIFT):
             yield f"realize {' '.join(words)} with {first} and {second}", partial(
                 refusal_fault, ["realize", *words], None, text, [first.encode()])
-    yield "verify --specification without a fault", partial(judged_fault, SOUND, ITS_CONTROLLER)
+    yield "verify --specification without a fault", partial(
+        unlike_fault, ["verify", "--specification"], SOUND, ITS_CONTROLLER, YES)
     for first_of, other_of in itertools.combinations_with_replacement(VERIFY_FAULTS, 2):
         held, text = SOUND, ITS_CONTROLLER
         for whose, _, fault in (first_of, other_of) if first_of != other_of else (first_of,):
@@ -222,11 +233,20 @@ def refusal_checks() -> Cases:
 
 
 def wide_checks() -> Cases:
-    """As many propositions of the environment in one state as there may be, and one more."""
+    """As many propositions of the environment in one state as there may be, and one more. An edge for each and one more
+    answer all letters; those with an odd number lose, so that the environment lets one of their propositions hold."""
     text = first_that_holds(12, [0, 1])
-    yield "realize, 12 propositions of the environment at once", partial(answer_fault, text, [])
-    yield "realize --controller, 12 propositions of the environment at once", partial(written_fault, text, [])
-    yield "realize --game, 12 propositions of the environment at once", partial(played_fault, text)
+    asked_of, label = parted(read_one(text)), "12 propositions of the environment at once"
+    lost = [winner_text(asked_of, {at}, {0: frozenset([at])}) for at in range(1, 12, 2)]
+    ran = [run_of(["realize", *words], text) for words in ([], ["--controller"], ["--game"])]
+    yield f"realize, {label}", None if answer_of(ran[0]) == UNREALIZABLE else told(ran[0])
+    is_lost = ran[1].returncode == 6 and ran[1].stdout in lost
+    yield f"realize --controller, {label}", None if is_lost else told(ran[1])
+    nodes = read_game(ran[2].stdout)
+    answers = [nodes[number].name or b"" for node in nodes.values() if b" class " in (node.name or b"")
+               for number in node.successors]
+    is_classed = sorted(answers) == sorted(b'"edge %d"' % at for at in range(13))
+    yield f"realize --game, {label}", None if is_classed else f"its classes are answered by {answers}"
     yield "realize, 13 propositions of the environment at once", partial(
         refusal_fault, ["realize"], None, first_that_holds(13, [0]), [b"42 TooManyPropositions"])
 
