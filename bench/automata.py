@@ -176,48 +176,46 @@ def generalized_rabin(states: int) -> str:
     return without_lasso(states, sets_of, formula, 3 * PAIRS, f"generalized-Rabin {PAIRS} {' '.join(['2'] * PAIRS)}")
 
 
-def cubes(draw: random.Random, propositions: list[int], count: int) -> list[str]:
-    """So many labels of which each letter has exactly one: the ways down a tree that asks for one proposition after
-    another."""
-    ways: list[list[int]] = [[]]
-    while len(ways) < count:
-        way = ways.pop(draw.randrange(len(ways)))
-        free = [number for number in propositions if number not in way and ~number not in way]
-        if not free:
-            ways.append(way)
-            continue
-        number = draw.choice(free)
-        # `~n` stands for the negation of n, which may be 0.
-        ways += [[*way, number], [*way, ~number]]
-    return ["&".join(f"!{~number}" if number < 0 else str(number) for number in way) or "t" for way in ways]
+def paths(draw: random.Random, propositions: int, count: int) -> list[str]:
+    """The labels of the leaves of a random decision tree with so many of them: one holds at each letter."""
+    leaves: list[list[tuple[int, bool]]] = [[]]
+    while len(leaves) < count:
+        at = draw.randrange(len(leaves))
+        free = sorted(set(range(propositions)) - {atom for atom, _ in leaves[at]})
+        if free:
+            atom = draw.choice(free)
+            leaves[at:at + 1] = [leaves[at] + [(atom, True)], leaves[at] + [(atom, False)]]
+    draw.shuffle(leaves)
+    return ["&".join(f"{'' if holds else '!'}{atom}" for atom, holds in leaf) or "t" for leaf in leaves]
 
 
-def controlled(text: str, propositions: range) -> str:
-    """The text with an item more: the system controls these propositions."""
-    return text.replace("acc-name", f"controllable-AP: {' '.join(map(str, propositions))}\nacc-name", 1)
+def controllable(text: str, first: int, propositions: int) -> str:
+    """The text with the item that gives the system the propositions from a first one on."""
+    numbers = "".join(f" {at}" for at in range(first, propositions))
+    return text.replace("--BODY--", f"controllable-AP:{numbers}\n--BODY--", 1)
 
 
-def specification(states: int, inputs: int = 4, outputs: int = 4, sets: int = 4, seed: float = DEFAULT_SEED) -> str:
-    """A deterministic automaton of a parity kind that has 4 to 8 edges a state, one for each letter. The environment
-    gives the first propositions, and the system the others. Half of the edges have a mark."""
+def specification(states: int, inputs: int = 4, outputs: int = 4, edges: int = 4, cubes: int = 1, sets: int = 5,
+                  seed: float = DEFAULT_SEED) -> str:
+    """A deterministic parity automaton over propositions of the environment and of the system. The label of an edge
+    is a disjunction of so many cubes, and its mark is drawn."""
     draw = random.Random(seed)
-    propositions = inputs + outputs
-    text = header(states, propositions, parity_formula(sets), sets, f"parity max even {sets}")
-    return controlled(text, range(inputs, propositions)) + body(
-        ([], [(label, draw.randrange(states), [draw.randrange(sets)] if draw.randrange(2) else [])
-              for label in cubes(draw, list(range(propositions)), draw.randrange(4, 9))])
-        for _ in range(states)
-    )
+    rows = []
+    for _ in range(states):
+        leaves = paths(draw, inputs + outputs, edges * cubes)
+        rows.append(([], [(" | ".join(leaves[at * cubes:(at + 1) * cubes]), draw.randrange(states),
+                           [draw.randrange(sets)]) for at in range(edges)]))
+    text = header(states, inputs + outputs, parity_formula(sets), sets, f"parity max even {sets}") + body(rows)
+    return controllable(text, inputs, inputs + outputs)
 
 
-def wide(edges: int, inputs: int = 12, outputs: int = 4, sets: int = 4, seed: float = DEFAULT_SEED) -> str:
-    """A specification of one state, whose edges mention so many of the environment's propositions at once."""
-    draw = random.Random(seed)
-    propositions = inputs + outputs
-    text = header(1, propositions, parity_formula(sets), sets, f"parity max even {sets}")
-    labelled = cubes(draw, list(range(propositions)), edges)
-    return controlled(text, range(inputs, propositions)) + body(
-        [([], [(label, 0, [draw.randrange(sets)]) for label in labelled])])
+def first_input(inputs: int = 12) -> str:
+    """One state with an edge for the first of the environment's propositions that holds, and one for none; the
+    system's proposition is free."""
+    labels = ["&".join([f"!{before}" for before in range(at)] + [str(at)]) for at in range(inputs)]
+    labels.append("&".join(f"!{before}" for before in range(inputs)))
+    text = header(1, inputs + 1, "Inf(0)", 1, "parity max even 1") + body([([], [(label, 0, [0]) for label in labels])])
+    return controllable(text, inputs, inputs + 1)
 
 
 # name: (what is measured with it, the text of a quick run, the text of a full run)
@@ -238,4 +236,7 @@ AUTOMATA = {
     "rabin": ("search", lambda: rabin(20000), lambda: rabin(200000)),
     "streett": ("search", lambda: streett(20000), lambda: streett(200000)),
     "generalized-rabin": ("search", lambda: generalized_rabin(20000), lambda: generalized_rabin(200000)),
+    "specification": ("synthesis", lambda: specification(2000), lambda: specification(20000)),
+    "specification-of-cubes": ("synthesis", lambda: specification(500, cubes=4), lambda: specification(20000, cubes=4)),
+    "first-input": ("synthesis", lambda: first_input(), lambda: first_input()),
 }

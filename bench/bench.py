@@ -52,7 +52,8 @@ TASKS = {
     "emptiness": [["check", "--format", "hoa"], ["canon", "--format", "hoa"], ["empty"], ["empty", "--search"]],
     # Automata whose acceptance the search alone decides.
     "search": [["check", "--format", "hoa"], ["empty", "--search"]],
-    "synthesis": [["canon", "--format", "hoa"], ["realize"], ["realize", "--controller"], ["realize", "--game"]],
+    # Specifications of which it is asked if they have a controller.
+    "synthesis": [["check", "--format", "hoa"], ["canon", "--format", "hoa"], ["realize", "--controller"]],
 }
 # Of these any right answer does, and two programs may give two.
 ANY_ANSWER = (["solve", "--search"], ["empty", "--search"], ["realize", "--controller"])
