@@ -74,8 +74,10 @@ EXPORTS = {"omega_solve": "solving", "omega_verify": "verifying", "omega_bound":
 # The forms of the lines that begin at the left edge, beside comments: what is used, by names or by a short name of its
 # module; what a library hands on, and its parts; a declaration; a case of a definition, which begins with its name; and
 # the end of a record. All other lines are indented and belong to the definition above them.
-USE = re.compile(r"(?:ghost )?use (?:Rattle\.|mathlib\.)([\w.]+?)(?:\.\{([^}]*)\}| as (\w+));?$")
+USE = re.compile(r"(?:(?:ghost|pub) )?use (?:Rattle\.|mathlib\.)([\w.]+?)(?:\.\{([^}]*)\}| as (\w+));?$")
 LISTED = re.compile(r"pub use Rattle\.[\w.]+$|pub mod \w+$")
+# Names that a file hands on from another one.
+HANDED = re.compile(r"^(pub use Rattle\..*\})$", re.MULTILINE)
 DECLARED = re.compile(r"(?:(?:abbrev |unfoldable )?pub (?:record |data )?|(?=[^\s(:{]+ :))([^\s(:{]+)"
                       r"(?: [({].*[)}])?(?: :(?: |$)|$)")
 CASE = re.compile(r"([^\s(:{]+)(?: .*)? =(?: |$)")
@@ -122,7 +124,8 @@ or is refuted. That the one or the other is there is what `realize` answers, and
 two are. No row of these has a definition of a game. Whoever has read what lassos, runs and words are needs in addition,
 of `omega_controllers`, `AgreeOnInputs`, `Answers`, `IsMet`, `IsKeptCycle`, `is_accepted`, `HasAnswer`, `IsController`
 and `IsCounterStrategy`. For the laws there are also `System`, `so_far`, `is_controlled`, `joined`, `word_of`,
-`RealizesBy`, `IsRefuted` and `RecursOrCeases`, and what a deterministic automaton is. Games are read in the row
+`RealizesBy`, `IsRefuted` and `RecursOrCeases`, and what a deterministic automaton is. Which of the letters that win a
+counter-strategy has is said by definitions of letters alone, in `omega_realizability_game`. Games are read in the row
 `omega realize` for its refusals alone, such as a game that is too large or a budget that is used up.
 
 **How to read one.** Each section below lists the files of `crates/CRATE/specs/` in an order in which nothing is cited
@@ -278,18 +281,26 @@ class Sources:
     def __init__(self) -> None:
         self.held: dict[Place, Definition] = {}
         self.parts: dict[Place, Definition] = {}
+        self.handed: dict[Place, Place] = {}
         for path in sorted(glob.glob(os.path.join(ROOT, "crates", "*", "specs", "**", "*.antt"), recursive=True)):
             with open(path) as file:
-                for one in definitions_in(module_of(path), file.read()):
-                    if (one.module, one.name) in self.held:
-                        raise one.not_understood(0)
-                    self.held[one.module, one.name] = one
-                    self.parts |= {(one.module, part): one for part in parts_of(one)}
+                text, module = file.read(), module_of(path)
+            for one in definitions_in(module, text):
+                if (one.module, one.name) in self.held:
+                    raise one.not_understood(0)
+                self.held[one.module, one.name] = one
+                self.parts |= {(one.module, part): one for part in parts_of(one)}
+            passed = Names()
+            for line in HANDED.findall(text):
+                passed.take(line)
+            self.handed |= {(module, name): place for name, place in passed.given.items()}
 
     def cited(self, definition: Definition, only: Rows | None = None) -> Iterator[Believed]:
         """The definitions and the declared types that a definition cites."""
         for word in definition.words(only):
             place = definition.names.place_of(definition.module, word)
+            while place in self.handed and place not in self.held:
+                place = self.handed[place]
             found = self.held.get(place) or self.parts.get(place)
             if found and found is not definition:
                 yield found
