@@ -28,8 +28,8 @@ pub(crate) fn same_label(alloc: Global, label: Option<&Label>) -> Result<Option<
     }
 }
 
-/// Returns the label of `edge` of `state`, whose index is `at`, as it stays. It is as it is written if `as_written` is
-/// set, and else never left out. Fails with [TaskFault::TooLarge] if the written form is deeper than `MOST_DEPTH`.
+/// Returns the label of `edge` of `state`, whose index is `at`, as it stays: as it is written if `as_written` is set,
+/// or else never left out. Fails with [TaskFault::TooLarge] if the written form is deeper than `MOST_DEPTH`.
 pub(crate) fn kept_label(
     alloc: Global,
     as_written: bool,

@@ -27,8 +27,7 @@ place_of a number = position_or_len (nat_eq number) (defined_numbers a)
 -- the edge of the graph for an edge of the body, by the numbers of the defined states
 abbrev pub placed_in : List ℕ → BodyEdge → Edge
 placed_in numbers edge =
-    edge_of (position_or_len (nat_eq edge.source.number) numbers)
-    (position_or_len (nat_eq (first_of edge.edge.targets)) numbers)
+    edge_of (position_or_len (nat_eq edge.source.number) numbers) (position_or_len (nat_eq (first_of edge.edge.targets)) numbers)
 
 -- the graph: its states are the places, and its edges those of the body
 abbrev pub shape_of : Description → Shape

@@ -1,5 +1,5 @@
 -- `decided_emptiness`: the exit is that of the verdict.
-use Rattle.std.proofs.Common.{◌∙◌}
+use Rattle.std.proofs.Common.{◌∙◌, rules}
 use Rattle.omega_run.proofs.Emptied.{ends_so}
 use Rattle.omega_run.proofs.emptiness.decided_emptiness.Goals as goal
 

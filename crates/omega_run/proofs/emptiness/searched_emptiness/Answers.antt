@@ -1,5 +1,5 @@
 -- `searched_emptiness`: the exit is that of the verdict.
-use Rattle.std.proofs.Common.{◌∙◌}
+use Rattle.std.proofs.Common.{◌∙◌, rules}
 use Rattle.omega_run.proofs.Emptied.{ends_so}
 use Rattle.omega_run.proofs.emptiness.searched_emptiness.Goals as goal
 
