@@ -4,6 +4,8 @@
 #[cfg(test)]
 mod answers;
 #[cfg(test)]
+mod controllers;
+#[cfg(test)]
 mod examples;
 #[cfg(test)]
 mod games;
