@@ -57,6 +57,7 @@ COMMANDS = {
     "empty": ("Empty",),
     "empty --search": ("EmptySearch",),
     "verify --automaton": ("VerifyLasso",),
+    "verify --specification": ("VerifyController",),
     "contained": ("Contained",),
     "equal": ("Equal",),
     "meet": ("Meet",),

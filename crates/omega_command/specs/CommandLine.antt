@@ -84,6 +84,7 @@ text_of name.Budget options = option_map (λ text. text.now) options.budget
 text_of name.Search options = option_map (λ text. text.now) options.search
 text_of name.Game options = option_map (λ text. text.now) options.game
 text_of name.Automaton options = option_map (λ text. text.now) options.automaton
+text_of name.Specification options = option_map (λ text. text.now) options.specification
 text_of name.Explain options = option_map (λ text. text.now) options.explain
 text_of name.Word options = option_map (λ text. text.now) options.word
 text_of name.Status options = option_map (λ text. text.now) options.status
@@ -137,10 +138,16 @@ AsksUnlifted subcommand options budget =
 abbrev pub AsksBeside : List ℕ → Options → (file : List ℕ) → Beside → Type 0
 AsksBeside subcommand options file (beside.Verify from explain) =
     (subcommand ≡ codes "verify") × (text_of name.Game options ≡ Some file) × (text_of name.Automaton options ≡ None)
+    × (text_of name.Specification options ≡ None)
     × Gives (IsNumberText most_number) (text_of name.From options) from × GivesFlag (text_of name.Explain options) explain
 AsksBeside subcommand options file (beside.VerifyLasso explain) =
     (subcommand ≡ codes "verify") × (text_of name.Automaton options ≡ Some file) × (text_of name.Game options ≡ None)
-    × (text_of name.From options ≡ None) × GivesFlag (text_of name.Explain options) explain
+    × (text_of name.Specification options ≡ None) × (text_of name.From options ≡ None)
+    × GivesFlag (text_of name.Explain options) explain
+AsksBeside subcommand options file (beside.VerifyController explain) =
+    (subcommand ≡ codes "verify") × (text_of name.Specification options ≡ Some file) × (text_of name.Game options ≡ None)
+    × (text_of name.Automaton options ≡ None) × (text_of name.From options ≡ None)
+    × GivesFlag (text_of name.Explain options) explain
 AsksBeside subcommand options file beside.Meet = (subcommand ≡ codes "meet") × (text_of name.With options ≡ Some file)
 AsksBeside subcommand options file (beside.Contained explain) =
     (subcommand ≡ codes "contained") × (text_of name.In options ≡ Some file) × GivesFlag (text_of name.Explain options) explain
@@ -248,6 +255,7 @@ HasOption subcommand name.Budget =
 HasOption subcommand name.Search = (subcommand ≡ codes "solve") ⊎ (subcommand ≡ codes "empty")
 HasOption subcommand name.Game = subcommand ≡ codes "verify"
 HasOption subcommand name.Automaton = subcommand ≡ codes "verify"
+HasOption subcommand name.Specification = subcommand ≡ codes "verify"
 HasOption subcommand name.Explain =
     (subcommand ≡ codes "verify") ⊎ (subcommand ≡ codes "contained") ⊎ (subcommand ≡ codes "equal")
 HasOption subcommand name.Word = subcommand ≡ codes "empty"
@@ -267,15 +275,16 @@ HasOption subcommand name.Progress =
 HasOption subcommand name.Verbose = Unit {0}
 HasOption subcommand name.File = Unit {0}
 
--- the option has to be given if the subcommand has it; the game only if no automaton is given
+-- the option has to be given if the subcommand has it; the game only if no automaton and no specification is given
 abbrev pub IsRequired : OptionName → Options → Type 0
 IsRequired name.Format options = Unit {0}
 IsRequired name.Player options = ⊥
 IsRequired name.From options = ⊥
 IsRequired name.Budget options = ⊥
 IsRequired name.Search options = ⊥
-IsRequired name.Game options = text_of name.Automaton options ≡ None
+IsRequired name.Game options = (text_of name.Automaton options ≡ None) × (text_of name.Specification options ≡ None)
 IsRequired name.Automaton options = ⊥
+IsRequired name.Specification options = ⊥
 IsRequired name.Explain options = ⊥
 IsRequired name.Word options = ⊥
 IsRequired name.Status options = ⊥
@@ -302,6 +311,7 @@ StandsForNothing name.Budget text = (number : ℕ) → IsNumberText most_budget 
 StandsForNothing name.Search text = (flag : Bool) → IsTruthText text flag → ⊥
 StandsForNothing name.Game text = ⊥
 StandsForNothing name.Automaton text = ⊥
+StandsForNothing name.Specification text = ⊥
 StandsForNothing name.Explain text = (flag : Bool) → IsTruthText text flag → ⊥
 StandsForNothing name.Word text = (flag : Bool) → IsTruthText text flag → ⊥
 StandsForNothing name.Status text = (flag : Bool) → IsTruthText text flag → ⊥
@@ -354,6 +364,7 @@ IsUsed name.Budget options = text_of name.Budget options ≢ None
 IsUsed name.Search options = GivesFlag (text_of name.Search options) true
 IsUsed name.Game options = text_of name.Game options ≢ None
 IsUsed name.Automaton options = text_of name.Automaton options ≢ None
+IsUsed name.Specification options = text_of name.Specification options ≢ None
 IsUsed name.Explain options = GivesFlag (text_of name.Explain options) true
 IsUsed name.Word options = GivesFlag (text_of name.Word options) true
 IsUsed name.Status options = GivesFlag (text_of name.Status options) true
@@ -372,13 +383,15 @@ IsUsed name.Verbose options = GivesFlag (text_of name.Verbose options) true
 IsUsed name.File options = text_of name.File options ≢ None
 
 -- the option of the subcommand that conflicts with this one. The search of `solve` is for both players, and that of
--- `empty` makes no lifts. `--automaton` conflicts with `--game` and `--from`. The game of `realize` is written without
--- being solved
+-- `empty` makes no lifts. `verify` judges one thing, and `--from` names a part of a game alone. The game of `realize` is
+-- written without being solved
 abbrev pub IsApartFrom : OptionName → List ℕ → OptionName → Type 0
 IsApartFrom name.Search subcommand option =
     ((subcommand ≡ codes "solve") × (option ≡ name.Player))
     ⊎ ((subcommand ≡ codes "empty") × ((option ≡ name.Budget) ⊎ (option ≡ name.Progress)))
 IsApartFrom name.Automaton subcommand option = (subcommand ≡ codes "verify") × ((option ≡ name.Game) ⊎ (option ≡ name.From))
+IsApartFrom name.Specification subcommand option =
+    (subcommand ≡ codes "verify") × ((option ≡ name.Automaton) ⊎ (option ≡ name.Game) ⊎ (option ≡ name.From))
 IsApartFrom name.Controller subcommand option = (subcommand ≡ codes "realize") × (option ≡ name.AsGame)
 IsApartFrom name.Lift subcommand option = (subcommand ≡ codes "realize") × (option ≡ name.AsGame)
 IsApartFrom one subcommand option = ⊥

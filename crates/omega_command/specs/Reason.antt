@@ -51,6 +51,7 @@ IsReason name.Budget text why = IsNumberReason most_budget text why
 IsReason name.Search text why = why ≡ reason.NoTruth
 IsReason name.Game text why = ⊥
 IsReason name.Automaton text why = ⊥
+IsReason name.Specification text why = ⊥
 IsReason name.Explain text why = why ≡ reason.NoTruth
 IsReason name.Word text why = why ≡ reason.NoTruth
 IsReason name.Status text why = why ≡ reason.NoTruth

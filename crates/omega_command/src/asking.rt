@@ -203,6 +203,9 @@ fn verifying_for<'a>(alloc: Global, options: &Options<'a>) -> Result<Task, Mista
     ensures mistaken { IfErr result (IsMistake (codes "verify") options.now) }
 {
     let explain = is_explained(options)?;
+    if let Some(specification) = options.specification {
+        return controller_verifying_for(alloc, options, specification, explain);
+    }
     if let Some(name) = options.automaton {
         if options.game.is_some() {
             return Err(Mistake::Conflict(OptionName::Automaton, OptionName::Game));
@@ -226,6 +229,36 @@ fn verifying_for<'a>(alloc: Global, options: &Options<'a>) -> Result<Task, Mista
         Ok(file) => Ok(Task::Beside {
             file,
             asked: Beside::Verify { from, explain },
+        }),
+        Err(_) => Err(Mistake::Memory),
+    }
+}
+
+/// Returns the task that `verify` requests with `options` that name a specification, or what is wrong with them.
+fn controller_verifying_for<'a>(
+    alloc: Global,
+    options: &Options<'a>,
+    specification: &'a str,
+    explain: bool,
+) -> Result<Task, Mistake<'a>>
+    requires specification { text_of name.Specification options.now ≡ Some specification.now }
+    requires explain { GivesFlag (text_of name.Explain options.now) explain }
+    ensures asked { IfOk result (AsksFor (codes "verify") options.now) }
+    ensures mistaken { IfErr result (IsMistake (codes "verify") options.now) }
+{
+    if options.automaton.is_some() {
+        return Err(Mistake::Conflict(OptionName::Specification, OptionName::Automaton));
+    }
+    if options.game.is_some() {
+        return Err(Mistake::Conflict(OptionName::Specification, OptionName::Game));
+    }
+    if options.from.is_some() {
+        return Err(Mistake::Conflict(OptionName::Specification, OptionName::From));
+    }
+    match String::from_str(alloc, specification) {
+        Ok(file) => Ok(Task::Beside {
+            file,
+            asked: Beside::VerifyController { explain },
         }),
         Err(_) => Err(Mistake::Memory),
     }

@@ -13,6 +13,11 @@ pub enum Beside {
         /// Whether a `no` is explained.
         explain: bool,
     },
+    /// Checks whether the automaton that the input has is a controller for the specification of the file.
+    VerifyController {
+        /// Whether a `no` is explained.
+        explain: bool,
+    },
     /// Writes an automaton that accepts the words that both accept, the one of the input and the one of the file.
     Meet,
     /// Says whether the automaton of the file accepts each word that the one of the input accepts.

@@ -10,6 +10,7 @@ pub enum OptionName {
     Search,
     Game,
     Automaton,
+    Specification,
     Explain,
     Word,
     Status,
@@ -40,6 +41,7 @@ impl fmt::Display for OptionName {
             OptionName::Search => "--search",
             OptionName::Game => "--game <FILE>",
             OptionName::Automaton => "--automaton <FILE>",
+            OptionName::Specification => "--specification <FILE>",
             OptionName::Explain => "--explain",
             OptionName::Word => "--word",
             OptionName::Status => "--status",
@@ -77,6 +79,8 @@ pub struct Options<'a> {
     pub game: Option<&'a str>,
     /// The name of the file of an automaton.
     pub automaton: Option<&'a str>,
+    /// The name of the file of a specification.
+    pub specification: Option<&'a str>,
     /// As `search`.
     pub explain: Option<&'a str>,
     /// As `search`.

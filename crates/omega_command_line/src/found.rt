@@ -19,6 +19,7 @@ pub fn options_in<'a>(found: &ArgMatches<'a>) -> Options<'a>
         search: found.get_str("search"),
         game: found.get_str("game"),
         automaton: found.get_str("automaton"),
+        specification: found.get_str("specification"),
         explain: found.get_str("explain"),
         word: found.get_str("word"),
         status: found.get_str("status"),

@@ -55,7 +55,7 @@ solve =
 abbrev pub verify : Shape
 verify =
     with_options (codes "verify")
-    (optional (codes "game") ∷ optional (codes "automaton") ∷ optional (codes "from") ∷ flag (codes "explain") ∷ verbose ∷ operand (codes "file") ∷ [])
+    (optional (codes "game") ∷ optional (codes "automaton") ∷ optional (codes "specification") ∷ optional (codes "from") ∷ flag (codes "explain") ∷ verbose ∷ operand (codes "file") ∷ [])
 
 abbrev pub empty : Shape
 empty =

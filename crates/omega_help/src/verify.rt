@@ -8,10 +8,11 @@ use clap::Command;
 use std::alloc::{AllocError, Global};
 
 const DETAILS: &str = "\
-Use it to check an answer, whoever made it: a solution of a game, or a lasso of an automaton. It reads
-the solution or the lasso from FILE, or from standard input if there is no FILE or it is -, and the game
-or the automaton from the file that --game or --automaton names. It writes `yes` if the answer is right,
-and `no` if not. Either --game or --automaton has to be given, but not both.
+Use it to check an answer, whoever made it: a solution of a game, a lasso of an automaton, or a
+controller for a specification. It reads the answer from FILE, or from standard input if there is no FILE
+or it is -, and the game, the automaton or the specification from the file that --game, --automaton or
+--specification names. It writes `yes` if the answer is right, and `no` if not. One of the three has to be
+given, and no two of them.
 
 --game FILE checks a solution of the game in FILE. The solution is right if for each player the choices
 win from all the nodes that it gives to that player. The game is not solved: only the choices are
@@ -73,9 +74,23 @@ that lists several states joined by & is refused as 41 UniversalBranch. 42 TooMa
 where a label of one of the lasso's edges mentions over 12 propositions, and 4194304 steps do not decide
 whether it can hold.
 
-If both texts are at fault, the fault of the game or the automaton is reported. With --verbose a second
-line says which text has the fault: `omega: in the game` or `omega: in the solution`, and
-`omega: in the automaton` or `omega: in the lasso`.
+--specification FILE checks a controller for the specification in FILE, a deterministic automaton whose
+item `controllable-AP:` lists the propositions that the system controls, as `omega realize` reads it; its
+acceptance may be any. The controller is an automaton that accepts all its words: its acceptance is named
+all, or its formula is t. Its propositions are those of the specification, by name, and its item
+`controllable-AP:` says the same of them. It is right if in each state that it can reach it has an edge for
+every letter of the environment, and the specification accepts each of its words.
+
+  $ echo 'HOA: v1 States: 1 Start: 0 AP: 2 \"request\" \"grant\" controllable-AP: 1
+    acc-name: parity max even 1 Acceptance: 1 Inf(0)
+    --BODY-- State: 0 [!0|1] 0 {0} --END--' > arbiter.hoa
+  $ omega realize --controller arbiter.hoa | omega verify --specification arbiter.hoa
+  yes
+
+If both texts are at fault, the fault of the game, the automaton or the specification is reported. With
+--verbose a second line says which text has the fault: `omega: in the game` or `omega: in the solution`,
+`omega: in the automaton` or `omega: in the lasso`, and `omega: in the specification` or
+`omega: in the controller`.
 
   $ echo 'paritysol 2; 0 0 2; 1 0; 2 0' | omega verify --game game.pg
   omega: 3 Syntax at 29
@@ -93,6 +108,11 @@ const OPTIONS: &[OptionHelp] = &[
     GAME,
     AUTOMATON,
     OptionHelp {
+        name: "specification",
+        value: Value::Optional("FILE"),
+        help: "Judge a controller for the specification in this file",
+    },
+    OptionHelp {
         name: "from",
         value: Value::Optional("ID"),
         help: "Judge a solution of only the part that the node with this identifier reaches",
@@ -102,10 +122,11 @@ const OPTIONS: &[OptionHelp] = &[
     FILE,
 ];
 
-/// Returns the subcommand that checks a solution of a game, or a lasso of an automaton.
+/// Returns the subcommand that checks a solution of a game, a lasso of an automaton, or a controller.
 pub fn verify_command<'a>(alloc: Global) -> Result<Command<'a>, AllocError>
     ensures { IfOk result (λ command. shape_of command ≡ verify) }
 {
-    let about = "Say whether a solution of a game, or a lasso of an automaton, is right";
+    let about =
+        "Say whether a solution of a game, a lasso of an automaton, or a controller is right";
     subcommand(alloc, "verify", about, DETAILS, OPTIONS)
 }

@@ -4,12 +4,14 @@ use Rattle.omega_text.specs.Cases.{or_io, or_memory}
 use Rattle.omega_text.specs.declared.refusal.Refusal.{Refusal}
 use Rattle.omega_text.specs.declared.refusal.Refusal.TheVariants.{Automaton, Game, Io, Memory, Task, Text}
 use Rattle.omega_command.specs.declared.beside.Beside.{Beside}
-use Rattle.omega_command.specs.declared.beside.Beside.TheVariants.{Contained, DrawSolution, Equal, Meet, Verify, VerifyLasso}
+use Rattle.omega_command.specs.declared.beside.Beside.TheVariants.{Contained, DrawSolution, Equal, Meet, Verify, VerifyController, VerifyLasso}
 use Rattle.omega_io.specs.Failures.{IsTransferRefusal, failures_in, failures_of}
 use Rattle.omega_io.specs.Reading.{IsRead, ReadsText}
 use Rattle.omega_containment.specs.Refusing.{IsContainmentRefusal, not_complemented, not_met, not_searched}
 use Rattle.omega_containment_answers.specs.Contained as contained
 use Rattle.omega_containment_answers.specs.Equal as equal
+use Rattle.omega_controller_answers.specs.Verify as controller
+use Rattle.omega_controller_judge.specs.Refusing as judge
 use Rattle.omega_automaton.specs.Automaton.{Description}
 use Rattle.omega_hoa.specs.Alone.{IsAutomatonRefusal}
 use Rattle.omega_io.specs.Refused.{IsAbout, IsRefusedOf}
@@ -61,6 +63,7 @@ module _ (file : List ℕ) (before after : Option (List ℕ)) where
       → RefusesText (AnswersBeside asked file) before after refusal
   file_refuses (Verify from explain) refusal h = record { text = h.text; read = h.read; holds = inl h.holds }
   file_refuses (VerifyLasso explain) refusal h = record { text = h.text; read = h.read; holds = inl h.holds }
+  file_refuses (VerifyController explain) refusal h = record { text = h.text; read = h.read; holds = inl h.holds }
   file_refuses Meet refusal h = record { text = h.text; read = h.read; holds = inl (inl h.holds) }
   file_refuses (Contained explain) refusal h = record { text = h.text; read = h.read; holds = contained_file file h.text refusal h.holds }
   file_refuses (Equal explain) refusal h = record { text = h.text; read = h.read; holds = equal_file file h.text refusal h.holds }
@@ -71,6 +74,7 @@ module _ (file : List ℕ) (before after : Option (List ℕ)) where
       → RefusesText (AnswersBeside asked file) before after refusal
   input_refuses (Verify from explain) refusal h = record { text = h.text; read = h.read; holds = inr h.holds }
   input_refuses (VerifyLasso explain) refusal h = record { text = h.text; read = h.read; holds = inr h.holds }
+  input_refuses (VerifyController explain) refusal h = record { text = h.text; read = h.read; holds = inr (inl h.holds) }
   input_refuses Meet refusal h = record { text = h.text; read = h.read; holds = inl (inr h.holds) }
   input_refuses (Contained explain) refusal h = record { text = h.text; read = h.read; holds = inr (inl h.holds) }
   input_refuses (Equal explain) refusal h = record { text = h.text; read = h.read; holds = equal_input file h.text refusal h.holds }
@@ -81,6 +85,7 @@ module _ (file : List ℕ) (before after : Option (List ℕ)) where
       → RefusesText (AnswersBeside asked file) before after refusal
   both_refuse (Verify from explain) refusal h = absurd h.holds
   both_refuse (VerifyLasso explain) refusal h = absurd h.holds
+  both_refuse (VerifyController explain) refusal h = record { text = h.text; read = h.read; holds = inr (inr h.holds) }
   both_refuse Meet refusal h = record { text = h.text; read = h.read; holds = inr h.holds }
   both_refuse (Contained explain) refusal h = record { text = h.text; read = h.read; holds = inr (inr h.holds.0) }
   both_refuse (Equal explain) refusal h = record { text = h.text; read = h.read; holds = equal_both file h.text refusal h.holds }
@@ -145,12 +150,24 @@ pair_io outer inner pair = containment_io pair.one pair.other pair.refused
 choice_io : contained.IsChoice Io → ⊥
 choice_io (state, is) = cc
 
+-- nor is a controller for a specification
+judge_io : (specification controller : Description) (controlled : List ℕ) → judge.IsJudgeRefusal specification controller controlled Io → ⊥
+judge_io specification controller controlled (judge.not_searched refusal readable letter) = letter
+judge_io specification controller controlled (judge.not_contained refusal readable refused) = containment_io controller specification refused
+
+controller_io : (specification judged : Description) (which : Option Which) → controller.IsPairRefusal specification judged which Io → ⊥
+controller_io specification judged which (controller.not_judged controlled refusal parted refused) = judge_io specification judged controlled refused
+
+judged_io : (file input : List ℕ) (which : Option Which) → controller.IsPairRefused file input which Io → ⊥
+judged_io file input which pair = controller_io pair.specification pair.controller which pair.refused
+
 -- neither text is refused for a failed read or write
 io_about : (asked : Beside) (file input : List ℕ) (which : Option Which)
     → IsRefusedBeside asked file input which Io → ⊥
 io_about asked file input None (inl h) = absurd (cc h)
 io_about (Verify from explain) file input None (inr h) = h
 io_about (VerifyLasso explain) file input None (inr h) = h
+io_about (VerifyController explain) file input None (inr h) = judged_io file input None h
 io_about Meet file input None (inr h) = h.refused
 io_about (Contained explain) file input None (inr h) = pair_io file input h.0
 io_about (Equal explain) file input None (inr (inl pair, other)) = pair_io file input pair
@@ -161,6 +178,8 @@ io_about (Verify (Some identifier) explain) file input (Some File) h = h
 io_about (VerifyLasso explain) file input (Some File) (inl (inl h)) = automaton_io file h
 io_about (VerifyLasso explain) file input (Some File) (inl (inr h)) = cc h.refused
 io_about (VerifyLasso explain) file input (Some File) (inr h) = h.refused
+io_about (VerifyController explain) file input (Some File) (inl text) = automaton_io file text
+io_about (VerifyController explain) file input (Some File) (inr pair) = judged_io file input (Some File) pair
 io_about Meet file input (Some File) h = automaton_io file h
 io_about (Contained explain) file input (Some File) (inl text) = automaton_io file text
 io_about (Contained explain) file input (Some File) (inr (pair, choice)) = pair_io file input pair
@@ -169,6 +188,8 @@ io_about (Equal explain) file input (Some File) (inr (pair, choice)) = pair_io f
 io_about (DrawSolution from depth legend) file input (Some File) h = h.refused
 io_about (Verify from explain) file input (Some Input) h = h.refused
 io_about (VerifyLasso explain) file input (Some Input) h = h.refused
+io_about (VerifyController explain) file input (Some Input) (inl text) = automaton_io input text.refused
+io_about (VerifyController explain) file input (Some Input) (inr pair) = judged_io file input (Some Input) pair
 io_about Meet file input (Some Input) h = automaton_io input h.refused
 io_about (Contained explain) file input (Some Input) h = automaton_io input h.refused
 io_about (Equal explain) file input (Some Input) (inl text) = automaton_io input text.refused

@@ -3,9 +3,10 @@ use Rattle.std.specs.Prelude.{◌≡◌, ◌⊎◌, Bool, true, false, List, Opt
 use Rattle.omega_text.specs.declared.refusal.Refusal.{Refusal}
 use Rattle.omega_game_answers.specs.Verify.{IsJudgedGameRefusal, RefusesSolution}
 use Rattle.omega_command.specs.declared.beside.Beside.{Beside}
-use Rattle.omega_command.specs.declared.beside.Beside.TheVariants.{Contained, DrawSolution, Equal, Meet, Verify, VerifyLasso}
+use Rattle.omega_command.specs.declared.beside.Beside.TheVariants.{Contained, DrawSolution, Equal, Meet, Verify, VerifyController, VerifyLasso}
 use Rattle.omega_containment_answers.specs.Contained as contained
 use Rattle.omega_containment_answers.specs.Equal as equal
+use Rattle.omega_controller_answers.specs.Verify as controller
 use Rattle.omega_hoa.specs.Alone.{IsAutomatonRefusal}
 use Rattle.omega_io.specs.declared.exit.Exit.{Exit}
 use Rattle.omega_language_answers.specs.Verify.{RefusesAutomaton, RefusesLasso}
@@ -28,6 +29,8 @@ name_of (Verify from explain) File = codes "game"
 name_of (Verify from explain) Input = codes "solution"
 name_of (VerifyLasso explain) File = codes "automaton"
 name_of (VerifyLasso explain) Input = codes "lasso"
+name_of (VerifyController explain) File = codes "specification"
+name_of (VerifyController explain) Input = codes "controller"
 name_of Meet File = codes "other automaton"
 name_of Meet Input = codes "automaton"
 name_of (Contained explain) File = codes "other automaton"
@@ -41,6 +44,7 @@ name_of (DrawSolution from depth legend) Input = codes "game"
 abbrev pub RefusesFile : Beside → (file input : List ℕ) → Refusal → Type 0
 RefusesFile (Verify from explain) file input refusal = IsJudgedGameRefusal file from refusal
 RefusesFile (VerifyLasso explain) file input refusal = RefusesAutomaton file input refusal
+RefusesFile (VerifyController explain) file input refusal = controller.IsFileRefusal file input refusal
 RefusesFile Meet file input refusal = IsAutomatonRefusal file refusal
 RefusesFile (Contained explain) file input refusal = contained.IsFileRefusal file input refusal
 RefusesFile (Equal explain) file input refusal = equal.IsFileRefusal file input refusal
@@ -50,6 +54,7 @@ RefusesFile (DrawSolution from depth legend) file input refusal = RefusesSolutio
 abbrev pub RefusesInput : Beside → (file input : List ℕ) → Refusal → Type 0
 RefusesInput (Verify from explain) file input refusal = RefusesSolution file from input refusal
 RefusesInput (VerifyLasso explain) file input refusal = RefusesLasso file input refusal
+RefusesInput (VerifyController explain) file input refusal = controller.IsInputRefusal file input refusal
 RefusesInput Meet file input refusal = IsTextRefused file input refusal
 RefusesInput (Contained explain) file input refusal = IsTextRefused file input refusal
 RefusesInput (Equal explain) file input refusal = equal.IsInputRefusal file input refusal
@@ -59,6 +64,7 @@ RefusesInput (DrawSolution from depth legend) file input refusal = IsJudgedGameR
 abbrev pub RefusesBoth : Beside → (file input : List ℕ) → Refusal → Type 0
 RefusesBoth (Verify from explain) file input refusal = ⊥
 RefusesBoth (VerifyLasso explain) file input refusal = ⊥
+RefusesBoth (VerifyController explain) file input refusal = controller.IsPairRefused file input None refusal
 RefusesBoth Meet file input refusal = IsProductRefused file input refusal
 RefusesBoth (Contained explain) file input refusal = contained.IsPairRefused file input refusal × ¬ contained.IsChoice refusal
 RefusesBoth (Equal explain) file input refusal =

@@ -5,7 +5,7 @@ use Rattle.omega_text.specs.declared.refusal.Refusal.{Refusal}
 use Rattle.omega_pg.specs.game.Refusing.{IsRefusal}
 use Rattle.omega_parity_game.specs.declared.player.Player.{Player}
 use Rattle.omega_command.specs.declared.beside.Beside.{Beside}
-use Rattle.omega_command.specs.declared.beside.Beside.TheVariants.{Contained, DrawSolution, Equal, Meet, Verify, VerifyLasso}
+use Rattle.omega_command.specs.declared.beside.Beside.TheVariants.{Contained, DrawSolution, Equal, Meet, Verify, VerifyController, VerifyLasso}
 use Rattle.omega_command.specs.declared.command.Command.{Command}
 use Rattle.omega_command.specs.declared.command.Command.TheVariants.{Canon, CanonPart, Check, Complement, Draw, DrawLasso, DrawPart, Empty, EmptySearch, Game, RealizabilityGame, Realize, RealizeByLifting, Search, Show, Solve}
 use Rattle.omega_command.specs.declared.command.Format.TheVariants.{Hoa, Pg}
@@ -13,6 +13,7 @@ use Rattle.omega_io.specs.declared.exit.Exit.{Exit}
 use Rattle.omega_io.specs.declared.exit.Exit.TheVariants.{Done, No}
 use Rattle.omega_containment_answers.specs.Contained.{IsContainedAnswer, IsPairRefused}
 use Rattle.omega_containment_answers.specs.Equal.{IsEqualAnswer}
+use Rattle.omega_controller_answers.specs.Verify as controller
 use Rattle.omega_empty_answers.specs.Game.{IsEmptinessGameAnswer, IsEmptinessGameRefusal}
 use Rattle.omega_game_answers.specs.Part.{IsPartTextRefusal}
 use Rattle.omega_game_answers.specs.Verify.{IsVerifyAnswer, IsVerifyRefusal}
@@ -112,10 +113,17 @@ IsContainedRefusal file input refusal =
 abbrev pub IsEqualRefusal : (file input : List ℕ) → Refusal → Type 0
 IsEqualRefusal file input refusal = IsContainedRefusal file input refusal ⊎ IsPairRefused input file refusal
 
+-- the refusal of `verify --specification`: that of one of the texts, or of both
+abbrev pub IsControllerRefusal : (file input : List ℕ) → Refusal → Type 0
+IsControllerRefusal file input refusal =
+    controller.IsFileRefusal file input refusal ⊎ (controller.IsInputRefusal file input refusal ⊎ controller.IsPairRefused file input None refusal)
+
 -- the same of the text of a file and that of the input: the budget bounds none of these
 abbrev pub AnswersBeside : Beside → (file input : List ℕ) → Result (Exit × List ℕ) Refusal → Type 0
 AnswersBeside (Verify from explain) file input = Concludes (IsVerifyAnswer file from input explain) (IsVerifyRefusal file from input)
 AnswersBeside (VerifyLasso explain) file input = Concludes (IsLassoAnswer file input explain) (IsLassoAnswerRefusal file input)
+AnswersBeside (VerifyController explain) file input =
+    Concludes (controller.IsControllerAnswer file input explain) (IsControllerRefusal file input)
 AnswersBeside Meet file input = Replies (IsMeetAnswer file input) (IsMeetRefusal file input)
 AnswersBeside (Contained explain) file input = Concludes (IsContainedAnswer file input explain) (IsContainedRefusal file input)
 AnswersBeside (Equal explain) file input = Concludes (IsEqualAnswer file input explain) (IsEqualRefusal file input)

@@ -13,6 +13,7 @@ ghost use Rattle.omega_run.specs.private.steps.Beside.{plain, text_in};
 use crate::reporting::{report_about, report_file};
 use omega_command::Beside;
 use omega_containment_answers::{contained_texts, equal_texts};
+use omega_controller_answers::verify_controller;
 use omega_game_answers::{draw_solution_text, verify_solution};
 use omega_io::{Exit, Input, InputFiles, Output, Refused, read_all, write_text};
 use omega_language_answers::{meet_texts, verify_lasso};
@@ -109,6 +110,7 @@ fn answer_texts(
     match asked {
         Beside::Verify { from, explain } => verify_solution(alloc, file, from, input, explain),
         Beside::VerifyLasso { explain } => verify_lasso(alloc, file, input, explain),
+        Beside::VerifyController { explain } => verify_controller(alloc, file, input, explain),
         Beside::Meet => match meet_texts(alloc, file.as_slice(), input.as_slice()) {
             Ok(made) => Ok((Exit::Done, made)),
             Err(refused) => Err(refused),

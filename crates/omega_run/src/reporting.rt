@@ -137,6 +137,10 @@ fn name_of(asked: Beside, which: Which) -> &'static str
             Which::File => "automaton",
             Which::Input => "lasso",
         },
+        Beside::VerifyController { .. } => match which {
+            Which::File => "specification",
+            Which::Input => "controller",
+        },
         Beside::Meet | Beside::Contained { .. } | Beside::Equal { .. } => match which {
             Which::File => "other automaton",
             Which::Input => "automaton",

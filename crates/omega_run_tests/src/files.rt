@@ -50,6 +50,10 @@ State: 1 \"1,0\"
 --END--
 ";
 
+/// A grant answers each request at once, and the system controls `g`.
+const ARBITER: &str =
+    "HOA: v1 States: 1 Start: 0 AP: 2 \"r\" \"g\" controllable-AP: 1 acc-name: parity max even 1 Acceptance: 1 Inf(0) --BODY-- State: 0 [!0|1] 0 {0} --END--";
+
 /// From some place on never a.
 const NOT_OFTEN: &str = "\
 HOA: v1
@@ -65,7 +69,7 @@ State: 0
 ";
 
 /// A command line, the text of the file, the text of the input, and the status, the output and the lines of the run.
-static RUNS: [(&str, &str, &str, u8, &str, &str); 25] = [
+static RUNS: [(&str, &str, &str, u8, &str, &str); 29] = [
     (
         "omega verify --game g",
         THREE,
@@ -249,6 +253,39 @@ static RUNS: [(&str, &str, &str, u8, &str, &str); 25] = [
         6,
         "no\nthe cycle does not accept\n",
         "",
+    ),
+    (
+        "omega verify --specification g",
+        ARBITER,
+        "HOA: v1 States: 1 Start: 0 AP: 2 \"g\" \"r\" controllable-AP: 0 acc-name: all Acceptance: 0 t --BODY-- State: 0 [!1|0] 0 --END--",
+        0,
+        "yes\n",
+        "",
+    ),
+    // It grants without a request too, but gives no answer to none.
+    (
+        "omega verify --specification g",
+        ARBITER,
+        "HOA: v1 States: 1 Start: 0 AP: 2 \"r\" \"g\" controllable-AP: 1 acc-name: all Acceptance: 0 t --BODY-- State: 0 [0&1] 0 --END--",
+        6,
+        "no\n",
+        "",
+    ),
+    (
+        "omega verify --explain --specification g",
+        ARBITER,
+        "HOA: v1 States: 1 AP: 2 \"r\" \"g\" controllable-AP: 1 acc-name: all Acceptance: 0 t --BODY-- State: 0 [1] 0 --END--",
+        6,
+        "no\nno start\n",
+        "",
+    ),
+    (
+        "omega verify -v --specification g",
+        ARBITER,
+        ARBITER,
+        1,
+        "",
+        "omega: 40 NotParity\nomega: in the controller\n",
     ),
 ];
 

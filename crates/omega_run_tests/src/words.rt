@@ -5,7 +5,7 @@ use std::alloc::Global;
 use std::test::Fail;
 
 /// Command lines, and what each asks for, as it shows itself to a programmer. A budget that is not given is 2^40.
-static ASKED: [(&str, &str); 36] = [
+static ASKED: [(&str, &str); 37] = [
     (
         "omega check --format=hoa",
         "Do { task: Run(Check(Hoa), 1099511627776), source: Input, verbose: false }",
@@ -103,6 +103,10 @@ static ASKED: [(&str, &str); 36] = [
         "Do { task: Beside { file: \"g\", asked: VerifyLasso { explain: true } }, source: Input, verbose: false }",
     ),
     (
+        "omega verify --explain --specification s c",
+        "Do { task: Beside { file: \"s\", asked: VerifyController { explain: true } }, source: File(\"c\"), verbose: false }",
+    ),
+    (
         "omega game",
         "Do { task: Run(Game, 1099511627776), source: Input, verbose: false }",
     ),
@@ -153,7 +157,7 @@ static ASKED: [(&str, &str); 36] = [
 ];
 
 /// Command lines that are at fault, and what is said of each.
-static FAULTS: [(&str, &str); 9] = [
+static FAULTS: [(&str, &str); 10] = [
     ("omega", "requires a subcommand"),
     (
         "omega show --format xyz",
@@ -180,6 +184,10 @@ static FAULTS: [(&str, &str); 9] = [
     (
         "omega draw --lasso g",
         "were not provided:\\n  --format <FORMAT>",
+    ),
+    (
+        "omega verify --game g --specification s",
+        "the argument '--specification <FILE>' cannot be used with '--game <FILE>'",
     ),
 ];
 
