@@ -383,8 +383,8 @@ IsUsed name.Verbose options = GivesFlag (text_of name.Verbose options) true
 IsUsed name.File options = text_of name.File options ≢ None
 
 -- the option of the subcommand that conflicts with this one. The search of `solve` is for both players, and that of
--- `empty` makes no lifts. `verify` judges one thing, and `--from` names a part of a game alone. The game of `realize` is
--- written without being solved
+-- `empty` makes no lifts. `verify` judges one thing, and `--from` names a part of a game alone. The game of `realize`
+-- is written without being solved
 abbrev pub IsApartFrom : OptionName → List ℕ → OptionName → Type 0
 IsApartFrom name.Search subcommand option =
     ((subcommand ≡ codes "solve") × (option ≡ name.Player))
