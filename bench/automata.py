@@ -209,6 +209,15 @@ def specification(states: int, inputs: int = 4, outputs: int = 4, edges: int = 4
     return controllable(text, inputs, inputs + outputs)
 
 
+def wide(edges: int, inputs: int = 12, outputs: int = 4, sets: int = 4, seed: float = DEFAULT_SEED) -> str:
+    """A specification of one state, whose edges mention so many of the environment's propositions at once."""
+    draw = random.Random(seed)
+    leaves = paths(draw, inputs + outputs, edges)
+    text = header(1, inputs + outputs, parity_formula(sets), sets, f"parity max even {sets}")
+    text += body([([], [(label, 0, [draw.randrange(sets)]) for label in leaves])])
+    return controllable(text, inputs, inputs + outputs)
+
+
 def first_input(inputs: int = 12) -> str:
     """One state with an edge for the first of the environment's propositions that holds, and one for none; the
     system's proposition is free."""
@@ -236,7 +245,6 @@ AUTOMATA = {
     "rabin": ("search", lambda: rabin(20000), lambda: rabin(200000)),
     "streett": ("search", lambda: streett(20000), lambda: streett(200000)),
     "generalized-rabin": ("search", lambda: generalized_rabin(20000), lambda: generalized_rabin(200000)),
-    "specification": ("synthesis", lambda: specification(2000), lambda: specification(20000)),
     "specification-of-cubes": ("synthesis", lambda: specification(500, cubes=4), lambda: specification(20000, cubes=4)),
     "first-input": ("synthesis", lambda: first_input(), lambda: first_input()),
 }
