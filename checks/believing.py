@@ -62,6 +62,7 @@ COMMANDS = {
     "equal": ("Equal",),
     "meet": ("Meet",),
     "complement": ("Complement",),
+    "trim": ("Trim",),
     "realize": ("Realize",),
     "realize --lift": ("RealizeByLifting",),
     "realize --game": ("RealizabilityGame",),

@@ -32,6 +32,10 @@ WRITTEN = (b'HOA: v1 States: 1 Start: 0 AP: 1 "a" Alias: @b 0|t Acceptance: 1 In
 TWO_SETS = (b"HOA: v1 States: 2 Start: 0 acc-name: generalized-Buchi 2 Acceptance: 2 Inf(0)&Inf(1) --BODY-- "
             b"State: 0 [t] 0 {0} [t] 1 State: 1 [t] 0 {1} --END--")
 
+# Two states that go, one of an edge without label, whose partner gets one.
+PRUNED = (b'HOA: v1 name: "n" States: 3 Start: 0 Start: 2 AP: 1 "a" Acceptance: 2 Fin(0)&Inf(1) --BODY-- '
+          b'State: 0 "s" 0 {1} 1 State: 1 [t] 1 {0 1} State: 2 [0] 1')
+
 OFTEN = (b'HOA: v1 States: 1 Start: 0 AP: 1 "a" acc-name: Buchi Acceptance: 1 Inf(0) --BODY-- '
          b"State: 0 [0] 0 {0} [!0] 0 --END--")
 
@@ -47,7 +51,9 @@ RUNS: list[Run] = [
       for name in ("show", "check", "canon")),
     *((words, text, None) for text in (BUCHI, TWO_SETS, WRITTEN)
       for words in (["game"], ["empty"], ["empty", "--search"], ["empty", "--budget", "1"], ["empty", "--word"],
-                    ["empty", "--search", "--word"], ["complement"])),
+                    ["empty", "--search", "--word"], ["complement"], ["trim"])),
+    (["trim"], PRUNED + b" --END--", None),
+    (["trim"], PRUNED + b"&2 --END--", None),
     (["check", "--format", "hoa"], b"HOA: v1 --BODY-- --END--", None),
     (["verify", "--game"], b"paritysol 2; 0 0 2; 1 0; 2 0;", CHOICE),
     (["verify", "--game"], b"paritysol 2; 0 0 1; 1 0; 2 0;", CHOICE),

@@ -190,6 +190,7 @@ AsksFor subcommand options (task.Run command.RealizabilityGame budget) =
     × GivesFlag (text_of name.Controller options) false
 AsksFor subcommand options (task.Run command.Game budget) = (subcommand ≡ codes "game") × (budget ≡ most_budget)
 AsksFor subcommand options (task.Run command.Complement budget) = (subcommand ≡ codes "complement") × (budget ≡ most_budget)
+AsksFor subcommand options (task.Run command.Trim budget) = (subcommand ≡ codes "trim") × (budget ≡ most_budget)
 AsksFor subcommand options (task.Run (command.Draw format) budget) =
     (subcommand ≡ codes "draw") × Gives IsFormatText (text_of name.Format options) (Some format)
     × (text_of name.Solution options ≡ None) × GivesFlag (text_of name.Legend options) false × GivesPart options None None
@@ -352,6 +353,7 @@ pub record IsUnknownSubcommand (subcommand : List ℕ) : Type 0 where
   pub contained : subcommand ≢ codes "contained"
   pub equal : subcommand ≢ codes "equal"
   pub complement : subcommand ≢ codes "complement"
+  pub trim : subcommand ≢ codes "trim"
   pub realize : subcommand ≢ codes "realize"
   pub draw : subcommand ≢ codes "draw"
 

@@ -103,6 +103,9 @@ fn task_for<'a>(alloc: Global, subcommand: &str, options: &Options<'a>) -> Resul
     if subcommand == "complement" {
         return Ok(Task::Run(Command::Complement, MOST_BUDGET));
     }
+    if subcommand == "trim" {
+        return Ok(Task::Run(Command::Trim, MOST_BUDGET));
+    }
     if subcommand == "realize" {
         return realizing_for(options);
     }

@@ -44,6 +44,8 @@ pub enum Command {
     Game,
     /// Writes an automaton that accepts the words that a deterministic one does not.
     Complement,
+    /// Writes an automaton without the states that no start reaches and those in which no accepting lasso starts.
+    Trim,
     /// Says whether an automaton is realizable. Decided by a search whose answer is judged, and by lifting if the
     /// search finds nothing.
     Realize {

@@ -77,6 +77,9 @@ meet = with_options (codes "meet") (required (codes "with") ∷ verbose ∷ oper
 abbrev pub complement : Shape
 complement = with_options (codes "complement") (verbose ∷ operand (codes "file") ∷ [])
 
+abbrev pub trim : Shape
+trim = with_options (codes "trim") (verbose ∷ operand (codes "file") ∷ [])
+
 abbrev pub realize : Shape
 realize =
     with_options (codes "realize")
@@ -95,5 +98,5 @@ draw =
 abbrev pub program : App
 program = record {
   top = record (new_shape (codes "omega")) { is_leaf = false; has_version = true; subcommand_required = true };
-  subs = show ∷ check ∷ canon ∷ solve ∷ verify ∷ empty ∷ game ∷ contained ∷ equal ∷ meet ∷ complement ∷ realize ∷ draw ∷ [];
+  subs = show ∷ check ∷ canon ∷ solve ∷ verify ∷ empty ∷ game ∷ contained ∷ equal ∷ meet ∷ complement ∷ trim ∷ realize ∷ draw ∷ [];
 }

@@ -16,6 +16,7 @@ mod realize;
 mod show;
 mod solve;
 mod subcommand;
+mod trim;
 mod verify;
 mod version;
 

@@ -16,6 +16,7 @@ use crate::meet::meet_command;
 use crate::realize::realize_command;
 use crate::show::show_command;
 use crate::solve::solve_command;
+use crate::trim::trim_command;
 use crate::verify::verify_command;
 use crate::version::VERSION;
 use clap::error::ErrorKind;
@@ -41,8 +42,8 @@ A text of the Hanoi format, version 1, holds omega-automata, one after the other
 Here one state has two edges to itself: one where a holds, which is in set 0, and one where it does not.
 A word is accepted if its run takes the first edge again and again. `omega show`, `check` and `canon`
 read both formats, and --format says which, or of a file its first token. `omega empty`, `omega game`,
-`omega complement` and `omega realize` read one automaton, `omega contained`, `omega equal` and
-`omega meet` read two, and `omega draw` draws one automaton or a game.
+`omega complement`, `omega trim` and `omega realize` read one automaton, `omega contained`, `omega equal`
+and `omega meet` read two, and `omega draw` draws one automaton or a game.
 
 A command reads the file that its last word names, as in `omega solve game.pg`. Without a name, or with
 -, it reads standard input. It writes its answer to standard output. If a text or the task is refused, a
@@ -86,12 +87,13 @@ enum Subcommand {
     Equal,
     Meet,
     Complement,
+    Trim,
     Realize,
     Draw,
 }
 
 /// The subcommands in the order in which help lists them.
-const SUBCOMMANDS: [Subcommand; 13] = [
+const SUBCOMMANDS: [Subcommand; 14] = [
     Subcommand::Show,
     Subcommand::Check,
     Subcommand::Canon,
@@ -103,6 +105,7 @@ const SUBCOMMANDS: [Subcommand; 13] = [
     Subcommand::Equal,
     Subcommand::Meet,
     Subcommand::Complement,
+    Subcommand::Trim,
     Subcommand::Realize,
     Subcommand::Draw,
 ];
@@ -123,6 +126,7 @@ impl Subcommand {
             Subcommand::Equal => equal_command(alloc),
             Subcommand::Meet => meet_command(alloc),
             Subcommand::Complement => complement_command(alloc),
+            Subcommand::Trim => trim_command(alloc),
             Subcommand::Realize => realize_command(alloc),
             Subcommand::Draw => draw_command(alloc),
         }
@@ -160,6 +164,7 @@ fn subcommand_named(name: &str) -> Option<Subcommand> {
         "equal" => Some(Subcommand::Equal),
         "meet" => Some(Subcommand::Meet),
         "complement" => Some(Subcommand::Complement),
+        "trim" => Some(Subcommand::Trim),
         "realize" => Some(Subcommand::Realize),
         "draw" => Some(Subcommand::Draw),
         _ => None,
@@ -200,7 +205,7 @@ fn without_subcommands<'a>(alloc: Global) -> Result<Command<'a>, AllocError>
         .about(
             "Reads, checks, writes and draws parity games and omega-automata, solves games, says whether an \
              automaton accepts anything, verifies such answers, compares what automata accept, forms products and \
-             complements of them, and finds controllers.",
+             complements of them, trims them, and finds controllers.",
         )
         .version(VERSION)
         .after_help("`omega <COMMAND> --help` says more about a command.")

@@ -8,7 +8,7 @@ use Rattle.omega_game_answers.specs.declared.solve.asked.Asked.TheVariants as wa
 use Rattle.omega_io.specs.declared.exit.Exit.{Exit}
 use Rattle.omega_io.specs.Reading.{IsRead}
 use Rattle.omega_command.specs.declared.command.Command.{Command}
-use Rattle.omega_command.specs.declared.command.Command.TheVariants.{Canon, CanonPart, Check, Complement, Draw, DrawLasso, DrawPart, Empty, EmptySearch, Game, RealizabilityGame, Realize, RealizeByLifting, Search, Show, Solve}
+use Rattle.omega_command.specs.declared.command.Command.TheVariants.{Canon, CanonPart, Check, Complement, Draw, DrawLasso, DrawPart, Empty, EmptySearch, Game, RealizabilityGame, Realize, RealizeByLifting, Search, Show, Solve, Trim}
 use Rattle.omega_budget.specs.Observing.{IsObserved, ReportsRun, refusal_in}
 use Rattle.omega_budget.specs.declared.observing.Progress.{Progress}
 use Rattle.omega_budget.proofs.Observed.{one_made}
@@ -110,6 +110,7 @@ module _ {L : Type 0} (held : L → Option (List ℕ)) (failed : L → ℕ) (eve
   counted_lines (CanonPart from) observed counted = uncounted_lines (CanonPart from) (λ lines. tt) observed
   counted_lines (EmptySearch word status) observed counted = uncounted_lines (EmptySearch word status) (λ lines. tt) observed
   counted_lines Complement observed counted = uncounted_lines Complement (λ lines. tt) observed
+  counted_lines Trim observed counted = uncounted_lines Trim (λ lines. tt) observed
   counted_lines Game observed counted = uncounted_lines Game (λ lines. tt) observed
   counted_lines (Realize controller) observed counted = uncounted_lines (Realize controller) (λ lines. tt) observed
   counted_lines (RealizeByLifting controller) observed counted = uncounted_lines (RealizeByLifting controller) (λ lines. tt) observed

@@ -6,7 +6,7 @@ use Rattle.omega_text.specs.declared.refusal.task.TaskFault.TheVariants.{Budget}
 use Rattle.omega_parity_game.specs.Game.{Node}
 use Rattle.omega_parity_game.specs.declared.player.Player.{Player}
 use Rattle.omega_command.specs.declared.command.Command.{Command}
-use Rattle.omega_command.specs.declared.command.Command.TheVariants.{Canon, CanonPart, Check, Complement, Draw, DrawLasso, DrawPart, Empty, EmptySearch, Game, RealizabilityGame, Realize, RealizeByLifting, Search, Show, Solve}
+use Rattle.omega_command.specs.declared.command.Command.TheVariants.{Canon, CanonPart, Check, Complement, Draw, DrawLasso, DrawPart, Empty, EmptySearch, Game, RealizabilityGame, Realize, RealizeByLifting, Search, Show, Solve, Trim}
 use Rattle.omega_budget.proofs.Observed.{made_refused}
 use Rattle.omega_budget.specs.Observing.{IsObserved}
 use Rattle.omega_budget.specs.declared.observing.Progress.{Progress}
@@ -77,6 +77,7 @@ input_refused (Canon format) unread_before unread_after refusal other nodes play
 input_refused (CanonPart from) unread_before unread_after refusal other nodes players lifted = lifted
 input_refused (EmptySearch word status) unread_before unread_after refusal other nodes players lifted = lifted
 input_refused Complement unread_before unread_after refusal other nodes players lifted = lifted
+input_refused Trim unread_before unread_after refusal other nodes players lifted = lifted
 input_refused Game unread_before unread_after refusal other nodes players lifted = lifted
 input_refused (RealizeByLifting controller) unread_before unread_after refusal other nodes players lifted = record {
   text = lifted.text;

@@ -7,7 +7,7 @@ use Rattle.omega_parity_game.specs.declared.player.Player.{Player}
 use Rattle.omega_command.specs.declared.beside.Beside.{Beside}
 use Rattle.omega_command.specs.declared.beside.Beside.TheVariants.{Contained, DrawSolution, Equal, Meet, Verify, VerifyController, VerifyLasso}
 use Rattle.omega_command.specs.declared.command.Command.{Command}
-use Rattle.omega_command.specs.declared.command.Command.TheVariants.{Canon, CanonPart, Check, Complement, Draw, DrawLasso, DrawPart, Empty, EmptySearch, Game, RealizabilityGame, Realize, RealizeByLifting, Search, Show, Solve}
+use Rattle.omega_command.specs.declared.command.Command.TheVariants.{Canon, CanonPart, Check, Complement, Draw, DrawLasso, DrawPart, Empty, EmptySearch, Game, RealizabilityGame, Realize, RealizeByLifting, Search, Show, Solve, Trim}
 use Rattle.omega_command.specs.declared.command.Format.TheVariants.{Hoa, Pg}
 use Rattle.omega_io.specs.declared.exit.Exit.{Exit}
 use Rattle.omega_io.specs.declared.exit.Exit.TheVariants.{Done, No}
@@ -43,6 +43,7 @@ use Rattle.omega_hoa.specs.Stream.{IsStreamRefusal}
 use Rattle.omega_io.specs.Reading.{ReadsText, ReadsWhole}
 use Rattle.omega_language_answers.specs.Verify.{IsLassoAnswer, IsLassoAnswerRefusal}
 use Rattle.omega_language_answers.specs.Meet.{IsMeetAnswer, IsMeetRefusal, IsTextRefused}
+use Rattle.omega_trim_answers.specs.Trim.{IsTrimAnswer, IsTrimAnswerRefusal}
 
 -- for which players a game is solved: for one, or for both if none is named
 abbrev pub asked_for : Option Player → Asked
@@ -95,6 +96,7 @@ Answers (Search from) budget text = Replies (IsSolveAnswer text way.Search from 
 Answers (Empty word status) budget text = Concludes (EndsEmpty text budget word status) (IsEmptyRefusal text budget)
 Answers (EmptySearch word status) budget text = Concludes (EndsEmptySearch text word status) (IsEmptySearchRefusal text)
 Answers Complement budget text = Replies (IsComplementAnswer text) (IsComplementRefusal text)
+Answers Trim budget text = Replies (IsTrimAnswer text) (IsTrimAnswerRefusal text)
 Answers Game budget text = Replies (IsEmptinessGameAnswer text) (IsEmptinessGameRefusal text)
 Answers (Realize controller) budget text = Concludes (IsRealizeAnswer controller text) (IsRealizeRefusal text most_lifts)
 Answers (RealizeByLifting controller) budget text = Concludes (IsRealizeAnswer controller text) (IsRealizeRefusal text budget)

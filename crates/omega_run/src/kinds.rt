@@ -40,6 +40,7 @@ pub(crate) enum OfText {
         from: Option<u32>,
     },
     Complement,
+    Trim,
     Game,
     RealizabilityGame,
     DrawGame,
@@ -79,6 +80,7 @@ pub(crate) fn kind_of(command: Command) -> Kind
             Kind::Question(OfQuestion::EmptySearch { word, status })
         }
         Command::Complement => Kind::Text(OfText::Complement),
+        Command::Trim => Kind::Text(OfText::Trim),
         Command::Game => Kind::Text(OfText::Game),
         Command::Realize { controller } => Kind::Question(OfQuestion::Realize { controller }),
         Command::RealizeByLifting { controller } => {

@@ -24,6 +24,7 @@ use omega_language_answers::complement_text;
 use omega_parity_game::Player;
 use omega_realize_answers::write_realizability_game;
 use omega_stream_answers::{canon_stream, check_stream, show_stream};
+use omega_trim_answers::trim_text;
 use std::alloc::Global;
 
 /// Reads what a command needs, and returns its whole answer, with how it ends, or its refusal. Each command reads for
@@ -100,6 +101,7 @@ fn answer_text<L, T: Reporter<L>>(
             solve_game(alloc, text, Asked::Search, from, budget, reporter, observer)
         }
         OfText::Complement => complement_text(alloc, text.as_slice()),
+        OfText::Trim => trim_text(alloc, text),
         OfText::Game => write_emptiness_game(alloc, text),
         OfText::RealizabilityGame => write_realizability_game(alloc, text),
         OfText::DrawGame => draw_game_text(alloc, text, None, None),

@@ -54,6 +54,14 @@ State: 1 \"1,0\"
 const ARBITER: &str =
     "HOA: v1 States: 1 Start: 0 AP: 2 \"r\" \"g\" controllable-AP: 1 acc-name: parity max even 1 Acceptance: 1 Inf(0) --BODY-- State: 0 [!0|1] 0 {0} --END--";
 
+/// A state with a loop and a way to a state without edges.
+const DEAD_END: &str =
+    "HOA: v1 States: 2 Start: 0 AP: 0 Acceptance: 0 t --BODY-- State: 0 [t] 1 [t] 0 State: 1 --END--";
+
+/// What is left of it.
+const NO_DEAD_END: &str =
+    "HOA: v1\nStates: 1\nStart: 0\nAP: 0\nAcceptance: 0 t\n--BODY--\nState: 0\n[t] 0\n--END--\n";
+
 /// From some place on never a.
 const NOT_OFTEN: &str = "\
 HOA: v1
@@ -69,7 +77,7 @@ State: 0
 ";
 
 /// A command line, the text of the file, the text of the input, and the status, the output and the lines of the run.
-static RUNS: [(&str, &str, &str, u8, &str, &str); 29] = [
+static RUNS: [(&str, &str, &str, u8, &str, &str); 30] = [
     (
         "omega verify --game g",
         THREE,
@@ -230,6 +238,7 @@ static RUNS: [(&str, &str, &str, u8, &str, &str); 29] = [
     ),
     ("omega meet --with g", ALWAYS, TURNS, 0, TURNS_ALWAYS, ""),
     ("omega complement g", OFTEN, "", 0, NOT_OFTEN, ""),
+    ("omega trim g", DEAD_END, "", 0, NO_DEAD_END, ""),
     (
         "omega empty --search --word g",
         OFTEN,

@@ -5,7 +5,7 @@ use std::alloc::Global;
 use std::test::Fail;
 
 /// Command lines, and what each asks for, as it shows itself to a programmer. A budget that is not given is 2^40.
-static ASKED: [(&str, &str); 37] = [
+static ASKED: [(&str, &str); 38] = [
     (
         "omega check --format=hoa",
         "Do { task: Run(Check(Hoa), 1099511627776), source: Input, verbose: false }",
@@ -77,6 +77,10 @@ static ASKED: [(&str, &str); 37] = [
     (
         "omega complement",
         "Do { task: Run(Complement, 1099511627776), source: Input, verbose: false }",
+    ),
+    (
+        "omega trim g",
+        "Do { task: Run(Trim, 1099511627776), source: File(\"g\"), verbose: false }",
     ),
     (
         "omega realize",

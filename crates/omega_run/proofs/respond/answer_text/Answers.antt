@@ -22,6 +22,9 @@ returns-in-CanonPart-clause-reported g c = rw c.in-CanonPart.is (λ before after
 pub returns-in-Complement-clause-reported : goal.returns-in-Complement-clause-reported
 returns-in-Complement-clause-reported g c = rw c.in-Complement.is (λ before after read. nothing_lifted _ _ _ _ _ _ refl)
 
+pub returns-in-Trim-clause-reported : goal.returns-in-Trim-clause-reported
+returns-in-Trim-clause-reported g c = rw c.in-Trim.is (λ before after read. nothing_lifted _ _ _ _ _ _ refl)
+
 pub returns-in-Game-clause-reported : goal.returns-in-Game-clause-reported
 returns-in-Game-clause-reported g c = rw c.in-Game.is (λ before after read. nothing_lifted _ _ _ _ _ _ refl)
 
@@ -67,6 +70,9 @@ returns-in-Complement-clause-refused g c = rw c.in-Complement.is (rw c.as_slice.
 
 pub returns-in-Complement-clause-printed : goal.returns-in-Complement-clause-printed
 returns-in-Complement-clause-printed g c = rw c.in-Complement.is (λ before after read. of_all c.complement_text.result _ (λ output. tt))
+
+pub returns-in-Trim-clause-printed : goal.returns-in-Trim-clause-printed
+returns-in-Trim-clause-printed g c = rw c.in-Trim.is (λ before after read. of_all c.trim_text.result _ (λ output. tt))
 
 pub returns-in-Game-clause-printed : goal.returns-in-Game-clause-printed
 returns-in-Game-clause-printed g c = rw c.in-Game.is (λ before after read. of_all c.write_emptiness_game.result _ (λ output. tt))

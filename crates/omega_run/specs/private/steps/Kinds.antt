@@ -26,6 +26,7 @@ of_text (text.CanonPart from) = command.CanonPart from
 of_text (text.Solve player from) = command.Solve player from
 of_text (text.Search from) = command.Search from
 of_text text.Complement = command.Complement
+of_text text.Trim = command.Trim
 of_text text.Game = command.Game
 of_text text.RealizabilityGame = command.RealizabilityGame
 of_text text.DrawGame = command.Draw Pg

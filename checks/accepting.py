@@ -1,0 +1,158 @@
+"""What `accepts --word` answers, against a plain judge that goes through all words that the letters admit at once. 1,500
+random words of formulas are asked of random deterministic automata, whose propositions are other names in part. Each
+line `word` after `no` admits words that the word admits and the automaton does not accept.
+
+A letter may be true at many sets of names, so that a word admits infinite words that repeat nothing. What is not
+deterministic is refused 56. 500 words with a byte changed are read, or refused with a place in the text of the word, as
+a slow reader says.
+"""
+import itertools
+import random
+import re
+from functools import partial
+from typing import TypeVar
+
+from automata import Automaton, Tree, read_one
+from containing import after, dual, formula_of, with_letters
+from emptiness import Move, has_accepting_walk
+from product_checks import LANGUAGES, NO_STARTS, NO_STATES, SETLESS, Paired
+from products import Word, accepts, is_deterministic, names_of, valuations
+from program import Cases, Fault, Ran, run_of, shown
+from words import Formula, NoWord, Reader, admitted, read_word
+
+Symbolic = tuple[list[Formula], list[Formula]]
+Part = TypeVar("Part")
+# The names that a word may have: those of the automata, and others.
+NAMES = [b"a", b"b", b"c d"]
+WORDS_BY_HAND = [b"cycle{1}", b"cycle{0}", b"cycle{a}", b"cycle{!a}", b"cycle{a;!a}", b"a;cycle{!a}", b"!a;cycle{1;a}",
+                 b"0;cycle{a}", b"cycle{a|b}", b'cycle{"a" & !"c d"}', b"b;a;cycle{b}", b"cycle{a|!a}"]
+
+
+def is_accepted(automaton: Automaton, word: Symbolic) -> bool:
+    """Whether each word that the letters admit is accepted by the automaton, which is deterministic."""
+    formulas, stem = word[0] + word[1], len(word[0])
+    letters = valuations(NAMES)
+    moves, (sets, wanted) = with_letters(automaton, letters), formula_of(automaton)
+    begins = [states[0] for states in automaton.said(b"Start:")]
+    begun: list[tuple[int, int | None]] = [(0, begins[0] if begins else None)]
+    found, taken = [*begun], set()
+    for place, state in found:
+        onward = place + 1 if place + 1 < len(formulas) else stem
+        for letter in letters:
+            if formulas[place](letter):
+                target, marks = after(moves, state, letter)
+                # A run that is lost has a set of its own.
+                shown_marks = frozenset(marks) if target is not None else frozenset({sets})
+                found += [(onward, target)] * ((onward, target) not in found)
+                taken.add(((place, state), (onward, target), shown_marks))
+    rejected: Tree = ("|", dual(wanted), ("atom", b"Inf", False, sets))
+    arrows = [Move(number, source, [target], None, {*marks}, 0)
+              for number, (source, target, marks) in enumerate(sorted(taken, key=repr))]
+    return not has_accepting_walk(begun, arrows, rejected)
+
+
+def unrolled(stem: list[Part], cycle: list[Part], count: int) -> list[Part]:
+    """The first letters of a lasso, at least so many."""
+    return stem + cycle * (count // len(cycle) + 1)
+
+
+def admits(word: Symbolic, stem: Word, cycle: Word) -> bool:
+    """Whether a word of formulas admits a lasso of letters: as far as both have gone round together."""
+    count = max(len(word[0]), len(stem)) + len(word[1]) * len(cycle)
+    both = zip(unrolled(*word, count), unrolled(stem, cycle, count))
+    return all(formula(letter) for formula, letter in itertools.islice(both, count))
+
+
+def told(ran: Ran) -> str:
+    return f"status {ran.returncode}: {shown(ran.stdout)} {shown(ran.stderr)}"
+
+
+def explained_fault(automaton: Automaton, word: Symbolic, line: bytes) -> Fault:
+    """A word that a line admits, and that the word does not admit or the automaton accepts; or nothing."""
+    letters, drawn = valuations(NAMES), random.Random(line)
+    try:
+        stem, cycle = read_word(line)
+        for _ in range(4):
+            lasso = admitted(stem, letters, drawn.choice), admitted(cycle, letters, drawn.choice)
+            if not admits(word, *lasso):
+                return f"{shown(line)} admits {lasso}, which the word does not admit"
+            if accepts(automaton, *lasso):
+                return f"{shown(line)} admits {lasso}, which is accepted"
+    except NoWord as why:
+        return f"{shown(line)}: {why}"
+    return None
+
+
+def accepts_fault(word: bytes, text: bytes) -> Fault:
+    """What is wrong with what `accepts` says of a word and a text, or nothing."""
+    automaton, symbolic = read_one(text), Reader(word).word()
+    given = ["accepts", "--word", word.decode()]
+    plain, explained = run_of(given, text), run_of([*given, "--explain"], text)
+    if not is_deterministic(automaton):
+        refused = [ran.returncode == 1 and not ran.stdout and ran.stderr.startswith(b"omega: 56 NotDeterministic at ")
+                   for ran in (plain, explained)]
+        return None if all(refused) else f"{told(plain)}, {told(explained)}"
+    yes = is_accepted(automaton, symbolic)
+    if plain.stderr or (plain.returncode, plain.stdout) != ((0, b"yes\n") if yes else (6, b"no\n")):
+        return f"the judge says {yes}, the answer is {told(plain)}"
+    if explained.stderr or explained.returncode != plain.returncode or not explained.stdout.startswith(plain.stdout):
+        return f"with --explain: {told(explained)}"
+    why = explained.stdout[len(plain.stdout):]
+    if yes:
+        return f"it explains a yes: {shown(why)}" if why else None
+    return explained_fault(automaton, symbolic, why)
+
+
+def read_fault(word: bytes) -> Fault:
+    """Whether a text is read as a word exactly if a slow reader reads it, or what is wrong."""
+    try:
+        Reader(word).word()
+        is_word = True
+    except NoWord:
+        is_word = False
+    ran = run_of(["accepts", "-v", "--word=" + word.decode()], LANGUAGES[1][0])
+    if is_word:
+        return None if ran.returncode in (0, 6) and not ran.stderr else f"a word: {told(ran)}"
+    refused = re.fullmatch(rb"omega: (?:1 Lex|2 Number|3 Syntax) at (\d+)\nomega: in the word\n", ran.stderr)
+    if ran.returncode != 1 or ran.stdout or refused is None or int(refused.group(1)) > len(word):
+        return f"no word: {told(ran)}"
+    return None
+
+
+class Spelling:
+    """Makes words of formulas at random."""
+
+    def __init__(self, seed: int) -> None:
+        self.random = random.Random(seed)
+
+    def formula(self, depth: int) -> str:
+        choice = self.random.randint(0, 7 if depth else 4)
+        if choice < 5:
+            return self.random.choice(["a", "b", "!a", "!b", '"a"', '!"b"', "1"] * 4 + ['"c d"', "0"])
+        one, other = self.formula(depth - 1), self.formula(depth - 1)
+        return [f"!({one})", f"{one} & ({other})", f"({one})|{other}"][choice - 5]
+
+    def word(self) -> bytes:
+        letters = [[self.formula(2) for _ in range(self.random.randint(least, 3))] for least in (0, 1)]
+        space = self.random.choice(["", " "])
+        stem, cycle = ("".join(f"{letter};{space}" for letter in letters[0]), f";{space}".join(letters[1]))
+        return f"{stem}cycle{{{cycle}}}".encode()
+
+    def damaged(self) -> bytes:
+        word = self.word()
+        place = self.random.randrange(len(word))
+        return word[:place] + self.random.choice([b"", b"a", b";", b"{", b"}", b"(", b")", b"!", b"&", b"|", b"0", b"2",
+                                                  b'"', b"%", b"t"]) + word[place + 1:]
+
+
+def accepting_checks() -> Cases:
+    for text in (*(text for text, _ in LANGUAGES), NO_STARTS, NO_STATES, SETLESS):
+        for word in WORDS_BY_HAND:
+            yield f"{word!r} in {shown(text)}", partial(accepts_fault, word, text)
+    spelling, automata = Spelling(2032), Paired(2033)
+    for number in range(1500):
+        word, text = spelling.word(), automata.automaton(number % 10 != 0)
+        yield f"{word!r} in {text!r}", partial(accepts_fault, word, text)
+    for _ in range(500):
+        word = spelling.damaged()
+        yield f"the text {word!r}", partial(read_fault, word)
