@@ -1,4 +1,4 @@
-use crate::hoa::{Part, TEXTS, number_and_place};
+use crate::hoa::{Part, number_and_place, texts};
 use crate::rows::assert_row;
 use omega_text::{
     Cursor, HoaKind, PgKind, TextCursor, Token, TokenSource, check_tokens, hoa_tokens,
@@ -67,7 +67,7 @@ fn is_gone_over(text: &[u8], parts: &[Part], fault: Option<(u32, usize)>) -> boo
 
 #[test]
 fn texts_are_gone_over_with_no_list(rt: HostRuntime) {
-    for (row, (text, parts, fault)) in TEXTS.iter().enumerate() {
+    for (row, (text, parts, fault)) in texts().iter().enumerate() {
         assert_row(&rt, row, is_gone_over(text, parts, *fault));
     }
 }
@@ -86,7 +86,7 @@ fn is_gone_over_alike(alloc: Global, text: &[u8], parts: &[Part]) -> bool {
 
 #[test]
 fn lists_are_gone_over_alike(rt: HostRuntime) {
-    for (row, (text, parts, fault)) in TEXTS.iter().enumerate() {
+    for (row, (text, parts, fault)) in texts().iter().enumerate() {
         if fault.is_none() {
             assert_row(&rt, row, is_gone_over_alike(rt.alloc(), text, parts));
         }
