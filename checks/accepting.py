@@ -1,6 +1,6 @@
-"""What `accepts --word` answers, against a plain judge that goes through all words that the letters admit at once. 1,500
-random words of formulas are asked of random deterministic automata, whose propositions are other names in part. Each
-line `word` after `no` admits words that the word admits and the automaton does not accept.
+"""What `accepts --word` answers, against a plain judge that goes through all words that the letters admit at once.
+1,500 random words of formulas are asked of random deterministic automata, whose propositions are other names in part.
+Each line `word` after `no` admits words that the word admits and the automaton does not accept.
 
 A letter may be true at many sets of names, so that a word admits infinite words that repeat nothing. What is not
 deterministic is refused 56. 500 words with a byte changed are read, or refused with a place in the text of the word, as
@@ -15,9 +15,9 @@ from typing import TypeVar
 from automata import Automaton, Tree, read_one
 from containing import after, dual, formula_of, with_letters
 from emptiness import Move, has_accepting_walk
-from product_checks import LANGUAGES, NO_STARTS, NO_STATES, SETLESS, Paired
-from products import Word, accepts, is_deterministic, names_of, valuations
-from program import Cases, Fault, Ran, run_of, shown
+from product_checks import INFINITELY, LANGUAGES, NO_STARTS, NO_STATES, SETLESS, Paired
+from products import Word, accepts, is_deterministic, valuations
+from program import Cases, Fault, Ran, fault_of, refusal_fault, run_of, shown
 from words import Formula, NoWord, Reader, admitted, read_word
 
 Symbolic = tuple[list[Formula], list[Formula]]
@@ -145,7 +145,31 @@ class Spelling:
                                                   b'"', b"%", b"t"]) + word[place + 1:]
 
 
+def asked(word: str) -> list[str]:
+    return ["accepts", "--word", word]
+
+
+def limit_checks() -> Cases:
+    """At both sides of 55: so many names, each the letter of a place; and letters as deep as can be."""
+    text = INFINITELY.replace(b'"a"', b'"a0"')
+    for count in (1024, 1025):
+        names = [f"a{number}" for number in range(count)]
+        word = "".join(f"{name};" for name in names[1:]) + "cycle{%s}"
+        if count == 1024:
+            yield f"a word of {count} names", partial(fault_of, asked(word % "a0"), text, 0, b"yes\n")
+            yield f"a word of {count} names, another", partial(fault_of, asked(word % "!a0"), text, 6, b"no\n")
+        else:
+            yield f"a word of {count} names", partial(refusal_fault, asked(word % "a0"), text, "55 TooLarge")
+    for count in (255, 256):
+        word = "cycle{" + "(" * count + "a0" + ")" * count + "}"
+        if count == 255:
+            yield f"a letter in {count} parentheses", partial(fault_of, asked(word), text, 0, b"yes\n")
+        else:
+            yield f"a letter in {count} parentheses", partial(refusal_fault, asked(word), text, "55 TooLarge")
+
+
 def accepting_checks() -> Cases:
+    yield from limit_checks()
     for text in (*(text for text, _ in LANGUAGES), NO_STARTS, NO_STATES, SETLESS):
         for word in WORDS_BY_HAND:
             yield f"{word!r} in {shown(text)}", partial(accepts_fault, word, text)

@@ -58,6 +58,7 @@ COMMANDS = {
     "empty --search": ("EmptySearch",),
     "verify --automaton": ("VerifyLasso",),
     "verify --specification": ("VerifyController",),
+    "accepts": ("Accepts",),
     "contained": ("Contained",),
     "equal": ("Equal",),
     "meet": ("Meet",),

@@ -1,16 +1,16 @@
-"""What `trim` writes, byte for byte what a slow trimmer in Python leaves of an automaton. 1,200 random automata of every
-acceptance are trimmed, with labels of edges, labels of states and none, with names, several starts and none. A plain
-judge says that the same words are accepted, and nothing goes a second time.
+"""What `trim` writes, byte for byte what a slow trimmer in Python leaves of an automaton. 1,200 random automata of
+every acceptance are trimmed, with labels of edges, labels of states and none, with names, several starts and none. A
+plain judge says that the same words are accepted, and nothing goes a second time.
 
-For each state it is tried whether a start reaches it, and whether a walk from it goes round for ever so that the formula
-holds. Universal branching is refused 41. A ring of 100,000 states stays, whatever dead ends leave it.
+For each state it is tried whether a start reaches it, and whether a walk from it goes round for ever so that the
+formula holds. Universal branching is refused 41. A ring of 100,000 states stays, whatever dead ends leave it.
 """
 from dataclasses import replace
 from functools import partial
 
-from automata import Aliases, Automaton, Edge, Refused, State, Tree, bare, canonical, count_of_states, read_one
+from automata import Automaton, Edge, Refused, State, Tree, bare, canonical, count_of_states, read_one
 from automaton_texts import Maker
-from emptiness import Move, branches, has_accepting_walk, is_usable, judge_search, moves_of, reached_from
+from emptiness import Move, has_accepting_walk, is_usable, judge_search, moves_of, reached_from
 from emptiness_checks import FORMULAS, KINDS, REFUSED, Emptied, fruitless, wide
 from product_checks import LANGUAGES, NO_STARTS, NO_STATES, SETLESS, WORDS, Paired, read_written, word_fault
 from products import Word, accepts
@@ -119,7 +119,8 @@ def random_checks() -> Cases:
     texts += [pairs.automaton(bool(number % 2)) for number in range(200)]
     for text in texts:
         yield f"what is left of {text!r}", partial(trim_fault, text)
-        yield f"the words of what is left of {text!r}", partial(trimmed_words_fault, text, pairs.random.sample(WORDS, 8))
+        words = pairs.random.sample(WORDS, 8)
+        yield f"the words of what is left of {text!r}", partial(trimmed_words_fault, text, words)
     for _ in range(200):
         text = branching.automaton()
         yield f"what is left of {text!r}", partial(trim_fault, text)
@@ -139,15 +140,15 @@ def ring(states: int, dead: int) -> tuple[bytes, bytes]:
 
 
 def unlabelled(count: int, last: int) -> bytes:
-    """A state with an edge for each set of so many propositions, without labels, to itself; the last edge to a state."""
+    """A state with an edge for each set of so many propositions, without labels, to itself; the last one to a state."""
     names = b" ".join(b'"%d"' % number for number in range(count))
     return (b"HOA: v1\nStates: 2\nStart: 0\nAP: %d %s\nAcceptance: 1 Inf(0)\n--BODY--\nState: 0 {0}\n" % (count, names)
             + b"0\n" * (2 ** count - 1) + b"%d\n--END--\n" % last)
 
 
 def large_checks() -> Cases:
-    """Where neither the machine's stack nor the time may grow beyond the linear; labels that are added, at both sides of
-    the limit of all labels; and a label of which it is not decided whether it holds."""
+    """Where neither the machine's stack nor the time may grow beyond the linear; labels that are added, at both sides
+    of the limit of all labels; and a label of which it is not decided whether it holds."""
     text, left = ring(100_000, 50_000)
     yield "a ring of 100,000 states and a path of 50,000 that ends", partial(fault_of, ["trim"], text, 0, left)
     yield "the ring alone", partial(fault_of, ["trim"], left, 0, left)

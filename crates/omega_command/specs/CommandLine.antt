@@ -87,6 +87,7 @@ text_of name.Automaton options = option_map (λ text. text.now) options.automato
 text_of name.Specification options = option_map (λ text. text.now) options.specification
 text_of name.Explain options = option_map (λ text. text.now) options.explain
 text_of name.Word options = option_map (λ text. text.now) options.word
+text_of name.WordText options = option_map (λ text. text.now) options.word_text
 text_of name.Status options = option_map (λ text. text.now) options.status
 text_of name.With options = option_map (λ text. text.now) options.with
 text_of name.In options = option_map (λ text. text.now) options.within
@@ -148,6 +149,7 @@ AsksBeside subcommand options file (beside.VerifyController explain) =
     (subcommand ≡ codes "verify") × (text_of name.Specification options ≡ Some file) × (text_of name.Game options ≡ None)
     × (text_of name.Automaton options ≡ None) × (text_of name.From options ≡ None)
     × GivesFlag (text_of name.Explain options) explain
+AsksBeside subcommand options file (beside.Accepts explain) = ⊥
 AsksBeside subcommand options file beside.Meet = (subcommand ≡ codes "meet") × (text_of name.With options ≡ Some file)
 AsksBeside subcommand options file (beside.Contained explain) =
     (subcommand ≡ codes "contained") × (text_of name.In options ≡ Some file) × GivesFlag (text_of name.Explain options) explain
@@ -157,6 +159,12 @@ AsksBeside subcommand options file (beside.DrawSolution from depth legend) =
     (subcommand ≡ codes "draw") × Gives IsFormatText (text_of name.Format options) (Some Pg)
     × (text_of name.Solution options ≡ Some file) × GivesFlag (text_of name.Legend options) legend
     × GivesPart options from depth × GivesFlag (text_of name.Lasso options) false
+
+-- the subcommand of this name, with these options, asks for what is done with this text beside the input
+abbrev pub AsksGiven : List ℕ → Options → (text : List ℕ) → Beside → Type 0
+AsksGiven subcommand options text (beside.Accepts explain) =
+    (subcommand ≡ codes "accepts") × (text_of name.WordText options ≡ Some text) × GivesFlag (text_of name.Explain options) explain
+AsksGiven subcommand options text other = ⊥
 
 -- the subcommand of this name, with these options, asks for the task
 abbrev pub AsksFor : List ℕ → Options → Task → Type 0
@@ -206,6 +214,7 @@ AsksFor subcommand options (task.Run command.DrawLasso budget) =
 AsksFor subcommand options (task.Observed command budget) =
     AsksToLift subcommand options command budget × GivesFlag (text_of name.Progress options) true
 AsksFor subcommand options (task.Beside file asked) = AsksBeside subcommand options (string_bytes file) asked
+AsksFor subcommand options (task.Given text asked) = AsksGiven subcommand options (string_bytes text) asked
 
 -- no option is given that goes with one format alone
 abbrev pub GoesWithEither : OfEither → Options → Type 0
@@ -258,8 +267,9 @@ HasOption subcommand name.Game = subcommand ≡ codes "verify"
 HasOption subcommand name.Automaton = subcommand ≡ codes "verify"
 HasOption subcommand name.Specification = subcommand ≡ codes "verify"
 HasOption subcommand name.Explain =
-    (subcommand ≡ codes "verify") ⊎ (subcommand ≡ codes "contained") ⊎ (subcommand ≡ codes "equal")
+    (subcommand ≡ codes "verify") ⊎ (subcommand ≡ codes "accepts") ⊎ (subcommand ≡ codes "contained") ⊎ (subcommand ≡ codes "equal")
 HasOption subcommand name.Word = subcommand ≡ codes "empty"
+HasOption subcommand name.WordText = subcommand ≡ codes "accepts"
 HasOption subcommand name.Status = subcommand ≡ codes "empty"
 HasOption subcommand name.With = subcommand ≡ codes "meet"
 HasOption subcommand name.In = subcommand ≡ codes "contained"
@@ -288,6 +298,7 @@ IsRequired name.Automaton options = ⊥
 IsRequired name.Specification options = ⊥
 IsRequired name.Explain options = ⊥
 IsRequired name.Word options = ⊥
+IsRequired name.WordText options = Unit {0}
 IsRequired name.Status options = ⊥
 IsRequired name.With options = Unit {0}
 IsRequired name.In options = Unit {0}
@@ -315,6 +326,7 @@ StandsForNothing name.Automaton text = ⊥
 StandsForNothing name.Specification text = ⊥
 StandsForNothing name.Explain text = (flag : Bool) → IsTruthText text flag → ⊥
 StandsForNothing name.Word text = (flag : Bool) → IsTruthText text flag → ⊥
+StandsForNothing name.WordText text = ⊥
 StandsForNothing name.Status text = (flag : Bool) → IsTruthText text flag → ⊥
 StandsForNothing name.With text = ⊥
 StandsForNothing name.In text = ⊥
@@ -350,6 +362,7 @@ pub record IsUnknownSubcommand (subcommand : List ℕ) : Type 0 where
   pub empty : subcommand ≢ codes "empty"
   pub game : subcommand ≢ codes "game"
   pub meet : subcommand ≢ codes "meet"
+  pub accepts : subcommand ≢ codes "accepts"
   pub contained : subcommand ≢ codes "contained"
   pub equal : subcommand ≢ codes "equal"
   pub complement : subcommand ≢ codes "complement"
@@ -369,6 +382,7 @@ IsUsed name.Automaton options = text_of name.Automaton options ≢ None
 IsUsed name.Specification options = text_of name.Specification options ≢ None
 IsUsed name.Explain options = GivesFlag (text_of name.Explain options) true
 IsUsed name.Word options = GivesFlag (text_of name.Word options) true
+IsUsed name.WordText options = text_of name.WordText options ≢ None
 IsUsed name.Status options = GivesFlag (text_of name.Status options) true
 IsUsed name.With options = text_of name.With options ≢ None
 IsUsed name.In options = text_of name.In options ≢ None

@@ -11,6 +11,7 @@ abbrev pub IsRunnableTask : Task → Type 0
 IsRunnableTask (task.Run command budget) = budget ≤ most_budget
 IsRunnableTask (task.Observed command budget) = budget ≤ most_budget
 IsRunnableTask (task.Beside file asked) = Unit {0}
+IsRunnableTask (task.Given text asked) = Unit {0}
 
 -- what the line asks for can be done
 abbrev pub IsRunnable : Line → Type 0

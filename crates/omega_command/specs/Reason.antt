@@ -42,7 +42,7 @@ IsNumberReason most text (reason.Above number limit) = IsAboveLimit most text nu
 IsNumberReason most text reason.NoFormat = ⊥
 IsNumberReason most text reason.NoTruth = ⊥
 
--- why a text is no value of an option; every text names a file
+-- why a text is no value of an option; every text names a file, and may be that of a word
 abbrev pub IsReason : OptionName → List ℕ → Reason → Type 0
 IsReason name.Format text why = why ≡ reason.NoFormat
 IsReason name.Player text why = IsNumberReason 1 text why
@@ -54,6 +54,7 @@ IsReason name.Automaton text why = ⊥
 IsReason name.Specification text why = ⊥
 IsReason name.Explain text why = why ≡ reason.NoTruth
 IsReason name.Word text why = why ≡ reason.NoTruth
+IsReason name.WordText text why = ⊥
 IsReason name.Status text why = why ≡ reason.NoTruth
 IsReason name.With text why = ⊥
 IsReason name.In text why = ⊥

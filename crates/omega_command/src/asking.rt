@@ -94,6 +94,9 @@ fn task_for<'a>(alloc: Global, subcommand: &str, options: &Options<'a>) -> Resul
     if subcommand == "meet" {
         return meeting_for(alloc, options);
     }
+    if subcommand == "accepts" {
+        return accepted_for(alloc, options);
+    }
     if subcommand == "contained" {
         return contained_for(alloc, options);
     }
@@ -334,6 +337,24 @@ fn meeting_for<'a>(alloc: Global, options: &Options<'a>) -> Result<Task, Mistake
         Ok(file) => Ok(Task::Beside {
             file,
             asked: Beside::Meet,
+        }),
+        Err(_) => Err(Mistake::Memory),
+    }
+}
+
+/// Returns the task that `accepts` requests with `options`, or what is wrong with them.
+fn accepted_for<'a>(alloc: Global, options: &Options<'a>) -> Result<Task, Mistake<'a>>
+    ensures asked { IfOk result (AsksFor (codes "accepts") options.now) }
+    ensures mistaken { IfErr result (IsMistake (codes "accepts") options.now) }
+{
+    let explain = is_explained(options)?;
+    let Some(word) = options.word_text else {
+        return Err(Mistake::Missing(OptionName::WordText));
+    };
+    match String::from_str(alloc, word) {
+        Ok(text) => Ok(Task::Given {
+            text,
+            asked: Beside::Accepts { explain },
         }),
         Err(_) => Err(Mistake::Memory),
     }

@@ -1,4 +1,4 @@
-/// A task with two texts: that of a file and that of the input.
+/// A task with two texts: that of a file, or of the command line, and that of the input.
 #[derive(Clone, Copy, Debug)]
 pub enum Beside {
     /// Checks the solution that the input has, of the game of the file or of the part of it that one node reaches.
@@ -20,6 +20,11 @@ pub enum Beside {
     },
     /// Writes an automaton that accepts the words that both accept, the one of the input and the one of the file.
     Meet,
+    /// Says whether the automaton of the input accepts each word that the word of the other text admits.
+    Accepts {
+        /// Whether a `no` is explained.
+        explain: bool,
+    },
     /// Says whether the automaton of the file accepts each word that the one of the input accepts.
     Contained {
         /// Whether a `no` is explained.

@@ -36,6 +36,8 @@ pub enum Task {
     Observed(Command, u64),
     /// A task with the text of the file of this name and that of the input.
     Beside { file: String, asked: Beside },
+    /// A task with this text, which the command line has, and that of the input.
+    Given { text: String, asked: Beside },
 }
 
 /// The source of an input.

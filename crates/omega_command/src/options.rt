@@ -13,6 +13,8 @@ pub enum OptionName {
     Specification,
     Explain,
     Word,
+    /// The option `--word` with a text, in place of the flag.
+    WordText,
     Status,
     With,
     In,
@@ -44,6 +46,7 @@ impl fmt::Display for OptionName {
             OptionName::Specification => "--specification <FILE>",
             OptionName::Explain => "--explain",
             OptionName::Word => "--word",
+            OptionName::WordText => "--word <WORD>",
             OptionName::Status => "--status",
             OptionName::With => "--with <FILE>",
             OptionName::In => "--in <FILE>",
@@ -85,6 +88,8 @@ pub struct Options<'a> {
     pub explain: Option<&'a str>,
     /// As `search`.
     pub word: Option<&'a str>,
+    /// The text of a word whose letters are formulas.
+    pub word_text: Option<&'a str>,
     /// As `search`.
     pub status: Option<&'a str>,
     /// The name of the file of the other automaton.

@@ -22,6 +22,7 @@ pub fn options_in<'a>(found: &ArgMatches<'a>) -> Options<'a>
         specification: found.get_str("specification"),
         explain: found.get_str("explain"),
         word: found.get_str("word"),
+        word_text: found.get_str("word-text"),
         status: found.get_str("status"),
         with: found.get_str("with"),
         within: found.get_str("in"),

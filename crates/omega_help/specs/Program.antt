@@ -24,6 +24,10 @@ optional name = record (new_rule name) { long = Some name; value_names = 1 }
 abbrev pub required : Text → Rule
 required name = record (new_rule name) { long = Some name; value_names = 1; required = true }
 
+-- the same, with another name on the command line
+abbrev pub required_as : (shown : Text) → Text → Rule
+required_as shown name = record (required name) { long = Some shown }
+
 -- a text without an option's name, which may be left out
 abbrev pub operand : Text → Rule
 operand name = record (new_rule name) { value_names = 1 }
@@ -65,6 +69,11 @@ empty =
 abbrev pub game : Shape
 game = with_options (codes "game") (verbose ∷ operand (codes "file") ∷ [])
 
+abbrev pub accepts : Shape
+accepts =
+    with_options (codes "accepts")
+    (required_as (codes "word") (codes "word-text") ∷ flag (codes "explain") ∷ verbose ∷ operand (codes "file") ∷ [])
+
 abbrev pub contained : Shape
 contained = with_options (codes "contained") (required (codes "in") ∷ flag (codes "explain") ∷ verbose ∷ operand (codes "file") ∷ [])
 
@@ -98,5 +107,5 @@ draw =
 abbrev pub program : App
 program = record {
   top = record (new_shape (codes "omega")) { is_leaf = false; has_version = true; subcommand_required = true };
-  subs = show ∷ check ∷ canon ∷ solve ∷ verify ∷ empty ∷ game ∷ contained ∷ equal ∷ meet ∷ complement ∷ trim ∷ realize ∷ draw ∷ [];
+  subs = show ∷ check ∷ canon ∷ solve ∷ verify ∷ empty ∷ game ∷ accepts ∷ contained ∷ equal ∷ meet ∷ complement ∷ trim ∷ realize ∷ draw ∷ [];
 }

@@ -1,6 +1,7 @@
 //! The command line as `clap` knows it: subcommands, options and the texts of help.
 #![tactic(auto)]
 
+mod accepts;
 mod canon;
 mod check;
 mod complement;

@@ -26,6 +26,9 @@ pub enum Value {
     Optional(&'static str),
     /// A text. The option has to be given.
     Required(&'static str),
+    /// A text. The option has to be given, and has this name after its two dashes, in place of the one by which it is
+    /// found.
+    RequiredAs(&'static str, &'static str),
     /// The operand: a text without an option's name, which may be left out.
     Operand(&'static str),
 }
@@ -45,6 +48,7 @@ impl OptionHelp {
             Value::Long(name) => arg.long(name).action(ArgAction::SetTrue),
             Value::Optional(name) => arg.long(self.name).value_name(name),
             Value::Required(name) => arg.long(self.name).value_name(name).required(true),
+            Value::RequiredAs(long, name) => arg.long(long).value_name(name).required(true),
             Value::Operand(name) => arg.value_name(name),
         }
     }

@@ -4,6 +4,7 @@ ghost use Rattle.clap.specs.Words.{subcommand_of, subcommand_rows_of, with_subco
 ghost use Rattle.omega_help.specs.Program.{program};
 ghost use Rattle.omega_help.specs.private.building.Building.{shape_for, without_subcommands};
 
+use crate::accepts::accepts_command;
 use crate::canon::canon_command;
 use crate::check::check_command;
 use crate::complement::complement_command;
@@ -42,8 +43,9 @@ A text of the Hanoi format, version 1, holds omega-automata, one after the other
 Here one state has two edges to itself: one where a holds, which is in set 0, and one where it does not.
 A word is accepted if its run takes the first edge again and again. `omega show`, `check` and `canon`
 read both formats, and --format says which, or of a file its first token. `omega empty`, `omega game`,
-`omega complement`, `omega trim` and `omega realize` read one automaton, `omega contained`, `omega equal`
-and `omega meet` read two, and `omega draw` draws one automaton or a game.
+`omega accepts`, `omega complement`, `omega trim` and `omega realize` read one automaton,
+`omega contained`, `omega equal` and `omega meet` read two, and `omega draw` draws one automaton or a
+game.
 
 A command reads the file that its last word names, as in `omega solve game.pg`. Without a name, or with
 -, it reads standard input. It writes its answer to standard output. If a text or the task is refused, a
@@ -58,7 +60,7 @@ Exit status:
   3  the budget is used up
   4  out of memory
   5  a read or a write failed
-  6  the answer of `omega verify`, `contained`, `equal`, `realize` or `empty --status` is no
+  6  the answer of `omega verify`, `accepts`, `contained`, `equal`, `realize` or `empty --status` is no
 
 `omega <COMMAND> --help` says more about a command.";
 
@@ -83,6 +85,7 @@ enum Subcommand {
     Verify,
     Empty,
     Game,
+    Accepts,
     Contained,
     Equal,
     Meet,
@@ -93,7 +96,7 @@ enum Subcommand {
 }
 
 /// The subcommands in the order in which help lists them.
-const SUBCOMMANDS: [Subcommand; 14] = [
+const SUBCOMMANDS: [Subcommand; 15] = [
     Subcommand::Show,
     Subcommand::Check,
     Subcommand::Canon,
@@ -101,6 +104,7 @@ const SUBCOMMANDS: [Subcommand; 14] = [
     Subcommand::Verify,
     Subcommand::Empty,
     Subcommand::Game,
+    Subcommand::Accepts,
     Subcommand::Contained,
     Subcommand::Equal,
     Subcommand::Meet,
@@ -122,6 +126,7 @@ impl Subcommand {
             Subcommand::Verify => verify_command(alloc),
             Subcommand::Empty => empty_command(alloc),
             Subcommand::Game => game_command(alloc),
+            Subcommand::Accepts => accepts_command(alloc),
             Subcommand::Contained => contained_command(alloc),
             Subcommand::Equal => equal_command(alloc),
             Subcommand::Meet => meet_command(alloc),
@@ -160,6 +165,7 @@ fn subcommand_named(name: &str) -> Option<Subcommand> {
         "verify" => Some(Subcommand::Verify),
         "empty" => Some(Subcommand::Empty),
         "game" => Some(Subcommand::Game),
+        "accepts" => Some(Subcommand::Accepts),
         "contained" => Some(Subcommand::Contained),
         "equal" => Some(Subcommand::Equal),
         "meet" => Some(Subcommand::Meet),

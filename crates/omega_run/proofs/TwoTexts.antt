@@ -4,9 +4,12 @@ use Rattle.omega_text.specs.Cases.{or_io, or_memory}
 use Rattle.omega_text.specs.declared.refusal.Refusal.{Refusal}
 use Rattle.omega_text.specs.declared.refusal.Refusal.TheVariants.{Automaton, Game, Io, Memory, Task, Text}
 use Rattle.omega_command.specs.declared.beside.Beside.{Beside}
-use Rattle.omega_command.specs.declared.beside.Beside.TheVariants.{Contained, DrawSolution, Equal, Meet, Verify, VerifyController, VerifyLasso}
+use Rattle.omega_command.specs.declared.beside.Beside.TheVariants.{Accepts, Contained, DrawSolution, Equal, Meet, Verify, VerifyController, VerifyLasso}
 use Rattle.omega_io.specs.Failures.{IsTransferRefusal, failures_in, failures_of}
 use Rattle.omega_io.specs.Reading.{IsRead, ReadsText}
+use Rattle.omega_accepts.specs.Refusing.{IsMembershipRefusal, oversized, not_contained as not_within}
+use Rattle.omega_accepts_answers.specs.Accepts as accepts
+use Rattle.omega_symbolic_word.specs.declared.symbolic_word.SymbolicWord.{SymbolicWord}
 use Rattle.omega_containment.specs.Refusing.{IsContainmentRefusal, not_complemented, not_met, not_searched}
 use Rattle.omega_containment_answers.specs.Contained as contained
 use Rattle.omega_containment_answers.specs.Equal as equal
@@ -19,7 +22,7 @@ use Rattle.omega_io.specs.declared.refused.Refused.{Refused}
 use Rattle.omega_io.specs.declared.refused.Which.{Which}
 use Rattle.omega_io.specs.declared.refused.Which.TheVariants.{File, Input}
 use Rattle.omega_run.specs.Beside.{IsRefusalAbout, RefusesBoth, RefusesFile, RefusesInput}
-use Rattle.omega_run.specs.Respond.{AnswersBeside, IsContainedRefusal, IsEqualRefusal, IsRunRefusal, RefusesText}
+use Rattle.omega_run.specs.Respond.{AnswersBeside, IsAcceptsRefusal, IsContainedRefusal, IsEqualRefusal, IsRunRefusal, RefusesText}
 use Rattle.omega_run.specs.private.steps.Beside.{plain}
 
 -- what holds of a refusal, or want of memory, or a failed read or write
@@ -40,7 +43,11 @@ transfer_refuses P (Task fault) h = absurd h
 transfer_refuses P Memory h = tt
 transfer_refuses P Io h = tt
 
--- what refuses one of the texts, or both, refuses `contained` and `equal`
+-- what refuses one of the texts, or both, refuses `accepts`, `contained` and `equal`
+accepts_input : (word input : List ℕ) (refusal : Refusal) → accepts.IsInputRefusal word input refusal → IsAcceptsRefusal word input refusal
+accepts_input word input refusal (inl text) = inr (inl text)
+accepts_input word input refusal (inr (pair, choice)) = inr (inr pair)
+
 contained_file : (file input : List ℕ) (refusal : Refusal) → contained.IsFileRefusal file input refusal → IsContainedRefusal file input refusal
 contained_file file input refusal (inl text) = inl text
 contained_file file input refusal (inr (pair, choice)) = inr (inr pair)
@@ -64,6 +71,7 @@ module _ (file : List ℕ) (before after : Option (List ℕ)) where
   file_refuses (Verify from explain) refusal h = record { text = h.text; read = h.read; holds = inl h.holds }
   file_refuses (VerifyLasso explain) refusal h = record { text = h.text; read = h.read; holds = inl h.holds }
   file_refuses (VerifyController explain) refusal h = record { text = h.text; read = h.read; holds = inl h.holds }
+  file_refuses (Accepts explain) refusal h = record { text = h.text; read = h.read; holds = inl h.holds }
   file_refuses Meet refusal h = record { text = h.text; read = h.read; holds = inl (inl h.holds) }
   file_refuses (Contained explain) refusal h = record { text = h.text; read = h.read; holds = contained_file file h.text refusal h.holds }
   file_refuses (Equal explain) refusal h = record { text = h.text; read = h.read; holds = equal_file file h.text refusal h.holds }
@@ -75,6 +83,7 @@ module _ (file : List ℕ) (before after : Option (List ℕ)) where
   input_refuses (Verify from explain) refusal h = record { text = h.text; read = h.read; holds = inr h.holds }
   input_refuses (VerifyLasso explain) refusal h = record { text = h.text; read = h.read; holds = inr h.holds }
   input_refuses (VerifyController explain) refusal h = record { text = h.text; read = h.read; holds = inr (inl h.holds) }
+  input_refuses (Accepts explain) refusal h = record { text = h.text; read = h.read; holds = accepts_input file h.text refusal h.holds }
   input_refuses Meet refusal h = record { text = h.text; read = h.read; holds = inl (inr h.holds) }
   input_refuses (Contained explain) refusal h = record { text = h.text; read = h.read; holds = inr (inl h.holds) }
   input_refuses (Equal explain) refusal h = record { text = h.text; read = h.read; holds = equal_input file h.text refusal h.holds }
@@ -86,6 +95,7 @@ module _ (file : List ℕ) (before after : Option (List ℕ)) where
   both_refuse (Verify from explain) refusal h = absurd h.holds
   both_refuse (VerifyLasso explain) refusal h = absurd h.holds
   both_refuse (VerifyController explain) refusal h = record { text = h.text; read = h.read; holds = inr (inr h.holds) }
+  both_refuse (Accepts explain) refusal h = record { text = h.text; read = h.read; holds = inr (inr h.holds.0) }
   both_refuse Meet refusal h = record { text = h.text; read = h.read; holds = inr h.holds }
   both_refuse (Contained explain) refusal h = record { text = h.text; read = h.read; holds = inr (inr h.holds.0) }
   both_refuse (Equal explain) refusal h = record { text = h.text; read = h.read; holds = equal_both file h.text refusal h.holds }
@@ -150,6 +160,14 @@ pair_io outer inner pair = containment_io pair.one pair.other pair.refused
 choice_io : contained.IsChoice Io → ⊥
 choice_io (state, is) = cc
 
+-- nor is membership
+membership_io : (word : SymbolicWord) (a : Description) → IsMembershipRefusal word a Io → ⊥
+membership_io word a (oversized large) = large
+membership_io word a (not_within one is refused) = containment_io one a refused
+
+member_io : (word input : List ℕ) → accepts.IsPairRefused word input Io → ⊥
+member_io word input pair = membership_io pair.symbolic pair.automaton pair.refused
+
 -- nor is a controller for a specification
 judge_io : (specification controller : Description) (controlled : List ℕ) → judge.IsJudgeRefusal specification controller controlled Io → ⊥
 judge_io specification controller controlled (judge.not_searched refusal readable letter) = letter
@@ -168,6 +186,7 @@ io_about asked file input None (inl h) = absurd (cc h)
 io_about (Verify from explain) file input None (inr h) = h
 io_about (VerifyLasso explain) file input None (inr h) = h
 io_about (VerifyController explain) file input None (inr h) = judged_io file input None h
+io_about (Accepts explain) file input None (inr h) = member_io file input h.0
 io_about Meet file input None (inr h) = h.refused
 io_about (Contained explain) file input None (inr h) = pair_io file input h.0
 io_about (Equal explain) file input None (inr (inl pair, other)) = pair_io file input pair
@@ -180,6 +199,7 @@ io_about (VerifyLasso explain) file input (Some File) (inl (inr h)) = cc h.refus
 io_about (VerifyLasso explain) file input (Some File) (inr h) = h.refused
 io_about (VerifyController explain) file input (Some File) (inl text) = automaton_io file text
 io_about (VerifyController explain) file input (Some File) (inr pair) = judged_io file input (Some File) pair
+io_about (Accepts explain) file input (Some File) h = h
 io_about Meet file input (Some File) h = automaton_io file h
 io_about (Contained explain) file input (Some File) (inl text) = automaton_io file text
 io_about (Contained explain) file input (Some File) (inr (pair, choice)) = pair_io file input pair
@@ -190,6 +210,8 @@ io_about (Verify from explain) file input (Some Input) h = h.refused
 io_about (VerifyLasso explain) file input (Some Input) h = h.refused
 io_about (VerifyController explain) file input (Some Input) (inl text) = automaton_io input text.refused
 io_about (VerifyController explain) file input (Some Input) (inr pair) = judged_io file input (Some Input) pair
+io_about (Accepts explain) file input (Some Input) (inl text) = automaton_io input text.refused
+io_about (Accepts explain) file input (Some Input) (inr (pair, choice)) = member_io file input pair
 io_about Meet file input (Some Input) h = automaton_io input h.refused
 io_about (Contained explain) file input (Some Input) h = automaton_io input h.refused
 io_about (Equal explain) file input (Some Input) (inl text) = automaton_io input text.refused

@@ -1,9 +1,11 @@
--- What is done with the texts of a file and of the input: what each is called, and which of them a refusal is about.
+-- What is done with the texts of a file, or of the command line, and of the input: what each is called, and which of
+-- them a refusal is about.
 use Rattle.std.specs.Prelude.{◌≡◌, ◌⊎◌, Bool, true, false, List, Option, None, Some, Result, Err, ℕ, IfErr, codes}
 use Rattle.omega_text.specs.declared.refusal.Refusal.{Refusal}
 use Rattle.omega_game_answers.specs.Verify.{IsJudgedGameRefusal, RefusesSolution}
 use Rattle.omega_command.specs.declared.beside.Beside.{Beside}
-use Rattle.omega_command.specs.declared.beside.Beside.TheVariants.{Contained, DrawSolution, Equal, Meet, Verify, VerifyController, VerifyLasso}
+use Rattle.omega_command.specs.declared.beside.Beside.TheVariants.{Accepts, Contained, DrawSolution, Equal, Meet, Verify, VerifyController, VerifyLasso}
+use Rattle.omega_accepts_answers.specs.Accepts as accepts
 use Rattle.omega_containment_answers.specs.Contained as contained
 use Rattle.omega_containment_answers.specs.Equal as equal
 use Rattle.omega_controller_answers.specs.Verify as controller
@@ -18,6 +20,7 @@ use Rattle.omega_io.specs.Reading.{ReadsText}
 use Rattle.omega_io.specs.RefusalLine.{line_of}
 use Rattle.omega_io.specs.Lines.{file_lines, lines_in}
 use Rattle.omega_io.specs.Refused.{IsAbout}
+use Rattle.omega_word_text.specs.Text.{IsWordRefusal}
 use Rattle.omega_run.specs.Perform.{Performs}
 use Rattle.omega_run.specs.Report.{ReportsBy}
 use Rattle.omega_run.specs.Respond.{AnswersBeside}
@@ -31,6 +34,8 @@ name_of (VerifyLasso explain) File = codes "automaton"
 name_of (VerifyLasso explain) Input = codes "lasso"
 name_of (VerifyController explain) File = codes "specification"
 name_of (VerifyController explain) Input = codes "controller"
+name_of (Accepts explain) File = codes "word"
+name_of (Accepts explain) Input = codes "automaton"
 name_of Meet File = codes "other automaton"
 name_of Meet Input = codes "automaton"
 name_of (Contained explain) File = codes "other automaton"
@@ -45,6 +50,7 @@ abbrev pub RefusesFile : Beside → (file input : List ℕ) → Refusal → Type
 RefusesFile (Verify from explain) file input refusal = IsJudgedGameRefusal file from refusal
 RefusesFile (VerifyLasso explain) file input refusal = RefusesAutomaton file input refusal
 RefusesFile (VerifyController explain) file input refusal = controller.IsFileRefusal file input refusal
+RefusesFile (Accepts explain) file input refusal = IsWordRefusal file refusal
 RefusesFile Meet file input refusal = IsAutomatonRefusal file refusal
 RefusesFile (Contained explain) file input refusal = contained.IsFileRefusal file input refusal
 RefusesFile (Equal explain) file input refusal = equal.IsFileRefusal file input refusal
@@ -55,6 +61,7 @@ abbrev pub RefusesInput : Beside → (file input : List ℕ) → Refusal → Typ
 RefusesInput (Verify from explain) file input refusal = RefusesSolution file from input refusal
 RefusesInput (VerifyLasso explain) file input refusal = RefusesLasso file input refusal
 RefusesInput (VerifyController explain) file input refusal = controller.IsInputRefusal file input refusal
+RefusesInput (Accepts explain) file input refusal = accepts.IsInputRefusal file input refusal
 RefusesInput Meet file input refusal = IsTextRefused file input refusal
 RefusesInput (Contained explain) file input refusal = IsTextRefused file input refusal
 RefusesInput (Equal explain) file input refusal = equal.IsInputRefusal file input refusal
@@ -65,6 +72,7 @@ abbrev pub RefusesBoth : Beside → (file input : List ℕ) → Refusal → Type
 RefusesBoth (Verify from explain) file input refusal = ⊥
 RefusesBoth (VerifyLasso explain) file input refusal = ⊥
 RefusesBoth (VerifyController explain) file input refusal = controller.IsPairRefused file input None refusal
+RefusesBoth (Accepts explain) file input refusal = accepts.IsPairRefused file input refusal × ¬ contained.IsChoice refusal
 RefusesBoth Meet file input refusal = IsProductRefused file input refusal
 RefusesBoth (Contained explain) file input refusal = contained.IsPairRefused file input refusal × ¬ contained.IsChoice refusal
 RefusesBoth (Equal explain) file input refusal =
@@ -97,11 +105,11 @@ lines_of_file false name refusal = line_of refusal
 lines_of_file true name refusal = file_lines name refusal
 
 -- the texts were answered, or refused with lines that name the text that the refusal is about
-abbrev pub IsRunBeside : (verbose : Bool) → Beside → (file : List ℕ) → ℕ → World → Type 0
-IsRunBeside verbose asked file status world =
-    (outcome : Result Exit Refusal) × (which : Option Which) × Performs (AnswersBeside asked file) outcome world.before world.after
-    × IfErr outcome (IsRefusalAbout asked file world.before.unread world.after.unread which)
-    × ReportsBy (lines_about verbose asked which) outcome status world.tells
+abbrev pub IsRunBeside : (verbose : Bool) → Beside → (file : List ℕ) → ℕ → Streams → Streams → (List ℕ → Type 0) → Type 0
+IsRunBeside verbose asked file status before after tells =
+    (outcome : Result Exit Refusal) × (which : Option Which) × Performs (AnswersBeside asked file) outcome before after
+    × IfErr outcome (IsRefusalAbout asked file before.unread after.unread which)
+    × ReportsBy (lines_about verbose asked which) outcome status tells
 
 -- the file of this name was refused, and the lines for that were written; nothing else was read or written
 abbrev pub IsFileRefused : (verbose : Bool) → List ℕ → ℕ → World → Type 0
@@ -112,5 +120,5 @@ IsFileRefused verbose name status world =
 -- the file of this name was read as some text, which was answered to beside that of the input; or the file was refused
 abbrev pub IsRunWithFile : (verbose : Bool) → Beside → List ℕ → ℕ → World → Type 0
 IsRunWithFile verbose asked name status world =
-    ((text : List ℕ) × world.reads name text × IsRunBeside verbose asked text status world)
+    ((text : List ℕ) × world.reads name text × IsRunBeside verbose asked text status world.before world.after world.tells)
     ⊎ IsFileRefused verbose name status world

@@ -13,13 +13,13 @@ use Rattle.omega_command.specs.declared.line.Line.TheVariants.{ByText, Do, Fault
 use Rattle.omega_command.specs.declared.line.Source.{Source}
 use Rattle.omega_command.specs.declared.line.Source.TheVariants.{File, Input}
 use Rattle.omega_command.specs.declared.line.Task.{Task}
-use Rattle.omega_command.specs.declared.line.Task.TheVariants.{Beside, Run, Observed}
+use Rattle.omega_command.specs.declared.line.Task.TheVariants.{Beside, Given, Run, Observed}
 use Rattle.omega_io.specs.declared.exit.Exit.{Exit}
 use Rattle.omega_io.specs.declared.exit.Exit.TheVariants.{Done}
 use Rattle.omega_io.specs.Exit.{fault_status}
 use Rattle.omega_io.specs.Writing.{WritesBeginning}
 use Rattle.omega_budget.specs.Observing.{lifts_between_reports, refusal_in}
-use Rattle.omega_run.specs.Beside.{IsFileRefused, IsRunWithFile}
+use Rattle.omega_run.specs.Beside.{IsFileRefused, IsRunBeside, IsRunWithFile}
 use Rattle.omega_run.specs.Perform.{Performs}
 use Rattle.omega_run.specs.Progress.{AreProgressLines, CountsLines}
 use Rattle.omega_run.specs.Report.{Reports}
@@ -43,6 +43,8 @@ IsPerformed verbose (Run command budget) status world =
     (outcome : Result Exit Refusal) × Performs (Answers command budget) outcome world.before world.after × Reports outcome status world.tells
 IsPerformed verbose (Observed command budget) status world = IsObservedRun command budget status world.tells world.before world.after
 IsPerformed verbose (Beside file asked) status world = IsRunWithFile verbose asked (string_bytes file) status world
+IsPerformed verbose (Given text asked) status world =
+    IsRunBeside verbose asked (string_bytes text) status world.before world.after world.tells
 
 -- the streams with an input that has this left and whose reads never failed
 abbrev pub over : Option (List ℕ) → Streams → Streams

@@ -5,12 +5,14 @@ use Rattle.omega_text.specs.declared.refusal.Refusal.{Refusal}
 use Rattle.omega_pg.specs.game.Refusing.{IsRefusal}
 use Rattle.omega_parity_game.specs.declared.player.Player.{Player}
 use Rattle.omega_command.specs.declared.beside.Beside.{Beside}
-use Rattle.omega_command.specs.declared.beside.Beside.TheVariants.{Contained, DrawSolution, Equal, Meet, Verify, VerifyController, VerifyLasso}
+use Rattle.omega_command.specs.declared.beside.Beside.TheVariants.{Accepts, Contained, DrawSolution, Equal, Meet, Verify, VerifyController, VerifyLasso}
 use Rattle.omega_command.specs.declared.command.Command.{Command}
 use Rattle.omega_command.specs.declared.command.Command.TheVariants.{Canon, CanonPart, Check, Complement, Draw, DrawLasso, DrawPart, Empty, EmptySearch, Game, RealizabilityGame, Realize, RealizeByLifting, Search, Show, Solve, Trim}
 use Rattle.omega_command.specs.declared.command.Format.TheVariants.{Hoa, Pg}
 use Rattle.omega_io.specs.declared.exit.Exit.{Exit}
 use Rattle.omega_io.specs.declared.exit.Exit.TheVariants.{Done, No}
+use Rattle.omega_accepts_answers.specs.Accepts as accepts
+use Rattle.omega_word_text.specs.Text.{IsWordRefusal}
 use Rattle.omega_containment_answers.specs.Contained.{IsContainedAnswer, IsPairRefused}
 use Rattle.omega_containment_answers.specs.Equal.{IsEqualAnswer}
 use Rattle.omega_controller_answers.specs.Verify as controller
@@ -106,6 +108,11 @@ Answers (Draw Hoa) budget text = Replies (IsAutomatonDrawingAnswer text) (IsAuto
 Answers (DrawPart from depth) budget text = Replies (IsGameDrawingAnswer text (Some from) depth) (IsPartTextRefusal text from)
 Answers DrawLasso budget text = Replies (IsLassoDrawingAnswer text) (IsEmptySearchRefusal text)
 
+-- the refusal of `accepts`: that of the text of the word, or of the automaton's text, or of the two together
+abbrev pub IsAcceptsRefusal : (word input : List ℕ) → Refusal → Type 0
+IsAcceptsRefusal word input refusal =
+    IsWordRefusal word refusal ⊎ (accepts.IsTextRefused word input refusal ⊎ accepts.IsPairRefused word input refusal)
+
 -- the refusal of `contained`: that of the other automaton's text, or of the text of the input, or of containment
 abbrev pub IsContainedRefusal : (file input : List ℕ) → Refusal → Type 0
 IsContainedRefusal file input refusal =
@@ -120,12 +127,13 @@ abbrev pub IsControllerRefusal : (file input : List ℕ) → Refusal → Type 0
 IsControllerRefusal file input refusal =
     controller.IsFileRefusal file input refusal ⊎ (controller.IsInputRefusal file input refusal ⊎ controller.IsPairRefused file input None refusal)
 
--- the same of the text of a file and that of the input: the budget bounds none of these
+-- the same of the text of a file, or of the command line, and that of the input: the budget bounds none of these
 abbrev pub AnswersBeside : Beside → (file input : List ℕ) → Result (Exit × List ℕ) Refusal → Type 0
 AnswersBeside (Verify from explain) file input = Concludes (IsVerifyAnswer file from input explain) (IsVerifyRefusal file from input)
 AnswersBeside (VerifyLasso explain) file input = Concludes (IsLassoAnswer file input explain) (IsLassoAnswerRefusal file input)
 AnswersBeside (VerifyController explain) file input =
     Concludes (controller.IsControllerAnswer file input explain) (IsControllerRefusal file input)
+AnswersBeside (Accepts explain) word input = Concludes (accepts.IsAcceptsAnswer word input explain) (IsAcceptsRefusal word input)
 AnswersBeside Meet file input = Replies (IsMeetAnswer file input) (IsMeetRefusal file input)
 AnswersBeside (Contained explain) file input = Concludes (IsContainedAnswer file input explain) (IsContainedRefusal file input)
 AnswersBeside (Equal explain) file input = Concludes (IsEqualAnswer file input explain) (IsEqualRefusal file input)

@@ -1,16 +1,18 @@
 //! What is done with two texts, that of a file and that of the input.
-ghost use Rattle.std.specs.Prelude.{◌≡◌, ◌+◌, ◌-◌, ◌^◌, ◌<◌, ◌≤◌, ◌⊎◌, Ok, IfOk, IfErr, OnOk, length};
+ghost use Rattle.std.specs.Prelude.{◌≡◌, ◌+◌, ◌-◌, ◌^◌, ◌<◌, ◌≤◌, ◌⊎◌, Ok, IfOk, IfErr, OnOk, length, string_bytes};
 ghost use Rattle.omega_text.specs.Limits.{most_text};
 ghost use Rattle.omega_text.specs.declared.refusal.Refusal.TheVariants.{Memory};
 ghost use Rattle.omega_io.specs.Failures.{failures_of};
 ghost use Rattle.omega_io.specs.Refused.{IsAbout};
-ghost use Rattle.omega_run.specs.Beside.{IsRefusalAbout, IsRunWithFile, RefusesBoth, RefusesFile, RefusesInput};
+ghost use Rattle.omega_run.specs.Beside.{IsRefusalAbout, IsRunBeside, IsRunWithFile};
+ghost use Rattle.omega_run.specs.Beside.{RefusesBoth, RefusesFile, RefusesInput};
 ghost use Rattle.omega_run.specs.Perform.{Performs};
 ghost use Rattle.omega_run.specs.Respond.{AnswersBeside, Responds};
-ghost use Rattle.omega_run.specs.World.{streams_of, world_of};
+ghost use Rattle.omega_run.specs.World.{streams_of, tells_of, world_of};
 ghost use Rattle.omega_run.specs.private.steps.Beside.{plain, text_in};
 
 use crate::reporting::{report_about, report_file};
+use omega_accepts_answers::accepts_text;
 use omega_command::Beside;
 use omega_containment_answers::{contained_texts, equal_texts};
 use omega_controller_answers::verify_controller;
@@ -45,6 +47,28 @@ pub(crate) fn run_beside<F: InputFiles, R: Input, W: Output, E: Output>(
         }
         Err(refusal) => report_file(alloc, name, refusal, verbose, errors),
     }
+}
+
+/// Reads the input, writes the answer to its text and to a text that the command line has, or the lines of a refusal,
+/// and returns the status to end with.
+pub(crate) fn run_given<R: Input, W: Output, E: Output>(
+    alloc: Global,
+    text: String,
+    asked: Beside,
+    verbose: bool,
+    input: &mut R,
+    output: &mut W,
+    errors: &mut E,
+) -> u8
+    requires reads { R.failed input.old < 2 ^ 64 - 1 }
+    requires writes { W.failed output.old < 2 ^ 64 - 1 }
+    requires tells { E.failed errors.old < 2 ^ 64 - 1 }
+    ensures { IsRunBeside verbose asked (string_bytes text) result
+        (streams_of R.Input W.Output input.old output.old) (streams_of R.Input W.Output input.new output.new)
+        (tells_of E.Output errors.old errors.new) }
+{
+    let outcome = write_beside(alloc, asked, text.into_bytes(), input, output);
+    report_about(alloc, outcome, asked, verbose, errors)
 }
 
 /// Reads the input, makes the whole answer to its text and that of the file in memory, and then writes it.
@@ -111,6 +135,7 @@ fn answer_texts(
         Beside::Verify { from, explain } => verify_solution(alloc, file, from, input, explain),
         Beside::VerifyLasso { explain } => verify_lasso(alloc, file, input, explain),
         Beside::VerifyController { explain } => verify_controller(alloc, file, input, explain),
+        Beside::Accepts { explain } => accepts_text(alloc, file, input, explain),
         Beside::Meet => match meet_texts(alloc, file.as_slice(), input.as_slice()) {
             Ok(made) => Ok((Exit::Done, made)),
             Err(refused) => Err(refused),

@@ -141,6 +141,10 @@ fn name_of(asked: Beside, which: Which) -> &'static str
             Which::File => "specification",
             Which::Input => "controller",
         },
+        Beside::Accepts { .. } => match which {
+            Which::File => "word",
+            Which::Input => "automaton",
+        },
         Beside::Meet | Beside::Contained { .. } | Beside::Equal { .. } => match which {
             Which::File => "other automaton",
             Which::Input => "automaton",

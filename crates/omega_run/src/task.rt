@@ -5,7 +5,7 @@ ghost use Rattle.omega_run.specs.Obey.{IsPerformed, IsObservedRun};
 ghost use Rattle.omega_run.specs.World.{streams_of, tells_of, world_of};
 ghost use Rattle.omega_solve.specs.Limits.{most_lifts};
 
-use crate::beside::run_beside;
+use crate::beside::{run_beside, run_given};
 use crate::observing::run_observed;
 use crate::reporting::{report, report_after};
 use crate::run::run_command;
@@ -48,6 +48,9 @@ pub(crate) fn run<F: InputFiles, R: Input, W: Output, E: Output>(
             output,
             errors,
         ),
+        Task::Given { text, asked } => {
+            run_given(alloc, text, asked, verbose, input, output, errors)
+        }
     }
 }
 

@@ -77,7 +77,7 @@ State: 0
 ";
 
 /// A command line, the text of the file, the text of the input, and the status, the output and the lines of the run.
-static RUNS: [(&str, &str, &str, u8, &str, &str); 30] = [
+static RUNS: [(&str, &str, &str, u8, &str, &str); 33] = [
     (
         "omega verify --game g",
         THREE,
@@ -239,6 +239,30 @@ static RUNS: [(&str, &str, &str, u8, &str, &str); 30] = [
     ("omega meet --with g", ALWAYS, TURNS, 0, TURNS_ALWAYS, ""),
     ("omega complement g", OFTEN, "", 0, NOT_OFTEN, ""),
     ("omega trim g", DEAD_END, "", 0, NO_DEAD_END, ""),
+    (
+        "omega accepts --word a;cycle{!a;a} g",
+        OFTEN,
+        "",
+        0,
+        "yes\n",
+        "",
+    ),
+    (
+        "omega accepts --explain --word cycle{!a}",
+        "",
+        OFTEN,
+        6,
+        "no\nword cycle{!a & !a}\n",
+        "",
+    ),
+    (
+        "omega accepts -v --word cycle{ g",
+        OFTEN,
+        "",
+        1,
+        "",
+        "omega: 3 Syntax at 6\nomega: in the word\n",
+    ),
     (
         "omega empty --search --word g",
         OFTEN,

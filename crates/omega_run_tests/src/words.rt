@@ -5,7 +5,7 @@ use std::alloc::Global;
 use std::test::Fail;
 
 /// Command lines, and what each asks for, as it shows itself to a programmer. A budget that is not given is 2^40.
-static ASKED: [(&str, &str); 38] = [
+static ASKED: [(&str, &str); 39] = [
     (
         "omega check --format=hoa",
         "Do { task: Run(Check(Hoa), 1099511627776), source: Input, verbose: false }",
@@ -77,6 +77,10 @@ static ASKED: [(&str, &str); 38] = [
     (
         "omega complement",
         "Do { task: Run(Complement, 1099511627776), source: Input, verbose: false }",
+    ),
+    (
+        "omega accepts --explain --word a;cycle{b} g",
+        "Do { task: Given { text: \"a;cycle{b}\", asked: Accepts { explain: true } }, source: File(\"g\"), verbose: false }",
     ),
     (
         "omega trim g",
@@ -161,7 +165,7 @@ static ASKED: [(&str, &str); 38] = [
 ];
 
 /// Command lines that are at fault, and what is said of each.
-static FAULTS: [(&str, &str); 10] = [
+static FAULTS: [(&str, &str); 11] = [
     ("omega", "requires a subcommand"),
     (
         "omega show --format xyz",
@@ -184,6 +188,7 @@ static FAULTS: [(&str, &str); 10] = [
         "the argument '--lift' cannot be used with '--game'",
     ),
     ("omega realize --budget 9", "were not provided:\\n  --lift"),
+    ("omega accepts g", "were not provided:\\n  --word <WORD>"),
     ("omega show", "were not provided:\\n  --format <FORMAT>"),
     (
         "omega draw --lasso g",

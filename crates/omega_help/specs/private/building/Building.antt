@@ -2,7 +2,7 @@
 use Rattle.std.specs.Prelude.{List, [], ◌∷◌, true, codes}
 use Rattle.clap.specs.Simple.{new_shape}
 use Rattle.clap.specs.Words.{App, Rule, Shape, Text, with_rule, with_subcommand}
-use Rattle.omega_help.specs.Program.{canon, check, complement, contained, draw, empty, equal, flag, game, lettered, meet, named, operand, optional, realize, required, show, solve, trim, verify}
+use Rattle.omega_help.specs.Program.{accepts, canon, check, complement, contained, draw, empty, equal, flag, game, lettered, meet, named, operand, optional, realize, required, required_as, show, solve, trim, verify}
 use Rattle.omega_help.specs.declared.options.OptionHelp.{OptionHelp}
 use Rattle.omega_help.specs.declared.options.Value.{Value}
 use Rattle.omega_help.specs.declared.options.Value.TheVariants as value
@@ -16,6 +16,7 @@ rule_by (value.Letter letter) name = lettered letter name
 rule_by (value.Long shown) name = named shown.now name
 rule_by (value.Optional shown) name = optional name
 rule_by (value.Required shown) name = required name
+rule_by (value.RequiredAs long shown) name = required_as long.now name
 rule_by (value.Operand shown) name = operand name
 
 -- the option that help shows so
@@ -31,6 +32,7 @@ shape_for subcommand.Solve = solve
 shape_for subcommand.Verify = verify
 shape_for subcommand.Empty = empty
 shape_for subcommand.Game = game
+shape_for subcommand.Accepts = accepts
 shape_for subcommand.Contained = contained
 shape_for subcommand.Equal = equal
 shape_for subcommand.Meet = meet
