@@ -1,12 +1,10 @@
--- The automaton that a canonical text writes has no fault, since what it was read from has none.
-use Rattle.std.proofs.Common.{◌≡◌, ℕ, suc, ◌+◌, ◌^◌, ◌<◌, ◌≤◌, Bool, true, false, cond, not, ◌&&◌, ◌||◌, ◌==◌, nat_eq, nat_le, nat_lt, Option, Some, None, option_map, List, [], ◌∷◌, length, map, ap, refl, sym, ◌∙◌, arith}
-use Rattle.std.specs.Prelude.{IfSome, find, is_none, is_some, slice_get, sum_by, unwrap_or}
-use Rattle.std.specs.List.{AllByRecursion, AllZip, filter_map, list_all, list_any}
+-- The automaton that a canonical text writes has no fault: it is an automaton, and has the form that texts give one.
+use Rattle.std.proofs.Common.{◌≡◌, ℕ, ◌+◌, ◌<◌, ◌≤◌, Bool, true, false, cond, not, ◌&&◌, ◌||◌, ◌==◌, nat_eq, nat_le, nat_lt, Option, Some, None, option_map, List, [], ◌∷◌, length, map, ap, refl, ◌∙◌, arith}
+use Rattle.std.specs.Prelude.{IfSome, find, is_none, slice_get, sum_by, unwrap_or}
+use Rattle.std.specs.List.{AllByRecursion, filter_map, list_all, list_any}
 use Rattle.std.specs.Str.{bytes_eq}
-use Rattle.std.proofs.lemmas.Bool.{eqb-true, le-ltb, or_from}
+use Rattle.std.proofs.lemmas.Bool.{le-ltb, lt-leb, or_from}
 use Rattle.std.proofs.lemmas.List.Elements.{recursion_from_All}
-use Rattle.omega_text.specs.declared.refusal.automaton.AutomatonFault.{AutomatonFault}
-use Rattle.omega_text.specs.declared.refusal.automaton.AutomatonFault.TheVariants.{ImplicitCount, MixedLabels, Proposition, StateRange, UnknownHeader}
 use Rattle.omega_formula.specs.Meaning.{acc_meant}
 use Rattle.omega_label.specs.Expanding.{Defined, Meaning, entries_of, expansion}
 use Rattle.omega_label.specs.Label.{LabelTree, label_size, propositions}
@@ -17,23 +15,21 @@ use Rattle.omega_label.specs.Writing.{label_written}
 use Rattle.omega_formula.specs.Writing.{acc_written}
 use Rattle.omega_acc.specs.WritingLaws.{WrittenFormulasMean, WrittenLabelsMean}
 use Rattle.omega_formula.specs.declared.name.AccName.{AccName}
-use Rattle.omega_raw.specs.declared.raw_automaton.RawAutomaton.{RawAutomaton}
 use Rattle.omega_raw.specs.declared.raw_edge.RawEdge.{RawEdge}
 use Rattle.omega_raw.specs.declared.raw_state.RawState.{RawState}
 use Rattle.omega_automaton.specs.Automaton.{Description, IsAutomaton, has_repeat, sets_of, size_of, total_size}
 use Rattle.omega_automaton.specs.Automaton as automaton
-use Rattle.omega_automaton.specs.Faults.{applies, begins_capital, definitions_of, automaton_fault_of, faults, has_deep_expression, has_label, has_large_expression, has_mixed_labels, has_other_version, has_repeated_item, has_set_beyond, has_set_out_of_range, has_state_out_of_range, has_state_twice, has_unknown_capital, has_wrong_alias, has_wrong_atom, has_wrong_edge_count, has_wrong_proposition, are_out_of_range, is_beyond, is_deep, is_labelled, is_large, is_marked, is_miscounted, is_misnamed, is_mixed, label_total, lacks_acceptance, is_out_of_range, mentioned_count, passes, proposition_count, set_count, size_of_meaning, size_under, some_meaning, state_count}
-use Rattle.omega_automaton.specs.Items.{Accepted, Named, acc_name_in, acceptance_in, alias_in, name_in, propositions_in, start_in, states_in, tool_in, unknown_in}
+use Rattle.omega_automaton.specs.Faults.{applies, begins_capital, definitions_of, automaton_fault_of, faults, has_deep_expression, has_large_expression, has_mixed_labels, has_other_version, has_repeated_item, has_set_beyond, has_set_out_of_range, has_state_out_of_range, has_state_twice, has_unknown_capital, has_wrong_alias, has_wrong_atom, has_wrong_edge_count, has_wrong_proposition, are_out_of_range, is_beyond, is_deep, is_labelled, is_large, is_marked, is_miscounted, is_misnamed, label_total, lacks_acceptance, is_out_of_range, mentioned_count, passes, proposition_count, set_count, size_of_meaning, size_under, some_meaning, state_count}
+use Rattle.omega_automaton.specs.Items.{Accepted, acc_name_in, acceptance_in, alias_in, name_in, propositions_in, start_in, states_in, tool_in, unknown_in}
 use Rattle.omega_automaton.specs.Limits.{most_propositions, most_total_size}
-use Rattle.omega_automaton.specs.Meaning.{IsEdgeOf, IsLabelOf, IsStateOf, Means}
 use Rattle.omega_automaton.specs.declared.edge.Edge.{Edge}
 use Rattle.omega_automaton.specs.declared.state.State.{State}
 use Rattle.omega_automaton.specs.declared.tool.Tool.{Tool}
 use Rattle.omega_round_trips.specs.Written.{acc_name_item, edge_written, items_written, marks_written, name_item, state_written, tool_item, written_automaton}
 use Rattle.omega_round_trips.proofs.meanings.Expressions.{propositions-written, sets-written}
+use Rattle.omega_round_trips.proofs.meanings.Form.{HasForm}
 use Rattle.omega_round_trips.proofs.meanings.Said.{acc_name-said, acceptance-said, aliases-said, name-said, propositions-said, starts-said, states-said, tool-said, unknown-said}
-use Rattle.omega_round_trips.proofs.meanings.Tests.{all-under, any-passes, any-some, none-beyond, none-pass, not-twice, same-any, sum-made}
-use Rattle.omega_round_trips.proofs.texts.Spelled.{or-left}
+use Rattle.omega_round_trips.proofs.meanings.Tests.{all-under, any-passes, any-some, none-beyond, none-pass, not-twice, sum-made}
 
 -- a label of an automaton that is not too deep as it is written
 pub record IsFine (a : Description) (tree : LabelTree) : Type 0 where
@@ -65,12 +61,6 @@ marks-fail : (count : ℕ) (marks : List ℕ) → automaton.AreBelow count marks
 marks-fail count marks below =
     marks-pass (nat_le count) marks ∙ none-beyond count marks (recursion_from_All (λ mark. mark < count) marks below)
 
-label-there : (definitions : List Defined) (raw : Option RawLabelTree) (label : Option LabelTree) → IsLabelOf definitions raw label → is_some raw ≡ is_some (option_map label_written label)
-label-there definitions None None is = refl
-label-there definitions None (Some tree) is = absurd is
-label-there definitions (Some raw) None is = absurd is
-label-there definitions (Some raw) (Some tree) is = refl
-
 tool-once : (it : Option Tool) → length (filter_map tool_in (tool_item it)) ≤ 1
 tool-once None = omega arith
 tool-once (Some tool) = omega arith
@@ -87,19 +77,8 @@ and-right : (one other : Bool) → other ≡ false → (one && other) ≡ false
 and-right false other fails = refl
 and-right true other fails = fails
 
-not-not : (is : Bool) → not is ≡ false → is ≡ true
-not-not true fails = refl
-not-not false fails = sym fails
-
 self-equal : (n : ℕ) → (n == n) ≡ true
 self-equal n = grind arith
-
--- names of propositions that are not misnamed are as many as is stated
-count-stated : (said : List Named) → list_any is_misnamed said ≡ false
-    → unwrap_or (option_map (λ named. named.count) (slice_get said 0)) 0 ≡ length (unwrap_or (option_map (λ named. named.names) (slice_get said 0)) [])
-count-stated [] fails = refl
-count-stated (named ∷ others) fails =
-    eqb-true named.count (length named.names) (not-not _ (or-left _ _ (or-left _ _ (or-left _ _ fails))))
 
 numbers-same : (states : List State) → map (λ (state : RawState). state.number) (map state_written states) ≡ map (λ (state : State). state.number) states
 numbers-same [] = refl
@@ -107,12 +86,8 @@ numbers-same (state ∷ states) = ap (λ numbers. state.number ∷ numbers) (num
 
 -- ---- each fault
 
-module _ (label_means : WrittenLabelsMean) (formula_means : WrittenFormulasMean) (raw : RawAutomaton) (a : Description) (means : Means raw a)
-    (fails : (fault : AutomatonFault) → applies raw fault ≡ false) (is : IsAutomaton a) (fine : AllByRecursion (IsFineState a) a.defined)
-    (shallow : raw_acc_depth (acc_written a.acceptance) ≤ most_depth) where
-  abbrev definitions : List Defined
-  definitions = definitions_of raw
-
+module _ (label_means : WrittenLabelsMean) (formula_means : WrittenFormulasMean) (a : Description) (is : IsAutomaton a) (fine : AllByRecursion (IsFineState a) a.defined)
+    (shallow : raw_acc_depth (acc_written a.acceptance) ≤ most_depth) (form : HasForm a) where
   -- labels
 
   state-fails : (test : RawLabelTree → Bool) → ((tree : LabelTree) → IsFine a tree → test (label_written tree) ≡ false)
@@ -167,32 +142,34 @@ module _ (label_means : WrittenLabelsMean) (formula_means : WrittenFormulasMean)
   unfolding has_unknown_capital
   small =
       any-passes unknown_in (λ header. begins_capital header.name) (items_written a)
-      ∙ (ap (list_any (λ header. begins_capital header.name)) (unknown-said a ∙ means.unknown)
-      ∙ (sym (any-passes unknown_in (λ header. begins_capital header.name) raw.items) ∙ fails UnknownHeader))
+      ∙ (ap (list_any (λ header. begins_capital header.name)) (unknown-said a) ∙ form.small)
 
   -- 24
-  edge-range : (count : ℕ) (read : RawEdge) (edge : Edge) → IsEdgeOf definitions read edge → are_out_of_range count read.targets ≡ are_out_of_range count edge.targets
-  edge-range count read edge of = ap (are_out_of_range count) (sym of.targets)
-
-  state-range : (count : ℕ) (read : RawState) (state : State) → IsStateOf definitions read state → is_out_of_range count read ≡ is_out_of_range count (state_written state)
-  state-range count read state of =
-      ap (λ number. nat_le count number || list_any (λ edge. are_out_of_range count edge.targets) read.edges) (sym of.number)
-      ∙ ap (λ rest. nat_le count state.number || rest)
-      (same-any (λ (edge : RawEdge). are_out_of_range count edge.targets) edge_written (IsEdgeOf definitions) (edge-range count) read.edges state.edges of.edges)
-
   count-written : state_count (written_automaton a) ≡ a.states
   count-written = ap (λ said. unwrap_or (slice_get said 0) (mentioned_count (written_automaton a))) (states-said a)
+
+  targets-range : (targets : List ℕ) → automaton.AreTargets a targets → are_out_of_range a.states targets ≡ false
+  targets-range [] are = absurd (let none : 0 < 0 = are.listed in omega (arith, none))
+  targets-range (state ∷ states) are = none-beyond a.states (state ∷ states) (recursion_from_All (λ number. number < a.states) (state ∷ states) are.below)
+
+  starts-range : (starts : List (List ℕ)) → AllByRecursion (automaton.AreTargets a) starts → list_any (are_out_of_range a.states) starts ≡ false
+  starts-range [] all = refl
+  starts-range (start ∷ starts) all = or_from _ _ (targets-range start all.0) (starts-range starts all.1)
+
+  state-range : (state : State) → automaton.IsState a state → is_out_of_range a.states (state_written state) ≡ false
+  state-range state here =
+      or_from _ _ (lt-leb a.states state.number here.number)
+      (none-pass (λ (edge : RawEdge). are_out_of_range a.states edge.targets) edge_written (automaton.IsEdge a)
+      (λ edge one. targets-range edge.targets one.targets) state.edges (recursion_from_All (automaton.IsEdge a) state.edges here.edges))
 
   states-in-range : has_state_out_of_range (written_automaton a) ≡ false
   unfolding has_state_out_of_range
   states-in-range =
-      ap (λ count. list_any (λ item. passes (are_out_of_range count) (start_in item)) (items_written a) || list_any (is_out_of_range count) (map state_written a.defined)) (count-written ∙ means.states)
-      ∙ (ap (λ starts. starts || list_any (is_out_of_range (state_count raw)) (map state_written a.defined))
-      (any-passes start_in (are_out_of_range (state_count raw)) (items_written a)
-      ∙ (ap (list_any (are_out_of_range (state_count raw))) (starts-said a ∙ means.starts) ∙ sym (any-passes start_in (are_out_of_range (state_count raw)) raw.items)))
-      ∙ (ap (λ rest. list_any (λ item. passes (are_out_of_range (state_count raw)) (start_in item)) raw.items || rest)
-      (sym (same-any (is_out_of_range (state_count raw)) state_written (IsStateOf definitions) (state-range (state_count raw)) raw.states a.defined means.defined))
-      ∙ fails StateRange))
+      ap (λ count. list_any (λ item. passes (are_out_of_range count) (start_in item)) (items_written a) || list_any (is_out_of_range count) (map state_written a.defined)) count-written
+      ∙ or_from _ _
+      (any-passes start_in (are_out_of_range a.states) (items_written a)
+      ∙ (ap (list_any (are_out_of_range a.states)) (starts-said a) ∙ starts-range a.starts (recursion_from_All (automaton.AreTargets a) a.starts is.starts)))
+      (none-pass (is_out_of_range a.states) state_written (automaton.IsState a) state-range a.defined (recursion_from_All (automaton.IsState a) a.defined is.states))
 
   -- 25
   sets-written-count : set_count (written_automaton a) ≡ a.sets
@@ -254,57 +231,14 @@ module _ (label_means : WrittenLabelsMean) (formula_means : WrittenFormulasMean)
   states-once = ap (has_repeat nat_eq) (numbers-same a.defined) ∙ is.once
 
   -- 29
-  edges-labelled : (read : RawState) (state : State) → IsStateOf definitions read state → list_any has_label read.edges ≡ list_any has_label (map edge_written state.edges)
-  edges-labelled read state of =
-      same-any has_label edge_written (IsEdgeOf definitions) (λ one edge here. label-there definitions one.label edge.label here.label) read.edges state.edges of.edges
-
-  edges-unlabelled : (read : RawState) (state : State) → IsStateOf definitions read state
-      → list_any (λ edge. not (has_label edge)) read.edges ≡ list_any (λ edge. not (has_label edge)) (map edge_written state.edges)
-  edges-unlabelled read state of =
-      same-any (λ (edge : RawEdge). not (has_label edge)) edge_written (IsEdgeOf definitions) (λ one edge here. ap not (label-there definitions one.label edge.label here.label)) read.edges state.edges of.edges
-
-  mixed-same : (read : RawState) (state : State) → IsStateOf definitions read state → is_mixed read ≡ is_mixed (state_written state)
-  mixed-same read state of =
-      let labelled = edges-labelled read state of in
-      let unlabelled = edges-unlabelled read state of in
-      let there = label-there definitions read.label state.label of.label in
-      ap (λ one. one && (is_some read.label || list_any (λ edge. not (has_label edge)) read.edges)) labelled
-      ∙ (ap (λ one. list_any has_label (map edge_written state.edges) && (one || list_any (λ edge. not (has_label edge)) read.edges)) there
-      ∙ ap (λ one. list_any has_label (map edge_written state.edges) && (is_some (option_map label_written state.label) || one)) unlabelled)
-
   labels-unmixed : has_mixed_labels (written_automaton a) ≡ false
   unfolding has_mixed_labels
-  labels-unmixed = sym (same-any is_mixed state_written (IsStateOf definitions) mixed-same raw.states a.defined means.defined) ∙ fails MixedLabels
+  labels-unmixed = form.unmixed
 
   -- 30
-  unstated : list_any is_misnamed (filter_map propositions_in raw.items) ≡ false
-  unfolding has_wrong_proposition
-  unstated = sym (any-passes propositions_in is_misnamed raw.items) ∙ or-left _ _ (or-left _ _ (fails Proposition))
-
-  count-same : proposition_count raw ≡ length a.propositions
-  count-same = count-stated (filter_map propositions_in raw.items) unstated ∙ ap length (sym means.propositions)
-
-  miscounted-same : (count : ℕ) (read : RawState) (state : State) → IsStateOf definitions read state → is_miscounted count read ≡ is_miscounted count (state_written state)
-  miscounted-same count read state of =
-      let labelled = edges-labelled read state of in
-      let there = label-there definitions read.label state.label of.label in
-      let long : length read.edges ≡ length (map edge_written state.edges) = length_all_zip-made read.edges state.edges of.edges in
-      ap (λ one. not one && not (list_any has_label read.edges) && nat_lt 0 (length read.edges) && not (length read.edges == 2 ^ count)) there
-      ∙ (ap (λ one. not (is_some (option_map label_written state.label)) && not one && nat_lt 0 (length read.edges) && not (length read.edges == 2 ^ count)) labelled
-      ∙ ap (λ one. not (is_some (option_map label_written state.label)) && not (list_any has_label (map edge_written state.edges)) && nat_lt 0 one && not (one == 2 ^ count)) long)
-    where
-      length_all_zip-made : (reads : List RawEdge) (edges : List Edge) → AllZip (IsEdgeOf definitions) reads edges → length reads ≡ length (map edge_written edges)
-      length_all_zip-made [] [] zip = refl
-      length_all_zip-made [] (edge ∷ edges) zip = absurd zip
-      length_all_zip-made (one ∷ reads) [] zip = absurd zip
-      length_all_zip-made (one ∷ reads) (edge ∷ edges) zip = ap suc (length_all_zip-made reads edges zip.1)
-
   edges-counted : has_wrong_edge_count (written_automaton a) ≡ false
   unfolding has_wrong_edge_count
-  edges-counted =
-      ap (λ count. list_any (is_miscounted count) (map state_written a.defined)) (names-count ∙ sym count-same)
-      ∙ (sym (same-any (is_miscounted (proposition_count raw)) state_written (IsStateOf definitions) (miscounted-same (proposition_count raw)) raw.states a.defined means.defined)
-      ∙ fails ImplicitCount)
+  edges-counted = ap (λ count. list_any (is_miscounted count) (map state_written a.defined)) names-count ∙ form.counted
 
   -- 31
   atoms-known : has_wrong_atom (written_automaton a) ≡ false

@@ -33,6 +33,7 @@ use Rattle.omega_text.specs.declared.refusal.automaton.AutomatonFault.TheVariant
 use Rattle.omega_round_trips.specs.Written.{edge_written, marks_written, state_written, written_automaton}
 use Rattle.omega_round_trips.proofs.meanings.Expressions.{formula-shallow, label-shallow}
 use Rattle.omega_round_trips.proofs.meanings.Faultless.{IsFine, IsFineState, faultless}
+use Rattle.omega_round_trips.proofs.meanings.Form.{HasForm, form-kept}
 use Rattle.omega_round_trips.proofs.meanings.Said.{acc_name-said, acceptance-said, aliases-said, first-acc_name, first-name, first-tool, name-said, properties-said, propositions-said, starts-said, states-said, tool-said, unknown-said}
 use Rattle.omega_round_trips.proofs.meanings.Tests.{all-zip, any-passes, zip-made}
 use Rattle.omega_round_trips.proofs.values.Kept.{all-both, filtered}
@@ -84,7 +85,8 @@ fine-label known a definitions are (Some raw) None of read is = absurd of
 fine-label known a definitions are (Some raw) (Some tree) of read is =
     record { label = is; shallow = label-shallow known.label_depths definitions raw tree are read of }
 
-fine-states : Meanings → (raw : RawAutomaton) (a : Description) → IsReadAutomaton raw → Means raw a → IsAutomaton a → AllByRecursion (IsFineState a) a.defined
+-- so are those of its states
+pub fine-states : Meanings → (raw : RawAutomaton) (a : Description) → IsReadAutomaton raw → Means raw a → IsAutomaton a → AllByRecursion (IsFineState a) a.defined
 fine-states known raw a read means is =
     let are = definitions-read raw read in
     all-zip (IsStateOf (definitions_of raw)) IsReadState (automaton.IsState a) (IsFineState a)
@@ -128,15 +130,15 @@ state-of known a state is = record {
       (all-both (automaton.IsEdge a) (λ edge. IfSome edge.label (IsFine a)) state.edges (recursion_from_All (automaton.IsEdge a) state.edges is.0.edges) is.1.edges);
 }
 
--- the automaton as it is written means the automaton
-pub written-means : Meanings → (raw : RawAutomaton) (a : Description) → IsReadAutomaton raw → Means raw a → IsAutomaton a → Means (written_automaton a) a
-written-means known raw a read means is =
-    let fine = fine-states known raw a read means is in
+-- the automaton as it is written means the automaton, if this has the form that texts give one
+pub form-means : Meanings → (a : Description) → IsAutomaton a → AllByRecursion (IsFineState a) a.defined → raw_acc_depth (acc_written a.acceptance) ≤ most_depth
+    → HasForm a → Means (written_automaton a) a
+form-means known a is fine shallow form =
     let states : AllZip (IsStateOf []) (map state_written a.defined) a.defined =
     zip-made (IsStateOf []) state_written (λ state. automaton.IsState a state × IsFineState a state) (state-of known a) a.defined
     (all-both (automaton.IsState a) (IsFineState a) a.defined (recursion_from_All (automaton.IsState a) a.defined is.states) fine) in
     record {
-      faultless = faultless known.label_means known.formula_means raw a means (λ one. known.no_fault raw a one means) is fine (formula-fits known raw a read means);
+      faultless = faultless known.label_means known.formula_means a is fine shallow form;
       tool = sym (ap (λ said. slice_get said 0) (tool-said a) ∙ first-tool a.tool);
       name = sym (ap (λ said. slice_get said 0) (name-said a) ∙ first-name a.name);
       states = sym (ap (λ said. unwrap_or (slice_get said 0) (mentioned_count (written_automaton a))) (states-said a));
@@ -149,3 +151,8 @@ written-means known raw a read means is =
       unknown = sym (unknown-said a);
       defined = subst (λ definitions. AllZip (IsStateOf definitions) (map state_written a.defined) a.defined) (sym (aliases-said a)) states;
     }
+
+-- so does one that was read
+pub written-means : Meanings → (raw : RawAutomaton) (a : Description) → IsReadAutomaton raw → Means raw a → IsAutomaton a → Means (written_automaton a) a
+written-means known raw a read means is =
+    form-means known a is (fine-states known raw a read means is) (formula-fits known raw a read means) (form-kept raw a means (λ one. known.no_fault raw a one means))

@@ -19,7 +19,9 @@ use Rattle.omega_hoa.specs.Stream.{IsSegment}
 use Rattle.omega_canon.specs.Canonical.{canonical_automaton}
 use Rattle.omega_round_trips.specs.Writable.{IsWritableAutomaton}
 use Rattle.omega_round_trips.specs.Written.{written_automaton}
-use Rattle.omega_round_trips.proofs.meanings.Meant.{Meanings, written-means}
+use Rattle.omega_round_trips.proofs.meanings.Faultless.{IsFineState}
+use Rattle.omega_round_trips.proofs.meanings.Form.{HasForm, form-kept}
+use Rattle.omega_round_trips.proofs.meanings.Meant.{Meanings, fine-states, written-means}
 use Rattle.omega_round_trips.proofs.texts.Lists.{all-then}
 use Rattle.omega_round_trips.proofs.texts.Spelled.{Known}
 use Rattle.omega_round_trips.proofs.texts.Whole.{canonical-spelled}
@@ -49,25 +51,39 @@ read-writable automata a of = means-writable of.is.raw a (kept a of) of.is.writt
 pub read-means : Meanings → MeaningsAreAutomata → (a : Description) → IsOfTokens a → Means (written_automaton a) a
 read-means meanings automata a of = written-means meanings of.is.raw a (kept a of) of.is.means (automata of.is.raw a of.is.means)
 
+-- its labels are not too deep as they are written
+pub read-fine : Meanings → MeaningsAreAutomata → (a : Description) → IsOfTokens a → AllByRecursion (IsFineState a) a.defined
+read-fine meanings automata a of = fine-states meanings of.is.raw a (kept a of) of.is.means (automata of.is.raw a of.is.means)
+
+-- it has the form that texts give one
+pub read-form : Meanings → (a : Description) → IsOfTokens a → HasForm a
+read-form meanings a of = form-kept of.is.raw a of.is.means (λ one. meanings.no_fault of.is.raw a one of.is.means)
+
 -- tokens of a cut are tokens of some text
 pub cut-tokens : (source : List ℕ) (from end : ℕ) (tokens : Tokens) → Cuts hoa_format source from tokens end → AllByRecursion (IsTokenOf hoa_format) tokens
 cut-tokens source from end [] cuts = tt
 cut-tokens source from end (lexeme ∷ tokens) cuts = ((source, from, cuts.0), cut-tokens source lexeme.span.end end tokens cuts.1)
 
--- the canonical text of what is meant by what has the form of what is read is a text of that automaton
-pub meant-read : Known → Meanings → MeaningsAreAutomata → AutomataFillSegments → (raw : RawAutomaton) (a : Description)
-    → IsReadAutomaton raw → AllByRecursion IsRawItem raw.items → Means raw a → length (canonical_automaton a) ≤ most_text → IsAutomatonText (canonical_automaton a) a
-meant-read known meanings automata fill raw a read items means short =
-    let automaton : IsAutomaton a = automata raw a means in
-    let text = canonical-spelled known a (means-writable raw a read items means automaton) in
+-- the canonical text of an automaton that can be written, and as it is written means itself, is a text of it
+pub written-read : Known → AutomataFillSegments → (a : Description) → IsWritableAutomaton a → Means (written_automaton a) a → length (canonical_automaton a) ≤ most_text
+    → IsAutomatonText (canonical_automaton a) a
+written-read known fill a writable means short =
+    let text = canonical-spelled known a writable in
     let filled = fill text.lexemes [] (written_automaton a) (cut-tokens (canonical_automaton a) 0 text.cut.end text.lexemes text.cut.cuts) text.written in
     record {
       short = short;
       lexemes = text.lexemes;
       cut = text.cut;
       segment = subst (IsSegment End) (sym (filled.split ∙ append-nil filled.segment)) filled.whole;
-      value = record { raw = written_automaton a; written = text.written; means = written-means meanings raw a read means automaton };
+      value = record { raw = written_automaton a; written = text.written; means = means };
     }
+
+-- that of what is meant by what has the form of what is read is one
+pub meant-read : Known → Meanings → MeaningsAreAutomata → AutomataFillSegments → (raw : RawAutomaton) (a : Description)
+    → IsReadAutomaton raw → AllByRecursion IsRawItem raw.items → Means raw a → length (canonical_automaton a) ≤ most_text → IsAutomatonText (canonical_automaton a) a
+meant-read known meanings automata fill raw a read items means short =
+    let automaton : IsAutomaton a = automata raw a means in
+    written-read known fill a (means-writable raw a read items means automaton) (written-means meanings raw a read means automaton) short
 
 -- the canonical text of an automaton that was read is a text of that automaton
 pub canonical-read : Known → Meanings → MeaningsAreAutomata → AutomataFillSegments → (a : Description) → IsOfTokens a → length (canonical_automaton a) ≤ most_text
