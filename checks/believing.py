@@ -34,6 +34,10 @@ CONTAINMENT_ANSWERS = frozenset({"IsComplementAnswer", "IsMeetAnswer", "IsEmptyA
 # The laws on controllers and counter-strategies: what they are good for, and that no automaton has both.
 CONTROLLERS = "omega_controllers.specs.Laws"
 CONTROLLER_LAWS = ("ControllersRealize", "CounterStrategiesRefute", "ControllersExcludeCounterStrategies")
+# The laws on written controllers, and the answers and refusals from which they conclude.
+WRITTEN_CONTROLLERS = "omega_realize_laws.specs.WrittenControllers"
+WRITTEN_CONTROLLER_LAWS = ("WrittenControllersAreJudgedRight", "WrittenControllersAreNotAtFault")
+WRITTEN_CONTROLLER_ANSWERS = frozenset({"IsWinnerAnswer", "IsControllerAnswer", "IsFileRefusal", "IsInputRefusal"})
 # What calls of the library answer, where they answer.
 CALLS = {
     "`contained` of `omega_containment`": ("omega_containment.specs.Containing", "IsContainment"),
@@ -93,6 +97,8 @@ WORD = re.compile(r"[^\s(){}\[\],;:=λ×→↔¬⊎]+")
 CONTAINED = "containment, the laws `empty_means_contained` and `lassos_mean_not_contained`"
 CONTROLLED = ("realizability, the laws `controllers_realize`, `counter_strategies_refute` and "
               "`controllers_exclude_counter_strategies`")
+WRITTEN = ("written controllers, the laws `written_controllers_are_judged_right` and "
+           "`written_controllers_are_not_at_fault`")
 
 FRONT = """# What to read to believe it
 
@@ -130,6 +136,9 @@ and `IsCounterStrategy`. For the laws there are also `System`, `so_far`, `is_con
 `RealizesBy`, `IsRefuted` and `RecursOrCeases`, and what a deterministic automaton is. Which of the letters that win a
 counter-strategy has is said by definitions of letters alone, in `omega_realizability_game`. Games are read in the row
 `omega realize` for its refusals alone, such as a game that is too large or a budget that is used up.
+
+The row of written controllers counts what a text of an automaton is. The answers and refusals of the two commands are
+not among it: they are those of the rows `omega realize` and `omega verify --specification`.
 
 **How to read one.** Each section below lists the files of `crates/CRATE/specs/` in an order in which nothing is cited
 before it was read, and how many lines of each file are needed. `checks/believing.py check --format pg` prints just
@@ -431,6 +440,8 @@ def promises(sources: Sources) -> Iterator[tuple[str, list[Believed]]]:
     laws = [sources.held[CONTAINMENT, law] for law in CONTAINMENT_LAWS]
     yield CONTAINED, sources.reached(laws, CONTAINMENT_ANSWERS)
     yield CONTROLLED, sources.reached([sources.held[CONTROLLERS, law] for law in CONTROLLER_LAWS])
+    laws = [sources.held[WRITTEN_CONTROLLERS, law] for law in WRITTEN_CONTROLLER_LAWS]
+    yield WRITTEN, sources.reached(laws, WRITTEN_CONTROLLER_ANSWERS)
     for call, answer in CALLS.items():
         yield f"answers of {call}", sources.reached([sources.held[answer]])
     read_words = clause_words("crates/omega_command_line/src/words.rt", "read_words")

@@ -131,7 +131,7 @@ sets-fit count (acc.conjunction left right) fits all =
 sets-fit count (acc.disjunction left right) fits all =
     (sets-fit count left fits (all-first (λ set. set < count) (sets_of left) (sets_of right) all), sets-fit count right fits (all-second (λ set. set < count) (sets_of left) (sets_of right) all))
 
-numbers-fit : (count : ℕ) (tree : LabelTree) → IsWritableNumber count → AllByRecursion (λ number. number < count) (propositions tree) → NumbersFit tree
+pub numbers-fit : (count : ℕ) (tree : LabelTree) → IsWritableNumber count → AllByRecursion (λ number. number < count) (propositions tree) → NumbersFit tree
 numbers-fit count (constant value) fits all = tt
 numbers-fit count (proposition number) fits all = let below : number < count = all.0 in omega arith
 numbers-fit count (negation part) fits all = numbers-fit count part fits all

@@ -1,0 +1,19 @@
+-- The law of the canonical texts of controllers.
+use Rattle.std.specs.Prelude.{◌≡◌, ◌≤◌, ℕ, Bool, false, List, length}
+use Rattle.omega_text.specs.Limits.{most_text}
+use Rattle.omega_automaton.specs.Automaton.{Description}
+use Rattle.omega_automaton.specs.Branching.{has_universal_branching}
+use Rattle.omega_canon.specs.Canonical.{canonical_automaton}
+use Rattle.omega_controllable.specs.Controllable.{IsControlled}
+use Rattle.omega_controller_answers.specs.Laws.{controller_of}
+use Rattle.omega_hoa.specs.Alone.{IsAutomatonText}
+use Rattle.omega_winner_text.specs.Reaching.{TellsReached}
+
+-- the canonical text of the automaton of kept edges, for an automaton that was read and does not branch universally, is
+-- the text of that automaton of kept edges, if it is within the limit of texts
+abbrev pub ControllersAreReadBack : Type 0
+ControllersAreReadBack =
+    (source : List ℕ) (a : Description) (controlled kept : List ℕ) (reached : ℕ → Bool) → IsAutomatonText source a
+    → has_universal_branching a ≡ false → IsControlled a controlled → TellsReached a kept reached
+    → length (canonical_automaton (controller_of a controlled kept reached)) ≤ most_text
+    → IsAutomatonText (canonical_automaton (controller_of a controlled kept reached)) (controller_of a controlled kept reached)
