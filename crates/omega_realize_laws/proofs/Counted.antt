@@ -1,5 +1,5 @@
 -- A text has no state with more edges than bytes: each token is a byte at least, and each edge a token.
-use Rattle.std.proofs.Common.{◌≡◌, ℕ, suc, ◌+◌, ◌<◌, ◌≤◌, Option, Some, None, true, false, List, [], ◌∷◌, ◌++◌, length, length-append, length-drop, drop, ap, sym, subst, ◌∙◌, arith}
+use Rattle.std.proofs.Common.{◌≡◌, ℕ, suc, ◌+◌, ◌<◌, ◌≤◌, Some, None, true, false, List, [], ◌∷◌, ◌++◌, length, length-append, length-drop, drop, ap, ◌∙◌, arith}
 use Rattle.std.specs.List.{AllByRecursion, AllZip}
 use Rattle.omega_text.specs.Cut.{Cuts}
 use Rattle.omega_text.specs.Lexeme.{Lexeme}
@@ -10,16 +10,12 @@ use Rattle.omega_text.specs.hoa.Cut.{Follows}
 use Rattle.omega_text.specs.hoa.Format.{hoa_format}
 use Rattle.omega_text.proofs.hoa_texts.Numbers.{spelled_form}
 use Rattle.omega_text.proofs.hoa_texts.Unique.{form_size}
-use Rattle.omega_formula.specs.declared.name.Parameter.{Parameter}
 use Rattle.omega_formula.specs.declared.name.Parameter.TheVariants as parameter
-use Rattle.omega_label.specs.Raw.{RawLabelTree}
-use Rattle.omega_raw.specs.Grammar.{IsConj, IsRawEdge, IsRawState, automaton_symbols, boolean_row, conj_row, content_row, each, edge_row, int_row, item_row, joined_row, label_row, optional_row, parameter_row, sig_row, state_row, string_row, value_row, word_row}
+use Rattle.omega_raw.specs.Grammar.{IsConj, IsRawEdge, IsRawState, automaton_symbols, conj_row, content_row, each, edge_row, int_row, item_row, joined_row, label_row, optional_row, parameter_row, sig_row, state_row, string_row, value_row, word_row}
 use Rattle.omega_raw.specs.Symbols.{AutomatonSymbol, ReadsSymbols, Tokens, alias, formula, header, label, number, sign, text, word}
-use Rattle.omega_raw.specs.declared.header_value.HeaderValue.{HeaderValue}
 use Rattle.omega_raw.specs.declared.header_value.HeaderValue.TheVariants as value
 use Rattle.omega_raw.specs.declared.raw_automaton.RawAutomaton.{RawAutomaton}
 use Rattle.omega_raw.specs.declared.raw_edge.RawEdge.{RawEdge}
-use Rattle.omega_raw.specs.declared.raw_item.RawItem.{RawItem}
 use Rattle.omega_raw.specs.declared.raw_item.RawItem.TheVariants as item
 use Rattle.omega_raw.specs.declared.raw_state.RawState.{RawState}
 use Rattle.omega_label.specs.Expanding.{Defined}
@@ -160,8 +156,13 @@ state_more state others is =
     let edges : List AutomatonSymbol = each edge_row state.edges others in
     let marks : List AutomatonSymbol = optional_row sig_row state.marks edges in
     let called : List AutomatonSymbol = optional_row string_row state.name marks in
-    omega (arith, edges_more state.edges others is, optional_grows sig_row sig_grows state.marks edges, optional_grows string_row string_grows state.name marks,
-    optional_grows label_row label_grows state.label (number state.number ∷ called))
+    omega (
+      arith,
+      edges_more state.edges others is,
+      optional_grows sig_row sig_grows state.marks edges,
+      optional_grows string_row string_grows state.name marks,
+      optional_grows label_row label_grows state.label (number state.number ∷ called),
+    )
 
 -- no state has more edges than there are symbols
 states_few : (states : List RawState) (others : List AutomatonSymbol) (most : ℕ) → AllByRecursion IsRawState states → singles (each state_row states others) ≤ most

@@ -1,21 +1,18 @@
 -- Runs that were made of what is not refused have ended.
-use Rattle.std.proofs.Common.{◌≡◌, ◌⊎◌, inl, inr, ℕ, List, [], ◌∷◌, Option, None, Some, refl, subst}
+use Rattle.std.proofs.Common.{◌≡◌, inl, inr, ℕ, List, Option, None, Some, refl, subst}
 use Rattle.omega_text.specs.declared.refusal.Refusal.{Refusal}
 use Rattle.omega_text.specs.declared.refusal.Refusal.TheVariants.{Task}
 use Rattle.omega_text.specs.declared.refusal.task.TaskFault.TheVariants.{Budget}
-use Rattle.omega_budget.specs.Observing.{AreMade, IsObserved, ReportsRun, ReportsRuns}
+use Rattle.omega_budget.specs.Observing.{ReportsRun, ReportsRuns}
 use Rattle.omega_budget.specs.Within.{EndsSo, EndsWithin}
 use Rattle.omega_budget.specs.declared.observing.Progress.{Progress}
 use Rattle.omega_parity_game.specs.Game.{Node}
 use Rattle.omega_parity_game.specs.declared.player.Player.{Player}
-use Rattle.omega_parity_game.specs.declared.player.Player.TheVariants.{One, Zero}
+use Rattle.omega_parity_game.specs.declared.player.Player.TheVariants.{Zero}
 use Rattle.omega_rounds_solving.specs.Solving.{AreLifted}
 use Rattle.omega_solve.specs.declared.outcome.Outcome.{Outcome}
 use Rattle.omega_solve.specs.declared.outcome.Outcome.TheVariants.{Done, Spent}
-use Rattle.omega_realize.specs.Lifting.{LiftsAutomaton}
-use Rattle.omega_realize.specs.Refusing.{OfRounds}
-use Rattle.omega_realize_answers.specs.Observing.{LiftsText}
-use Rattle.omega_realize_laws.specs.LiftedAnswers.{EndsForZero, IsLiftedWithin, LiftedAnswersEnd}
+use Rattle.omega_realize_laws.specs.LiftedAnswers.{LiftedAnswersEnd}
 
 module _ {L : Type 0} (tells : Progress → L → L → Type 0) (every budget : ℕ) (nodes : List Node) where
   -- a run of what is not refused

@@ -1,11 +1,9 @@
 -- The states, starts and edges of a controller's text have the form of what is read back.
-use Rattle.std.proofs.Common.{◌≡◌, ◌↔◌, ℕ, zero, suc, ◌+◌, ◌*◌, ◌<◌, ◌≤◌, ◌&&◌, ◌||◌, Bool, true, false, nat_eq, nat_lt, if◌then◌else◌, List, [], ◌∷◌, ◌++◌, length, map, slice_get, All, Contains, Option, Some, None, refl, sym, ap, subst, ◌∙◌, arith, true≢false}
-use Rattle.std.specs.Prelude.{IsTrue}
+use Rattle.std.proofs.Common.{◌≡◌, ℕ, zero, suc, ◌+◌, ◌<◌, ◌≤◌, Bool, true, false, nat_eq, if◌then◌else◌, List, [], ◌∷◌, ◌++◌, length, map, slice_get, Contains, Option, Some, None, refl, sym, ap, subst, ◌∙◌, arith, true≢false}
 use Rattle.std.specs.List.{AllByRecursion, filter, flat_map, list_any, range_with_len}
 use Rattle.std.specs.Option.{option_or, unwrap_or}
 use Rattle.std.proofs.lemmas.Bool.{and_parts, eqb-true, or_from, or_parts}
 use Rattle.std.proofs.lemmas.List.{length-map}
-use Rattle.std.proofs.lemmas.List.Elements.{recursion_from_All}
 use Rattle.std.proofs.lemmas.List.Sums.{length-filter}
 use Rattle.omega_expression.specs.Limits.{most_depth, most_size}
 use Rattle.omega_label.specs.Label.{LabelTree}
@@ -14,7 +12,6 @@ use Rattle.omega_automaton.specs.declared.edge.Edge.{Edge}
 use Rattle.omega_automaton.specs.declared.state.State.{State}
 use Rattle.omega_edge_labels.specs.Labels.{label_at, valuation_label}
 use Rattle.omega_runs.specs.Lasso.{IsStart}
-use Rattle.omega_round_trips.proofs.meanings.Faultless.{IsFine}
 use Rattle.omega_winner_text.specs.Reaching.{IsReached, TellsReached, begins, goes_on}
 use Rattle.omega_winner_text.specs.Winner.{is_kept_edge, kept_edge, kept_edges, kept_state, kept_states, number_of}
 use Rattle.omega_controller_answers.proofs.Numbers.{found_at, state_of}
@@ -228,7 +225,7 @@ module _ (a : Description) (kept : List ℕ) (reached : ℕ → Bool) (tells : T
       go unlike true met others =
           or_from _ _
           (not_eq (number_of reached other.number) (number_of reached state) (λ same.
-              true≢false (sym (ap (λ (n : ℕ). nat_eq n state) (number_once other.number state given.0.number below met there same) ∙ eq_self state) ∙ unlike)))
+          true≢false (sym (ap (λ (n : ℕ). nat_eq n state) (number_once other.number state given.0.number below met there same) ∙ eq_self state) ∙ unlike)))
           others
       go unlike false met others = others
 

@@ -1,15 +1,13 @@
 -- Controllers, complements and products do not branch universally.
-use Rattle.std.proofs.Common.{◌≡◌, ℕ, suc, ◌+◌, Bool, true, false, ◌||◌, nat_lt, if◌then◌else◌, ◌==◌, Option, Some, None, List, [], ◌∷◌, ◌++◌, length, map, refl, sym, ap, subst, ◌∙◌}
+use Rattle.std.proofs.Common.{◌≡◌, ℕ, suc, ◌+◌, Bool, true, false, nat_lt, if◌then◌else◌, ◌==◌, Option, Some, None, List, [], ◌∷◌, ◌++◌, length, map, refl, sym, ap, subst, ◌∙◌}
 use Rattle.std.specs.Prelude.{slice_index_or}
 use Rattle.std.specs.List.{AllByRecursion, AllZip, filter_map, list_any, range_with_len}
 use Rattle.std.proofs.lemmas.Bool.{or_from, or_parts}
 use Rattle.std.proofs.lemmas.List.{length-map}
 use Rattle.std.proofs.lemmas.List.Folds.{list_any-append}
 use Rattle.omega_label.specs.Expanding.{Defined}
-use Rattle.omega_label.specs.Label.{LabelTree}
 use Rattle.omega_label.specs.Raw.{RawLabelTree}
 use Rattle.omega_raw.specs.declared.raw_edge.RawEdge.{RawEdge}
-use Rattle.omega_raw.specs.declared.raw_item.RawItem.{RawItem}
 use Rattle.omega_raw.specs.declared.raw_state.RawState.{RawState}
 use Rattle.omega_automaton.specs.Automaton.{Description}
 use Rattle.omega_automaton.specs.Branching.{has_universal_branching, state_branches}

@@ -1,11 +1,10 @@
 -- The canonical text of an automaton has a byte at least for each tree node of its labels.
-use Rattle.std.proofs.Common.{◌≡◌, ℕ, ◌+◌, ◌<◌, ◌≤◌, Bool, true, false, nat_le, nat_lt, Option, Some, None, List, [], ◌∷◌, ◌++◌, codes, decimal, length, length-append, arith}
+use Rattle.std.proofs.Common.{ℕ, ◌+◌, ◌≤◌, Bool, true, false, nat_le, nat_lt, Option, Some, None, List, [], ◌∷◌, ◌++◌, codes, decimal, length, length-append, arith}
 use Rattle.std.specs.Prelude.{IfSome, sum_by}
 use Rattle.std.specs.List.{AllByRecursion, flat_map}
 use Rattle.std.proofs.lemmas.Fmt.{decimal_nonempty}
 use Rattle.std.proofs.lemmas.List.Sums.{sum_by-cons}
-use Rattle.omega_text.specs.Limits.{most_number}
-use Rattle.omega_expression.specs.Writing.{bracketed, truth_text}
+use Rattle.omega_expression.specs.Writing.{bracketed}
 use Rattle.omega_label.specs.Label.{LabelTree, conjunction, constant, disjunction, label_size, negation, proposition}
 use Rattle.omega_label.specs.Writing.{NumbersFit, label_text}
 use Rattle.omega_automaton.specs.Automaton.{Description, size_of, total_size}
@@ -31,13 +30,25 @@ label_long (negation part) fits = omega (arith, label_long part fits, bracketed_
 label_long (conjunction left right) fits =
     let one : List ℕ = bracketed (nat_lt (label_text left).rank 2) (label_text left).bytes in
     let other : List ℕ = bracketed (nat_le (label_text right).rank 2) (label_text right).bytes in
-    omega (arith, label_long left fits.0, label_long right fits.1, bracketed_long (nat_lt (label_text left).rank 2) (label_text left).bytes,
-    bracketed_long (nat_le (label_text right).rank 2) (label_text right).bytes, length-append one (38 ∷ other))
+    omega (
+      arith,
+      label_long left fits.0,
+      label_long right fits.1,
+      bracketed_long (nat_lt (label_text left).rank 2) (label_text left).bytes,
+      bracketed_long (nat_le (label_text right).rank 2) (label_text right).bytes,
+      length-append one (38 ∷ other),
+    )
 label_long (disjunction left right) fits =
     let one : List ℕ = bracketed (nat_lt (label_text left).rank 1) (label_text left).bytes in
     let other : List ℕ = bracketed (nat_le (label_text right).rank 1) (label_text right).bytes in
-    omega (arith, label_long left fits.0, label_long right fits.1, bracketed_long (nat_lt (label_text left).rank 1) (label_text left).bytes,
-    bracketed_long (nat_le (label_text right).rank 1) (label_text right).bytes, length-append one (124 ∷ other))
+    omega (
+      arith,
+      label_long left fits.0,
+      label_long right fits.1,
+      bracketed_long (nat_lt (label_text left).rank 1) (label_text left).bytes,
+      bracketed_long (nat_le (label_text right).rank 1) (label_text right).bytes,
+      length-append one (124 ∷ other),
+    )
 
 -- what is written is no shorter than its parts
 first_long : (one other : List ℕ) → length one ≤ length (one ++ other)
@@ -81,5 +92,10 @@ states_long (state ∷ states) all =
 pub text_long : (a : Description) → AllByRecursion IsWritableState a.defined → sum_by total_size a.defined ≤ length (canonical_automaton a)
 text_long a all =
     let lines : List ℕ = flat_map state_text a.defined in
-    omega (arith, states_long a.defined all, first_long lines (codes "--END--\n"), second_long (codes "--BODY--\n") (lines ++ codes "--END--\n"),
-    second_long (header_text a) (body_text a.defined))
+    omega (
+      arith,
+      states_long a.defined all,
+      first_long lines (codes "--END--\n"),
+      second_long (codes "--BODY--\n") (lines ++ codes "--END--\n"),
+      second_long (header_text a) (body_text a.defined),
+    )

@@ -1,5 +1,5 @@
 -- Labels of valuations fit a text, if there are few propositions.
-use Rattle.std.proofs.Common.{◌≡◌, ◌==◌, ℕ, zero, suc, ◌+◌, ◌*◌, ◌<◌, ◌≤◌, ◌/◌, ◌%◌, ◌^◌, max, Bool, true, false, nat_le, nat_lt, if◌then◌else◌, List, [], ◌∷◌, ◌++◌, All, refl, ap, arith}
+use Rattle.std.proofs.Common.{◌≡◌, ◌==◌, ℕ, zero, suc, ◌+◌, ◌*◌, ◌<◌, ◌≤◌, ◌/◌, ◌%◌, ◌^◌, Bool, true, false, nat_le, nat_lt, if◌then◌else◌, [], All, refl, ap, arith}
 use Rattle.std.proofs.lemmas.List.Elements.{All-append, All-cons, All-nil}
 use Rattle.omega_label.specs.Label.{LabelTree, label_depth, label_size, negation, proposition, propositions}
 use Rattle.omega_label.specs.Raw.{raw_depth}
@@ -12,7 +12,6 @@ pub record IsBounded (count depth size : ℕ) (label : LabelTree) : Type 0 where
   pub shallow : label_depth label ≤ depth
   pub shallow_written : raw_depth (label_written label) ≤ depth
   pub small : label_size label ≤ size
-
 
 -- a literal
 record IsLiteral (count : ℕ) (label : LabelTree) : Type 0 where

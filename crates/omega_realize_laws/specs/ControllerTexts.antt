@@ -9,11 +9,14 @@ use Rattle.omega_controller_answers.specs.Laws.{controller_of}
 use Rattle.omega_hoa.specs.Alone.{IsAutomatonText}
 use Rattle.omega_winner_text.specs.Reaching.{TellsReached}
 
--- the canonical text of the automaton of kept edges, for an automaton that was read and does not branch universally, is
--- the text of that automaton of kept edges, if it is within the limit of texts
+-- the canonical text of an automaton is the text of that automaton, if it is within the limit of texts
+abbrev pub IsReadBack : Description → Type 0
+IsReadBack controller =
+    length (canonical_automaton controller) ≤ most_text → IsAutomatonText (canonical_automaton controller) controller
+
+-- so it is for each automaton that was read and does not branch universally, whatever edges are kept
 abbrev pub ControllersAreReadBack : Type 0
 ControllersAreReadBack =
     (source : List ℕ) (a : Description) (controlled kept : List ℕ) (reached : ℕ → Bool) → IsAutomatonText source a
     → has_universal_branching a ≡ false → IsControlled a controlled → TellsReached a kept reached
-    → length (canonical_automaton (controller_of a controlled kept reached)) ≤ most_text
-    → IsAutomatonText (canonical_automaton (controller_of a controlled kept reached)) (controller_of a controlled kept reached)
+    → IsReadBack (controller_of a controlled kept reached)

@@ -1,5 +1,5 @@
-//! Laws of `realize`: that the text of a controller is read back, that `verify --specification` judges it right, and that
-//! answers by lifting are given within the budget. No code that runs.
+//! Laws of `realize`: that the text of a controller is read back, that `verify --specification` judges it right, and
+//! that answers by lifting are given within the budget. No code that runs.
 #![tactic(auto)]
 
 mod controller_texts;

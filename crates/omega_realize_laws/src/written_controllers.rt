@@ -1,5 +1,5 @@
-//! Laws of what `realize --controller` and `verify --specification` write, in words of texts: each call does nothing and
-//! states one law.
+//! Laws of what `realize --controller` and `verify --specification` write, in words of texts: each call does nothing
+//! and states one law.
 
 ghost use Rattle.omega_realize_laws.specs.WrittenControllers.{WrittenControllersAreJudgedRight, WrittenControllersAreNotAtFault};
 
