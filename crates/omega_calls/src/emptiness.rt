@@ -1,37 +1,35 @@
 //! Emptiness of automata.
+ghost use Rattle.std.specs.Prelude.{IfOk};
+ghost use Rattle.omega_empty.specs.EmptinessGame.{IsEmptinessGame};
+ghost use Rattle.omega_solve.specs.Headline.{IsExact};
+
 use crate::lists::put_all;
 use omega_budget::{Found, NoObserver, Reordered};
 use omega_empty::{Automaton, Verdict, emptiness, emptiness_game, emptiness_observed, verdict_of};
-use omega_game::{Player, Refusal};
-use omega_hoa::read_one;
+use omega_game::{ForwardGame, Player, Refusal};
 use omega_lasso_search::lasso;
 use omega_pg::write_game;
 use omega_solve::MOST_LIFTS;
 use std::alloc::Global;
 
-pub(crate) fn called(alloc: Global, call: &str, text: &[u8]) -> Option<Result<Vec<u8>, Refusal>> {
+pub(crate) fn has(call: &str) -> bool {
     match call {
-        "emptiness_game" | "emptiness" | "emptiness_observed" | "lasso" | "verdict_of" => {
-            Some(called_of(alloc, call, text))
-        }
-        _ => None,
+        "emptiness_game" | "emptiness" | "emptiness_observed" | "lasso" | "verdict_of" => true,
+        _ => false,
     }
 }
 
-fn called_of(alloc: Global, call: &str, text: &[u8]) -> Result<Vec<u8>, Refusal> {
-    match read_one(alloc, text) {
-        Ok(automaton) => of_automaton(alloc, call, &automaton),
-        Err(refusal) => Err(refusal),
-    }
-}
-
-fn of_automaton(alloc: Global, call: &str, automaton: &Automaton) -> Result<Vec<u8>, Refusal> {
+pub(crate) fn of_automaton(
+    alloc: Global,
+    call: &str,
+    automaton: &Automaton,
+) -> Result<Vec<u8>, Refusal> {
     match call {
         "emptiness_game" => game_written(alloc, automaton),
-        "emptiness" => verdict_written(alloc, emptiness(alloc, automaton, MOST_LIFTS)),
-        "emptiness_observed" => verdict_written(alloc, observed(alloc, automaton)),
-        "lasso" => verdict_written(alloc, lasso(alloc, automaton)),
-        _ => verdict_written(alloc, decided(alloc, automaton)),
+        "emptiness" => told(alloc, emptiness(alloc, automaton, MOST_LIFTS)),
+        "emptiness_observed" => told(alloc, observed(alloc, automaton)),
+        "lasso" => told(alloc, lasso(alloc, automaton)),
+        _ => told(alloc, decided(alloc, automaton)),
     }
 }
 
@@ -42,7 +40,39 @@ fn game_written(alloc: Global, automaton: &Automaton) -> Result<Vec<u8>, Refusal
     }
 }
 
-fn verdict_written(alloc: Global, verdict: Result<Verdict, Refusal>) -> Result<Vec<u8>, Refusal> {
+/// Returns the verdict within a small budget, with no observer.
+fn observed(alloc: Global, automaton: &Automaton) -> Result<Verdict, Refusal> {
+    emptiness_observed(alloc, automaton, 1000, &NoObserver, &mut ())
+}
+
+/// Returns the verdict of the emptiness game once it is solved.
+fn decided(alloc: Global, automaton: &Automaton) -> Result<Verdict, Refusal> {
+    match emptiness_game(alloc, automaton) {
+        Ok(game) => decided_by(alloc, automaton, &game),
+        Err(refusal) => Err(refusal),
+    }
+}
+
+fn decided_by(alloc: Global, automaton: &Automaton, game: &ForwardGame) -> Result<Verdict, Refusal>
+    requires { IsEmptinessGame automaton.now game.now }
+{
+    match found_in(alloc, game) {
+        Ok(found) => verdict_of(alloc, automaton, game, &found),
+        Err(refusal) => Err(refusal),
+    }
+}
+
+/// Returns what lifting finds of a game for player 0.
+fn found_in(alloc: Global, game: &ForwardGame) -> Result<Found, Refusal>
+    ensures { IfOk result (λ found. IsExact game.now Player.Zero found.won.items found.choice.items) }
+{
+    match Reordered::of(alloc, game) {
+        Ok(reordered) => reordered.solve(alloc, Player::Zero, MOST_LIFTS, &NoObserver, &mut ()),
+        Err(refusal) => Err(refusal),
+    }
+}
+
+fn told(alloc: Global, verdict: Result<Verdict, Refusal>) -> Result<Vec<u8>, Refusal> {
     let mut out = Vec::new(alloc);
     match verdict? {
         Verdict::Empty => out.extend_from_slice(b"empty\n")?,
@@ -52,23 +82,4 @@ fn verdict_written(alloc: Global, verdict: Result<Verdict, Refusal>) -> Result<V
         }
     }
     Ok(out)
-}
-
-/// Returns the verdict within a small budget, with no observer.
-fn observed(alloc: Global, automaton: &Automaton) -> Result<Verdict, Refusal> {
-    emptiness_observed(alloc, automaton, 1000, &NoObserver, &mut ())
-}
-
-/// Returns the verdict of the emptiness game once it is solved.
-fn decided(alloc: Global, automaton: &Automaton) -> Result<Verdict, Refusal> {
-    match emptiness_game(alloc, automaton) {
-        Ok(game) => {
-            let reordered = Reordered::of(alloc, &game)?;
-            match reordered.solve(alloc, Player::Zero, MOST_LIFTS, &NoObserver, &mut ()) {
-                Ok(found) => verdict_of(alloc, automaton, &game, &found),
-                Err(refusal) => Err(refusal),
-            }
-        }
-        Err(refusal) => Err(refusal),
-    }
 }

@@ -7,26 +7,32 @@ use omega_acc::{
 use omega_text::{Cursor, HoaKind, Refusal, TextCursor, check_tokens, hoa_tokens};
 use std::alloc::Global;
 
+pub(crate) fn has(call: &str) -> bool {
+    match call {
+        "read_label" | "read_raw_label" | "RawLabel" | "expand" | "expand_in_place" => true,
+        "expanded_size" | "shape of a label" | "read_acc" | "read_raw_acc" | "RawAcc" => true,
+        "Acc" | "shape of a formula" => true,
+        _ => false,
+    }
+}
+
 pub(crate) fn called(
     alloc: Global,
     call: &str,
     text: &[u8],
     other: &[u8],
-) -> Option<Result<Vec<u8>, Refusal>> {
+) -> Result<Vec<u8>, Refusal> {
     match call {
-        "read_label" => Some(label_written(alloc, label_in(alloc, text))),
-        "read_raw_label" => Some(label_written(alloc, raw_label_in(alloc, text))),
-        "RawLabel" => Some(label_written(alloc, label_built(alloc))),
-        "expand" => Some(expanded(alloc, text, other)),
-        "expand_in_place" => Some(expanded_in_place(alloc, text, other)),
-        "expanded_size" => Some(size(alloc, text, other)),
-        "shape of a label" => Some(label_again(alloc, text)),
-        "read_acc" => Some(formula_written(alloc, formula_in(alloc, text))),
-        "read_raw_acc" => Some(raw_written(alloc, raw_formula_in(alloc, text))),
-        "RawAcc" => Some(raw_written(alloc, raw_built(alloc))),
-        "Acc" => Some(formula_written(alloc, built(alloc))),
-        "shape of a formula" => Some(formula_again(alloc, text)),
-        _ => None,
+        "read_label" => label_written(alloc, label_in(alloc, text)),
+        "read_raw_label" => label_written(alloc, raw_label_in(alloc, text)),
+        "RawLabel" => label_written(alloc, label_built(alloc)),
+        "expand" | "expand_in_place" | "expanded_size" => over_definition(alloc, call, text, other),
+        "shape of a label" => label_again(alloc, label_in(alloc, text)),
+        "read_acc" => formula_written(alloc, formula_in(alloc, text)),
+        "read_raw_acc" => raw_written(alloc, raw_formula_in(alloc, text)),
+        "RawAcc" => raw_written(alloc, raw_built(alloc)),
+        "Acc" => formula_written(alloc, built(alloc)),
+        _ => formula_again(alloc, formula_in(alloc, text)),
     }
 }
 
@@ -95,36 +101,82 @@ fn add_again(
     name: &[u8],
     text: &[u8],
 ) -> Result<(), Refusal> {
-    match aliases.add(name, label_in(alloc, text)?) {
-        Err(Refusal::Memory) => aliases.add(name, label_in(alloc, text)?),
+    match add(aliases, name, label_in(alloc, text)) {
+        Err(Refusal::Memory) => add(aliases, name, label_in(alloc, text)),
         given => given,
     }
 }
 
-fn expanded(alloc: Global, text: &[u8], definition: &[u8]) -> Result<Vec<u8>, Refusal> {
-    let aliases = aliases(alloc, definition)?;
-    over_aliases(alloc, &label_in(alloc, text)?, &aliases)
+fn add(
+    aliases: &mut Aliases,
+    name: &[u8],
+    label: Result<RawLabel, Refusal>,
+) -> Result<(), Refusal> {
+    match label {
+        Ok(label) => aliases.add(name, label),
+        Err(refusal) => Err(refusal),
+    }
 }
 
-fn expanded_in_place(alloc: Global, text: &[u8], definition: &[u8]) -> Result<Vec<u8>, Refusal> {
-    let aliases = aliases(alloc, definition)?;
-    let label = expand_in_place(alloc, label_in(alloc, text)?, &aliases)?;
-    written(alloc, &label)
+/// Returns what a call gives of the label of a text over the alias of another.
+fn over_definition(
+    alloc: Global,
+    call: &str,
+    text: &[u8],
+    definition: &[u8],
+) -> Result<Vec<u8>, Refusal> {
+    match aliases(alloc, definition) {
+        Ok(aliases) => among(alloc, call, &aliases, label_in(alloc, text)),
+        Err(refusal) => Err(refusal),
+    }
 }
 
-fn size(alloc: Global, text: &[u8], definition: &[u8]) -> Result<Vec<u8>, Refusal> {
-    let aliases = aliases(alloc, definition)?;
-    let size = expanded_size(alloc, &label_in(alloc, text)?, &aliases)?;
+fn among(
+    alloc: Global,
+    call: &str,
+    aliases: &Aliases,
+    raw: Result<RawLabel, Refusal>,
+) -> Result<Vec<u8>, Refusal> {
+    match raw {
+        Ok(raw) if call == "expand" => over_aliases(alloc, &raw, aliases),
+        Ok(raw) if call == "expanded_size" => size(alloc, &raw, aliases),
+        Ok(raw) => expanded_written(alloc, expand_in_place(alloc, raw, aliases)),
+        Err(refusal) => Err(refusal),
+    }
+}
+
+fn expanded_written(alloc: Global, label: Result<Label, Refusal>) -> Result<Vec<u8>, Refusal> {
+    match label {
+        Ok(label) => written(alloc, &label),
+        Err(refusal) => Err(refusal),
+    }
+}
+
+fn size(alloc: Global, raw: &RawLabel, aliases: &Aliases) -> Result<Vec<u8>, Refusal> {
+    let size = expanded_size(alloc, raw, aliases)?;
     let mut out = Vec::new(alloc);
     put(&mut out, u128::from(size))?;
     Ok(out)
 }
 
-/// Returns the label of a text, taken apart and put together.
-fn label_again(alloc: Global, text: &[u8]) -> Result<Vec<u8>, Refusal> {
-    let label = expand(alloc, &label_in(alloc, text)?, &Aliases::new(alloc))?;
+/// Returns a label, taken apart and put together.
+fn label_again(alloc: Global, raw: Result<RawLabel, Refusal>) -> Result<Vec<u8>, Refusal> {
+    match raw {
+        Ok(raw) => apart_and_together(alloc, expand(alloc, &raw, &Aliases::new(alloc))),
+        Err(refusal) => Err(refusal),
+    }
+}
+
+fn apart_and_together(alloc: Global, label: Result<Label, Refusal>) -> Result<Vec<u8>, Refusal> {
+    match label {
+        Ok(label) => expanded_written(alloc, together(alloc, &label)),
+        Err(refusal) => Err(refusal),
+    }
+}
+
+fn together(alloc: Global, label: &Label) -> Result<Label, Refusal> {
     let shape = label.shape(alloc)?;
-    written(alloc, &Label::of_shape(alloc, &shape)?)
+    Label::of_shape(alloc, &shape)
 }
 
 /// Returns the acceptance formula of a text, over the list of its tokens.
@@ -141,10 +193,17 @@ fn raw_formula_in(alloc: Global, text: &[u8]) -> Result<RawAcc, Refusal> {
     }
 }
 
-/// Returns the formula of a text, taken apart and put together.
-fn formula_again(alloc: Global, text: &[u8]) -> Result<Vec<u8>, Refusal> {
-    let shape = formula_in(alloc, text)?.shape(alloc)?;
-    text_of(alloc, &Acc::of_shape(alloc, &shape)?)
+/// Returns a formula, taken apart and put together.
+fn formula_again(alloc: Global, formula: Result<Acc, Refusal>) -> Result<Vec<u8>, Refusal> {
+    match formula {
+        Ok(formula) => formula_written(alloc, formula_together(alloc, &formula)),
+        Err(refusal) => Err(refusal),
+    }
+}
+
+fn formula_together(alloc: Global, formula: &Acc) -> Result<Acc, Refusal> {
+    let shape = formula.shape(alloc)?;
+    Acc::of_shape(alloc, &shape)
 }
 
 /// Returns `(Inf(0))&t|Fin(!1)`.

@@ -7,15 +7,22 @@ use omega_stream_reading::{ItemText, tell_stream};
 use omega_text::{PgKind, Refusal, TextFault, Token, TokenReader, read_text};
 use std::alloc::Global;
 
-pub(crate) fn called(alloc: Global, call: &str, text: &[u8]) -> Option<Result<Vec<u8>, Refusal>> {
+pub(crate) fn has(call: &str) -> bool {
     match call {
-        "read_all" => Some(read_all(alloc, &mut FromRead::new(text))),
-        "read_piece" => Some(first_piece(alloc, text)),
-        "read_text" => Some(numbers_in(alloc, text)),
-        "tell_stream" => Some(reported(alloc, text)),
-        "lines_in" => Some(named(alloc, text)),
-        "file_lines" => Some(named_as_file(alloc, text)),
-        _ => None,
+        "read_all" | "read_piece" | "read_text" | "tell_stream" | "lines_in" => true,
+        "file_lines" => true,
+        _ => false,
+    }
+}
+
+pub(crate) fn called(alloc: Global, call: &str, text: &[u8]) -> Result<Vec<u8>, Refusal> {
+    match call {
+        "read_all" => read_all(alloc, &mut FromRead::new(text)),
+        "read_piece" => first_piece(alloc, text),
+        "read_text" => numbers_in(alloc, text),
+        "tell_stream" => reported(alloc, text),
+        "lines_in" => named(alloc, text),
+        _ => named_as_file(alloc, text),
     }
 }
 

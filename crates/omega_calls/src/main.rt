@@ -4,15 +4,18 @@
 #![tactic(auto)]
 
 mod automata;
+mod building;
+mod comparing;
 mod emptiness;
 mod expressions;
 mod games;
 mod inputs;
-mod joining;
 mod lassos;
 mod lists;
 mod quiet;
+mod raw;
 mod searching;
+mod solutions;
 mod solving;
 mod streams;
 mod tokens;
@@ -62,38 +65,29 @@ fn asked(alloc: Global, words: &[String]) -> Result<Vec<u8>, Refusal> {
 
 /// Returns what a call gives of two texts.
 fn called(alloc: Global, call: &str, text: &[u8], other: &[u8]) -> Result<Vec<u8>, Refusal> {
-    if let Some(given) = tokens::called(alloc, call, text) {
-        return given;
+    if tokens::has(call) {
+        tokens::called(alloc, call, text)
+    } else if expressions::has(call) {
+        expressions::called(alloc, call, text, other)
+    } else if raw::has(call) {
+        raw::called(alloc, call, text)
+    } else if automata::has(call) {
+        automata::called(alloc, call, text, other)
+    } else if streams::has(call) {
+        streams::called(alloc, call, text)
+    } else if inputs::has(call) {
+        inputs::called(alloc, call, text)
+    } else if games::has(call) {
+        games::called(alloc, call, text, other)
+    } else if building::has(call) {
+        building::called(alloc, call, text)
+    } else if searching::has(call) {
+        searching::called(alloc, call, text)
+    } else if quiet::has(call) {
+        quiet::called(alloc, call, text, other)
+    } else if call == "read_lasso" {
+        lassos::read_and_written(alloc, text)
+    } else {
+        Err(Refusal::Io)
     }
-    if let Some(given) = expressions::called(alloc, call, text, other) {
-        return given;
-    }
-    if let Some(given) = automata::called(alloc, call, text) {
-        return given;
-    }
-    if let Some(given) = streams::called(alloc, call, text) {
-        return given;
-    }
-    if let Some(given) = joining::called(alloc, call, text, other) {
-        return given;
-    }
-    if let Some(given) = inputs::called(alloc, call, text) {
-        return given;
-    }
-    if let Some(given) = games::called(alloc, call, text, other) {
-        return given;
-    }
-    if let Some(given) = solving::called(alloc, call, text, other) {
-        return given;
-    }
-    if let Some(given) = emptiness::called(alloc, call, text) {
-        return given;
-    }
-    if let Some(given) = lassos::called(alloc, call, text, other) {
-        return given;
-    }
-    if let Some(given) = searching::called(alloc, call, text) {
-        return given;
-    }
-    quiet::called(alloc, call, text, other).unwrap_or(Err(Refusal::Io))
 }

@@ -1,35 +1,44 @@
 //! Calls that ask for no memory, after those that make what they are made on.
+use crate::expressions::label_in;
 use crate::lists::{put, put_all, put_answer};
 use omega_acc::{
-    Aliases, Label, Order, Parity, ParityKind, acceptance_kind, expand, parity_of, priority,
-    read_label, satisfiable,
+    Aliases, Label, Order, Parity, ParityKind, RawLabel, acceptance_kind, expand, parity_of,
+    priority, satisfiable,
 };
 use omega_automaton::{Automaton, EdgeRef, State};
 use omega_game::{Game, Player, Refusal, Seq, Strategy, bound};
-use omega_hoa::{Stream, read_one};
+use omega_hoa::Stream;
 use omega_io::{Exit, exit_code};
 use omega_measure::fits;
-use omega_pg::read_game;
 use omega_text::{
     Cursor, HoaKind, PgKind, TextCursor, TextFault, TokenKind, TokenSource, check_tokens,
     hoa_tokens, next_hoa_token, next_pg_number, next_pg_token,
 };
 use std::alloc::Global;
 
+pub(crate) fn has(call: &str) -> bool {
+    match call {
+        "texts" | "label" => true,
+        _ => false,
+    }
+}
+
 pub(crate) fn called(
     alloc: Global,
     call: &str,
     text: &[u8],
     other: &[u8],
-) -> Option<Result<Vec<u8>, Refusal>> {
-    let runs = other == b"run".as_slice();
-    match call {
-        "texts" => Some(texts(alloc, text, runs)),
-        "game" => Some(game(alloc, text, runs)),
-        "label" => Some(label(alloc, text, runs)),
-        "automaton" => Some(automaton(alloc, text, runs)),
-        _ => None,
+) -> Result<Vec<u8>, Refusal> {
+    if call == "texts" {
+        texts(alloc, text, runs(other))
+    } else {
+        label(alloc, label_in(alloc, text), runs(other))
     }
+}
+
+/// Whether the second text says that the calls are made.
+pub(crate) fn runs(other: &[u8]) -> bool {
+    other == b"run".as_slice()
 }
 
 fn texts(alloc: Global, text: &[u8], runs: bool) -> Result<Vec<u8>, Refusal> {
@@ -71,23 +80,25 @@ fn put_places<'a, S: TokenSource<'a, HoaKind>>(
     out: &mut Vec<u8>,
 ) -> Result<(), Refusal> {
     for _ in 0..100 {
-        put(out, source.place() as u128)?;
-        put_answer(out, source.look().is_some())?;
-        if source.take().is_none() {
+        if !put_place(source, out)? {
             break;
         }
     }
     Ok(())
 }
 
-fn game(alloc: Global, text: &[u8], runs: bool) -> Result<Vec<u8>, Refusal> {
-    match read_game(alloc, text) {
-        Ok(game) => of_game(alloc, &game, runs),
-        Err(refusal) => Err(refusal),
-    }
+/// Puts the place of a source and whether a token is there, and takes it. Whether there was one.
+fn put_place<'a, S: TokenSource<'a, HoaKind>>(
+    source: &mut S,
+    out: &mut Vec<u8>,
+) -> Result<bool, Refusal> {
+    put(out, source.place() as u128)?;
+    put_answer(out, source.look().is_some())?;
+    Ok(source.take().is_some())
 }
 
-fn of_game(alloc: Global, game: &Game, runs: bool) -> Result<Vec<u8>, Refusal> {
+/// Calls on a game.
+pub(crate) fn of_game(alloc: Global, game: &Game, runs: bool) -> Result<Vec<u8>, Refusal> {
     let choice = Seq::from_vec(vec![in alloc; Some(0); game.len()]?);
     let mut out = Vec::with_capacity(alloc, 4096)?;
     if runs {
@@ -120,10 +131,19 @@ fn put_player(player: Player, priority: u32, out: &mut Vec<u8>) -> Result<(), Re
     put_answer(out, Player::of_number(player.number()).is_some())
 }
 
-fn label(alloc: Global, text: &[u8], runs: bool) -> Result<Vec<u8>, Refusal> {
-    let tokens = hoa_tokens(alloc, text)?;
-    let raw = read_label(alloc, &mut Cursor::new(tokens.as_slice(), text.len()))?;
-    match expand(alloc, &raw, &Aliases::new(alloc)) {
+fn label(alloc: Global, raw: Result<RawLabel, Refusal>, runs: bool) -> Result<Vec<u8>, Refusal> {
+    match raw {
+        Ok(raw) => of_expanded(alloc, expand(alloc, &raw, &Aliases::new(alloc)), runs),
+        Err(refusal) => Err(refusal),
+    }
+}
+
+fn of_expanded(
+    alloc: Global,
+    label: Result<Label, Refusal>,
+    runs: bool,
+) -> Result<Vec<u8>, Refusal> {
+    match label {
         Ok(label) => of_label(alloc, &label, runs),
         Err(refusal) => Err(refusal),
     }
@@ -137,14 +157,12 @@ fn of_label(alloc: Global, label: &Label, runs: bool) -> Result<Vec<u8>, Refusal
     Ok(out)
 }
 
-fn automaton(alloc: Global, text: &[u8], runs: bool) -> Result<Vec<u8>, Refusal> {
-    match read_one(alloc, text) {
-        Ok(automaton) => of_automaton(alloc, &automaton, runs),
-        Err(refusal) => Err(refusal),
-    }
-}
-
-fn of_automaton(alloc: Global, automaton: &Automaton, runs: bool) -> Result<Vec<u8>, Refusal> {
+/// Calls on an automaton.
+pub(crate) fn of_automaton(
+    alloc: Global,
+    automaton: &Automaton,
+    runs: bool,
+) -> Result<Vec<u8>, Refusal> {
     let mut out = Vec::with_capacity(alloc, 4096)?;
     if runs {
         put_automaton(automaton, &mut out)?;

@@ -3,7 +3,7 @@ ghost use Rattle.std.specs.Prelude.{◌≡◌, length, IfOk};
 
 use crate::expressions::{formula_in, label_in};
 use crate::lists::{put_all, put_answer};
-use omega_acc::{Aliases, expand};
+use omega_acc::{Aliases, Label, RawLabel, expand};
 use omega_accepting_walk::accepting_walk;
 use omega_components::{Graph, Scratch, components, path, reached};
 use omega_satisfying::is_satisfiable;
@@ -13,14 +13,32 @@ use std::alloc::Global;
 /// The edges of the graph, all of them.
 const EDGES: [u32; 4] = [0, 1, 2, 3];
 
-pub(crate) fn called(alloc: Global, call: &str, text: &[u8]) -> Option<Result<Vec<u8>, Refusal>> {
+pub(crate) fn has(call: &str) -> bool {
     match call {
-        "is_satisfiable" => Some(judged(alloc, text)),
-        "components" => Some(grouped(alloc)),
-        "reached" => Some(met(alloc)),
-        "path" => Some(walked(alloc)),
-        "accepting_walk" => Some(accepted(alloc, text)),
-        _ => None,
+        "is_satisfiable" | "components" | "reached" | "path" | "accepting_walk" => true,
+        _ => false,
+    }
+}
+
+pub(crate) fn called(alloc: Global, call: &str, text: &[u8]) -> Result<Vec<u8>, Refusal> {
+    if call == "is_satisfiable" {
+        return judged(alloc, label_in(alloc, text));
+    }
+    match graph(alloc) {
+        Ok(graph) => of_graph(alloc, call, &graph, text),
+        Err(refusal) => Err(refusal),
+    }
+}
+
+fn of_graph(alloc: Global, call: &str, graph: &Graph, text: &[u8]) -> Result<Vec<u8>, Refusal>
+    requires states { graph.now.states ≡ 3 }
+    requires edges { length graph.now.edges ≡ 4 }
+{
+    match call {
+        "components" => grouped(alloc, graph),
+        "reached" => met(alloc, graph),
+        "path" => walked(alloc, graph),
+        _ => accepted(alloc, graph, text),
     }
 }
 
@@ -38,10 +56,12 @@ fn graph(alloc: Global) -> Result<Graph, Refusal>
 }
 
 /// Returns the edges of each component.
-fn grouped(alloc: Global) -> Result<Vec<u8>, Refusal> {
-    let graph = graph(alloc)?;
+fn grouped(alloc: Global, graph: &Graph) -> Result<Vec<u8>, Refusal>
+    requires states { graph.now.states ≡ 3 }
+    requires edges { length graph.now.edges ≡ 4 }
+{
     let mut scratch = Scratch::new(alloc, 3)?;
-    let edge_components = components(alloc, &mut scratch, &graph, EDGES.as_slice())?;
+    let edge_components = components(alloc, &mut scratch, graph, EDGES.as_slice())?;
     let mut out = Vec::new(alloc);
     for at in 0..edge_components.len() {
         put_all(&mut out, edge_components.edge_component(at))?;
@@ -50,9 +70,11 @@ fn grouped(alloc: Global) -> Result<Vec<u8>, Refusal> {
 }
 
 /// Returns which states are reached from the last one.
-fn met(alloc: Global) -> Result<Vec<u8>, Refusal> {
-    let graph = graph(alloc)?;
-    let states = reached(alloc, &graph, EDGES.as_slice(), [2].as_slice())?;
+fn met(alloc: Global, graph: &Graph) -> Result<Vec<u8>, Refusal>
+    requires states { graph.now.states ≡ 3 }
+    requires edges { length graph.now.edges ≡ 4 }
+{
+    let states = reached(alloc, graph, EDGES.as_slice(), [2].as_slice())?;
     let mut out = Vec::new(alloc);
     for is_reached in &states {
         put_answer(&mut out, *is_reached)?;
@@ -61,19 +83,23 @@ fn met(alloc: Global) -> Result<Vec<u8>, Refusal> {
 }
 
 /// Returns a walk from the first state to the last.
-fn walked(alloc: Global) -> Result<Vec<u8>, Refusal> {
-    let graph = graph(alloc)?;
-    let walk = path(alloc, &graph, EDGES.as_slice(), [0].as_slice(), 2)?;
+fn walked(alloc: Global, graph: &Graph) -> Result<Vec<u8>, Refusal>
+    requires states { graph.now.states ≡ 3 }
+    requires edges { length graph.now.edges ≡ 4 }
+{
+    let walk = path(alloc, graph, EDGES.as_slice(), [0].as_slice(), 2)?;
     written_walk(alloc, walk)
 }
 
 /// Returns a closed walk that the formula of a text accepts, if the edges have marks 0, 1, none and 1.
-fn accepted(alloc: Global, text: &[u8]) -> Result<Vec<u8>, Refusal> {
+fn accepted(alloc: Global, graph: &Graph, text: &[u8]) -> Result<Vec<u8>, Refusal>
+    requires states { graph.now.states ≡ 3 }
+    requires edges { length graph.now.edges ≡ 4 }
+{
     let shape = formula_in(alloc, text)?.shape(alloc)?;
-    let graph = graph(alloc)?;
     let none = Numbers::from_slice(alloc, &[])?;
     let marks = [Numbers::one(0), Numbers::one(1), none, Numbers::one(1)];
-    let walk = accepting_walk(alloc, &graph, marks.as_slice(), EDGES.as_slice(), &shape)?;
+    let walk = accepting_walk(alloc, graph, marks.as_slice(), EDGES.as_slice(), &shape)?;
     written_walk(alloc, walk)
 }
 
@@ -86,11 +112,23 @@ fn written_walk(alloc: Global, walk: Option<Vec<u32>>) -> Result<Vec<u8>, Refusa
     Ok(out)
 }
 
-/// Whether the label of a text can be true.
-fn judged(alloc: Global, text: &[u8]) -> Result<Vec<u8>, Refusal> {
-    let raw = label_in(alloc, text)?;
-    let label = expand(alloc, &raw, &Aliases::new(alloc))?;
+/// Whether a label can be true.
+fn judged(alloc: Global, raw: Result<RawLabel, Refusal>) -> Result<Vec<u8>, Refusal> {
+    match raw {
+        Ok(raw) => judged_expanded(alloc, expand(alloc, &raw, &Aliases::new(alloc))),
+        Err(refusal) => Err(refusal),
+    }
+}
+
+fn judged_expanded(alloc: Global, label: Result<Label, Refusal>) -> Result<Vec<u8>, Refusal> {
+    match label {
+        Ok(label) => told(alloc, is_satisfiable(alloc, &label)),
+        Err(refusal) => Err(refusal),
+    }
+}
+
+fn told(alloc: Global, holds: Result<bool, Refusal>) -> Result<Vec<u8>, Refusal> {
     let mut out = Vec::new(alloc);
-    put_answer(&mut out, is_satisfiable(alloc, &label)?)?;
+    put_answer(&mut out, holds?)?;
     Ok(out)
 }

@@ -4,7 +4,7 @@ use omega_budget::{Found, NoObserver, Reordered};
 use omega_game::{Game, Player, Refusal};
 use omega_judged_search::solve_by_search;
 use omega_order::{FilledWords, Permutation, numbers_below, position_set};
-use omega_pg::{read_game, write_solution};
+use omega_pg::write_solution;
 use omega_solve::{
     MOST_LIFTS, MeasureTable, Nested, Outcome, PackedTable, PlainTable, Schedule, Solver, Sweep,
     Worklist,
@@ -12,68 +12,80 @@ use omega_solve::{
 use omega_zielonka::search;
 use std::alloc::Global;
 
-pub(crate) fn called(
+pub(crate) fn has(call: &str) -> bool {
+    match call {
+        "plain sweep" | "plain worklist" | "plain nested" => true,
+        "packed sweep" | "packed worklist" | "packed nested" => true,
+        "Reordered" | "solve_by_search" | "search" | "order" => true,
+        _ => false,
+    }
+}
+
+pub(crate) fn of_game(
     alloc: Global,
     call: &str,
-    text: &[u8],
-    other: &[u8],
-) -> Option<Result<Vec<u8>, Refusal>> {
-    let runs = other == b"run".as_slice();
+    game: &Game,
+    runs: bool,
+) -> Result<Vec<u8>, Refusal> {
     match call {
-        "plain sweep" => Some(of_text::<PlainTable, Sweep>(alloc, text, runs)),
-        "plain worklist" => Some(of_text::<PlainTable, Worklist>(alloc, text, runs)),
-        "plain nested" => Some(of_text::<PlainTable, Nested>(alloc, text, runs)),
-        "packed sweep" => Some(of_text::<PackedTable, Sweep>(alloc, text, runs)),
-        "packed worklist" => Some(of_text::<PackedTable, Worklist>(alloc, text, runs)),
-        "packed nested" => Some(of_text::<PackedTable, Nested>(alloc, text, runs)),
-        "Reordered" => Some(reordered(alloc, text)),
-        "solve_by_search" => Some(searched(alloc, text)),
-        "search" => Some(suggested(alloc, text)),
-        "order" => Some(ordered(alloc, text)),
-        _ => None,
+        "plain sweep" => lifted::<PlainTable, Sweep>(alloc, game, runs),
+        "plain worklist" => lifted::<PlainTable, Worklist>(alloc, game, runs),
+        "plain nested" => lifted::<PlainTable, Nested>(alloc, game, runs),
+        "packed sweep" => lifted::<PackedTable, Sweep>(alloc, game, runs),
+        "packed worklist" => lifted::<PackedTable, Worklist>(alloc, game, runs),
+        "packed nested" => lifted::<PackedTable, Nested>(alloc, game, runs),
+        "Reordered" => in_order(alloc, game),
+        "solve_by_search" => found_by_search(alloc, game),
+        "search" => suggestion(alloc, game),
+        _ => order(alloc, game),
     }
 }
 
 /// Returns what two solvers find; one of them takes the places in the game's order. All of the text's room is requested
 /// before they are made, and neither runs unless `runs`.
-fn of_text<T: MeasureTable, S: Schedule>(
-    alloc: Global,
-    text: &[u8],
-    runs: bool,
-) -> Result<Vec<u8>, Refusal> {
-    match read_game(alloc, text) {
-        Ok(game) => of_game::<T, S>(alloc, &game, runs),
-        Err(refusal) => Err(refusal),
-    }
-}
-
-fn of_game<T: MeasureTable, S: Schedule>(
+fn lifted<T: MeasureTable, S: Schedule>(
     alloc: Global,
     game: &Game,
     runs: bool,
 ) -> Result<Vec<u8>, Refusal> {
     let mut out = Vec::with_capacity(alloc, 4096)?;
-    lift_by_both::<T, S>(alloc, game, runs, &mut out)?;
+    lift_in_order::<T, S>(alloc, game, runs, &mut out)?;
     Ok(out)
 }
 
-fn lift_by_both<T: MeasureTable, S: Schedule>(
+fn lift_in_order<T: MeasureTable, S: Schedule>(
     alloc: Global,
     game: &Game,
     runs: bool,
     out: &mut Vec<u8>,
 ) -> Result<(), Refusal> {
     match Solver::<'_, T, S>::prepare_in_order(alloc, game, Player::One) {
-        Ok(mut other) => match Solver::<'_, T, S>::prepare(alloc, game, Player::Zero) {
-            Ok(mut solver) if runs => {
-                lift_whole(&mut other, out)?;
-                lift_whole(&mut solver, out)
-            }
-            Ok(_) => Ok(()),
-            Err(refusal) => Err(refusal),
-        },
+        Ok(mut solver) => lift_by_both(alloc, game, &mut solver, runs, out),
         Err(refusal) => Err(refusal),
     }
+}
+
+fn lift_by_both<T: MeasureTable, S: Schedule>(
+    alloc: Global,
+    game: &Game,
+    other: &mut Solver<'_, T, S>,
+    runs: bool,
+    out: &mut Vec<u8>,
+) -> Result<(), Refusal> {
+    match Solver::<'_, T, S>::prepare(alloc, game, Player::Zero) {
+        Ok(mut solver) if runs => run_both(other, &mut solver, out),
+        Ok(_) => Ok(()),
+        Err(refusal) => Err(refusal),
+    }
+}
+
+fn run_both<T: MeasureTable, S: Schedule>(
+    other: &mut Solver<'_, T, S>,
+    solver: &mut Solver<'_, T, S>,
+    out: &mut Vec<u8>,
+) -> Result<(), Refusal> {
+    lift_whole(other, out)?;
+    lift_whole(solver, out)
 }
 
 /// Runs a solver lift by lift, and puts its lifts, its attempts, and what it finds.
@@ -104,13 +116,6 @@ fn put_found(out: &mut Vec<u8>, won: &[bool], choices: &[Option<u32>]) -> Result
     Ok(())
 }
 
-fn reordered(alloc: Global, text: &[u8]) -> Result<Vec<u8>, Refusal> {
-    match read_game(alloc, text) {
-        Ok(game) => in_order(alloc, &game),
-        Err(refusal) => Err(refusal),
-    }
-}
-
 fn in_order(alloc: Global, game: &Game) -> Result<Vec<u8>, Refusal> {
     let mut out = Vec::new(alloc);
     let reordered = Reordered::of(alloc, game.forward())?;
@@ -123,32 +128,20 @@ fn in_order(alloc: Global, game: &Game) -> Result<Vec<u8>, Refusal> {
 
 fn put_solved(out: &mut Vec<u8>, found: Result<Found, Refusal>) -> Result<(), Refusal> {
     match found {
-        Ok(found) => {
-            put(out, u128::from(found.lifts))?;
-            put_found(out, found.won.as_slice(), found.choice.as_slice())
-        }
+        Ok(found) => put_lifted(out, &found),
         Err(refusal) => Err(refusal),
     }
 }
 
-fn searched(alloc: Global, text: &[u8]) -> Result<Vec<u8>, Refusal> {
-    match read_game(alloc, text) {
-        Ok(game) => found_by_search(alloc, &game),
-        Err(refusal) => Err(refusal),
-    }
+fn put_lifted(out: &mut Vec<u8>, found: &Found) -> Result<(), Refusal> {
+    put(out, u128::from(found.lifts))?;
+    put_found(out, found.won.as_slice(), found.choice.as_slice())
 }
 
 fn found_by_search(alloc: Global, game: &Game) -> Result<Vec<u8>, Refusal> {
     match solve_by_search(alloc, game)? {
         Some(solution) => write_solution(alloc, game.forward(), &solution),
         None => Ok(Vec::from_slice(alloc, b"nothing\n")?),
-    }
-}
-
-fn suggested(alloc: Global, text: &[u8]) -> Result<Vec<u8>, Refusal> {
-    match read_game(alloc, text) {
-        Ok(game) => suggestion(alloc, &game),
-        Err(refusal) => Err(refusal),
     }
 }
 
@@ -159,13 +152,6 @@ fn suggestion(alloc: Global, game: &Game) -> Result<Vec<u8>, Refusal> {
         None => out.extend_from_slice(b"nothing\n")?,
     }
     Ok(out)
-}
-
-fn ordered(alloc: Global, text: &[u8]) -> Result<Vec<u8>, Refusal> {
-    match read_game(alloc, text) {
-        Ok(game) => order(alloc, &game),
-        Err(refusal) => Err(refusal),
-    }
 }
 
 /// Returns the places of a game in the order of their positions, and how many words its sets of positions have.

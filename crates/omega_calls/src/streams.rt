@@ -4,11 +4,17 @@ use omega_hoa::{Item, Stream, read_stream};
 use omega_text::Refusal;
 use std::alloc::Global;
 
-pub(crate) fn called(alloc: Global, call: &str, text: &[u8]) -> Option<Result<Vec<u8>, Refusal>> {
+pub(crate) fn has(call: &str) -> bool {
     match call {
-        "read_stream" => Some(whole(alloc, text)),
-        "feed" => Some(in_pieces(alloc, text)),
-        _ => None,
+        "read_stream" | "feed" => true,
+        _ => false,
+    }
+}
+
+pub(crate) fn called(alloc: Global, call: &str, text: &[u8]) -> Result<Vec<u8>, Refusal> {
+    match call {
+        "read_stream" => whole(alloc, text),
+        _ => in_pieces(alloc, text),
     }
 }
 

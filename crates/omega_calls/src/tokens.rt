@@ -6,16 +6,23 @@ use omega_text::{
 };
 use std::alloc::Global;
 
-pub(crate) fn called(alloc: Global, call: &str, text: &[u8]) -> Option<Result<Vec<u8>, Refusal>> {
+pub(crate) fn has(call: &str) -> bool {
     match call {
-        "write_number" => Some(number(alloc)),
-        "pg_tokens" => Some(pg_places(alloc, text)),
-        "hoa_tokens" => Some(hoa_places(alloc, text)),
-        "ByteString" => Some(string(alloc, text)),
-        "Numbers" => Some(numbers(alloc)),
-        "write_escaped" => Some(escaped(alloc, text)),
-        "write_name_line" => Some(name_line(alloc, text)),
-        _ => None,
+        "write_number" | "pg_tokens" | "hoa_tokens" | "ByteString" | "Numbers" => true,
+        "write_escaped" | "write_name_line" => true,
+        _ => false,
+    }
+}
+
+pub(crate) fn called(alloc: Global, call: &str, text: &[u8]) -> Result<Vec<u8>, Refusal> {
+    match call {
+        "write_number" => number(alloc),
+        "pg_tokens" => pg_places(alloc, text),
+        "hoa_tokens" => hoa_places(alloc, text),
+        "ByteString" => string(alloc, text),
+        "Numbers" => numbers(alloc),
+        "write_escaped" => escaped(alloc, text),
+        _ => name_line(alloc, text),
     }
 }
 

@@ -1,0 +1,163 @@
+//! Games built: of nodes, by a builder, and with predecessors made after the rest.
+ghost use Rattle.std.specs.Prelude.{◌<◌, length, OnOk};
+
+use omega_game::{ForwardGame, Game, GameBuilder, MOST_NUMBER, NodeSpec, Player, Refusal, Seq};
+use omega_pg::{read_forward_game, write_game};
+use std::alloc::Global;
+
+pub(crate) fn has(call: &str) -> bool {
+    match call {
+        "read_forward_game" | "with_predecessors" | "build" => true,
+        _ => false,
+    }
+}
+
+pub(crate) fn called(alloc: Global, call: &str, text: &[u8]) -> Result<Vec<u8>, Refusal> {
+    match call {
+        "read_forward_game" => forward_written(alloc, read_forward_game(alloc, text)),
+        "with_predecessors" => written(alloc, completed(alloc, text)),
+        _ => written(alloc, built_of_two(alloc)),
+    }
+}
+
+pub(crate) fn written(alloc: Global, game: Result<Game, Refusal>) -> Result<Vec<u8>, Refusal> {
+    match game {
+        Ok(game) => write_game(alloc, game.forward()),
+        Err(refusal) => Err(refusal),
+    }
+}
+
+fn forward_written(
+    alloc: Global,
+    forward: Result<ForwardGame, Refusal>,
+) -> Result<Vec<u8>, Refusal> {
+    match forward {
+        Ok(forward) => write_game(alloc, &forward),
+        Err(refusal) => Err(refusal),
+    }
+}
+
+/// Returns the game of a text, its predecessors made after the rest.
+fn completed(alloc: Global, text: &[u8]) -> Result<Game, Refusal> {
+    match read_forward_game(alloc, text) {
+        Ok(forward) => forward.with_predecessors(alloc),
+        Err(refusal) => Err(refusal),
+    }
+}
+
+/// Returns the game of two nodes, one of them with a name.
+fn built_of_two(alloc: Global) -> Result<Game, Refusal> {
+    let first = Seq::from_vec(Vec::from_slice(alloc, &[7, 3])?);
+    let second = Seq::from_vec(Vec::from_slice(alloc, &[7])?);
+    let name = Seq::from_vec(Vec::from_slice(alloc, &[b'n'])?);
+    let specs = vec![in alloc;
+        NodeSpec {
+            id: 7,
+            priority: 1,
+            owner: Player::One,
+            successors: first,
+            name: None
+        },
+        NodeSpec {
+            id: 3,
+            priority: 2,
+            owner: Player::Zero,
+            successors: second,
+            name: Some(name)
+        },
+    ]?;
+    Game::build(alloc, specs)
+}
+
+/// Returns a game, its nodes handed to a builder one by one.
+pub(crate) fn built_again(alloc: Global, game: &Game) -> Result<Vec<u8>, Refusal> {
+    let mut builder = GameBuilder::with_room(alloc, 1, 1)?;
+    match fill(&mut builder, game) {
+        Ok(()) => written(alloc, builder.finish()),
+        Err(refusal) => Err(refusal),
+    }
+}
+
+/// Returns the same without predecessors.
+pub(crate) fn forward_built_again(alloc: Global, game: &Game) -> Result<Vec<u8>, Refusal> {
+    let mut builder = GameBuilder::with_room(alloc, 1, 1)?;
+    match fill(&mut builder, game) {
+        Ok(()) => forward_written(alloc, builder.finish_forward()),
+        Err(refusal) => Err(refusal),
+    }
+}
+
+/// Adds the nodes of a game, and refuses one that has none.
+fn fill(builder: &mut GameBuilder, game: &Game) -> Result<(), Refusal>
+    ensures { OnOk result (0 < length builder.new) }
+{
+    for place in 0..game.len() as u32 {
+        add_node(builder, game, place)?;
+    }
+    if builder.len() == 0 {
+        return Err(Refusal::Io);
+    }
+    Ok(())
+}
+
+/// Adds the node at a place, with a name. A refused request adds nothing, so that it may be added once more.
+fn add_node(builder: &mut GameBuilder, game: &Game, place: u32) -> Result<(), Refusal>
+    requires { place < length game.now }
+{
+    let (id, priority, owner) = (game.id(place), game.priority(place), game.owner(place));
+    let successors = game.successors(place);
+    if successors.is_empty() || id > MOST_NUMBER || priority > MOST_NUMBER {
+        return Err(Refusal::Io);
+    }
+    for (at, successor) in successors.iter().enumerate() {
+        if *successor as usize >= game.len() {
+            return Err(Refusal::Io);
+        }
+        let id_of_successor = game.id(*successor);
+        if at == 0 {
+            add_again(builder, id, priority, owner, id_of_successor)?;
+        } else {
+            list_again(builder, id_of_successor)?;
+        }
+    }
+    name_again(builder)
+}
+
+fn add_again(
+    builder: &mut GameBuilder,
+    id: u32,
+    priority: u32,
+    owner: Player,
+    first: u32,
+) -> Result<(), Refusal> {
+    if id > MOST_NUMBER || priority > MOST_NUMBER || first > MOST_NUMBER {
+        return Err(Refusal::Io);
+    }
+    let count = builder.len();
+    match builder.add_node(id, priority, owner, first) {
+        Err(Refusal::Memory) if builder.len() != count => Err(Refusal::Io),
+        Err(Refusal::Memory) => builder.add_node(id, priority, owner, first),
+        given => given,
+    }
+}
+
+fn list_again(builder: &mut GameBuilder, successor: u32) -> Result<(), Refusal> {
+    if builder.len() == 0 || successor > MOST_NUMBER {
+        return Err(Refusal::Io);
+    }
+    match builder.add_successor(successor) {
+        Err(Refusal::Memory) if builder.len() != 0 => builder.add_successor(successor),
+        given => given,
+    }
+}
+
+/// Gives the last node its name once more.
+fn name_again(builder: &mut GameBuilder) -> Result<(), Refusal> {
+    if builder.len() == 0 {
+        return Err(Refusal::Io);
+    }
+    match builder.set_name(&[b'n']) {
+        Err(Refusal::Memory) if builder.len() != 0 => builder.set_name(&[b'n']),
+        given => given,
+    }
+}
