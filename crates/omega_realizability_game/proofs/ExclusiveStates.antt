@@ -8,6 +8,7 @@ use Rattle.std.proofs.lemmas.Nat.Bits.{bit_at-lt, bit_at-zero, bit_at_and}
 use Rattle.std.proofs.lemmas.Option.{slice_get_within}
 use Rattle.omega_label.specs.Label.{LabelTree, conjunction, propositions, truth}
 use Rattle.omega_satisfying.specs.Satisfiable.{IsSatisfiable, each_once}
+use Rattle.omega_satisfying.specs.private.Words.{word_among}
 use Rattle.omega_satisfying.proofs.Valuations.{block-lt}
 use Rattle.omega_satisfying.proofs.WordLemmas.{held_in, lane-off, on, on-word_of}
 use Rattle.omega_automaton.specs.Automaton.{Description}
@@ -20,10 +21,10 @@ use Rattle.omega_complement.specs.Letters.{AreExclusive, HasClash, IsPair}
 use Rattle.omega_complement.proofs.Rows.{each_at}
 use Rattle.omega_realizability_game.specs.Classes.{input_mentions}
 use Rattle.omega_realizability_game.specs.Exclusive.{AreApartIn, AreMentionedBelow, HasLabelAt, block_word}
-use Rattle.omega_realizability_game.specs.Lanes.{AreInputsFor, is_one_of, is_set, lane_word}
+use Rattle.omega_realizability_game.specs.Lanes.{is_one_of, is_set}
 use Rattle.omega_realizability_game.specs.Letters.{holds_in, letter_numbered}
 use Rattle.omega_realizability_game.proofs.AllInputs.{once_apart}
-use Rattle.omega_realizability_game.proofs.LaneWords.{input_bit, on-or}
+use Rattle.omega_realizability_game.proofs.LaneWords.{input_lane, on-or}
 use Rattle.omega_realizability_game.proofs.Lettering.{numbered}
 use Rattle.omega_realizability_game.proofs.Mentions.{each_kept, passing, seen_kept, truth_agrees}
 
@@ -131,24 +132,17 @@ module _ (mentioned : List ℕ) (state : State) (are : AreMentionedBelow mention
         subst (λ (t : LabelTree). HasLabelAt state at t) (sym label_is) own.1,
       )
 
-  inputs_of_label : (at : ℕ) (label : LabelTree) → at < length state.edges → HasLabelAt state at label → AreInputsFor [] mentioned label
-  inputs_of_label at label below has = record {
-    apart = are.apart;
-    covers = λ p free one_of. are.covers at label p below has one_of;
-  }
-
   -- the lane of a letter at which a label is true
   lane_true : (held : ℕ → Bool) (at : ℕ) (label : LabelTree) → at < length state.edges → HasLabelAt state at label → truth held label ≡ true
       → (number : ℕ) → letter_numbered mentioned number ≡ filter held mentioned → is_set (block_word mentioned (number / 64) label) (number % 64) ≡ true
   lane_true held at label below has is number letter =
       let low : number % 64 < 64 = omega arith in
-      let whole : (number / 64) * 64 + number % 64 ≡ number = omega arith in
-      on-word_of (lane_word [] mentioned [] (number / 64)) label (number % 64) low
-      ∙ (truth_agrees (held_in (lane_word [] mentioned [] (number / 64)) (number % 64)) held label
+      on-word_of (word_among (number / 64) 0 mentioned) label (number % 64) low
+      ∙ (truth_agrees (held_in (word_among (number / 64) 0 mentioned) (number % 64)) held label
       (λ p one_of.
-      input_bit [] mentioned label (inputs_of_label at label below has) (number / 64) (number % 64) low [] p refl (are.covers at label p below has one_of)
-      ∙ (ap (λ n. holds_in (letter_numbered mentioned n) p) whole
-      ∙ (ap (λ (list : List ℕ). holds_in list p) letter ∙ passing held p mentioned (are.covers at label p below has one_of))))
+      input_lane number 0 mentioned number p (λ more. (let moved : 0 + more ≡ more = omega arith in ap (bit_at number) moved)) are.apart
+      (are.covers at label p below has one_of)
+      ∙ (ap (λ (list : List ℕ). holds_in list p) letter ∙ passing held p mentioned (are.covers at label p below has one_of)))
       ∙ is)
 
   pub exclusive : (count : ℕ) → AreExclusive (labels_of count state)

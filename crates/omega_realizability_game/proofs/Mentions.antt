@@ -1,8 +1,9 @@
 -- What lists of propositions mention, and that a label's truth rests on what it mentions.
-use Rattle.std.proofs.Common.{◌≡◌, ◌==◌, ℕ, zero, suc, inl, inr, Bool, true, false, cond, not, ◌&&◌, ◌||◌, List, [], ◌∷◌, ◌++◌, Contains, sym, ap, refl, ◌∙◌, arith}
+use Rattle.std.proofs.Common.{◌≡◌, ◌==◌, ℕ, zero, suc, inl, inr, Bool, true, false, cond, not, ◌&&◌, ◌||◌, List, [], ◌∷◌, ◌++◌, Contains, sym, ap, refl, ◌∙◌, append_assoc, arith}
 use Rattle.std.specs.Prelude.{filter}
 use Rattle.std.specs.List.{flat_map, list_any}
-use Rattle.std.proofs.lemmas.Bool.{cond_both, eq-eqb, eqb-true, false≢true, or_cases, or_left, or_right}
+use Rattle.std.proofs.lemmas.Bool.{cond_both, eq-eqb, eqb-true, false≢true, or_cases, or_from, or_left, or_parts, or_right}
+use Rattle.std.proofs.lemmas.List.Folds.{list_any-append}
 use Rattle.omega_label.specs.Label.{LabelTree, conjunction, constant, disjunction, negation, proposition, propositions, truth}
 use Rattle.omega_satisfying.specs.Satisfiable.{each_once}
 
@@ -51,8 +52,34 @@ each_kept number seen (next ∷ rest) is = elim (or_cases (next == number) (amon
   | inr there ↦ each_kept number (cond (among next seen) seen (seen ++ next ∷ [])) rest there
 ]
 
+-- what is in neither list is not kept
+pub none_once : (number : ℕ) (seen rest : List ℕ) → among number seen ≡ false → among number rest ≡ false → among number (each_once seen rest) ≡ false
+none_once number seen [] old new = old
+none_once number seen (next ∷ rest) old new =
+    let parts = or_parts (next == number) (among number rest) new in
+    none_once number (cond (among next seen) seen (seen ++ next ∷ [])) rest
+    (cond_both (among next seen) seen (seen ++ next ∷ []) (λ numbers. among number numbers ≡ false) (λ there. old)
+    (λ more. list_any-append (λ other. other == number) seen (next ∷ [])
+    ∙ or_from (among number seen) (among number (next ∷ [])) old (or_from (next == number) false parts.0 refl)))
+    parts.1
+
+-- numbers that are not among some come behind them
+pub once_behind : (front seen rest : List ℕ) → ((number : ℕ) → among number rest ≡ true → among number front ≡ false)
+    → each_once (front ++ seen) rest ≡ front ++ each_once seen rest
+once_behind front seen [] off = refl
+once_behind front seen (next ∷ rest) off =
+    let new : among next front ≡ false = off next (or_left (next == next) (among next rest) (eq-eqb next next refl)) in
+    let same : among next (front ++ seen) ≡ among next seen =
+    list_any-append (λ other. other == next) front seen ∙ ap (λ b. b || among next seen) new in
+    ap (λ list. each_once list rest) (ap (λ b. cond b (front ++ seen) ((front ++ seen) ++ next ∷ [])) same ∙ behind (among next seen))
+    ∙ once_behind front (cond (among next seen) seen (seen ++ next ∷ [])) rest (λ number is. off number (or_right (next == number) (among number rest) is))
+  where
+    behind : (b : Bool) → cond b (front ++ seen) ((front ++ seen) ++ next ∷ []) ≡ front ++ cond b seen (seen ++ next ∷ [])
+    behind true = refl
+    behind false = append_assoc front seen (next ∷ [])
+
 -- what fails a test is not among those that pass, and what passes it is
-none_passing : (test : ℕ → Bool) (number : ℕ) (numbers : List ℕ) → test number ≡ false → among number (filter test numbers) ≡ false
+pub none_passing : (test : ℕ → Bool) (number : ℕ) (numbers : List ℕ) → test number ≡ false → among number (filter test numbers) ≡ false
 none_passing test number [] fails = refl
 none_passing test number (x ∷ xs) fails = step (test x) (x == number) refl refl (none_passing test number xs fails)
   where

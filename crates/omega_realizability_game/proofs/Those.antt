@@ -1,4 +1,4 @@
--- Those of a list that have a property: one number more, their members, and that they are one list.
+-- Those of a list that have a property: their members, and that they are one list.
 use Rattle.std.proofs.Common.{◌≡◌, ◌↔◌, ℕ, zero, suc, ◌<◌, inl, inr, List, [], ◌∷◌, ◌++◌, length, Contains, sym, ap, refl, ◌∙◌, subst, arith}
 use Rattle.omega_realizability_game.specs.Those.{AreThoseWith}
 
@@ -8,25 +8,6 @@ behind x n xs has = (suc has.0, omega (arith, has.1), has.2)
 
 in_front : (x : ℕ) (xs : List ℕ) → Contains (x ∷ xs) x
 in_front x xs = (0, omega arith, refl)
-
-ends : (x y : ℕ) (xs ys : List ℕ) → xs ≡ x ∷ ys → xs ++ y ∷ [] ≡ x ∷ (ys ++ y ∷ [])
-ends x y xs ys is = ap (λ list. list ++ y ∷ []) is
-
--- one number more that has the property
-pub those_more : (P : ℕ → Type 0) (xs ys : List ℕ) (x : ℕ) → AreThoseWith P xs ys → P x → AreThoseWith P (xs ++ x ∷ []) (ys ++ x ∷ [])
-those_more P [] ys x are has = inl ([], has, ap (λ list. list ++ x ∷ []) are, refl)
-those_more P (n ∷ xs) ys x are has = elim are [
-  | inl here ↦ inl (here.0 ++ x ∷ [], here.1, ends n x ys here.0 here.2, those_more P xs here.0 x here.3 has)
-  | inr there ↦ inr (there.0, those_more P xs ys x there.1 has)
-]
-
--- one that has not
-pub those_same : (P : ℕ → Type 0) (xs ys : List ℕ) (x : ℕ) → AreThoseWith P xs ys → (P x → ⊥) → AreThoseWith P (xs ++ x ∷ []) ys
-those_same P [] ys x are lacks = inr (lacks, are)
-those_same P (n ∷ xs) ys x are lacks = elim are [
-  | inl here ↦ inl (here.0, here.1, here.2, those_same P xs here.0 x here.3 lacks)
-  | inr there ↦ inr (there.0, those_same P xs ys x there.1 lacks)
-]
 
 none : (n : ℕ) (xs : List ℕ) → xs ≡ [] → Contains xs n → ⊥
 none n xs is has = omega (arith, has.1, ap length is)

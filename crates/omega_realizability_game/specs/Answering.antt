@@ -55,12 +55,6 @@ IsUnanswered a controlled letter number =
     or_task (λ fault. (edge : BodyEdge) × (edge_at a number ≡ Some edge)
     × IsUnjudged controlled letter (whole_label a number edge) fault) (or_memory never)
 
--- one of the edges with these numbers cannot be judged
-abbrev pub IsSomeUnanswered : Description → List ℕ → List ℕ → List ℕ → Refusal → Type 0
-IsSomeUnanswered a controlled numbers letter =
-    or_task (λ fault. (number : ℕ) × Contains numbers number × (edge : BodyEdge) × (edge_at a number ≡ Some edge)
-    × IsUnjudged controlled letter (whole_label a number edge) fault) (or_memory never)
-
 -- the answers are those of the edges with these numbers that answer the environment's letter
 abbrev pub AreAnswersAmong : Description → List ℕ → List ℕ → (ℕ → Bool) → List ℕ → Type 0
 AreAnswersAmong a controlled numbers given answers =

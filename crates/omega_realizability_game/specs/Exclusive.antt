@@ -1,10 +1,10 @@
 -- Labels of the edges of a state, judged together in blocks of letters.
 use Rattle.std.specs.Prelude.{◌≡◌, ℕ, ◌<◌, true, List, [], Some, slice_get}
 use Rattle.omega_label.specs.Label.{LabelTree, propositions}
-use Rattle.omega_satisfying.specs.private.Words.{word_of}
+use Rattle.omega_satisfying.specs.private.Words.{word_among, word_of}
 use Rattle.omega_automaton.specs.declared.edge.Edge.{Edge}
 use Rattle.omega_automaton.specs.declared.state.State.{State}
-use Rattle.omega_realizability_game.specs.Lanes.{AreApart, is_one_of, is_set, lane_word}
+use Rattle.omega_realizability_game.specs.Lanes.{AreApart, is_one_of, is_set}
 
 -- the edge at an index of the state has the label
 pub record HasLabelAt (state : State) (at : ℕ) (label : LabelTree) : Type 0 where
@@ -21,7 +21,7 @@ pub record AreMentionedBelow (mentioned : List ℕ) (state : State) (end : ℕ) 
 
 -- the word of a label in a block of letters over propositions
 abbrev pub block_word : List ℕ → ℕ → LabelTree → ℕ
-block_word mentioned block label = word_of (lane_word [] mentioned [] block) label
+block_word mentioned block label = word_of (word_among block 0 mentioned) label
 
 -- at each letter of a block at most one of the labels of the first edges is true
 abbrev pub AreApartIn : List ℕ → ℕ → State → ℕ → Type 0

@@ -3,7 +3,6 @@ use Rattle.std.specs.Prelude.{◌≡◌, ◌↔◌, ℕ, ◌+◌, ◌*◌, ◌^�
 use Rattle.std.specs.Int.{bit_at}
 use Rattle.std.specs.List.{list_any}
 use Rattle.omega_label.specs.Label.{LabelTree, propositions}
-use Rattle.omega_satisfying.specs.private.Words.{word_among, word_of_truth}
 use Rattle.omega_realizability_game.specs.Answering.{CanAnswer, is_controlled}
 use Rattle.omega_realizability_game.specs.Letters.{holds_in, letter_numbered}
 
@@ -20,20 +19,22 @@ abbrev pub AreApart : List ℕ → Type 0
 AreApart [] = Unit {0}
 AreApart (number ∷ numbers) = (is_one_of numbers number ≡ false) × AreApart numbers
 
--- the inputs, each once, are all that the label mentions
+-- the inputs, each once, are the environment's, and all of its propositions that the label mentions
 pub record AreInputsFor (controlled inputs : List ℕ) (label : LabelTree) : Type 0 where
   pub apart : AreApart inputs
+  pub given : (p : ℕ) → is_one_of inputs p ≡ true → is_controlled controlled p ≡ false
   pub covers : (p : ℕ) → is_controlled controlled p ≡ false → is_one_of (propositions label) p ≡ true
       → is_one_of inputs p ≡ true
-
--- the word of a proposition in a block, if of the system's propositions the chosen ones hold
-abbrev pub lane_word : List ℕ → List ℕ → List ℕ → ℕ → ℕ → ℕ
-lane_word controlled inputs chosen block p =
-    if is_controlled controlled p then word_of_truth (holds_in chosen p) else word_among block 0 inputs p
 
 -- whether a lane of a word is set
 abbrev pub is_set : ℕ → ℕ → Bool
 is_set word lane = bit_at word lane == 1
+
+-- a lane is set exactly if it is, or one that comes by a multiple of the count of letters after it, in another word
+abbrev pub IsFolded : ℕ → ℕ → ℕ → ℕ → Type 0
+IsFolded letters shares word folded =
+    (lane : ℕ)
+    → IsTrue (is_set folded lane) ↔ ((share : ℕ) × (share < shares) × IsTrue (is_set word (lane + letters * share)))
 
 -- in the lane of each letter over the inputs a word says whether the label can answer the letter
 abbrev pub IsAnswerWord : List ℕ → List ℕ → ℕ → LabelTree → ℕ → Type 0

@@ -17,7 +17,7 @@ use std::alloc::Global;
 ///
 /// Each input is replaced by a constant, and what is left is judged. Fails with [TaskFault::TooManyPropositions] if
 /// that is left undecided.
-pub fn can_answer(
+pub(crate) fn can_answer(
     alloc: Global,
     label: &Label,
     controlled: &[u32],

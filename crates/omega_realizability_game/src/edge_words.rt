@@ -112,6 +112,7 @@ fn quick_word(
     requires place { EdgeStandsAt automaton.now _number place }
     requires inputs { AreInputsFor lanes.now.controlled.now lanes.now.inputs.now (label_of_number automaton.now _number) }
     requires few { length lanes.now.inputs.now ≤ most_mentioned }
+    requires block { lanes.now.block * 64 < 2 ^ length lanes.now.inputs.now }
     ensures word { IfOk result (λ found. IfSome found (IsEdgeWord automaton.now lanes.now.controlled.now
         lanes.now.inputs.now lanes.now.block _number)) }
     ensures refused { IfErr result (IsEdgeUnanswered automaton.now lanes.now.controlled.now _number) }

@@ -1,6 +1,6 @@
 //! Whether it is seen at once that at each letter a state has at most one edge.
 
-ghost use Rattle.std.specs.Prelude.{◌≡◌, ◌≤◌, ◌-◌, ◌^◌, [], None, ℕ, IfOk, IfSome, IsOkUnless, IsTrue, length};
+ghost use Rattle.std.specs.Prelude.{◌≡◌, ◌≤◌, None, ℕ, IfOk, IfSome, IsOkUnless, IsTrue, length};
 ghost use Rattle.omega_expression.specs.Limits.{most_mentioned};
 ghost use Rattle.omega_complement.specs.Complement.{AreExclusiveBelow};
 ghost use Rattle.omega_complement.specs.Labels.{labels_of};
@@ -8,7 +8,7 @@ ghost use Rattle.omega_complement.specs.Letters.{AreExclusive};
 ghost use Rattle.omega_realizability_game.specs.Exclusive.{AreApartIn, AreMentionedBelow};
 
 use crate::inputs::add_inputs_of;
-use crate::lanes::{Lanes, label_word};
+use crate::lanes::{blocks, label_word};
 use crate::stack::Stack;
 use omega_automaton::{Automaton, State};
 use omega_expression::MOST_MENTIONED;
@@ -18,6 +18,9 @@ use std::alloc::Global;
 /// Whether it is seen at once that at each letter each state of `automaton` has at most one edge. It may be so and not
 /// be seen: if a state has a label, an edge has none, or the labels of a state mention over `MOST_MENTIONED`
 /// propositions.
+///
+/// Only a `true` is promised to be right: a `false` says nothing, and no clause keeps it from coming too often. Whoever
+/// gets it has to judge each two edges, as `judge_states` of `omega_complement` does, and loses no more than time.
 ///
 /// The labels of a state are gone through once for each 64 letters over the propositions that they mention.
 pub fn are_seen_apart(alloc: Global, automaton: &Automaton) -> Result<bool, Refusal>
@@ -81,32 +84,24 @@ fn is_apart(state: &State, mentioned: &[u32], stack: &mut Stack) -> Result<bool,
     ensures memory { IsOkUnless result Refusal.Memory }
 {
     for block in 0..blocks(mentioned.len()) {
-        let lanes = Lanes {
-            controlled: &[],
-            inputs: mentioned,
-            block,
-        };
-        if !is_apart_in(state, &lanes, stack)? {
+        if !is_apart_in(state, mentioned, block, stack)? {
             return Ok(false);
         }
     }
     Ok(true)
 }
 
-/// Returns the number of blocks of 64 letters over `count` propositions.
-fn blocks(count: usize) -> u32
-    requires { count ≤ most_mentioned }
-    ensures { result ≡ 2 ^ (count - 6) }
-{
-    1 << count.saturating_sub(6)
-}
-
-/// Whether at each letter of the block at most one of the labels of the edges of `state` is true.
-fn is_apart_in(state: &State, lanes: &Lanes<'_>, stack: &mut Stack) -> Result<bool, Refusal>
-    requires few { length lanes.now.inputs.now ≤ most_mentioned }
-    requires uncontrolled { lanes.now.controlled.now ≡ [] }
+/// Whether at each letter of the block of letters over `mentioned` at most one of the labels of the edges of `state` is
+/// true.
+fn is_apart_in(
+    state: &State,
+    mentioned: &[u32],
+    block: u32,
+    stack: &mut Stack,
+) -> Result<bool, Refusal>
+    requires few { length mentioned.now ≤ most_mentioned }
     ensures apart { IfOk result (λ apart. IsTrue apart
-        → AreApartIn lanes.now.inputs.now lanes.now.block state.now (length state.now.edges)) }
+        → AreApartIn mentioned.now block state.now (length state.now.edges)) }
     ensures memory { IsOkUnless result Refusal.Memory }
 {
     let mut seen: u64 = 0;
@@ -115,7 +110,7 @@ fn is_apart_in(state: &State, lanes: &Lanes<'_>, stack: &mut Stack) -> Result<bo
         match edge.label() {
             None => return Ok(false),
             Some(label) => {
-                let word = label_word(label, lanes, &[], stack)?;
+                let word = label_word(label, mentioned, block, stack)?;
                 if word & seen != 0 {
                     return Ok(false);
                 }

@@ -1,15 +1,18 @@
 //! Labels judged at 64 letters at once, one in each lane of a word. A lane is a bit.
+//!
+//! A letter over some propositions has a number, whose binary digits say which of them hold. The letters of a block are
+//! those whose number divided by 64 is the number of the block.
 
-ghost use Rattle.std.specs.Prelude.{◌≡◌, ◌≤◌, ◌<◌, [], ◌∷◌, length, filter, IfOk, IfSome, IsOkUnless, OnOk};
+ghost use Rattle.std.specs.Prelude.{◌≡◌, ◌+◌, ◌-◌, ◌*◌, ◌^◌, ◌≤◌, ◌<◌, [], ◌∷◌, length, filter, IfOk, IfSome, IsOkUnless, OnOk};
 ghost use Rattle.omega_expression.specs.Limits.{most_mentioned};
 ghost use Rattle.omega_label.specs.Label.{propositions};
 ghost use Rattle.omega_satisfying.specs.Satisfiable.{each_once};
 ghost use Rattle.omega_satisfying.specs.private.Words.{mask, pattern, top_word, word_among, word_of, word_of_truth, words_after};
 ghost use Rattle.omega_realizability_game.specs.Answering.{is_controlled};
-ghost use Rattle.omega_realizability_game.specs.Lanes.{AreInputsFor, IsAnswerWord, lane_word, most_free};
+ghost use Rattle.omega_realizability_game.specs.Lanes.{AreInputsFor, IsAnswerWord, IsFolded, most_free};
 
 use crate::answering::is_among;
-use crate::inputs::{letter_count, letter_numbered};
+use crate::inputs::letter_count;
 use crate::stack::Stack;
 use omega_label::{Label, LabelNode, ROOM};
 use omega_text::{Numbers, Refusal};
@@ -18,7 +21,7 @@ use std::alloc::Global;
 /// The most propositions of the system in a label whose valuations are all tried.
 const MOST_FREE: usize = 8;
 
-/// A block of 64 letters over `inputs`: those whose number divided by 64 is `block`.
+/// A block of 64 letters over `inputs`.
 #[derive(Clone, Copy)]
 pub(crate) struct Lanes<'a> {
     /// The system's propositions.
@@ -29,7 +32,10 @@ pub(crate) struct Lanes<'a> {
 }
 
 /// Returns the word whose lanes say which letters of the block `label` can answer; none if the label mentions over
-/// `MOST_FREE` of the system's propositions. Goes through the label once for each choice of these propositions.
+/// `MOST_FREE` of the system's propositions.
+///
+/// Goes through the label once for each 64 letters over the inputs and these propositions: lanes that few inputs leave
+/// free have further choices of the system.
 pub(crate) fn answer_word(
     alloc: Global,
     label: &Label,
@@ -38,42 +44,47 @@ pub(crate) fn answer_word(
 ) -> Result<Option<u64>, Refusal>
     requires inputs { AreInputsFor lanes.now.controlled.now lanes.now.inputs.now label.now }
     requires few { length lanes.now.inputs.now ≤ most_mentioned }
+    requires block { lanes.now.block * 64 < 2 ^ length lanes.now.inputs.now }
     ensures word { IfOk result (λ found. IfSome found
         (IsAnswerWord lanes.now.controlled.now lanes.now.inputs.now lanes.now.block label.now)) }
     ensures memory { IsOkUnless result Refusal.Memory }
 {
-    match free_propositions(alloc, label, lanes.controlled)? {
+    match inputs_and_free(alloc, label, lanes)? {
         None => Ok(None),
-        Some(free) => {
-            let word = word_of_choices(alloc, label, lanes, free.as_slice(), stack)?;
+        Some(atoms) => {
+            let word = word_of_blocks(label, lanes, atoms.as_slice(), stack)?;
             Ok(Some(word))
         }
     }
 }
 
-/// Returns the `controlled` propositions that `label` mentions, each once; none if they are over `MOST_FREE`.
-fn free_propositions(
+/// Returns the inputs and behind them the system's propositions that `label` mentions, each once; none if the latter
+/// are over `MOST_FREE`.
+fn inputs_and_free(
     alloc: Global,
     label: &Label,
-    controlled: &[u32],
+    lanes: &Lanes<'_>,
 ) -> Result<Option<Numbers>, Refusal>
-    ensures free { IfOk result (λ found. IfSome found (λ free.
-        free ≡ each_once [] (filter (is_controlled controlled.now) (propositions label.now)))) }
-    ensures few { IfOk result (λ found. IfSome found (λ free. length free ≤ most_free)) }
+    requires { length lanes.now.inputs.now ≤ most_mentioned }
+    ensures atoms { IfOk result (λ found. IfSome found (λ atoms. atoms
+        ≡ each_once lanes.now.inputs.now (filter (is_controlled lanes.now.controlled.now) (propositions label.now)))) }
+    ensures few { IfOk result (λ found. IfSome found (λ atoms.
+        length atoms ≤ length lanes.now.inputs.now + most_free)) }
     ensures memory { IsOkUnless result Refusal.Memory }
 {
     let mut room = ROOM;
     let nodes = label.nodes(&mut room);
-    let mut free = Numbers::new();
+    let most = lanes.inputs.len() + MOST_FREE;
+    let mut atoms = Numbers::from_slice(alloc, lanes.inputs)?;
     for node in nodes {
         if let LabelNode::Proposition(number) = node {
-            add_free(alloc, *number, controlled, &mut free)?;
-            if free.len() > MOST_FREE {
+            add_free(alloc, *number, lanes.controlled, &mut atoms)?;
+            if atoms.len() > most {
                 return Ok(None);
             }
         }
     }
-    Ok(Some(free))
+    Ok(Some(atoms))
 }
 
 /// Appends a proposition if it is `controlled`, unless it is there.
@@ -81,85 +92,118 @@ fn add_free(
     alloc: Global,
     number: u32,
     controlled: &[u32],
-    free: &mut Numbers,
+    atoms: &mut Numbers,
 ) -> Result<(), Refusal>
-    ensures free { OnOk result (free.new ≡ each_once free.old (filter (is_controlled controlled.now) (number ∷ []))) }
+    ensures atoms { OnOk result (atoms.new ≡ each_once atoms.old (filter (is_controlled controlled.now) (number ∷ []))) }
     ensures memory { IsOkUnless result Refusal.Memory }
 {
     if !is_among(controlled, number) {
         return Ok(());
     }
-    if is_among(free.as_slice(), number) {
+    if is_among(atoms.as_slice(), number) {
         return Ok(());
     }
-    free.push(alloc, number)?;
+    atoms.push(alloc, number)?;
     Ok(())
 }
 
-/// Returns the word whose lanes say which letters of the block `label` can answer, by each choice of its `free`
-/// propositions.
-fn word_of_choices(
-    alloc: Global,
+/// Returns the word whose lanes say which letters of the block `label` can answer. `atoms` are the inputs and then the
+/// system's propositions that it mentions: a letter over them has the digits of its letter over the inputs, and above
+/// them those of a choice of the system.
+fn word_of_blocks(
     label: &Label,
     lanes: &Lanes<'_>,
-    free: &[u32],
+    atoms: &[u32],
     stack: &mut Stack,
 ) -> Result<u64, Refusal>
     requires inputs { AreInputsFor lanes.now.controlled.now lanes.now.inputs.now label.now }
     requires mentioned { length lanes.now.inputs.now ≤ most_mentioned }
-    requires free { free.now ≡ each_once [] (filter (is_controlled lanes.now.controlled.now) (propositions label.now)) }
-    requires few { length free.now ≤ most_free }
+    requires block { lanes.now.block * 64 < 2 ^ length lanes.now.inputs.now }
+    requires atoms { atoms.now
+        ≡ each_once lanes.now.inputs.now (filter (is_controlled lanes.now.controlled.now) (propositions label.now)) }
+    requires few { length atoms.now ≤ length lanes.now.inputs.now + most_free }
     ensures word { IfOk result
         (IsAnswerWord lanes.now.controlled.now lanes.now.inputs.now lanes.now.block label.now) }
     ensures memory { IsOkUnless result Refusal.Memory }
 {
     let mut room = ROOM;
     let nodes = label.nodes(&mut room);
-    let count = letter_count(free.len());
+    let inputs = lanes.inputs.len();
+    let free = atoms.len().saturating_sub(inputs);
     let mut word = 0;
-    for choice in 0..count {
-        let chosen = letter_numbered(alloc, free, choice)?;
-        let next = word_of_nodes(nodes, lanes, chosen.as_slice(), stack)?;
+    for turn in 0..letter_count(free.saturating_sub(6usize.saturating_sub(inputs))) {
+        let block = later_block(lanes.block, turn, inputs);
+        let next = word_of_nodes(nodes, atoms, block, stack)?;
         word |= next;
     }
-    Ok(word)
+    Ok(folded(word, inputs))
 }
 
-/// Returns the word of `label` in the block, if of the system's propositions the `chosen` ones hold.
+/// Returns the number of the block that has the letters of `block` over `inputs` propositions and the choice `turn` of
+/// those above them that the lanes have no room for.
+fn later_block(block: u32, turn: u32, inputs: usize) -> u32
+    requires block { block < 64 }
+    requires turn { turn < 256 }
+    requires inputs { inputs ≤ most_mentioned }
+    ensures { result ≡ block + turn * 2 ^ (inputs - 6) }
+{
+    block + turn * blocks(inputs)
+}
+
+/// Returns the number of blocks of 64 letters over `count` propositions.
+pub(crate) fn blocks(count: usize) -> u32
+    requires { count ≤ most_mentioned }
+    ensures { result ≡ 2 ^ (count - 6) }
+{
+    1 << count.saturating_sub(6)
+}
+
+/// Returns the word whose lane for each letter over `inputs` propositions is set if some lane of `word` is that has the
+/// letter: in each of the digits above, the lanes with a 1 are laid on those with a 0.
+fn folded(word: u64, inputs: usize) -> u64
+    requires { inputs ≤ most_mentioned }
+    ensures { IsFolded (2 ^ inputs) (2 ^ (6 - inputs)) word result }
+{
+    let mut folded = word;
+    for place in inputs..6 {
+        folded |= folded >> letter_count(place);
+    }
+    folded
+}
+
+/// Returns the word of `label` in the block of letters over `atoms`.
 pub(crate) fn label_word(
     label: &Label,
-    lanes: &Lanes<'_>,
-    chosen: &[u32],
+    atoms: &[u32],
+    block: u32,
     stack: &mut Stack,
 ) -> Result<u64, Refusal>
-    requires { length lanes.now.inputs.now ≤ most_mentioned }
-    ensures word { IfOk result (λ word. word ≡ word_of
-        (lane_word lanes.now.controlled.now lanes.now.inputs.now chosen.now lanes.now.block) label.now) }
+    requires { length atoms.now ≤ most_mentioned + most_free }
+    ensures word { IfOk result (λ word. word ≡ word_of (word_among block 0 atoms.now) label.now) }
     ensures memory { IsOkUnless result Refusal.Memory }
 {
     let mut room = ROOM;
     let nodes = label.nodes(&mut room);
-    let word = word_of_nodes(nodes, lanes, chosen, stack)?;
+    let word = word_of_nodes(nodes, atoms, block, stack)?;
     Ok(word)
 }
 
-/// Returns the word of `nodes` in postfix order in the block, if of the system's propositions the `chosen` ones hold.
+/// Returns the word of `nodes` in postfix order in the block of letters over `atoms`.
 fn word_of_nodes(
     nodes: &[LabelNode],
-    lanes: &Lanes<'_>,
-    chosen: &[u32],
+    atoms: &[u32],
+    block: u32,
     stack: &mut Stack,
 ) -> Result<u64, Refusal>
-    requires { length lanes.now.inputs.now ≤ most_mentioned }
-    ensures word { IfOk result (λ word. word ≡ top_word (words_after
-        (lane_word lanes.now.controlled.now lanes.now.inputs.now chosen.now lanes.now.block) [] nodes.now)) }
+    requires { length atoms.now ≤ most_mentioned + most_free }
+    ensures word { IfOk result (λ word. word ≡ top_word (words_after (word_among block 0 atoms.now) [] nodes.now)) }
     ensures memory { IsOkUnless result Refusal.Memory }
 {
     stack.clear();
     for node in nodes {
         match node {
             LabelNode::Constant(value) => stack.push(truth_word(*value))?,
-            LabelNode::Proposition(number) => stack.push(lane_word(lanes, chosen, *number))?,
+            LabelNode::Proposition(number) => stack.push(atom_word(atoms, block, *number))?,
             LabelNode::Not => {
                 let part = stack.pop();
                 stack.push(part ^ u64::MAX)?;
@@ -187,24 +231,12 @@ fn truth_word(value: bool) -> u64
     if value { u64::MAX } else { 0 }
 }
 
-/// Returns the word of the proposition `number` in the block, if of the system's propositions the `chosen` ones hold.
-fn lane_word(lanes: &Lanes<'_>, chosen: &[u32], number: u32) -> u64
-    requires { length lanes.now.inputs.now ≤ most_mentioned }
-    ensures { result ≡ lane_word lanes.now.controlled.now lanes.now.inputs.now chosen.now lanes.now.block number }
+/// Returns the word of the proposition `number` in the block of letters over `atoms`, or 0 if it is not one of them.
+fn atom_word(atoms: &[u32], block: u32, number: u32) -> u64
+    requires { length atoms.now ≤ most_mentioned + most_free }
+    ensures { result ≡ word_among block 0 atoms.now number }
 {
-    if is_among(lanes.controlled, number) {
-        truth_word(is_among(chosen, number))
-    } else {
-        input_word(lanes.inputs, lanes.block, number)
-    }
-}
-
-/// Returns the word of the proposition `number` among `inputs` in the block with this number, or 0 if it is not there.
-fn input_word(inputs: &[u32], block: u32, number: u32) -> u64
-    requires { length inputs.now ≤ most_mentioned }
-    ensures { result ≡ word_among block 0 inputs.now number }
-{
-    for (place, other) in inputs.iter().enumerate() {
+    for (place, other) in atoms.iter().enumerate() {
         if *other == number {
             return pattern(block, place);
         }
@@ -212,9 +244,9 @@ fn input_word(inputs: &[u32], block: u32, number: u32) -> u64
     0
 }
 
-/// Returns the word of the input at `place`: a lane has the binary digit at this place of its letter's number.
+/// Returns the word of the proposition at `place`: a lane has the binary digit at this place of its letter's number.
 fn pattern(block: u32, place: usize) -> u64
-    requires { place < most_mentioned }
+    requires { place < most_mentioned + most_free }
     ensures { result ≡ pattern block place }
 {
     if place < 6 {

@@ -1,51 +1,23 @@
 //! Whether an edge answers an environment's letter.
 
-ghost use Rattle.std.specs.Prelude.{◌↔◌, ◌<◌, All, IfErr, IfOk, IsTrue, length};
+ghost use Rattle.std.specs.Prelude.{◌↔◌, IfErr, IfOk, IsTrue};
 ghost use Rattle.omega_controllers.specs.Controllers.{Answers};
-ghost use Rattle.omega_runs.specs.Places.{ArePlaces, EdgeStandsAt};
-ghost use Rattle.omega_realizability_game.specs.Answering.{AreAnswersInOrder, IsSomeUnanswered, IsUnanswered};
+ghost use Rattle.omega_runs.specs.Places.{EdgeStandsAt};
+ghost use Rattle.omega_realizability_game.specs.Answering.{IsUnanswered};
 ghost use Rattle.omega_realizability_game.specs.Letters.{holds_in};
 
 use crate::answering::can_answer;
 use omega_automaton::{Automaton, Refusal};
 use omega_edge_labels::{fitting_label, label_at};
 use omega_runs::{EdgePlace, edges_are_taken_where_true};
-use omega_text::Numbers;
 use std::alloc::Global;
-
-/// Returns those of the edges of `automaton` with these `numbers` that answer the environment's `letter`, in their
-/// order. Reads the `places` of all edges. Fails as `answers_letter` does.
-pub fn answering_edges(
-    alloc: Global,
-    automaton: &Automaton,
-    places: &[EdgePlace],
-    numbers: &[u32],
-    controlled: &[u32],
-    letter: &[u32],
-) -> Result<Numbers, Refusal>
-    requires places { ArePlaces automaton.now places.now }
-    requires numbers { All (λ number. number < length places.now) numbers.now }
-    ensures answers { IfOk result
-        (AreAnswersInOrder automaton.now controlled.now (holds_in letter.now) numbers.now) }
-    ensures refused { IfErr result (IsSomeUnanswered automaton.now controlled.now numbers.now letter.now) }
-{
-    let mut answers = Numbers::new();
-    for number in numbers {
-        let place = places[*number as usize];
-        let here = answers_letter(alloc, automaton, place, *number, controlled, letter)?;
-        if here {
-            answers.push(alloc, *number)?;
-        }
-    }
-    Ok(answers)
-}
 
 /// Whether the edge with this `number`, which is at `place`, answers the environment's `letter`, which lists the
 /// propositions that hold: it can be taken at some letter that agrees on all propositions but the `controlled` ones.
 ///
 /// Fails with [TaskFault::TooLarge] if the label of the edge's valuation would be too deep or too large, and with
 /// [TaskFault::TooManyPropositions] if what is left of the label is not decided.
-pub fn answers_letter(
+pub(crate) fn answers_letter(
     alloc: Global,
     automaton: &Automaton,
     place: EdgePlace,

@@ -20,9 +20,7 @@ mod round_edges;
 mod stack;
 mod states;
 
-pub use answering::can_answer;
 pub use exclusive::are_seen_apart;
 pub use laws::{answerings_are_controllers, askings_are_counter_strategies, no_start_is_refused};
-pub use letters::{answering_edges, answers_letter};
 pub use making::{LetteredRounds, rounds_of};
 pub use questions::{Questions, questions_of};

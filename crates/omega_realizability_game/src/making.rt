@@ -30,9 +30,8 @@ pub struct LetteredRounds {
 /// Returns the rounds of `automaton`, whose parity kind is `kind`, where the system controls the propositions
 /// `controlled`: in each state a question for each class of letters that the same of its edges answer.
 ///
-/// Fails with [GameFault::TooManyNodes] if there are more questions than a game may have nodes, with
-/// [TaskFault::TooManyPropositions] if the labels of a state mention over `MOST_MENTIONED` inputs, and as
-/// `answers_letter` does.
+/// Fails with [GameFault::TooManyNodes] if there are more questions than a game may have nodes, and as `questions_of`
+/// does.
 pub fn rounds_of(
     alloc: Global,
     automaton: &Automaton,

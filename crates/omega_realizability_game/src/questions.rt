@@ -33,7 +33,9 @@ pub struct Questions {
 /// have the numbers up to `2^m`, and each is tried; the classes are found by their answers in a table. Reads the
 /// `places` of all edges.
 ///
-/// Fails as `mentioned_inputs` and `answers_letter` do.
+/// Fails with [TaskFault::TooManyPropositions] if the labels mention over `MOST_MENTIONED` inputs, or if what a letter
+/// leaves of a label is not decided, and with [TaskFault::TooLarge] if the label of a valuation would be too deep or
+/// too large.
 pub fn questions_of(
     alloc: Global,
     automaton: &Automaton,

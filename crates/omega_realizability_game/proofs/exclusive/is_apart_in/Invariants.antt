@@ -7,6 +7,6 @@ use Rattle.omega_realizability_game.proofs.exclusive.is_apart_in.Given as goal
 
 abbrev pub invariant-loop-at : goal.invariant-loop-at
 invariant-loop-at l =
-    AreApartIn l.lanes.inputs.now l.lanes.block l.state l.at
+    AreApartIn l.mentioned l.block l.state l.at
     × ((at lane : ℕ) (one : LabelTree) → at < l.at → HasLabelAt l.state at one
-    → is_set (block_word l.lanes.inputs.now l.lanes.block one) lane ≡ true → is_set l.seen lane ≡ true)
+    → is_set (block_word l.mentioned l.block one) lane ≡ true → is_set l.seen lane ≡ true)
