@@ -4,5 +4,6 @@ pub mod Cubes
 pub mod Leading
 pub mod Parities
 pub mod Parts
+pub mod TruthTables
 pub mod Valuations
 pub mod WordLemmas

@@ -28,7 +28,7 @@ among-right number [] right is = is
 among-right number (next ∷ left) right is = or_right (eqb next number) (among number (left ++ right)) (among-right number left right is)
 
 -- a label's truth rests on its propositions alone
-truth-agree : (one other : ℕ → Bool) (tree : LabelTree) → ((number : ℕ) → among number (propositions tree) ≡ true → one number ≡ other number)
+pub truth-agree : (one other : ℕ → Bool) (tree : LabelTree) → ((number : ℕ) → among number (propositions tree) ≡ true → one number ≡ other number)
     → truth one tree ≡ truth other tree
 truth-agree one other (constant value) agree = refl
 truth-agree one other (proposition number) agree = agree number (or_left (eqb number number) false (eq-eqb number number refl))
@@ -58,6 +58,11 @@ each-kept number seen (next ∷ rest) is = elim (or_cases (eqb next number) (amo
       (λ new. among-right number seen (next ∷ []) (or_left (eqb next number) false here)))
   | inr there ↦ each-kept number (cond (among next seen) seen (seen ++ next ∷ [])) rest there
 ]
+
+-- two lists are added one after the other
+pub each_once-append : (seen left right : List ℕ) → each_once seen (left ++ right) ≡ each_once (each_once seen left) right
+each_once-append seen [] right = refl
+each_once-append seen (next ∷ left) right = each_once-append (cond (among next seen) seen (seen ++ next ∷ [])) left right
 
 -- no number is lost
 pub length-each_once : (seen rest : List ℕ) → length seen ≤ length (each_once seen rest)
@@ -114,7 +119,7 @@ number_of-higher held next rest place =
     bit_at-suc (number_of held (next ∷ rest)) place ∙ ap (λ n. bit_at n place) half
 
 -- bit i of a mask is its bit of i
-mask-bit : (place lane : ℕ) → place < 6 → lane < 64 → on (mask place) lane ≡ on lane place
+pub mask-bit : (place lane : ℕ) → place < 6 → lane < 64 → on (mask place) lane ≡ on lane place
 mask-bit zero lane low within = agree_below_at (λ i. on (mask 0) i) (λ i. on i 0) 64 lane refl within
 mask-bit (suc zero) lane low within = agree_below_at (λ i. on (mask 1) i) (λ i. on i 1) 64 lane refl within
 mask-bit (suc (suc zero)) lane low within = agree_below_at (λ i. on (mask 2) i) (λ i. on i 2) 64 lane refl within
@@ -140,7 +145,7 @@ pattern-bit valuation place =
     ]
 
 -- a proposition's word has in that lane whether the proposition holds
-word_among-bit : (held : ℕ → Bool) (valuation place : ℕ) (numbers : List ℕ) (number : ℕ)
+pub word_among-bit : (held : ℕ → Bool) (valuation place : ℕ) (numbers : List ℕ) (number : ℕ)
     → ((more : ℕ) → bit_at valuation (place + more) ≡ bit_at (number_of held numbers) more) → among number numbers ≡ true
     → on (word_among (valuation / 64) place numbers number) (valuation % 64) ≡ held number
 word_among-bit held valuation place [] number bits is = absurd (false≢true is)

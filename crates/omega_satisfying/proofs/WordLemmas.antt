@@ -1,5 +1,5 @@
 -- A label's word under 64 valuations: how nodes make it, how high they stack up, and what each bit says.
-use Rattle.std.proofs.Common.{◌≡◌, ℕ, ◌+◌, ◌-◌, ◌%◌, ◌^◌, ◌<◌, ◌≤◌, zero, suc, Bool, true, false, not, ◌&&◌, ◌||◌, eqb, List, [], ◌∷◌, ◌++◌, length, max, min, ap, append-nil, append_assoc, refl, sym, ◌∙◌, arith, eq-eqb, drop, drop-cons, get_or, w64}
+use Rattle.std.proofs.Common.{◌≡◌, ℕ, ◌+◌, ◌-◌, ◌%◌, ◌^◌, ◌<◌, ◌≤◌, zero, suc, Bool, true, false, not, ◌&&◌, ◌||◌, eqb, List, [], ◌∷◌, ◌++◌, length, max, min, ap, append-nil, append_assoc, refl, sym, ◌∙◌, arith, eq-eqb, drop, drop-cons, get_or, w64, bit_and}
 use Rattle.std.specs.Int.{bit_at, trailing_zeros}
 use Rattle.std.proofs.lemmas.Nat.Bits.{bit_at-trailing_zeros, bit_at-lt, bit_at-zero, bit_at_and, bit_at_ones, bit_at_or, bit_at_xor}
 use Rattle.omega_label.proofs.LabelLemmas.{depth-positive}
@@ -152,6 +152,11 @@ pub on-truth : (value : Bool) (lane : ℕ) → lane < 64 → on (word_of_truth v
 on-truth true lane within = ap (λ bit. eqb bit 1) (bit_at_ones 64 lane within)
 on-truth false lane within = ap (λ bit. eqb bit 1) (bit_at-zero lane)
 
+-- a bit is set in both words
+pub on-and : (word other lane : ℕ) → on (bit_and word other) lane ≡ (on word lane && on other lane)
+on-and word other lane =
+    ap (λ bit. eqb bit 1) (bit_at_and word other lane) ∙ on-and-bits (bit_at word lane) (bit_at other lane) (bit_at-lt word lane) (bit_at-lt other lane)
+
 -- each bit of a label's word is its truth under the propositions of that lane
 pub on-word_of : (words : ℕ → ℕ) (tree : LabelTree) (lane : ℕ) → lane < 64 → on (word_of words tree) lane ≡ truth (held_in words lane) tree
 on-word_of words (constant value) lane within = on-truth value lane within
@@ -174,6 +179,16 @@ pub word-is : (words : ℕ → ℕ) (tree : LabelTree) (nodes : List LabelNode) 
     → nodes ≡ postfix tree → result ≡ top_word (words_after words [] nodes) → result ≡ word_of words tree
 word-is words tree nodes result is made =
     made ∙ (ap (λ more. top_word (words_after words [] more)) is ∙ ap top_word (words_after-label words tree))
+
+-- so is what is made of the nodes of two labels, for their conjunction
+pub word-of-both : (words : ℕ → ℕ) (one other : LabelTree) (nodes others : List LabelNode) (result : ℕ)
+    → nodes ≡ postfix one → others ≡ postfix other
+    → result ≡ bit_and (top_word (words_after words [] nodes)) (top_word (words_after words [] others))
+    → result ≡ word_of words (conjunction one other)
+word-of-both words one other nodes others result is is-other made =
+    made
+    ∙ (ap (λ word. bit_and word (top_word (words_after words [] others))) (word-is words one nodes (top_word (words_after words [] nodes)) is refl)
+    ∙ ap (bit_and (word_of words one)) (word-is words other others (top_word (words_after words [] others)) is-other refl))
 
 -- a word that is not 0 has a lane that is on
 pub lane-on : (word : ℕ) → (word ≡ 0 → ⊥) → word < 2 ^ 64 → (lane : ℕ) × ((lane < 64) × (on word lane ≡ true))

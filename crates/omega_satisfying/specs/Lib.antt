@@ -3,5 +3,6 @@ pub mod Cubes
 pub mod Laws
 pub mod Limits
 pub mod Satisfiable
+pub mod Tables
 pub mod Undecided
 pub mod private

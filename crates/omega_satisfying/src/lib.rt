@@ -1,8 +1,9 @@
 //! Whether a label can be true, even if it mentions many propositions.
 //!
 //! A label that mentions few is judged under all their valuations (`satisfying`), 64 at once in the bits of a word
-//! (`words`, `mentioned`). Another is turned into steps of a search (`steps`, `encoding`), whose open branches lie on a
-//! stack (`branches`); the search goes from step to step (`search`).
+//! (`words`, `mentioned`), and so are two labels together (`together`). Those under the valuations of the first six
+//! propositions are its truth table (`tables`). Another label is turned into steps of a search (`steps`, `encoding`),
+//! whose open branches lie on a stack (`branches`); the search goes from step to step (`search`).
 //!
 //! docs/formats.md says when each [`Refusal`] comes.
 #![tactic(auto)]
@@ -16,9 +17,13 @@ mod mentioned;
 mod satisfying;
 mod search;
 mod steps;
+mod tables;
+mod together;
 mod words;
 
 pub use answer::is_satisfiable;
 pub use laws::{labels_are_their_cubes, normal_forms_are_decided};
 pub use limits::{MOST_VISITED, visits_limit_is_stated};
 pub use satisfying::satisfiable;
+pub use tables::TruthTable;
+pub use together::satisfiable_together;

@@ -35,6 +35,19 @@ impl Mentioned {
         }
     }
 
+    /// Makes the set of the propositions below six.
+    pub(crate) fn first_six() -> Self
+        ensures { result ≡ 0 ∷ 1 ∷ 2 ∷ 3 ∷ 4 ∷ 5 ∷ [] }
+    {
+        let mut numbers = [0; MOST_MENTIONED];
+        numbers[1] = 1;
+        numbers[2] = 2;
+        numbers[3] = 3;
+        numbers[4] = 4;
+        numbers[5] = 5;
+        Mentioned { numbers, count: 6 }
+    }
+
     /// Returns the number of propositions.
     pub(crate) fn len(&self) -> usize
         ensures len { result ≡ length self.now }

@@ -1,8 +1,9 @@
 //! Whether a label can be true, judged under all valuations of the propositions that it mentions.
 
-ghost use Rattle.std.specs.Prelude.{◌≡◌, ◌≤◌, ◌-◌, ◌^◌, ◌↔◌, [], length, IfErr, IfOk, IsTrue};
+ghost use Rattle.std.specs.Prelude.{◌≡◌, ◌≤◌, ◌-◌, ◌^◌, ◌↔◌, ◌<◌, [], false, length, IfErr, IfOk, IsTrue};
 ghost use Rattle.omega_expression.specs.Limits.{most_depth, most_mentioned};
-ghost use Rattle.omega_satisfying.specs.Satisfiable.{IsJudged, IsOverMentioned, IsSatisfiable, mentioned};
+ghost use Rattle.omega_label.specs.Label.{propositions};
+ghost use Rattle.omega_satisfying.specs.Satisfiable.{IsJudged, IsOverMentioned, IsSatisfiable, each_once, mentioned};
 ghost use Rattle.omega_satisfying.specs.private.Words.{peak, top_word, word_among, words_after};
 
 use crate::limits::MOST_STACKED;
@@ -19,17 +20,28 @@ pub fn satisfiable(label: &Label) -> Result<bool, Refusal>
     ensures ok { IfOk result (λ possible. IsJudged label.now possible) }
     ensures err { IfErr result (IsOverMentioned label.now) }
 {
+    let mut found = Mentioned::new();
+    if !mention(label, &mut found) {
+        return Err(Refusal::Task(TaskFault::TooManyPropositions));
+    }
+    Ok(is_true_somewhere(label, &found))
+}
+
+/// Adds the propositions of `label` to `found`. Returns false if there is no room for one.
+pub(crate) fn mention(label: &Label, found: &mut Mentioned) -> bool
+    ensures added { IsTrue result → found.new ≡ each_once found.old (propositions label.now) }
+    ensures full { result ≡ false → most_mentioned < length (each_once found.old (propositions label.now)) }
+{
     let mut room = ROOM;
     let nodes = label.nodes(&mut room);
-    let mut found = Mentioned::new();
     for node in nodes {
         if let LabelNode::Proposition(number) = node {
             if !found.add(*number) {
-                return Err(Refusal::Task(TaskFault::TooManyPropositions));
+                return false;
             }
         }
     }
-    Ok(is_true_somewhere(label, &found))
+    true
 }
 
 /// Whether `label` is true under some valuation of the propositions mentioned.
@@ -49,7 +61,7 @@ fn is_true_somewhere(label: &Label, found: &Mentioned) -> bool
 }
 
 /// Returns the number of blocks of 64 valuations of `count` propositions.
-fn blocks(count: usize) -> u64
+pub(crate) fn blocks(count: usize) -> u64
     requires { count ≤ most_mentioned }
     ensures { result ≡ 2 ^ (count - 6) }
 {
@@ -57,7 +69,7 @@ fn blocks(count: usize) -> u64
 }
 
 /// Returns the word of `nodes` in postfix order under the valuations of `block`.
-fn word_of(nodes: &[LabelNode], found: &Mentioned, block: u64) -> u64
+pub(crate) fn word_of(nodes: &[LabelNode], found: &Mentioned, block: u64) -> u64
     requires { peak 0 nodes.now ≤ most_depth }
     ensures { result ≡ top_word (words_after (word_among block 0 found.now) [] nodes.now) }
 {

@@ -1,5 +1,5 @@
 -- A label's truth under 64 valuations at once, in the bits of a word, and how high its nodes' words stack up.
-use Rattle.std.specs.Prelude.{ℕ, ◌+◌, ◌-◌, suc, Bool, ◌==◌, nat_lt, if◌then◌else◌, List, [], ◌∷◌, max, bit_and, bit_or, bit_xor}
+use Rattle.std.specs.Prelude.{ℕ, ◌+◌, ◌-◌, suc, Bool, true, ◌==◌, nat_lt, if◌then◌else◌, List, [], ◌∷◌, max, bit_and, bit_or, bit_xor}
 use Rattle.std.specs.Int.{bit_at}
 use Rattle.omega_label.specs.Label.{LabelTree, conjunction, constant, disjunction, negation, proposition}
 use Rattle.omega_label.specs.declared.label.LabelNode.{LabelNode}
@@ -23,6 +23,11 @@ propositions_of (And ∷ nodes) = propositions_of nodes
 propositions_of (Or ∷ nodes) = propositions_of nodes
 propositions_of (Alias count ∷ nodes) = propositions_of nodes
 propositions_of (Group ∷ nodes) = propositions_of nodes
+
+-- whether a node is no proposition from six on
+abbrev pub is_few : LabelNode → Bool
+is_few (Proposition number) = nat_lt number 6
+is_few other = true
 
 -- the word of a label, if each proposition has a word
 abbrev pub word_of : (ℕ → ℕ) → LabelTree → ℕ
