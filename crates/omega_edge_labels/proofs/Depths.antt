@@ -1,9 +1,9 @@
 -- Depths and sizes of labels, as they are and as they are written.
 use Rattle.std.proofs.Common.{ℕ, ◌+◌, ◌<◌, ◌≤◌, max, Bool, true, false, nat_le, nat_lt, arith}
-use Rattle.omega_expression.specs.Limits.{most_depth}
+use Rattle.omega_expression.specs.Limits.{most_depth, most_size}
 use Rattle.omega_label.specs.Writing.{label_text}
 use Rattle.omega_label.specs.Writing.{grouped, label_written}
-use Rattle.omega_label.specs.Label.{LabelTree, conjunction, constant, disjunction, label_depth, negation, proposition}
+use Rattle.omega_label.specs.Label.{LabelTree, conjunction, constant, disjunction, label_depth, label_size, negation, proposition}
 use Rattle.omega_label.specs.Raw.{RawLabelTree, raw_depth}
 use Rattle.omega_label.specs.Shape.{FitsALabel}
 use Rattle.omega_edge_labels.specs.Fitting.{FitsAText}
@@ -48,3 +48,20 @@ unfit_text tree unfit fits = unfit (text_fits tree fits)
 
 pub deep_text : (tree : LabelTree) → most_depth < raw_depth (label_written tree) → FitsAText tree → ⊥
 deep_text tree deep fits = omega (arith, deep, fits.shallow)
+
+both_within : (a b c d : ℕ) → a ≤ c → b ≤ d → max a b + 1 ≤ c + d + 1
+both_within a b c d ac bd = omega arith
+
+-- a label is no deeper than it has atoms and operators
+pub depth_within : (tree : LabelTree) → label_depth tree ≤ label_size tree
+depth_within (constant value) = omega arith
+depth_within (proposition number) = omega arith
+depth_within (negation part) = omega (arith, depth_within part)
+depth_within (conjunction left right) = both_within (label_depth left) (label_depth right) (label_size left) (label_size right) (depth_within left) (depth_within right)
+depth_within (disjunction left right) = both_within (label_depth left) (label_depth right) (label_size left) (label_size right) (depth_within left) (depth_within right)
+
+-- two small labels together are neither too deep nor too large
+pub small_fit : (one other : LabelTree) → label_size one ≤ 127 → label_size other ≤ 127 → FitsALabel (conjunction one other)
+small_fit one other small small-other =
+    let deep = depth_within (conjunction one other) in
+    record { shallow = omega (arith, deep, small, small-other); small = omega (arith, small, small-other) }

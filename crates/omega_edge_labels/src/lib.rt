@@ -1,6 +1,6 @@
 //! The common parts of texts of automata and of automata that are made of others: labels of edges, also of edges
 //! written without one, names without quotes, and limits. Also labels and acceptance formulas as a text writes them,
-//! with parentheses only if an operator needs them.
+//! with parentheses only if an operator needs them, and whether labels can be true.
 //!
 //! docs/formats.md says when each refusal comes.
 #![tactic(auto)]
@@ -8,6 +8,7 @@
 mod edge_labels;
 mod fitting;
 mod formula_writing;
+mod judging;
 mod label_writing;
 mod limits;
 mod names;
@@ -15,6 +16,7 @@ mod names;
 pub use edge_labels::{has_bit, label_at};
 pub use fitting::fitting_label;
 pub use formula_writing::written_formula;
+pub use judging::{can_hold, can_hold_together, table_of};
 pub use label_writing::written_label;
 pub use limits::{MOST_EDGES, MOST_STATES, written_limits_are_stated};
 pub use names::is_identifier;

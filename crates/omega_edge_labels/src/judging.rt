@@ -1,0 +1,96 @@
+//! Whether labels can be true, one alone and two together.
+
+ghost use Rattle.std.specs.Prelude.{◌↔◌, IsTrue, IfErr, IfOk, IfSome, OnOk};
+ghost use Rattle.omega_label.specs.Label.{conjunction};
+ghost use Rattle.omega_label.specs.Shape.{FitsALabel, label_tree_of_shape};
+ghost use Rattle.omega_satisfying.specs.Satisfiable.{IsSatisfiable};
+ghost use Rattle.omega_satisfying.specs.Tables.{IsTruthTable};
+ghost use Rattle.omega_edge_labels.specs.Fitting.{IsUnjudged};
+
+use crate::fitting::fitting_label;
+use omega_label::{Label, LabelShape};
+use omega_satisfying::{TruthTable, is_satisfiable, satisfiable_together};
+use omega_text::Refusal;
+use std::alloc::Global;
+
+/// The most atoms and operators of a small label. Two small labels together are never too deep, as no label is deeper
+/// than it has atoms and operators.
+const MOST_SMALL: usize = 127;
+
+/// Whether a label can be true. Fails with [TaskFault::TooLarge] if it is deeper than `MOST_DEPTH` or has over
+/// `MOST_SIZE` atoms and operators. Fails with [TaskFault::TooManyPropositions] if it mentions over `MOST_MENTIONED`
+/// propositions and `is_satisfiable` gave it up.
+pub fn can_hold(alloc: Global, shape: &LabelShape) -> Result<bool, Refusal>
+    ensures judged { IfOk result (λ possible. IsTrue possible ↔ IsSatisfiable (label_tree_of_shape shape.now)) }
+    ensures fits { OnOk result (FitsALabel (label_tree_of_shape shape.now)) }
+    ensures err { IfErr result (IsUnjudged (label_tree_of_shape shape.now)) }
+{
+    let label = fitting_label(alloc, shape)?;
+    is_satisfiable(alloc, &label)
+}
+
+/// Whether two labels can be true together. Fails as [`can_hold`] does for their conjunction.
+///
+/// Two labels with at most 127 atoms and operators each, which mention at most `MOST_MENTIONED` propositions together,
+/// are judged without memory.
+pub fn can_hold_together(alloc: Global, one: &Label, other: &Label) -> Result<bool, Refusal>
+    ensures judged { IfOk result (λ possible. IsTrue possible ↔ IsSatisfiable (conjunction one.now other.now)) }
+    ensures fits { OnOk result (FitsALabel (conjunction one.now other.now)) }
+    ensures err { IfErr result (IsUnjudged (conjunction one.now other.now)) }
+{
+    if are_small(one, other) {
+        can_small_hold(alloc, one, other)
+    } else {
+        can_conjunction_hold(alloc, one, other)
+    }
+}
+
+/// Returns the truth table of a label with at most 127 atoms and operators, or none if it mentions a proposition from
+/// six on. Two labels with tables are together never too deep nor too large, so that their tables alone judge them.
+pub fn table_of(label: &Label) -> Option<TruthTable>
+    ensures { IfSome result (IsTruthTable label.now) }
+{
+    if label.size() <= MOST_SMALL {
+        TruthTable::of(label)
+    } else {
+        None
+    }
+}
+
+/// Whether both labels are so small that their conjunction is neither too deep nor too large.
+fn are_small(one: &Label, other: &Label) -> bool
+    ensures { IsTrue result → FitsALabel (conjunction one.now other.now) }
+{
+    let size = one.size();
+    let size_of_other = other.size();
+    if size > MOST_SMALL {
+        return false;
+    }
+    if size_of_other > MOST_SMALL {
+        return false;
+    }
+    true
+}
+
+/// Whether two labels, whose conjunction is neither too deep nor too large, can be true together.
+fn can_small_hold(alloc: Global, one: &Label, other: &Label) -> Result<bool, Refusal>
+    requires { FitsALabel (conjunction one.now other.now) }
+    ensures judged { IfOk result (λ possible. IsTrue possible ↔ IsSatisfiable (conjunction one.now other.now)) }
+    ensures err { IfErr result (IsUnjudged (conjunction one.now other.now)) }
+{
+    match satisfiable_together(one, other) {
+        Ok(possible) => Ok(possible),
+        Err(_) => can_conjunction_hold(alloc, one, other),
+    }
+}
+
+/// Whether two labels can be true together, judged by the label of their conjunction.
+fn can_conjunction_hold(alloc: Global, one: &Label, other: &Label) -> Result<bool, Refusal>
+    ensures judged { IfOk result (λ possible. IsTrue possible ↔ IsSatisfiable (conjunction one.now other.now)) }
+    ensures fits { OnOk result (FitsALabel (conjunction one.now other.now)) }
+    ensures err { IfErr result (IsUnjudged (conjunction one.now other.now)) }
+{
+    let left = Box::new(alloc, one.shape(alloc)?)?;
+    let right = Box::new(alloc, other.shape(alloc)?)?;
+    can_hold(alloc, &LabelShape::And(left, right))
+}
