@@ -71,6 +71,27 @@ impl<'a> SegmentCursor<'a> {
             return;
         };
         HoaKind::goes_on_one_way();
+        match plain_after(self.source, self.span.end, kind) {
+            Some(token) => {
+                self.text = token.text;
+                self.span = token.span;
+                self.value = token.value;
+                self.kind = Some(token.kind);
+            }
+            None => self.skip_to_any(),
+        }
+    }
+
+    /// Passes the next token, whatever the token after it is.
+    #[inline(never)]
+    fn skip_to_any(&mut self)
+        ensures left { self.new.0 ≡ drop 1 self.old.0 }
+        ensures length { self.new.1 ≡ self.old.1 }
+    {
+        let Some(kind) = self.kind else {
+            return;
+        };
+        HoaKind::goes_on_one_way();
         match token_after(self.source, self.span.end, kind) {
             Some(token) => {
                 self.text = token.text;
@@ -135,6 +156,28 @@ fn token_after(source: &[u8], at: usize, kind: HoaKind) -> Option<Token<'_, HoaK
         HoaKind::End => None,
         _ => token_at(source, at),
     }
+}
+
+/// Returns the next token from `at` on, after one of this `kind`, if it is recognized at once.
+#[inline(always)]
+fn plain_after(source: &[u8], at: usize, kind: HoaKind) -> Option<Token<'_, HoaKind>>
+    requires { at ≤ length source.now }
+    ensures going_on { IfSome result (λ _. is_last kind ≡ false) }
+    ensures token { IfSome result (λ token. Follows source.now at (lexeme_of token)) }
+    ensures progress { IfSome result (λ token. IsPartAfter source.now at token.span) }
+{
+    if is_last(kind) {
+        return None;
+    }
+    HoaKind::plain_token(source, at)
+}
+
+/// Whether a token of this `kind` is the last of a segment.
+#[inline(always)]
+fn is_last(kind: HoaKind) -> bool
+    ensures { result ≡ is_last kind }
+{
+    kind == HoaKind::End
 }
 
 /// Returns the next token from `at` on, or none if none follows.
