@@ -208,6 +208,7 @@ fn put_set(bytes: &mut Leftward, word: &[u8], negated: bool, set: u32) -> Result
 }
 
 /// Puts `number` in decimal before the other bytes.
+#[inline(always)]
 fn put_number(bytes: &mut Leftward, number: u32) -> Result<(), Refusal>
     ensures ok { OnOk result (bytes.new ≡ decimal number ++ bytes.old) }
     ensures err { IfErr result IsMemory }
@@ -222,6 +223,7 @@ fn put_number(bytes: &mut Leftward, number: u32) -> Result<(), Refusal>
 }
 
 /// Puts `number` in decimal before the other bytes by a buffer, as `put_number` does.
+#[inline(never)]
 fn put_digits(bytes: &mut Leftward, number: u32) -> Result<(), Refusal>
     ensures ok { OnOk result (bytes.new ≡ decimal number ++ bytes.old) }
     ensures err { IfErr result IsMemory }

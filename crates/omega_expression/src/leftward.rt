@@ -41,6 +41,7 @@ impl Leftward {
     }
 
     /// Puts `byte` before the other bytes.
+    #[inline(always)]
     pub(crate) fn push(&mut self, byte: u8) -> Result<(), Refusal>
         ensures ok { OnOk result (self.new ≡ byte ∷ self.old) }
         ensures err { IfErr result IsMemory }
@@ -88,6 +89,7 @@ impl Leftward {
 }
 
 /// Appends `bytes`, the last one first.
+#[inline(never)]
 fn append_reversed(following: &mut Vec<u8>, bytes: &[u8]) -> Result<(), Refusal>
     ensures ok { OnOk result (following.new.items ≡ following.old.items ++ reverse bytes.now) }
     ensures err { IfErr result IsMemory }

@@ -121,6 +121,7 @@ impl Aliases {
 
     /// Returns the depth and the number of tree nodes of `raw` once expanded, an alias counting as its definition
     /// between parentheses, or `None` if it reaches an undefined alias. A label without aliases takes no memory.
+    #[inline(always)]
     pub fn measure(&self, alloc: Global, raw: &RawLabel) -> Result<Option<Extent>, Refusal>
         ensures ok { IfOk result (λ extent. extent ≡ option_map extent_of (expansion self.now raw.now)) }
         ensures err { IfErr result IsMemory }
@@ -132,6 +133,7 @@ impl Aliases {
     }
 
     /// Returns the extent of `raw` once expanded, counted node by node.
+    #[inline(never)]
     fn measure_nodes(&self, alloc: Global, raw: &RawLabel) -> Result<Option<Extent>, Refusal>
         ensures ok { IfOk result (λ extent. extent ≡ option_map extent_of (expansion self.now raw.now)) }
         ensures err { IfErr result IsMemory }

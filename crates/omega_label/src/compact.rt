@@ -57,6 +57,7 @@ impl Model for Compact {
 
 impl Compact {
     /// Copies nodes, alias names and a depth, in place or into as much memory as they need.
+    #[inline(always)]
     pub(crate) fn copied(
         alloc: Global,
         nodes: &[LabelNode],
@@ -196,6 +197,7 @@ impl Compact {
     }
 
     /// Drops the nodes of parentheses, in the memory that it has.
+    #[inline(always)]
     pub(crate) fn without_parentheses(self) -> Self
         ensures { result ≡ record self { nodes = filter is_bare self.nodes } }
     {
@@ -314,6 +316,7 @@ fn is_code_below(code: u8, limit: u32) -> bool
 }
 
 /// Drops the nodes of parentheses in place. Most labels have none, and stay as they are.
+#[inline(always)]
 fn bare_in_place(count: u8, depth: u8, codes: [u8; 21]) -> Held
     requires { count ≤ 21 }
     ensures held { notation_in result ≡
@@ -337,6 +340,7 @@ fn bare_in_place(count: u8, depth: u8, codes: [u8; 21]) -> Held
 }
 
 /// Returns the bytes that do not mean parentheses, and their number.
+#[inline(never)]
 fn bare_codes(codes: &[u8]) -> (u8, [u8; 21])
     requires { length codes.now ≤ 21 }
     ensures codes { map node_of (take result.0 result.1) ≡ filter is_bare (map node_of codes.now) }
@@ -354,6 +358,7 @@ fn bare_codes(codes: &[u8]) -> (u8, [u8; 21])
 }
 
 /// Keeps nodes, alias names and a depth in place, if they fit.
+#[inline(always)]
 fn in_place(nodes: &[LabelNode], names: &[u8], depth: u32) -> Option<Held>
     ensures held { IfSome result (λ held. notation_in held ≡
         record { nodes = nodes.now; names = names.now; depth = depth }) }
@@ -371,6 +376,7 @@ fn in_place(nodes: &[LabelNode], names: &[u8], depth: u32) -> Option<Held>
 }
 
 /// Returns the bytes of `nodes`, if each has one.
+#[inline(always)]
 fn codes_of(nodes: &[LabelNode]) -> Option<[u8; 21]>
     requires { length nodes.now ≤ 21 }
     ensures { IfSome result (λ codes. map node_of (take (length nodes.now) codes) ≡ nodes.now) }

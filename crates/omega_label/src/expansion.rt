@@ -33,6 +33,7 @@ pub fn expand(alloc: Global, raw: &RawLabel, aliases: &Aliases) -> Result<Label,
 }
 
 /// Expands `raw` as `expand` does, and drops it. A label without aliases keeps its memory, and nothing is copied.
+#[inline(always)]
 pub fn expand_in_place(alloc: Global, raw: RawLabel, aliases: &Aliases) -> Result<Label, Refusal>
     ensures ok { IfOk result (λ label. IsExpansion aliases.now raw label) }
     ensures err { IfErr result (IsUnexpanded aliases.now raw) }
@@ -46,6 +47,7 @@ pub fn expand_in_place(alloc: Global, raw: RawLabel, aliases: &Aliases) -> Resul
 
 /// Drops the parentheses of a label without aliases, which makes its expansion whatever the aliases are. The aliases
 /// are an argument for the contract only.
+#[inline(always)]
 fn bare_label(raw: RawLabel, _aliases: &Aliases) -> Label
     requires no_alias { list_any is_alias (raw_postfix raw) ≡ false }
     requires shallow { raw_depth raw ≤ most_depth }
@@ -56,6 +58,7 @@ fn bare_label(raw: RawLabel, _aliases: &Aliases) -> Label
 }
 
 /// Expands a label that is counted first.
+#[inline(never)]
 fn expand_counted(alloc: Global, raw: RawLabel, aliases: &Aliases) -> Result<Label, Refusal>
     ensures ok { IfOk result (λ label. IsExpansion aliases.now raw label) }
     ensures err { IfErr result (IsUnexpanded aliases.now raw) }

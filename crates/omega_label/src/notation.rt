@@ -20,6 +20,7 @@ pub(crate) struct Notation {
 
 impl Notation {
     /// Drops the nodes of parentheses.
+    #[inline(never)]
     pub(crate) fn drop_parentheses(&mut self, alloc: Global)
         ensures nodes { self.new.nodes ≡ filter is_bare self.old.nodes }
         ensures names { self.new.names ≡ self.old.names }

@@ -172,6 +172,7 @@ impl RawLabel {
     }
 
     /// Drops the parentheses, in the memory that it has.
+    #[inline(always)]
     pub(crate) fn without_parentheses(self) -> Label
         requires no_alias { list_any is_alias (raw_postfix self) ≡ false }
         requires shallow { raw_depth self ≤ most_depth }
@@ -181,6 +182,7 @@ impl RawLabel {
     }
 
     /// Makes the label of `nodes` in postfix order, with its alias names and its depth.
+    #[inline(always)]
     pub(crate) fn of_nodes(
         alloc: Global,
         nodes: &[LabelNode],
@@ -196,6 +198,7 @@ impl RawLabel {
     }
 
     /// Makes the label of `nodes` in postfix order, with its alias names and its depth, in the memory that they have.
+    #[inline(never)]
     pub(crate) fn keeping(
         alloc: Global,
         nodes: SmallVec<LabelNode, 24>,

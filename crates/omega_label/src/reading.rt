@@ -67,6 +67,7 @@ pub fn read_label<'a, S: TokenSource<'a, HoaKind>>(
 }
 
 /// Reads a unary part and its prefixes, and joins it by `&` to the left part that is pending.
+#[inline(always)]
 fn operand<'a, S: TokenSource<'a, HoaKind>>(
     unfinished: &mut Unfinished,
     source: &mut S,
@@ -84,6 +85,7 @@ fn operand<'a, S: TokenSource<'a, HoaKind>>(
 }
 
 /// Passes the next token when a part is wanted. Returns whether one is still wanted.
+#[inline(always)]
 fn read_prefix<'a, S: TokenSource<'a, HoaKind>>(
     unfinished: &mut Unfinished,
     source: &mut S,
@@ -166,6 +168,7 @@ fn read_infix<'a, S: TokenSource<'a, HoaKind>>(
 
 /// Reads the part after an `&`, and joins it. For a proposition, or one after a `!`, as most parts are, nothing becomes
 /// pending.
+#[inline(always)]
 fn conjunct<'a, S: TokenSource<'a, HoaKind>>(
     unfinished: &mut Unfinished,
     source: &mut S,

@@ -40,6 +40,7 @@ impl Unfinished {
 
     /// Applies each pending `!` to the last part, and joins it to the left part of `&` that is pending, if there is
     /// one.
+    #[inline(always)]
     pub(crate) fn bind_tightly(&mut self) -> Result<(), Refusal>
         ensures ok { OnOk result ((whole : List (Lexeme HoaKind)) (left : List (Lexeme HoaKind)) →
             HasIn unary whole left self.old → HasIn conjunctive whole left self.new) }
@@ -64,6 +65,7 @@ impl Unfinished {
     }
 
     /// Joins the proposition `number`, with `!` before it if `negated`, by `&` to the last part.
+    #[inline(always)]
     pub(crate) fn conjoin_literal(&mut self, negated: bool, number: u32) -> Result<(), Refusal>
         ensures nodes { OnOk result (self.new.nodes.items ≡
             (self.old.nodes.items ++ literal negated number) ++ And ∷ []) }
@@ -99,6 +101,7 @@ impl Unfinished {
     }
 
     /// Joins the last part by `&` to a left part of depth `left`.
+    #[inline(always)]
     fn conjoin(&mut self, left: u32) -> Result<(), Refusal>
         ensures nodes { OnOk result (self.new.nodes.items ≡ self.old.nodes.items ++ And ∷ []) }
         ensures depth { OnOk result (self.new.depth ≡ min (max self.old.depth left + 1) past_depth) }
@@ -112,6 +115,7 @@ impl Unfinished {
     }
 
     /// Joins the last part to the left part of `|` that is pending, if there is one.
+    #[inline(always)]
     pub(crate) fn bind_loosely(&mut self) -> Result<(), Refusal>
         ensures ok { OnOk result ((whole : List (Lexeme HoaKind)) (left : List (Lexeme HoaKind)) →
             HasIn conjunctive whole left self.old → HasIn disjunctive whole left self.new) }
