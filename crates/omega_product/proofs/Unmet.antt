@@ -1,14 +1,14 @@
 -- Edges that are not judged are a reason to refuse the product.
-use Rattle.std.proofs.Common.{◌≡◌, ℕ, ◌<◌, List, length, Contains, get_or, sym, subst}
+use Rattle.std.proofs.Common.{◌≡◌, ℕ, ◌<◌, ◌⊎◌, inl, inr, List, length, Contains, get_or, sym, subst}
 use Rattle.omega_text.specs.Cases.{never, or_memory, or_task}
 use Rattle.omega_text.specs.declared.refusal.Refusal.{Refusal}
 use Rattle.omega_text.specs.declared.refusal.task.TaskFault.{TaskFault}
 use Rattle.omega_text.specs.declared.refusal.task.TaskFault.TheVariants.{BadSolution, Budget, Controllable, NotDeterministic, NotParity, TooLarge, TooManyPropositions, TooWide, UniversalBranch, UnknownNode}
 use Rattle.omega_label.specs.Label.{LabelTree, conjunction}
 use Rattle.omega_label.specs.Shape.{FitsALabel}
-use Rattle.omega_satisfying.specs.Undecided.{IsHardLabel, IsUndecidedLabel}
+use Rattle.omega_satisfying.specs.Undecided.{IsHardLabel}
 use Rattle.omega_automaton.specs.Automaton.{Description}
-use Rattle.omega_edge_labels.specs.Fitting.{FitsAText, IsUnfit}
+use Rattle.omega_edge_labels.specs.Fitting.{FitsAText, IsUnjudged}
 use Rattle.omega_edge_labels.proofs.Depths.{unfit_text}
 use Rattle.omega_product.specs.Pairs.{AreFound, Pair, first_leaving, second_leaving}
 use Rattle.omega_product.specs.Refusing.{AreMet, IsJoinFault, unfit_meeting}
@@ -59,16 +59,15 @@ module _ (one other : Description) (pairs : List Pair) (done : ℕ) (found : Are
   join_refused refusal h =
       task_weaker (HasUnmet (first_leaving one other pair) (second_leaving one other pair)) (IsJoinFault one other) join_fault refusal h
 
--- a label that is too deep or too large is one of two edges
-pub unfit_unmet : (transition other : Transition) (label : LabelTree) → label ≡ conjunction transition.label other.label → (refusal : Refusal)
-    → IsUnfit label refusal → or_task (IsUnmet transition other) (or_memory never) refusal
-unfit_unmet transition other label is refusal h =
-    task_weaker (λ fault. (fault ≡ TooLarge) × (FitsALabel label → ⊥)) (IsUnmet transition other)
-    (λ fault p. subst (IsUnmet transition other) (sym p.0) (subst (λ (l : LabelTree). FitsAText l → ⊥) is (unfit_text label p.1))) refusal h
-
--- one that may not be decided too
-pub hard_unmet : (transition other : Transition) (label : LabelTree) → label ≡ conjunction transition.label other.label → (refusal : Refusal)
-    → IsUndecidedLabel label refusal → or_task (IsUnmet transition other) (or_memory never) refusal
-hard_unmet transition other label is refusal h =
-    task_weaker (λ fault. (fault ≡ TooManyPropositions) × IsHardLabel label) (IsUnmet transition other)
-    (λ fault p. subst (IsUnmet transition other) (sym p.0) (subst IsHardLabel is p.1)) refusal h
+-- two edges whose labels together are not judged
+pub unjudged_unmet : (transition other : Transition) (label : LabelTree) → label ≡ conjunction transition.label other.label → (refusal : Refusal)
+    → IsUnjudged label refusal → or_task (IsUnmet transition other) (or_memory never) refusal
+unjudged_unmet transition other label is refusal h =
+    task_weaker (λ fault. ((fault ≡ TooLarge) × (FitsALabel label → ⊥)) ⊎ ((fault ≡ TooManyPropositions) × IsHardLabel label))
+    (IsUnmet transition other) go refusal h
+  where
+    go : (fault : TaskFault) → ((fault ≡ TooLarge) × (FitsALabel label → ⊥)) ⊎ ((fault ≡ TooManyPropositions) × IsHardLabel label)
+        → IsUnmet transition other fault
+    go fault (inl large) =
+        subst (IsUnmet transition other) (sym large.0) (subst (λ (l : LabelTree). FitsAText l → ⊥) is (unfit_text label large.1))
+    go fault (inr hard) = subst (IsUnmet transition other) (sym hard.0) (subst IsHardLabel is hard.1)

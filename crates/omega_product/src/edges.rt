@@ -3,18 +3,21 @@
 ghost use Rattle.std.specs.Prelude.{◌≡◌, ◌<◌, ◌≤◌, ◌^◌, ◌++◌, length, map, IfErr, IfOk, OnOk, IsOkUnless};
 ghost use Rattle.omega_text.specs.Cases.{never, or_memory, or_task};
 ghost use Rattle.omega_label.specs.Label.{conjunction};
-ghost use Rattle.omega_label.specs.Shape.{label_tree_of_shape};
+ghost use Rattle.omega_label.specs.Raw.{raw_depth};
+ghost use Rattle.omega_label.specs.Writing.{label_written};
+ghost use Rattle.omega_expression.specs.Limits.{most_depth};
 ghost use Rattle.omega_product.specs.Pairs.{pair_number};
 ghost use Rattle.omega_product.specs.Product.{joint_transitions, joint_with, taken_together};
+ghost use Rattle.omega_edge_labels.specs.Fitting.{IsLarge};
 ghost use Rattle.omega_edge_labels.specs.Limits.{most_states};
 ghost use Rattle.omega_product.specs.private.Meeting.{HasUnmet, HasUnmetPartner, IsUnmet};
 ghost use Rattle.omega_product.specs.Written.{raw_edge};
 
-use crate::meeting::meeting;
-use crate::transition::Transition;
+use crate::tabled::Tabled;
+use crate::labels::both;
 use indexmap::IndexSet;
 use omega_edge_labels::written_label;
-use omega_label::LabelShape;
+use omega_label::{Label, RawLabel};
 use omega_raw::{RawEdge, RawEdges};
 use omega_text::{Marks, Numbers, Refusal};
 use std::alloc::Global;
@@ -25,8 +28,8 @@ use std::alloc::Global;
 pub(crate) fn joint_edges(
     alloc: Global,
     found: &IndexSet<(u32, u32)>,
-    firsts: &[Transition],
-    seconds: &[Transition],
+    firsts: &[Tabled],
+    seconds: &[Tabled],
 ) -> Result<RawEdges, Refusal>
     requires { length found.now.keys ≤ most_states }
     ensures ok { IfOk result (λ edges. edges ≡ map raw_edge (joint_transitions found.now.keys firsts.now seconds.now)) }
@@ -44,44 +47,52 @@ fn push_joint(
     alloc: Global,
     edges: &mut RawEdges,
     found: &IndexSet<(u32, u32)>,
-    first: &Transition,
-    seconds: &[Transition],
+    first: &Tabled,
+    seconds: &[Tabled],
 ) -> Result<(), Refusal>
     requires { length found.now.keys ≤ most_states }
     ensures ok { OnOk result (edges.new ≡ edges.old ++ map raw_edge (joint_with found.now.keys first.now seconds.now)) }
     ensures err { IfErr result (or_task (HasUnmetPartner first.now seconds.now) (or_memory never)) }
 {
     for second in seconds {
-        if let Some(label) = meeting(alloc, first, second)? {
-            let edge = joint_edge(alloc, found, first, second, &label)?;
+        if first.can_meet(alloc, second)? {
+            let edge = joint_edge(alloc, found, first, second)?;
             edges.push(alloc, edge)?;
         }
     }
     Ok(())
 }
 
-/// Returns the joint edge of `first` and `second`, whose label is `label`. Fails with [TaskFault::TooLarge] if the
-/// label is too deep.
+/// Returns the joint edge of `first` and `second`. Fails with [TaskFault::TooLarge] if its label is too deep.
 fn joint_edge(
     alloc: Global,
     found: &IndexSet<(u32, u32)>,
-    first: &Transition,
-    second: &Transition,
-    label: &LabelShape,
+    first: &Tabled,
+    second: &Tabled,
 ) -> Result<RawEdge, Refusal>
-    requires few { length found.now.keys ≤ most_states }
-    requires label { label_tree_of_shape label.now ≡ conjunction first.now.label second.now.label }
+    requires { length found.now.keys ≤ most_states }
     ensures ok { IfOk result (λ edge. edge ≡ raw_edge (taken_together found.now.keys first.now second.now)) }
     ensures err { IfErr result (or_task (IsUnmet first.now second.now) (or_memory never)) }
 {
-    let marks = joined(alloc, first.marks.as_slice(), second.marks.as_slice())?;
-    let target = number_of(found, (first.target, second.target));
-    let label = written_label(alloc, label)?;
+    let marks = joined(alloc, first.marks(), second.marks())?;
+    let target = number_of(found, first.joint_target(second));
+    let label = joint_label(alloc, first.label(), second.label())?;
     Ok(RawEdge {
         label: Some(label),
         targets: Numbers::one(target),
         marks: Marks::of(marks),
     })
+}
+
+/// Returns the conjunction of two labels, as a text has it. Fails with [TaskFault::TooLarge] if it is too deep.
+fn joint_label(alloc: Global, first: &Label, second: &Label) -> Result<RawLabel, Refusal>
+    ensures ok { IfOk result (λ raw. raw ≡ label_written (conjunction first.now second.now)) }
+    ensures err { IfErr result (IsLarge (most_depth < raw_depth (label_written (conjunction first.now second.now)))) }
+{
+    let left = first.shape(alloc)?;
+    let right = second.shape(alloc)?;
+    let shape = both(alloc, left, right)?;
+    written_label(alloc, &shape)
 }
 
 /// Returns the number of `pair`, or the number of pairs if it is not among them.

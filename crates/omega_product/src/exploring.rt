@@ -7,9 +7,8 @@ ghost use Rattle.omega_product.specs.Pairs.{start_state as first_listed, starts_
 ghost use Rattle.omega_product.specs.private.Meeting.{HasUnmet, HasUnmetPartner};
 ghost use Rattle.omega_product.specs.private.Operands.{AreReachedIn, AreTabled, HasUnmetAt, IsFaultIn, targets_in};
 
-use crate::meeting::can_meet;
 use crate::operands::Operands;
-use crate::transition::Transition;
+use crate::tabled::Tabled;
 use indexmap::IndexSet;
 use omega_edge_labels::MOST_STATES;
 use omega_text::{Numbers, Refusal, TaskFault};
@@ -108,8 +107,8 @@ pub(crate) fn start_state(start: &Numbers) -> u32
 fn add_targets(
     alloc: Global,
     found: &mut IndexSet<(u32, u32)>,
-    firsts: &[Transition],
-    seconds: &[Transition],
+    firsts: &[Tabled],
+    seconds: &[Tabled],
 ) -> Result<(), Refusal>
     ensures ok { OnOk result (found.new.keys ≡ with_pairs found.old.keys (targets_between firsts.now seconds.now)) }
     ensures err { IfErr result (or_task (HasUnmet firsts.now seconds.now) (or_memory never)) }
@@ -124,15 +123,15 @@ fn add_targets(
 fn add_targets_with(
     alloc: Global,
     found: &mut IndexSet<(u32, u32)>,
-    first: &Transition,
-    seconds: &[Transition],
+    first: &Tabled,
+    seconds: &[Tabled],
 ) -> Result<(), Refusal>
     ensures ok { OnOk result (found.new.keys ≡ with_pairs found.old.keys (targets_with first.now seconds.now)) }
     ensures err { IfErr result (or_task (HasUnmetPartner first.now seconds.now) (or_memory never)) }
 {
     for second in seconds {
-        if can_meet(alloc, first, second)? {
-            found.insert((first.target, second.target))?;
+        if first.can_meet(alloc, second)? {
+            found.insert(first.joint_target(second))?;
         }
     }
     Ok(())

@@ -14,7 +14,6 @@ mod exploring;
 mod forming;
 mod header;
 mod labels;
-mod meeting;
 mod names;
 mod numbers;
 mod operands;
@@ -22,6 +21,7 @@ mod renumbering;
 mod starts;
 mod states;
 mod table;
+mod tabled;
 mod transition;
 mod transitions;
 

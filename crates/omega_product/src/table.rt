@@ -5,7 +5,7 @@ ghost use Rattle.omega_product.specs.private.Tables.{AreEdgesIn, IsTableOf, view
 ghost use Rattle.omega_edge_labels.specs.Fitting.{IsLarge};
 
 use crate::renumbering::Renumbering;
-use crate::transition::Transition;
+use crate::tabled::Tabled;
 use crate::transitions::transitions_of;
 use indexmap::IndexSet;
 use omega_automaton::Automaton;
@@ -16,7 +16,7 @@ use std::alloc::Global;
 #[derive(Drop)]
 pub(crate) struct Table {
     pub(crate) numbers: IndexSet<u32>,
-    pub(crate) rows: Vec<Seq<Transition>>,
+    pub(crate) rows: Vec<Seq<Tabled>>,
 }
 
 impl Table {
@@ -44,7 +44,7 @@ impl Table {
     }
 
     /// Appends the edges of a state, of whose number the table has none yet.
-    fn add(&mut self, number: u32, row: Seq<Transition>) -> Result<(), Refusal>
+    fn add(&mut self, number: u32, row: Seq<Tabled>) -> Result<(), Refusal>
         requires further { list_any (nat_eq number) self.old.numbers.keys ≡ false }
         ensures numbers { OnOk result (self.new.numbers.keys ≡ self.old.numbers.keys ++ number ∷ []) }
         ensures rows { OnOk result (self.new.rows.items ≡ self.old.rows.items ++ row ∷ []) }
@@ -56,7 +56,7 @@ impl Table {
     }
 
     /// Returns the edges of the state with the number `number`, empty if there is no such state.
-    pub(crate) fn transitions(&self, number: u32) -> &[Transition]
+    pub(crate) fn transitions(&self, number: u32) -> &[Tabled]
         ensures { AreEdgesIn self.now number result.now }
     {
         match self.numbers.get_index_of(&number) {
@@ -66,7 +66,7 @@ impl Table {
     }
 
     /// Returns the edges at `place`, empty past the last.
-    fn row(&self, place: usize) -> &[Transition]
+    fn row(&self, place: usize) -> &[Tabled]
         ensures { result.now ≡ get_or self.now.rows.items place [] }
     {
         if place < self.rows.len() {

@@ -10,6 +10,7 @@ ghost use Rattle.omega_edge_labels.specs.Fitting.{IsLarge, IsUnfit};
 use crate::labels::renumbered;
 use crate::numbers::following;
 use crate::renumbering::Renumbering;
+use crate::tabled::Tabled;
 use crate::transition::Transition;
 use omega_automaton::{EdgeRef, State};
 use omega_edge_labels::{fitting_label, label_at};
@@ -23,7 +24,7 @@ pub(crate) fn transitions_of(
     alloc: Global,
     state: &State,
     renumbering: &Renumbering<'_>,
-) -> Result<Seq<Transition>, Refusal>
+) -> Result<Seq<Tabled>, Refusal>
     ensures ok { IfOk result (λ row. row ≡ row_of (view_of renumbering.now) state.now) }
     ensures err { IfErr result (IsLarge (HasUnfitEdge (row_of (view_of renumbering.now) state.now))) }
 {
@@ -31,7 +32,7 @@ pub(crate) fn transitions_of(
     for at in 0..state.edges.len() {
         let edge = state.edges.edge(at);
         let transition = transition_of(alloc, state, &edge, at, renumbering)?;
-        row.push(transition)?;
+        row.push(Tabled::of(transition))?;
     }
     Ok(Seq::from_vec(row))
 }

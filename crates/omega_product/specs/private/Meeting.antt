@@ -1,20 +1,11 @@
 -- Edges of two automata that are taken together, and why the two may be refused.
-use Rattle.std.specs.Prelude.{◌≡◌, true, false, List, Contains, Option, None, Some}
+use Rattle.std.specs.Prelude.{List, Contains}
 use Rattle.omega_text.specs.declared.refusal.task.TaskFault.{TaskFault}
 use Rattle.omega_text.specs.declared.refusal.task.TaskFault.TheVariants.{BadSolution, Budget, Controllable, NotDeterministic, NotParity, TooLarge, TooManyPropositions, TooWide, UniversalBranch, UnknownNode}
 use Rattle.omega_label.specs.Label.{conjunction}
 use Rattle.omega_satisfying.specs.Undecided.{IsHardLabel}
-use Rattle.omega_label.specs.Shape.{label_tree_of_shape}
-use Rattle.omega_label.specs.declared.shape.LabelShape.{LabelShape}
-use Rattle.omega_product.specs.Pairs.{can_meet}
 use Rattle.omega_product.specs.declared.transition.Transition.{Transition}
 use Rattle.omega_edge_labels.specs.Fitting.{FitsAText}
-
--- the joint label of an edge of the first and one of the second, or none if they can't be taken together
-abbrev pub IsMeeting : Transition → Transition → Option LabelShape → Type 0
-IsMeeting transition other None = can_meet transition other ≡ false
-IsMeeting transition other (Some shape) =
-    (can_meet transition other ≡ true) × (label_tree_of_shape shape ≡ conjunction transition.label other.label)
 
 -- `TooManyPropositions` if it may be undecided whether they can be taken together, `TooLarge` if their joint label is
 -- too deep or too large

@@ -1,5 +1,6 @@
-use Rattle.std.proofs.Common.{◌≡◌, true, false, sym, ◌∙◌}
-use Rattle.omega_product.specs.Pairs.{can_meet}
+use Rattle.std.proofs.Common.{◌≡◌, true, false, ap, sym, ◌∙◌}
+use Rattle.indexmap.specs.IndexSet.{insert_key}
+use Rattle.omega_product.specs.Pairs.{Pair, can_meet, same_pair}
 use Rattle.omega_product.specs.declared.transition.Transition.{Transition}
 use Rattle.omega_edge_labels.proofs.Refusals.{passed_on}
 use Rattle.omega_product.proofs.Unmet.{listed_at, partner_unmet}
@@ -13,6 +14,7 @@ loop-second-preserved c = elim c.if-branch.branch [
       let passes : can_meet c.args.first.now c.second-item.result ≡ true = sym c.in_ok-can_meet.ensures.ok ∙ w.if-branch.true in
       rw w.found-is
       (w.in_ok-insert.ensures.keys
+      ∙ ap (λ (pair : Pair). insert_key same_pair c.loop-second.found.keys pair) w.joint_target.ensures
       ∙ insert_kept {X = Transition} c.args.seconds.now c.loop-second.second-index c.second-item.result c.loop-second-test.true c.second-item.is c.args.found.now.keys c.loop-second.found.keys
       (can_meet c.args.first.now) (λ (second : Transition). (c.args.first.now.target, second.target)) passes c.loop-second.invariant)
   | else-branch w ↦
