@@ -1,6 +1,6 @@
 -- Depths and sizes of labels, as they are and as they are written.
 use Rattle.std.proofs.Common.{ℕ, ◌+◌, ◌<◌, ◌≤◌, max, Bool, true, false, nat_le, nat_lt, arith}
-use Rattle.omega_expression.specs.Limits.{most_depth, most_size}
+use Rattle.omega_expression.specs.Limits.{most_depth}
 use Rattle.omega_label.specs.Writing.{label_text}
 use Rattle.omega_label.specs.Writing.{grouped, label_written}
 use Rattle.omega_label.specs.Label.{LabelTree, conjunction, constant, disjunction, label_depth, label_size, negation, proposition}

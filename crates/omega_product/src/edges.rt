@@ -13,8 +13,8 @@ ghost use Rattle.omega_edge_labels.specs.Limits.{most_states};
 ghost use Rattle.omega_product.specs.private.Meeting.{HasUnmet, HasUnmetPartner, IsUnmet};
 ghost use Rattle.omega_product.specs.Written.{raw_edge};
 
-use crate::tabled::Tabled;
 use crate::labels::both;
+use crate::tabled::Tabled;
 use indexmap::IndexSet;
 use omega_edge_labels::written_label;
 use omega_label::{Label, RawLabel};
