@@ -1,5 +1,6 @@
 //! Solutions of a game and strategies in it: read, judged, written, drawn.
 ghost use Rattle.std.specs.Prelude.{◌<◌, length, All, IsTrue};
+ghost use Rattle.omega_parity_game.specs.Solution.{IsSolution};
 
 use crate::lists::{put_all, put_answer};
 use omega_game::{
@@ -37,7 +38,9 @@ fn of_solution(
     call: &str,
     game: &Game,
     solution: &Solution,
-) -> Result<Vec<u8>, Refusal> {
+) -> Result<Vec<u8>, Refusal>
+    requires { IsSolution game.now solution.now }
+{
     match call {
         "read_solution" => write_solution(alloc, game.forward(), solution),
         "draw_solution" => draw_solution(alloc, game.forward(), Extent::Whole, solution, true),
