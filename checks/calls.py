@@ -28,6 +28,33 @@ MANY = b"&".join(b"%d" % n for n in range(20))
 # An automaton with one edge, and names of which one is no identifier.
 ONE_LETTER = b'HOA: v1 Start: 0 AP: 2 "a b" "c" Acceptance: 0 t --BODY-- State: 0 [!0&1] 0 --END--'
 STREAM = ABORTED + b" " + BUCHI + WRITTEN
+# Two nodes that end at the second, and two whose identifiers have gaps.
+ENDS = b"0 0 0 1; 1 1 0 1;"
+APART = b"9 3 1 4; 4 2 0 9,4;"
+
+# Automata, lassos and their words: labels of edges with names that are identifiers and with one that is no identifier;
+# parentheses; labels of states; edges without labels, whose index is their valuation; no propositions; and names that
+# Spot reads as something else.
+WORDS: list[tuple[bytes, bytes, bytes]] = [
+    (b'HOA: v1 States: 2 Start: 0 AP: 2 "a" "b b" Acceptance: 1 Inf(0) '
+     b'--BODY-- State: 0 [0&!1] 1 State: 1 [0|1] 1 {0} [t] 0 --END--',
+     b'stem 0 2 0 cycle 1', b'a & !"b b"; 1; a & !"b b"; cycle{a | "b b"}'),
+    (b'HOA: v1 States: 1 Start: 0 AP: 3 "a" "_b2" "2c" Acceptance: 0 t '
+     b'--BODY-- State: 0 [!(0&1)] 0 [0&(1|2)] 0 [f] 0 --END--',
+     b'stem 0 cycle 1 2', b'!(a & _b2); cycle{a & (_b2 | "2c"); 0}'),
+    (b'HOA: v1 States: 2 Start: 0 AP: 1 "a" Acceptance: 0 t '
+     b'--BODY-- State: [0] 0 0 1 State: [!0] 1 0 --END--',
+     b'stem 0 cycle 1 2', b'a; cycle{a; !a}'),
+    (b'HOA: v1 States: 1 Start: 0 AP: 2 "a" "b" Acceptance: 0 t '
+     b'--BODY-- State: 0 0 0 0 0 --END--',
+     b'stem cycle 0 1 2 3', b'cycle{!a & !b; a & !b; !a & b; a & b}'),
+    (b'HOA: v1 States: 1 Start: 0 AP: 0 Acceptance: 0 t '
+     b'--BODY-- State: 0 0 --END--',
+     b'stem cycle 0', b'cycle{1}'),
+    (b'HOA: v1 States: 1 Start: 0 AP: 7 "true" "Fa" "GoLeft" "xor" "U" "Up" "aX" Acceptance: 0 t '
+     b'--BODY-- State: 0 [0&1&!2] 0 [3|4|5&6] 0 --END--',
+     b'stem 0 cycle 1', b'"true" & "Fa" & !"GoLeft"; cycle{"xor" | "U" | Up & aX}'),
+]
 
 # Calls, the two texts that they are given, and the status and the beginning of the output with ample memory, which are
 # known by hand.
@@ -73,9 +100,15 @@ RUNS: list[tuple[str, bytes, bytes, int, bytes]] = [
     ("build", b"", b"", 0, b"parity 7;\n3 2 0 7 \"n\";\n7 1 1 7,3;\n"),
     *((call, text, b"", 0, b"digraph game {\n") for call in ("draw_game", "draw_part") for text in GAMES),
     ("read_solution", CHOICE, b"paritysol 2; 0 0 2; 1 0; 2 0;", 0, b"paritysol 2;\n0 0 2;\n1 0;\n2 0;\n"),
+    *(("read_solution", game, text, 0, written) for game, text, written in
+      ((ENDS, b"paritysol 1; 0 0 1; 1 1;", b"paritysol 1;\n0 0 1;\n1 1;\n"),
+       (ENDS, b"paritysol 1; 0 1; 1 1;", b"paritysol 1;\n0 1;\n1 1;\n"),
+       (APART, b"\tparitysol\r\n9;4 1;9 1 4;", b"paritysol 9;\n4 1;\n9 1 4;\n"))),
     ("read_solution", CHOICE, b"paritysol 2; 0 0;", 53, b""),
     ("draw_solution", CHOICE, b"paritysol 2; 0 0 2; 1 0; 2 0;", 0, b"digraph game {\n"),
     ("places_given", CHOICE, b"paritysol 2; 0 0 2; 1 0; 2 0;", 0, b"0 1 2 ;;"),
+    ("places_given", APART, b"paritysol 9; 4 0 9; 9 1 4;", 0, b"0 ;1 ;"),
+    ("places_given", APART, b"paritysol 9; 4 1; 9 1 4;", 0, b";0 1 ;"),
     *((call, CHOICE, b"paritysol 2; 0 0 2; 1 0; 2 0;", 0, b"++")
       for call in ("check_strategy", "check_strategy_fast", "counterexample")),
     *((call, CHOICE, b"paritysol 2; 0 0 1; 1 0; 2 0;", 0, b"-+") for call in ("check_strategy", "check_strategy_fast")),
@@ -93,6 +126,7 @@ RUNS: list[tuple[str, bytes, bytes, int, bytes]] = [
     ("read_lasso", b" stem 3\t1 cycle 4 1 5 9 2", b"", 0, b"stem 3 1\ncycle 4 1 5 9 2\n"),
     ("read_lasso", b"stem 3 cycle", b"", 3, b""),
     ("word_of", ONE_LETTER, b"stem 0 cycle 0 0", 0, b'!"a b" & c; cycle{!"a b" & c; !"a b" & c}'),
+    *(("word_of", text, lasso, 0, word) for text, lasso, word in WORDS),
     ("word_of", ONE_LETTER, b"stem cycle 00", 2, b""),
     ("judge_lasso", TWO_SETS, b"stem cycle 1 2 0", 0, b"accepts"),
     ("judge_lasso", TWO_SETS, b"stem cycle 0", 0, b"the cycle does not accept"),
