@@ -54,6 +54,20 @@ BROKEN = [
     ("HOA: v1 --BODY-- State: 0 {0 ", "{} --END--"),
 ]
 
+# Labels of states and acceptance formulas up to the first token with which none goes on, and from there on.
+LABELS = [
+    ("", "|"), ("", "Inf(0)"), ("", '"0"'), ("0&", ""), ("0 | ", "&1"), ("0|", ")"), ("@a&@b & ", "t1"), ("!", ""),
+    ("0&!", ""), ("!!(0|", "|1)"), ("(", ")"), ("(0", ""), ("(0 ", "1)"), ("(0&!1", ""), ("((0)", "{"),
+]
+FORMULAS = [
+    ("", "@a"), ("", "!Inf(0)"), ("Inf ", ""), ("Inf ", "0"), ("Inf( ", ""), ("Inf(", ")"), ("Inf(", "Inf(0))"),
+    ("Inf(! ", ""), ("Inf(!", ")"), ("Inf(!", "!0)"), ("Inf(0 ", ""), ("Inf(0 ", "1)"), ("Inf(0", "&1)"),
+    ("Inf(!0 ", "1)"), ("Inf(0)& ", ""), ("Inf(0)&", "!Inf(1)"), ("Inf(0)|", "&f"), ("t | (", ")"), ("(Inf(0) ", ""),
+    ("(Inf(0) ", "Fin(1))"), ("(", ")"), ("Foo( ", ""), ("Foo(0)&Inf(", "t)"), ("Foo(!", "@a)"),
+]
+BROKEN += [("HOA: v1 --BODY-- State: [" + front, end + "] 0 --END--") for front, end in LABELS]
+BROKEN += [("HOA: v1 Acceptance: 2 " + front, f"{end} --BODY-- --END--".lstrip()) for front, end in FORMULAS]
+
 # Segments that break a rule of the grammar, and the place of the first token with which no automaton goes on.
 PLACES = [
     ("HOA: --BODY-- --END--", 5), ("HOA: v1 --END--", 8), ("HOA: v1 HOA: --BODY-- --END--", 8),

@@ -1,6 +1,6 @@
 """Texts of automata: each is read, or refused by its refusal at its place, as a slow reader in Python says. Four are
 cut short at every byte or have a byte replaced; others have one fault or two, or a limit's size, a million signs, a
-hundred thousand segments; 600 are random streams. The canonical text reads back. Of 217 short texts the refusals were
+hundred thousand segments; 600 are random streams. The canonical text reads back. Of 256 short texts the refusals were
 found by hand.
 
 The slow reader is checks/automata.py. Most of the texts that are read are written as the canonical text too. There is a

@@ -13,7 +13,7 @@ from program import OMEGA, SECONDS, Case, Cases, Fault, Ran, difference, shown
 
 ROWS = os.path.join(os.path.dirname(os.path.abspath(__file__)), "rows.txt")
 FAULT = 2
-ESCAPES = {"n": "\n", "t": "\t", "\\": "\\"}
+ESCAPES = {"n": "\n", "r": "\r", "t": "\t", "\\": "\\"}
 
 
 class Row:
