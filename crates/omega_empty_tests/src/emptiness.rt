@@ -1,8 +1,9 @@
-//! Emptiness games, and what lifting and a search say of automata.
+//! Emptiness games, what lifting and a search say of automata, and words of lassos.
 use crate::texts::{automaton_in, is_text};
 use omega_automaton::Automaton;
 use omega_empty::{Refusal, Verdict, emptiness, emptiness_game};
 use omega_lasso_search::lasso;
+use omega_lasso_word::word_of;
 use omega_pg::write_game;
 use std::alloc::Global;
 
@@ -35,7 +36,7 @@ fn number_of(answer: Result<Verdict, Refusal>) -> u32 {
 const LOOP: &str =
     "HOA: v1 States: 1 Start: 0 acc-name: Buchi Acceptance: 1 Inf(0) --BODY-- State: 0 {0} [t] 0 --END--";
 
-// Whether game, verdicts and the refusal of too small a budget are those of `LOOP`.
+// Whether game, verdicts, the refusal of too small a budget, and the word of the lasso are those of `LOOP`.
 fn is_decided(alloc: Global, automaton: &Automaton) -> bool {
     is_text(
         game_text(alloc, automaton),
@@ -43,6 +44,7 @@ fn is_decided(alloc: Global, automaton: &Automaton) -> bool {
     ) && says(emptiness(alloc, automaton, 2), &[0])
         && number_of(emptiness(alloc, automaton, 1)) == 51
         && says(lasso(alloc, automaton), &[0])
+        && is_text(word_of(alloc, automaton, &[], &[0]), "cycle{1}")
 }
 
 #[test]

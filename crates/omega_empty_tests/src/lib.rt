@@ -1,6 +1,6 @@
 //! Tests of the public calls of `omega_satisfying`, `omega_components`, `omega_empty`, `omega_lasso_search`,
-//! `omega_lasso_word` and the crates of drawings, apart from them, so that each library is proved once. They are one
-//! crate, since each crate of tests has to load what it tests.
+//! `omega_lasso_word`, `omega_trim_answers` and the crates of drawings, apart from them, so that each library is proved
+//! once. They are one crate, since each crate of tests has to load what it tests.
 #![tactic(auto)]
 
 #[cfg(test)]
@@ -16,4 +16,4 @@ mod satisfying;
 #[cfg(test)]
 mod texts;
 #[cfg(test)]
-mod words;
+mod trimming;

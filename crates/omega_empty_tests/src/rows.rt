@@ -4,3 +4,8 @@ use std::process::Abort;
 pub(crate) fn assert_row(rt: &impl Abort, row: usize, holds: bool) {
     assert!(rt; holds, "row {row}");
 }
+
+/// Asserts the same of a row that has a name.
+pub(crate) fn assert_named(rt: &impl Abort, name: &str, holds: bool) {
+    assert!(rt; holds, "{name}");
+}

@@ -1,7 +1,5 @@
 //! Automata and what is left of them, worked by hand.
-use crate::rows::assert_row;
-use omega_hoa::read_one;
-use omega_lasso_search::{Verdict, lasso};
+use crate::rows::assert_named;
 use omega_text::Refusal;
 use omega_trim_answers::trim_text;
 use std::alloc::Global;
@@ -112,7 +110,7 @@ static TRIMMED: [(&str, &str, &str); 14] = [
 #[test]
 fn useless_states_go(rt: HostRuntime) {
     for (name, text, wanted) in &TRIMMED {
-        assert_row(&rt, name, leaves(rt.alloc(), text, wanted));
+        assert_named(&rt, name, leaves(rt.alloc(), text, wanted));
     }
 }
 
@@ -133,24 +131,6 @@ static REFUSED: [(&str, &str, u32); 3] = [
 #[test]
 fn refusals_are_by_the_table(rt: HostRuntime) {
     for (name, text, number) in &REFUSED {
-        assert_row(&rt, name, number_of(rt.alloc(), text) == *number);
+        assert_named(&rt, name, number_of(rt.alloc(), text) == *number);
     }
-}
-
-// Whether a text is that of an automaton that accepts no word.
-fn is_empty(alloc: Global, text: &str) -> bool {
-    match read_one(alloc, text.as_bytes()) {
-        Ok(automaton) => match lasso(alloc, &automaton) {
-            Ok(Verdict::Empty) => true,
-            Ok(Verdict::Lasso { .. }) => false,
-            Err(_) => false,
-        },
-        Err(_) => false,
-    }
-}
-
-#[test]
-fn no_state_is_empty(rt: HostRuntime) {
-    let text = "HOA: v1\nStates: 0\nAP: 0\nAcceptance: 1 Inf(0)\n--BODY--\n--END--\n";
-    assert!(rt; is_empty(rt.alloc(), text));
 }
