@@ -21,9 +21,13 @@ pub fn complement_text(alloc: Global, text: &[u8]) -> Result<Vec<u8>, Refusal>
     ensures answer { IfOk result (λ output. IsComplementAnswer text.now output.items) }
     ensures refused { IfErr result (or_memory (IsComplementRefusal text.now)) }
 {
-    let automaton = read_one(alloc, text)?;
-    let turned = complemented(alloc, automaton)?;
-    canonical(alloc, &turned)
+    match read_one(alloc, text) {
+        Ok(automaton) => match complemented(alloc, automaton) {
+            Ok(turned) => canonical(alloc, &turned),
+            Err(refusal) => Err(refusal),
+        },
+        Err(refusal) => Err(refusal),
+    }
 }
 
 /// Returns the complement of `automaton`, which is dropped. Fails as `complement` does.

@@ -22,17 +22,15 @@ pub fn meet_texts(alloc: Global, file: &[u8], input: &[u8]) -> Result<Vec<u8>, R
     ensures refused { IfErr result (λ refused. IsAbout (IsOfNoText file.now input.now)
         (IsAutomatonRefusal file.now) (IsTextRefused file.now input.now) refused.text refused.refusal) }
 {
-    let second = match read_one(alloc, file) {
-        Ok(automaton) => automaton,
-        Err(refusal) => return Err(Refused::of(Which::File, refusal)),
-    };
-    let first = match read_one(alloc, input) {
-        Ok(automaton) => automaton,
-        Err(refusal) => return Err(Refused::of(Which::Input, refusal)),
-    };
-    match met(alloc, &first, &second) {
-        Ok(output) => Ok(output),
-        Err(refusal) => Err(Refused::from(refusal)),
+    match read_one(alloc, file) {
+        Ok(second) => match read_one(alloc, input) {
+            Ok(first) => match met(alloc, &first, &second) {
+                Ok(output) => Ok(output),
+                Err(refusal) => Err(Refused::from(refusal)),
+            },
+            Err(refusal) => Err(Refused::of(Which::Input, refusal)),
+        },
+        Err(refusal) => Err(Refused::of(Which::File, refusal)),
     }
 }
 
@@ -41,6 +39,8 @@ fn met(alloc: Global, first: &Automaton, second: &Automaton) -> Result<Vec<u8>, 
     ensures met { IfOk result (λ output. IsMet first.now second.now output.items) }
     ensures refused { IfErr result (IsProductRefusal first.now second.now) }
 {
-    let meeting = product(alloc, first, second)?;
-    canonical(alloc, &meeting)
+    match product(alloc, first, second) {
+        Ok(meeting) => canonical(alloc, &meeting),
+        Err(refusal) => Err(refusal),
+    }
 }

@@ -33,16 +33,14 @@ pub fn verify_lasso(
     ensures refused { IfErr result
         (IsRefusedOf (RefusesAutomaton file.items input.items) (RefusesLasso file.items input.items)) }
 {
-    let automaton = match automaton_in(alloc, file) {
-        Ok(automaton) => automaton,
-        Err(refusal) => return Err(Refused::of(Which::File, refusal)),
-    };
-    let lasso = match lasso_in(alloc, input) {
-        Ok(lasso) => lasso,
-        Err(refusal) => return Err(Refused::of(Which::Input, refusal)),
-    };
-    match verdict_on(alloc, &automaton, &lasso, explain) {
-        Ok(made) => Ok(made),
+    match automaton_in(alloc, file) {
+        Ok(automaton) => match lasso_in(alloc, input) {
+            Ok(lasso) => match verdict_on(alloc, &automaton, &lasso, explain) {
+                Ok(made) => Ok(made),
+                Err(refusal) => Err(Refused::of(Which::File, refusal)),
+            },
+            Err(refusal) => Err(Refused::of(Which::Input, refusal)),
+        },
         Err(refusal) => Err(Refused::of(Which::File, refusal)),
     }
 }
@@ -54,11 +52,16 @@ fn automaton_in(alloc: Global, text: Vec<u8>) -> Result<Automaton, Refusal>
     ensures given { IfOk result (λ automaton. has_universal_branching automaton ≡ false) }
     ensures refused { IfErr result (or_memory (RefusesFileFirst text.items)) }
 {
-    let automaton = read_one(alloc, text.as_slice())?;
-    if has_universal_branching(&automaton) {
-        return Err(Refusal::Task(TaskFault::UniversalBranch));
+    match read_one(alloc, text.as_slice()) {
+        Ok(automaton) => {
+            if has_universal_branching(&automaton) {
+                Err(Refusal::Task(TaskFault::UniversalBranch))
+            } else {
+                Ok(automaton)
+            }
+        }
+        Err(refusal) => Err(refusal),
     }
-    Ok(automaton)
 }
 
 /// Reads the lasso of `text`, which is dropped. A line of its word is passed over.

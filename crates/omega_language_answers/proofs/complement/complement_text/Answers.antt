@@ -2,18 +2,18 @@
 use Rattle.std.proofs.lemmas.Result.{IfErr-weaker, IfOk-weaker}
 use Rattle.omega_language_answers.proofs.complement.complement_text.Goals as goal
 
-pub returns-clause-answer : goal.returns-clause-answer
-returns-clause-answer c =
+pub returns-in-Ok-complemented-clause-answer : goal.returns-in-Ok-complemented-clause-answer
+returns-in-Ok-complemented-clause-answer c =
     IfOk-weaker c.canonical.result _ _
     (λ output written. record {
-      automaton = c.in_ok-automaton.automaton;
-      read = c.in_ok-automaton.ensures.automaton;
-      given = c.in_ok-turned.ensures.given;
-      complement = c.in_ok-turned.turned;
-      right = c.in_ok-turned.ensures.complement;
+      automaton = c.in-Ok.automaton;
+      read = c.in-Ok.ensures.automaton;
+      given = c.in-Ok-complemented.ensures.given;
+      complement = c.in-Ok-complemented.turned;
+      right = c.in-Ok-complemented.ensures.complement;
       written = written;
     })
     c.canonical.ensures.text
 
-pub returns-clause-refused : goal.returns-clause-refused
-returns-clause-refused c = IfErr-weaker c.canonical.result _ _ (λ refusal e. rw e tt) c.canonical.ensures.memory
+pub returns-in-Ok-complemented-clause-refused : goal.returns-in-Ok-complemented-clause-refused
+returns-in-Ok-complemented-clause-refused c = IfErr-weaker c.canonical.result _ _ (λ refusal e. rw e tt) c.canonical.ensures.memory

@@ -7,17 +7,17 @@ use Rattle.omega_language_answers.specs.Verify.{RefusesAutomaton, RefusesFileFir
 use Rattle.omega_language_answers.proofs.Refusals.{file_is_read, of_file}
 use Rattle.omega_language_answers.proofs.verify.verify_lasso.Goals as goal
 
-pub returns-in-Err-clause-refused : goal.returns-in-Err-clause-refused
-returns-in-Err-clause-refused c =
-    subst (λ (refused : Refused). IsRefusedOf (RefusesAutomaton c.args.file.items c.args.input.items) (RefusesLasso c.args.file.items c.args.input.items) refused)
-    (sym c.of.ensures)
-    (of_file (RefusesFileFirst c.args.file.items) (RefusesAutomaton c.args.file.items c.args.input.items) (RefusesLasso c.args.file.items c.args.input.items)
-    (λ refusal is. inl is) (file_is_read c.args.file.items) c.in-Err.refusal c.in-Err.ensures.refused)
-
 pub returns-clause-refused : goal.returns-clause-refused
 returns-clause-refused c =
     subst (λ (refused : Refused). IsRefusedOf (RefusesAutomaton c.args.file.items c.args.input.items) (RefusesLasso c.args.file.items c.args.input.items) refused)
-    (sym c.of-in-Err-verdict_on.ensures)
+    (sym c.of-in-Err.ensures)
+    (of_file (RefusesFileFirst c.args.file.items) (RefusesAutomaton c.args.file.items c.args.input.items) (RefusesLasso c.args.file.items c.args.input.items)
+    (λ refusal is. inl is) (file_is_read c.args.file.items) c.in-Err.refusal c.in-Err.ensures.refused)
+
+pub returns-in-Ok-lasso_in-clause-refused : goal.returns-in-Ok-lasso_in-clause-refused
+returns-in-Ok-lasso_in-clause-refused c =
+    subst (λ (refused : Refused). IsRefusedOf (RefusesAutomaton c.args.file.items c.args.input.items) (RefusesLasso c.args.file.items c.args.input.items) refused)
+    (sym c.of.ensures)
     (of_file (RefusesToJudge c.in-Ok.automaton c.in-Ok-lasso_in.lasso.stem c.in-Ok-lasso_in.lasso.cycle) (RefusesAutomaton c.args.file.items c.args.input.items)
     (RefusesLasso c.args.file.items c.args.input.items)
     (λ refusal is. inr (record {
