@@ -4,11 +4,11 @@
 #![tactic(auto)]
 
 #[cfg(test)]
-mod bounds;
-#[cfg(test)]
 mod building;
 #[cfg(test)]
 mod checking;
+#[cfg(test)]
+mod counting;
 #[cfg(test)]
 mod measure;
 #[cfg(test)]

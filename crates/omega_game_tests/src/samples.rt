@@ -21,12 +21,6 @@ pub(crate) fn assert_row(rt: &impl Abort, row: usize, holds: bool) {
 /// Identifier, priority, owner, the identifiers of the successors, and the name or none.
 pub(crate) type Row = (u32, u32, Player, &'static [u32], Option<&'static [u8]>);
 
-pub(crate) const ONE_EVEN: [Row; 1] = [(0, 0, Zero, &[0], None)];
-
-pub(crate) const ONE_ODD: [Row; 1] = [(0, 1, Zero, &[0], None)];
-
-pub(crate) const TWO: [Row; 2] = [(0, 1, Zero, &[1], None), (1, 2, One, &[0], None)];
-
 pub(crate) const THREE: [Row; 3] = [
     (0, 0, Zero, &[1, 2], None),
     (1, 1, One, &[0], None),
