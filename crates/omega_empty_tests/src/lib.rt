@@ -1,6 +1,6 @@
 //! Tests of the public calls of `omega_satisfying`, `omega_components`, `omega_empty`, `omega_lasso_search`,
-//! `omega_lasso_word`, `omega_trim_answers` and the crates of drawings, apart from them, so that each library is proved
-//! once. They are one crate, since each crate of tests has to load what it tests.
+//! `omega_lasso_word`, `omega_trim_answers`, `omega_union_answers` and the crates of drawings, apart from them, so that
+//! each library is proved once. They are one crate, since each crate of tests has to load what it tests.
 #![tactic(auto)]
 
 #[cfg(test)]
@@ -17,3 +17,5 @@ mod satisfying;
 mod texts;
 #[cfg(test)]
 mod trimming;
+#[cfg(test)]
+mod unions;

@@ -1,0 +1,5 @@
+-- Lemmas on unions: edges and states one by one, marks that rise, counts, and what is formed.
+pub mod Counted
+pub mod Formed
+pub mod Parts
+pub mod Rising

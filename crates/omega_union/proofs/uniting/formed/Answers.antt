@@ -1,0 +1,79 @@
+-- what is formed is the union, and why none is formed
+use Rattle.std.proofs.Common.{◌≡◌, refl, sym, ap, subst, ◌∙◌, true≢false}
+use Rattle.omega_automaton.specs.Automaton.{Description}
+use Rattle.omega_automaton.specs.Faults.{automaton_fault_of}
+use Rattle.omega_edge_labels.proofs.Refusals.{large_weaker, passed_on}
+use Rattle.omega_product.specs.Limits.{IsWithin}
+use Rattle.omega_trim.specs.Refusing.{broken_limit}
+use Rattle.omega_trim.specs.private.Writing.{BreaksLimit}
+use Rattle.omega_union.specs.Refusing.{IsOversized, IsUnionTooLarge, many_sets, passes_limit}
+use Rattle.omega_union.specs.Union.{united}
+use Rattle.omega_union.specs.private.Operands.{HaveManySets}
+use Rattle.omega_union.specs.declared.sharing.Sharing.{Sharing}
+use Rattle.omega_union.proofs.Formed.{few_states, large_oversized, united_meant, united_within, united_written}
+use Rattle.omega_union.proofs.uniting.formed.Goals as goal
+
+pub returns-in_err-sharing-clause-err : goal.returns-in_err-sharing-clause-err
+returns-in_err-sharing-clause-err c =
+    passed_on c.from_residual.result _ _ c.from_residual.ensures.1
+    (large_weaker (HaveManySets c.args.one.now c.args.other.now) (IsUnionTooLarge c.args.one.now c.args.other.now)
+    (λ many. (united many.0 c.args.one.now c.args.other.now, record { sharing = many.0; shared = many.1; is = refl }, many_sets many.2))
+    _ c.in_err-sharing.ensures.err)
+
+pub returns-then-are_large-clause-err : goal.returns-then-are_large-clause-err
+returns-then-are_large-clause-err c =
+    let sharing : Sharing = c.in_ok-sharing.sharing in (
+      refl,
+      (
+        united sharing c.args.one.now c.args.other.now,
+        record { sharing = sharing; shared = c.in_ok-sharing.ensures.sharing; is = refl },
+        large_oversized sharing c.args.one.now c.args.other.now (c.are_large.ensures.0 c.if-are_large.true),
+      ),
+    )
+
+pub written-requires : goal.written-requires
+written-requires c =
+    few_states c.in_ok-sharing.sharing c.args.one.now c.args.other.now (λ large. absurd (true≢false (sym (c.are_large.ensures.1 large) ∙ c.if-are_large.false)))
+
+pub returns-in_err-raw-clause-err : goal.returns-in_err-raw-clause-err
+returns-in_err-raw-clause-err c =
+    let sharing : Sharing = c.in_ok-sharing.sharing in
+    let union : Description = united sharing c.args.one.now c.args.other.now in
+    passed_on c.from_residual-in_err-raw.result _ _ c.from_residual-in_err-raw.ensures.1
+    (large_weaker (IsOversized union) (IsUnionTooLarge c.args.one.now c.args.other.now)
+    (λ over. (union, record { sharing = sharing; shared = c.in_ok-sharing.ensures.sharing; is = refl }, over))
+    _ c.in_err-raw.ensures.err)
+
+pub returns-in_err-union-clause-err : goal.returns-in_err-union-clause-err
+returns-in_err-union-clause-err c =
+    let sharing : Sharing = c.in_ok-sharing.sharing in
+    let union : Description = united sharing c.args.one.now c.args.other.now in
+    passed_on c.from_residual-in_err-union.result _ _ c.from_residual-in_err-union.ensures.1
+    (large_weaker (BreaksLimit c.in_ok-raw.raw) (IsUnionTooLarge c.args.one.now c.args.other.now)
+    (λ broken. (
+      union,
+      record { sharing = sharing; shared = c.in_ok-sharing.ensures.sharing; is = refl },
+      passes_limit (broken_limit broken.0 (ap automaton_fault_of (sym c.in_ok-raw.ensures.written) ∙ broken.1)),
+    ))
+    _ c.in_err-union.ensures.err)
+
+pub returns-clause-union : goal.returns-clause-union
+returns-clause-union c = record {
+  sharing = c.in_ok-sharing.sharing;
+  shared = c.in_ok-sharing.ensures.sharing;
+  is = united_meant c.in_ok-sharing.sharing c.args.one.now c.args.other.now c.written_labels_mean.ensures c.written_formulas_mean.ensures c.in_ok-sharing.ensures.sharing
+      c.keeps_limits.ensures c.keeps_limits-2.ensures c.in_ok-raw.raw c.in_ok-union.union c.in_ok-raw.ensures.written c.in_ok-union.ensures.means;
+}
+
+pub returns-clause-written : goal.returns-clause-written
+returns-clause-written c =
+    let is = united_meant c.in_ok-sharing.sharing c.args.one.now c.args.other.now c.written_labels_mean.ensures c.written_formulas_mean.ensures c.in_ok-sharing.ensures.sharing
+    c.keeps_limits.ensures c.keeps_limits-2.ensures c.in_ok-raw.raw c.in_ok-union.union c.in_ok-raw.ensures.written c.in_ok-union.ensures.means in
+    united_written c.in_ok-sharing.sharing c.args.one.now c.args.other.now c.in_ok-raw.raw c.in_ok-union.union c.in_ok-raw.ensures.written is c.in_ok-union.ensures.means
+
+pub returns-clause-within : goal.returns-clause-within
+returns-clause-within c =
+    let is = united_meant c.in_ok-sharing.sharing c.args.one.now c.args.other.now c.written_labels_mean.ensures c.written_formulas_mean.ensures c.in_ok-sharing.ensures.sharing
+    c.keeps_limits.ensures c.keeps_limits-2.ensures c.in_ok-raw.raw c.in_ok-union.union c.in_ok-raw.ensures.written c.in_ok-union.ensures.means in
+    subst IsWithin (sym is)
+    (united_within c.in_ok-sharing.sharing c.args.one.now c.args.other.now (λ large. absurd (true≢false (sym (c.are_large.ensures.1 large) ∙ c.if-are_large.false))) c.in_ok-sharing.ensures.few)

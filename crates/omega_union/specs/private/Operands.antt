@@ -1,0 +1,35 @@
+-- What a union is formed of, in the words of unions, and why it can't be.
+use Rattle.std.specs.Prelude.{◌⊎◌, ◌+◌, ◌<◌}
+use Rattle.omega_text.specs.Limits.{most_number}
+use Rattle.omega_expression.specs.Limits.{most_depth}
+use Rattle.omega_formula.specs.Acceptance.{AccTree}
+use Rattle.omega_formula.specs.Raw.{raw_acc_depth}
+use Rattle.omega_formula.specs.Writing.{acc_written}
+use Rattle.omega_automaton.specs.Automaton.{Description, edge_count}
+use Rattle.omega_edge_labels.specs.Limits.{most_edges, most_states}
+use Rattle.omega_union.specs.Parts.{Part}
+use Rattle.omega_union.specs.Sharing.{IsSharing}
+use Rattle.omega_union.specs.declared.operand.Operand.{Operand}
+use Rattle.omega_union.specs.declared.sharing.Sharing.{Sharing}
+
+-- how the union has an operand
+abbrev pub part_of : Operand → Part
+part_of operand = record {
+  places = operand.places.now;
+  states = operand.states;
+  sets = operand.sets;
+  guard = operand.guard;
+}
+
+-- a text has no number for some set of the union
+abbrev pub HaveManySets : Description → Description → Type 0
+HaveManySets one other = (sharing : Sharing) × IsSharing one other sharing × (most_number < sharing.sets)
+
+-- both automata together have more states or edges than a union may have
+abbrev pub AreLarge : Description → Description → Type 0
+AreLarge one other =
+    (most_states < one.states + other.states) ⊎ (most_edges < edge_count one + edge_count other)
+
+-- a formula is too deep as it is written
+abbrev pub IsDeepFormula : AccTree → Type 0
+IsDeepFormula formula = most_depth < raw_acc_depth (acc_written formula)

@@ -1,0 +1,121 @@
+//! The propositions of two automata, joined by their names, and copies of other names.
+
+ghost use Rattle.std.specs.Prelude.{◌≡◌, ◌<◌, ◌^◌, length, IfOk, IsOkUnless};
+ghost use Rattle.std.specs.List.{list_any, position_or_len};
+ghost use Rattle.std.specs.Str.{bytes_eq};
+ghost use Rattle.omega_product.specs.Joining.{joined_names as names_of_both, places_among as places_of};
+
+use omega_formula::{AccName, Parameter};
+use omega_text::{ByteString, Refusal, Seq};
+use std::alloc::Global;
+
+/// Returns `names`, and then those `others` that are not among them.
+pub(crate) fn joined_names(
+    alloc: Global,
+    names: &[ByteString],
+    others: &[ByteString],
+) -> Result<Vec<ByteString>, Refusal>
+    ensures ok { IfOk result (λ joined. joined.items ≡ names_of_both names.now others.now) }
+    ensures memory { IsOkUnless result Refusal.Memory }
+{
+    let mut joined = copied(alloc, names)?;
+    for name in others {
+        if !is_among(name.as_slice(), names) {
+            joined.push(ByteString::from_slice(alloc, name.as_slice())?)?;
+        }
+    }
+    Ok(joined)
+}
+
+/// Copies `names`.
+fn copied(alloc: Global, names: &[ByteString]) -> Result<Vec<ByteString>, Refusal>
+    ensures ok { IfOk result (λ same. same.items ≡ names.now) }
+    ensures memory { IsOkUnless result Refusal.Memory }
+{
+    let mut same = Vec::with_capacity(alloc, names.len())?;
+    for name in names {
+        same.push(ByteString::from_slice(alloc, name.as_slice())?)?;
+    }
+    Ok(same)
+}
+
+/// Whether one of `names` has these bytes.
+fn is_among(bytes: &[u8], names: &[ByteString]) -> bool
+    ensures { result ≡ list_any (bytes_eq bytes.now) names.now }
+{
+    for name in names {
+        if bytes == name.as_slice() {
+            return true;
+        }
+    }
+    false
+}
+
+/// Returns the position in `joined` of each of `names`.
+pub(crate) fn places_among(
+    alloc: Global,
+    joined: &[ByteString],
+    names: &[ByteString],
+) -> Result<Vec<u32>, Refusal>
+    requires { length joined.now < 2 ^ 32 }
+    ensures ok { IfOk result (λ places. places.items ≡ places_of joined.now names.now) }
+    ensures memory { IsOkUnless result Refusal.Memory }
+{
+    let mut places = Vec::with_capacity(alloc, names.len())?;
+    for name in names {
+        places.push(place_of(joined, name.as_slice()))?;
+    }
+    Ok(places)
+}
+
+/// Returns the position of `name` in `joined`, or the length of `joined` if it is not there.
+fn place_of(joined: &[ByteString], name: &[u8]) -> u32
+    requires { length joined.now < 2 ^ 32 }
+    ensures { result ≡ position_or_len (bytes_eq name.now) joined.now }
+{
+    for (place, other) in joined.iter().enumerate() {
+        if name == other.as_slice() {
+            return place as u32;
+        }
+    }
+    joined.len() as u32
+}
+
+/// Copies the name of an acceptance.
+pub(crate) fn copied_acc_name(alloc: Global, name: &AccName) -> Result<AccName, Refusal>
+    ensures same { IfOk result (λ same. same ≡ name.now) }
+    ensures memory { IsOkUnless result Refusal.Memory }
+{
+    let parameters = copied_parameters(alloc, name.parameters.as_slice())?;
+    Ok(AccName {
+        name: ByteString::from_slice(alloc, name.name.as_slice())?,
+        parameters: Seq::from_vec(parameters),
+    })
+}
+
+/// Copies the parameters of the name of an acceptance.
+fn copied_parameters(alloc: Global, parameters: &[Parameter]) -> Result<Vec<Parameter>, Refusal>
+    ensures same { IfOk result (λ same. same.items ≡ parameters.now) }
+    ensures memory { IsOkUnless result Refusal.Memory }
+{
+    let mut same = Vec::with_capacity(alloc, parameters.len())?;
+    for parameter in parameters {
+        same.push(copied_parameter(alloc, parameter)?)?;
+    }
+    Ok(same)
+}
+
+/// Copies a parameter.
+fn copied_parameter(alloc: Global, parameter: &Parameter) -> Result<Parameter, Refusal>
+    ensures same { IfOk result (λ same. same ≡ parameter.now) }
+    ensures memory { IsOkUnless result Refusal.Memory }
+{
+    match parameter {
+        Parameter::Boolean(value) => Ok(Parameter::Boolean(*value)),
+        Parameter::Number(number) => Ok(Parameter::Number(*number)),
+        Parameter::Word(bytes) => Ok(Parameter::Word(ByteString::from_slice(
+            alloc,
+            bytes.as_slice(),
+        )?)),
+    }
+}

@@ -1,0 +1,194 @@
+ghost use Rattle.std.specs.Prelude.{◌≡◌, ◌||◌, ◌+◌, ◌≤◌, ◌↔◌, IsTrue, length, map, IfErr, IfOk, OnOk};
+ghost use Rattle.omega_text.specs.Limits.{most_number};
+ghost use Rattle.omega_automaton.specs.Automaton.{edge_count};
+ghost use Rattle.omega_automaton.specs.Branching.{has_universal_branching};
+ghost use Rattle.omega_automaton.specs.Limits.{most_propositions};
+ghost use Rattle.omega_automaton.specs.Meaning.{Means};
+ghost use Rattle.omega_edge_labels.specs.Fitting.{IsLarge};
+ghost use Rattle.omega_edge_labels.specs.Limits.{most_edges, most_states};
+ghost use Rattle.omega_product.specs.Joining.{joined_names as names_of_both};
+ghost use Rattle.omega_product.specs.Limits.{IsWithin};
+ghost use Rattle.omega_product.specs.Refusing.{HaveNoBranch};
+ghost use Rattle.omega_trim.specs.Written.{state_written, written as written_form};
+ghost use Rattle.omega_trim.specs.private.Writing.{BreaksLimit, StatesHaveDeepLabel};
+ghost use Rattle.omega_union.specs.Refusing.{IsOversized, IsUnionRefusal, IsUnionTooLarge};
+ghost use Rattle.omega_union.specs.Union.{IsUnion, united};
+ghost use Rattle.omega_union.specs.private.Operands.{AreLarge};
+
+use crate::acceptance::written_acceptance;
+use crate::header::header;
+use crate::names::{joined_names, places_among};
+use crate::operand::Operand;
+use crate::sets::sharing_of;
+use crate::sharing::Sharing;
+use crate::states::push_states;
+use omega_acc::{written_formulas_mean, written_labels_mean};
+use omega_automaton::{Automaton, MOST_PROPOSITIONS, automaton_of, has_universal_branching};
+use omega_edge_labels::{MOST_EDGES, MOST_STATES};
+use omega_raw::{RawAutomaton, RawState};
+use omega_text::{ByteString, Refusal, Seq, TaskFault};
+use std::alloc::Global;
+
+/// Returns the union of two automata without universal branching. It accepts a word over the propositions of both
+/// exactly if one of the two accepts its part of the word (law `unions_accept_either` of `omega_union_laws`).
+///
+/// Propositions are joined by name, with those of `first` in front. The states are those of `first`, and then those of
+/// `second`, numbered on. They keep their names, labels, marks and edges, and the starts are those of both, so that the
+/// union is not deterministic if both have one. An edge that had neither a label nor one of its state gets that of its
+/// valuation. The name of the automaton, the tool, the properties and the headers that the format leaves open are left
+/// out, as what they say may no longer hold.
+///
+/// If both have one acceptance formula over as many sets, it is that of the union, with its name. Otherwise the sets of
+/// `second` are numbered after those of `first`, and the acceptance is the disjunction, without a name. A run of one
+/// has no marks of the other. So if a formula holds of a run without any marks, it is guarded by one set more, which
+/// each edge of its automaton is in: `Inf(0) | Inf(2)&Fin(1)` for Büchi and co-Büchi.
+///
+/// Refusals, with `UniversalBranch` before the other:
+///
+/// - [TaskFault::UniversalBranch] if a start or an edge lists several states.
+/// - [TaskFault::TooLarge] if the union would have over `MOST_STATES` states or `MOST_EDGES` edges, or would break a
+///   limit of automata. Those are `MOST_PROPOSITIONS` propositions, `MOST_NUMBER` sets, and the depth and size of
+///   labels and of the acceptance.
+///
+/// Linear in both automata, and in the number of propositions for each name and for each edge without a label.
+pub fn union(alloc: Global, first: &Automaton, second: &Automaton) -> Result<Automaton, Refusal>
+    ensures union { IfOk result (IsUnion first.now second.now) }
+    ensures written { IfOk result (λ union. Means (written_form union) union) }
+    ensures within { IfOk result IsWithin }
+    ensures given { OnOk result (HaveNoBranch first.now second.now) }
+    ensures refused { IfErr result (IsUnionRefusal first.now second.now) }
+{
+    if branches(first, second) {
+        return Err(Refusal::Task(TaskFault::UniversalBranch));
+    }
+    formed(alloc, first, second)
+}
+
+/// Whether a start or an edge of either automaton lists several states.
+fn branches(first: &Automaton, second: &Automaton) -> bool
+    ensures { result ≡ (has_universal_branching first.now || has_universal_branching second.now) }
+{
+    let in_first = has_universal_branching(first);
+    let in_second = has_universal_branching(second);
+    in_first || in_second
+}
+
+/// Returns the union of two automata without universal branching. Fails with [TaskFault::TooLarge].
+fn formed(alloc: Global, one: &Automaton, other: &Automaton) -> Result<Automaton, Refusal>
+    ensures union { IfOk result (IsUnion one.now other.now) }
+    ensures written { IfOk result (λ union. Means (written_form union) union) }
+    ensures within { IfOk result IsWithin }
+    ensures err { IfErr result (IsLarge (IsUnionTooLarge one.now other.now)) }
+{
+    one.keeps_limits();
+    other.keeps_limits();
+    written_labels_mean();
+    written_formulas_mean();
+    let sharing = sharing_of(alloc, one, other)?;
+    if are_large(one, other) {
+        return Err(Refusal::Task(TaskFault::TooLarge));
+    }
+    let raw = written(alloc, &sharing, one, other)?;
+    let union = meaning(alloc, raw)?;
+    Ok(union)
+}
+
+/// Whether both automata together have over `MOST_STATES` states or over `MOST_EDGES` edges.
+fn are_large(one: &Automaton, other: &Automaton) -> bool
+    ensures { IsTrue result ↔ AreLarge one.now other.now }
+{
+    let states = one.state_count() as usize + other.state_count() as usize;
+    let edges = one.edge_count() as usize + other.edge_count() as usize;
+    MOST_STATES < states || MOST_EDGES < edges
+}
+
+/// Returns the union as a text writes it. Fails with [TaskFault::TooLarge] if there are too many propositions, or if
+/// the acceptance or a label is deeper than `MOST_DEPTH` as it is written.
+fn written(
+    alloc: Global,
+    sharing: &Sharing,
+    one: &Automaton,
+    other: &Automaton,
+) -> Result<RawAutomaton, Refusal>
+    requires { one.now.states + other.now.states ≤ most_states }
+    ensures written { IfOk result (λ raw. raw ≡ written_form (united sharing.now one.now other.now)) }
+    ensures err { IfErr result (IsLarge (IsOversized (united sharing.now one.now other.now))) }
+{
+    let names = names_of(alloc, sharing, one, other)?;
+    let states = states_of(alloc, sharing, one, other, names.as_slice())?;
+    let formula = written_acceptance(alloc, sharing, one, other)?;
+    let items = header(alloc, sharing, one, other, names, formula)?;
+    let version = ByteString::from_slice(alloc, b"v1")?;
+    Ok(RawAutomaton {
+        version,
+        items: Seq::from_vec(items),
+        states: Seq::from_vec(states),
+    })
+}
+
+/// Returns the names of the propositions of both. Fails with [TaskFault::TooLarge] if they are too many.
+fn names_of(
+    alloc: Global,
+    sharing: &Sharing,
+    one: &Automaton,
+    other: &Automaton,
+) -> Result<Vec<ByteString>, Refusal>
+    ensures ok { IfOk result (λ names. names.items ≡ names_of_both one.now.propositions other.now.propositions) }
+    ensures few { IfOk result (λ names. length names.items ≤ most_propositions) }
+    ensures err { IfErr result (IsLarge (IsOversized (united sharing.now one.now other.now))) }
+{
+    let names = joined_names(alloc, one.propositions(), other.propositions())?;
+    if MOST_PROPOSITIONS < names.len() {
+        return Err(Refusal::Task(TaskFault::TooLarge));
+    }
+    Ok(names)
+}
+
+/// Returns the states of both over the joined `names`. Fails with [TaskFault::TooLarge] if a label is deeper than
+/// `MOST_DEPTH` as it is written.
+fn states_of(
+    alloc: Global,
+    sharing: &Sharing,
+    one: &Automaton,
+    other: &Automaton,
+    names: &[ByteString],
+) -> Result<Vec<RawState>, Refusal>
+    requires names { names.now ≡ names_of_both one.now.propositions other.now.propositions }
+    requires few { length names.now ≤ most_propositions }
+    ensures states { IfOk result (λ states.
+        states.items ≡ map state_written (united sharing.now one.now other.now).defined) }
+    ensures err { IfErr result (IsLarge (StatesHaveDeepLabel (united sharing.now one.now other.now).defined)) }
+{
+    let places = places_among(alloc, names, one.propositions())?;
+    let first = Operand {
+        automaton: one,
+        places: places.as_slice(),
+        states: 0,
+        sets: 0,
+        guard: sharing.first,
+    };
+    let other_places = places_among(alloc, names, other.propositions())?;
+    let second = Operand {
+        automaton: other,
+        places: other_places.as_slice(),
+        states: one.state_count(),
+        sets: sharing.before,
+        guard: sharing.second,
+    };
+    let mut states = Vec::new(alloc);
+    push_states(alloc, &mut states, &first)?;
+    push_states(alloc, &mut states, &second)?;
+    Ok(states)
+}
+
+/// Returns the meaning of `raw`. Fails with [TaskFault::TooLarge] if `raw` breaks a limit of automata.
+fn meaning(alloc: Global, raw: RawAutomaton) -> Result<Automaton, Refusal>
+    ensures means { IfOk result (Means raw) }
+    ensures err { IfErr result (IsLarge (BreaksLimit raw)) }
+{
+    match automaton_of(alloc, raw) {
+        Ok(automaton) => Ok(automaton),
+        Err(Refusal::Automaton(_fault)) => Err(Refusal::Task(TaskFault::TooLarge)),
+        Err(refusal) => Err(refusal),
+    }
+}

@@ -1,0 +1,8 @@
+pub mod Edges
+pub mod States
+pub mod Moved
+pub mod Formulas
+pub mod Marks
+pub mod Words
+pub mod Unions
+pub mod One

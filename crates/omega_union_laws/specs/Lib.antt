@@ -1,0 +1,2 @@
+-- The laws of unions.
+pub mod Unions
