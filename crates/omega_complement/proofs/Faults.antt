@@ -24,9 +24,9 @@ use Rattle.omega_complement.specs.Judged.{HasLargeEdge, IsBoth, IsJudgedLabel, I
 use Rattle.omega_complement.specs.Labels.{is_full, is_full_at, labels_at, state_at}
 use Rattle.omega_complement.specs.Refusing.{AreUnjudged, HasStart, IsClashFault, IsComplementFault, IsFirstFault, IsStateFault, IsStatesFault, IsUncomplemented}
 use Rattle.omega_complement.specs.Written.{IsWrittenComplement}
-use Rattle.omega_complement.specs.private.Turned.{AreRefused, IsPartialFault, IsStateRefusal, IsUnformed, IsUnjudged, IsUnjudgedAt}
+use Rattle.omega_complement.specs.private.Turned.{AreRefused, IsPartialFault, IsStateRefusal, IsUnformed, IsUnjudgedAt}
 use Rattle.omega_complement.proofs.LimitTests.{deep_formula}
-use Rattle.omega_edge_labels.specs.Fitting.{FitsAText, IsLarge}
+use Rattle.omega_edge_labels.specs.Fitting.{FitsAText, IsLarge, IsUnjudged}
 use Rattle.omega_edge_labels.proofs.Depths.{deep_text, unfit_text}
 use Rattle.omega_edge_labels.proofs.Refusals.{large_task, memory_task, task_weaker}
 

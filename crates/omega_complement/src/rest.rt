@@ -7,9 +7,8 @@ ghost use Rattle.omega_complement.specs.Letters.{IsAnyOf, IsRestLabel};
 ghost use Rattle.omega_complement.specs.Written.{IsMissing};
 ghost use Rattle.omega_complement.specs.private.Turned.{IsJudgingRefusal};
 
-use crate::judging::can_hold;
 use crate::state_labels::StateLabels;
-use omega_edge_labels::written_label;
+use omega_edge_labels::{can_hold, written_label};
 use omega_label::{Label, LabelShape, RawLabel};
 use omega_text::Refusal;
 use std::alloc::Global;

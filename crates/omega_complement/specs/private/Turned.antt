@@ -20,14 +20,6 @@ use Rattle.omega_complement.specs.Written.{IsTurnedAt, SomeLacksLetter}
 use Rattle.omega_complement.specs.declared.state_labels.StateLabels.{StateLabels}
 use Rattle.omega_edge_labels.specs.Fitting.{IsLarge}
 
--- why a label is not judged: it is too deep or too large, or it may be left undecided
-abbrev pub IsUnjudged : LabelTree → Refusal → Type 0
-IsUnjudged label =
-    or_task (λ fault.
-    ((fault ≡ TooLarge) × (FitsALabel label → ⊥))
-    ⊎ ((fault ≡ TooManyPropositions) × IsHardLabel label))
-    (or_memory never)
-
 -- the refusal of a state; `full` says whether it has an edge for each valuation
 abbrev pub IsStateRefusal : Bool → List LabelTree → ℕ → Refusal → Type 0
 IsStateRefusal full labels number = or_task (IsStateFault full labels number) (or_memory never)
