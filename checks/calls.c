@@ -115,6 +115,71 @@ static void version(void) {
     WANT(omega_version(room, 0) == 5);
 }
 
+/* The words with a again and again, and those that begin with a. */
+static const char often[] =
+    "HOA: v1 States: 1 Start: 0 AP: 1 \"a\" acc-name: Buchi Acceptance: 1 Inf(0)"
+    "--BODY-- State: 0 [0] 0 {0} [!0] 0 --END--";
+static const char first[] =
+    "HOA: v1 States: 2 Start: 0 AP: 1 \"a\" acc-name: all Acceptance: 0 t"
+    "--BODY-- State: 0 [0] 1 State: 1 [t] 1 --END--";
+static const char controlled[] =
+    "HOA: v1 States: 1 Start: 0 AP: 1 \"a\" controllable-AP: 0 acc-name: all Acceptance: 0 t"
+    "--BODY-- State: 0 [0] 0 --END--";
+static const char broken[] = "HOA: v1 ;";
+
+#define TEXT(text) held(text, sizeof text - 1), sizeof text - 1
+
+/* Whether a call gave its text, which begins so; or else, for want of memory, left what was there. */
+static int gave(omega_text_outcome outcome, const omega_text *out, const char *begin, const omega_text *before) {
+    if (outcome.number == 0) {
+        WANT(outcome.text == 0 && outcome.place == OMEGA_NO_PLACE);
+        WANT(out->length >= strlen(begin) && memcmp(out->bytes, begin, strlen(begin)) == 0 && out->held);
+        return 1;
+    }
+    WANT(may_be_refused && outcome.number == OMEGA_MEMORY && outcome.text == 0 && outcome.place == OMEGA_NO_PLACE);
+    WANT(out->bytes == before->bytes && out->length == before->length && out->held == before->held);
+    return 0;
+}
+
+/* Each call that gives a text, all into one place: what was there is taken back. */
+static void languages(void) {
+    omega_text text = OMEGA_NO_TEXT, before = text;
+    uint32_t yes = 7;
+    gave(omega_empty(TEXT(often), 1, &text), &text, "stem\ncycle 0\nword cycle{a}\n", &before);
+    before = text;
+    gave(omega_complement(TEXT(first), &text), &text, "HOA: v1\nStates: 3\n", &before);
+    before = text;
+    gave(omega_meet(TEXT(often), TEXT(first), &text), &text, "HOA: v1\n", &before);
+    before = text;
+    if (gave(omega_contained(TEXT(first), TEXT(often), 1, &yes, &text), &text, "no\nstem", &before)) {
+        WANT(yes == 0);
+    } else {
+        WANT(yes == 7);
+    }
+    before = text, yes = 7;
+    if (gave(omega_equal(TEXT(often), TEXT(often), 0, &yes, &text), &text, "yes\n", &before)) WANT(yes == 1);
+    before = text, yes = 7;
+    if (gave(omega_realize(TEXT(controlled), &yes, &text), &text, "HOA: v1\n", &before)) WANT(yes == 1);
+    omega_free(&text);
+    WANT(text.length == 0 && !text.held);
+    omega_free(&text);
+}
+
+/* A text that is refused: which, and where. What was there stays. */
+static void refused_texts(void) {
+    omega_text text = OMEGA_NO_TEXT;
+    uint32_t yes = 7;
+    omega_text_outcome outcome = omega_contained(TEXT(often), TEXT(broken), 0, &yes, &text);
+    if (outcome.number != OMEGA_MEMORY || !may_be_refused)
+        WANT(outcome.number == OMEGA_LEX && outcome.text == 2 && outcome.place == 8);
+    WANT(yes == 7 && !text.held);
+    outcome = omega_complement(TEXT(broken), &text);
+    if (outcome.number != OMEGA_MEMORY || !may_be_refused)
+        WANT(outcome.number == OMEGA_LEX && outcome.text == 1 && outcome.place == 8);
+    WANT(!text.held);
+    omega_free(&text);
+}
+
 static void shape(void) {
     static const uint32_t wrong[] = {1, 3, 0, 0};
     static const uint8_t sevens[] = {7, 7, 7};
@@ -142,6 +207,8 @@ static void every(void) {
     run(4);
     version();
     shape();
+    languages();
+    refused_texts();
 }
 
 static void *again_and_again(void *unused) {

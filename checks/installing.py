@@ -47,7 +47,7 @@ def exported_fault(words: list[str]) -> Fault:
     ran = subprocess.run(words, capture_output=True, text=True, check=True)
     names = re.findall(r"^[0-9a-f]+ \w (\S+)$", ran.stdout, re.MULTILINE)
     others = [name for name in names if not name.startswith("omega_")]
-    return f"it shows {others[:3]}" if others else None if len(names) == 5 else f"it shows {names}"
+    return f"it shows {others[:3]}" if others else None if len(names) == 12 else f"it shows {names}"
 
 
 def name_fault(file: str) -> Fault:

@@ -1,9 +1,11 @@
 """The library for C and Python, where it is built (`make libomega`) or this family is named. Its examples run as they
 stand in `docs/library.md`. Random games are solved in both ways, and solutions, right and broken in one place, judged,
-against slow solvers. Faults of shapes, what is no array of integers, threads and processes, the rows of
-`checks/rows.txt`, and refused memory, which leaves arrays alone, are tried.
+against slow solvers; random automata are combined and decided, against a judge of words. Faults of shapes, what is no
+array of integers, threads and processes, the rows of `checks/rows.txt`, small stacks, and refused memory, which leaves
+arrays and texts alone, are tried.
 
-The games are solved from Python, and each fault of a shape is tried. The rows go through the program as a function.
+The games are solved from Python, and each fault of a shape is tried. The rows go through the program as a function. The
+cells of `examples/omega.ipynb` run one after the other, and show pictures where Graphviz's `dot` is installed.
 """
 import ctypes
 import os
@@ -18,8 +20,11 @@ from functools import partial
 from typing import Any
 
 import games
+from languages import language_checks
+from notebook import notebook_checks
 from program import ROOT, SECONDS, Cases, Fault, run_of
 from rows import FAULT, ROWS, Row, rows_of
+from stacks import stack_checks
 from wrapper import wrapper_checks
 
 # Priorities, owners and successors of each node.
@@ -203,8 +208,8 @@ def unwritten_fault(omega: Any, game: Any, number: int, search: int = 1, budget:
     arrays = omega.arrays.Arrays(*game)
     winners = (ctypes.c_uint8 * arrays.nodes)(*[7] * arrays.nodes)
     choices = (ctypes.c_uint32 * arrays.nodes)(*[7] * arrays.nodes)
-    lifts, rooms = omega.arrays._Lifts(7, 7), [*omega.arrays._room(winners), *omega.arrays._room(choices)]
-    outcome = omega.arrays._LIBRARY.omega_solve(arrays.game, search, budget, *rooms, lifts)
+    lifts, rooms = omega.library.Lifts(7, 7), [*omega.library.room_of(winners), *omega.library.room_of(choices)]
+    outcome = omega.library.LIBRARY.omega_solve(arrays.game, search, budget, *rooms, lifts)
     if outcome.number != number:
         return f"number {outcome.number} for {number}"
     if set(winners) - {7} or set(choices) - {7} or (lifts.zero, lifts.one) != (7, 7):
@@ -252,8 +257,8 @@ def run_checks(omega: Any) -> Cases:
     yield "an output that is longer than the first room", differs((ran.status, ran.output), (0, program.stdout))
     broken_line = (ctypes.c_uint8 * 2)(255, 0)
     none, room = (ctypes.c_uint8 * 0)(), (ctypes.c_uint8 * 99)()
-    rooms = [part for it in (broken_line, none, none, none, room) for part in omega.arrays._room(it)]
-    ran = omega.arrays._LIBRARY.omega_run(*rooms)
+    rooms = [part for it in (broken_line, none, none, none, room) for part in omega.library.room_of(it)]
+    ran = omega.library.LIBRARY.omega_run(*rooms)
     fault = b"error: the command line is not UTF-8\n\nFor more information, try '--help'.\n"
     yield "words that are not UTF-8", differs((ran.status, bytes(room[:ran.errors])), (FAULT, fault))
 
@@ -347,6 +352,13 @@ def sanitized_checks(folder: str) -> Cases:
     yield "all calls from four threads under ThreadSanitizer", said or ran_fault([made, "threads"])
 
 
+def small_stacks(folder: str) -> Cases:
+    """Each call in a thread with as much stack as the header says that it needs."""
+    made, said = compiled(folder, "stack", source_of("stack.c"), STATIC)
+    yield "the calls in small threads compile", said or None
+    yield from stack_checks(made)
+
+
 def refused_memory(folder: str) -> Cases:
     """Each request for memory during all calls in C refused: 60, every array as it was, and every block given back."""
     shim = os.path.join(folder, "refusing.so")
@@ -401,11 +413,14 @@ def libomega_checks() -> Cases:
     yield from buffer_checks(omega)
     yield from shape_faults(omega)
     yield from wrapper_checks(omega)
+    yield from language_checks(omega)
     yield from run_checks(omega)
     yield from row_runs(omega)
     yield from solved_games(omega)
     yield from leak_checks(omega)
+    yield from notebook_checks({**os.environ, "PYTHONPATH": os.path.join(ROOT, "python")})
     with tempfile.TemporaryDirectory() as folder:
         yield from example_checks(folder)
+        yield from small_stacks(folder)
         yield from sanitized_checks(folder)
         yield from refused_memory(folder)

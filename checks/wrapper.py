@@ -111,12 +111,12 @@ class Counting:
 
 def runs_fault(omega: Any, text: bytes, wanted: int) -> Fault:
     """What is wrong with how often `canon` of a text runs, or nothing."""
-    library = omega.arrays._LIBRARY
-    counting = omega.arrays._LIBRARY = Counting(library)
+    library = omega.library.LIBRARY
+    counting = omega.library.LIBRARY = Counting(library)
     try:
         omega.run(["canon", "--format", "pg"], text)
     finally:
-        omega.arrays._LIBRARY = library
+        omega.library.LIBRARY = library
     return differs(counting.runs, wanted)
 
 

@@ -1,8 +1,10 @@
-/* libomega: parity games as arrays, solved and judged, and the program omega as a function. For C and C++.
+/* libomega: parity games as arrays, solved and judged; omega-automata as texts, combined and decided; and the program
+ * omega as a function. For C and C++.
  *
  * Link with libomega.a, which needs nothing but the C library, or with libomega.so; `make libomega` makes both. There is
- * no state, no handle and no thread: calls may be made from any thread at once, and in a process after a fork, but not
- * from a signal handler. A call cannot be stopped. A budget bounds its lifts; the search has no budget.
+ * no state and no thread: calls may be made from any thread at once, but not from a signal handler, and after a fork in
+ * the child only if its parent had one thread. A call cannot be stopped. A budget bounds its lifts; the search has no
+ * budget.
  *
  * What every call needs of its caller: pointers are not null, also where the length after them is 0, and aligned for
  * their type, and what they point to has that length. What a call writes overlaps nothing else that the call is given.
@@ -26,13 +28,41 @@ extern "C" {
 
 /* The numbers of refusals. */
 enum {
-    OMEGA_TOO_MANY_NODES = 13, /* over 1,048,576 nodes */
-    OMEGA_TOO_MANY_EDGES = 14, /* over 8,388,608 successors */
-    OMEGA_TOO_WIDE = 50,       /* a table of measures would be too wide for one of the players */
-    OMEGA_BUDGET = 51,         /* a lift is due once the whole budget is used up */
-    OMEGA_BAD_SOLUTION = 53,   /* the arrays hold no solution of the game */
-    OMEGA_BAD_SHAPE = 57,      /* an entry of an array is wrong: `array` and `place` say which */
-    OMEGA_MEMORY = 60          /* a request for memory was refused */
+    /* of a text */
+    OMEGA_LEX = 1,                   /* the bytes at the place begin no token */
+    OMEGA_NUMBER = 2,                /* the digits at the place are no number */
+    OMEGA_SYNTAX = 3,                /* the tokens are not in the grammar from the place on */
+    OMEGA_TOO_LONG = 4,              /* over 16,777,216 bytes */
+    /* of a game */
+    OMEGA_TOO_MANY_NODES = 13,       /* over 1,048,576 nodes */
+    OMEGA_TOO_MANY_EDGES = 14,       /* over 8,388,608 successors */
+    /* of an automaton */
+    OMEGA_VERSION_UNKNOWN = 20,      /* the version of the format is not v1 */
+    OMEGA_REPEATED_HEADER = 21,      /* an item that may not repeat does */
+    OMEGA_MISSING_ACCEPTANCE = 22,   /* no item Acceptance: */
+    OMEGA_UNKNOWN_HEADER = 23,       /* an unknown item that begins with a capital */
+    OMEGA_STATE_RANGE = 24,          /* the number of a state is not below their count */
+    OMEGA_SET_RANGE = 25,            /* the number of a set is not below their count */
+    OMEGA_PROPOSITION = 26,          /* propositions miscounted, alike or over 1,024, or a number out of range */
+    OMEGA_ALIAS = 27,                /* an alias undefined where it is used, or defined twice */
+    OMEGA_STATE_TWICE = 28,          /* a state is defined twice */
+    OMEGA_MIXED_LABELS = 29,         /* labels on a state and on its edges, or on some of its edges alone */
+    OMEGA_IMPLICIT_COUNT = 30,       /* edges without labels that are not one for each valuation */
+    OMEGA_ACCEPTANCE_ATOM = 31,      /* an acceptance atom that is neither Fin nor Inf */
+    OMEGA_TOO_DEEP = 32,             /* an expression over 256 deep */
+    OMEGA_EXPANSION = 33,            /* labels that are too large once aliases are replaced */
+    /* of a task */
+    OMEGA_NOT_PARITY = 40,           /* the acceptance is of no parity kind */
+    OMEGA_UNIVERSAL_BRANCH = 41,     /* a start or an edge lists two states or more */
+    OMEGA_TOO_MANY_PROPOSITIONS = 42, /* it is not decided whether a label can hold */
+    OMEGA_TOO_WIDE = 50,             /* a table of measures would be too wide for one of the players */
+    OMEGA_BUDGET = 51,               /* a lift is due once the whole budget is used up */
+    OMEGA_BAD_SOLUTION = 53,         /* the arrays hold no solution of the game */
+    OMEGA_TOO_LARGE = 55,            /* what would be made is over a limit of automata */
+    OMEGA_NOT_DETERMINISTIC = 56,    /* two starts, or two edges of a state for one letter: `place` is the state */
+    OMEGA_BAD_SHAPE = 57,            /* an entry of an array is wrong: `array` and `place` say which */
+    OMEGA_CONTROLLABLE = 58,         /* the item controllable-AP: is refused */
+    OMEGA_MEMORY = 60                /* a request for memory was refused */
 };
 
 /* The entry of a choice that is none. */
@@ -127,6 +157,61 @@ omega_outcome omega_verify(const omega_game *game, const uint8_t *winners, size_
 
 /* The most lifts that lifting makes for each player. Refuses 57, 13, 14, 60. */
 omega_outcome omega_bound(const omega_game *game, omega_bounds *bounds);
+
+/* A text that the library made, or none: so it begins, as OMEGA_NO_TEXT. Each call below that is given one takes back
+ * what was there, once it has a text to put there. omega_free takes it back for good, and leaves none. So nothing
+ * leaks, and nothing is freed twice, as long as there is no copy of this struct, and no one else writes to it or to the
+ * bytes. */
+typedef struct omega_text {
+    const uint8_t *bytes; /* not ended by a NUL */
+    size_t length;
+    void *held; /* the library's own */
+} omega_text;
+
+#define OMEGA_NO_TEXT {NULL, 0, NULL}
+
+/* How a call ended that is given one text or two. */
+typedef struct omega_text_outcome {
+    uint32_t number; /* 0, or the number of the refusal */
+    uint32_t text;   /* which text is refused: 1 for the first, 2 for the second, 0 where it is about neither */
+    uint64_t place;  /* with 1 to 3 the index of the byte, with 56 the number of the state, else OMEGA_NO_PLACE */
+} omega_text_outcome;
+
+#define OMEGA_NO_PLACE UINT64_C(0xFFFFFFFFFFFFFFFF)
+
+/* Automata are texts in the Hanoi format, version 1. Propositions that have one name are the same in both texts. What
+ * is made is in the canonical form, which each call reads again within the limit of texts, 16,777,216 bytes. Each call
+ * refuses 1 to 4 and 20 to 33 for a text, 41, 42 and 60; what else it refuses is said there. */
+
+/* Gives `empty` if the automaton accepts no word, whatever its acceptance. Else gives an accepting lasso, which are two
+ * lines with the numbers of edges, `stem` and `cycle`, and with `word` not 0 a line with its word. */
+omega_text_outcome omega_empty(const uint8_t *text, size_t text_bytes, uint8_t word, omega_text *out);
+
+/* Gives the product, which accepts a word exactly if both automata accept their part of it. Refuses 55 too. */
+omega_text_outcome omega_meet(const uint8_t *text, size_t text_bytes, const uint8_t *other, size_t other_bytes,
+                              omega_text *out);
+
+/* Gives the complement of a deterministic automaton. Refuses 55 and 56 too. */
+omega_text_outcome omega_complement(const uint8_t *text, size_t text_bytes, omega_text *out);
+
+/* Whether each word that the automaton of `text` accepts is accepted by that of `other`, which is deterministic. Writes
+ * 1 or 0 into `verdict`, and gives a line, `yes` or `no`. With `explain` not 0 the lines of a lasso of the first
+ * automaton follow `no`, with a word that the other does not accept. Refuses 55 and 56 too. */
+omega_text_outcome omega_contained(const uint8_t *text, size_t text_bytes, const uint8_t *other, size_t other_bytes,
+                                   uint8_t explain, uint32_t *verdict, omega_text *out);
+
+/* Whether two deterministic automata accept the same words. The same as omega_contained each way round; with `explain`
+ * not 0 the line `accepted by input` or `accepted by file` stands after `no`, for the first text or the second. */
+omega_text_outcome omega_equal(const uint8_t *text, size_t text_bytes, const uint8_t *other, size_t other_bytes,
+                               uint8_t explain, uint32_t *verdict, omega_text *out);
+
+/* Whether some system keeps the specification, a deterministic parity automaton whose item controllable-AP: lists the
+ * propositions that the system controls. Writes 1 into `verdict` and gives a controller, or writes 0 and gives a
+ * counter-strategy of the environment, each as an automaton. Refuses 13, 14, 40, 50, 51, 55, 56 and 58 too. */
+omega_text_outcome omega_realize(const uint8_t *text, size_t text_bytes, uint32_t *verdict, omega_text *out);
+
+/* Takes a text back, if there is one, and leaves none. */
+void omega_free(omega_text *text);
 
 /* Does what the program does with a command line. Its words after the program's name are each ended by a NUL, as in
  * "solve\0--search"; what stands after the last NUL is not read. The input is standard input; each file that the

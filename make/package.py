@@ -59,7 +59,8 @@ proved solver and referee of parity games and omega-automata
 LIBRARY = {"package": "libomega-dev", "depends": "libc6-dev", "section": "libdevel", "description": """\
 proved solver and referee of parity games, as a library for C
  Header, archive, shared library and pkg-config file: solves, judges and bounds
- parity games that are given as arrays, and has the program omega as a function."""}
+ parity games that are given as arrays, combines and decides omega-automata that
+ are given as texts, and has the program omega as a function."""}
 # What pkg-config says of the library. Whoever links the archive needs nothing else.
 CONFIG = """\
 prefix={prefix}

@@ -25,10 +25,10 @@ Calls may be made from several threads at once, and run side by side. A call can
 has ended, and a budget bounds the lifts alone. A process that may be ended, as one of `multiprocessing`, is the way to
 bound a call by time; a `Refusal` can be sent between processes.
 """
-from .arrays import (NO_CHOICE, Answer, Bounds, Counterexample, Ran, Refusal, Solution, bound, run, solve, verify,
-                     version)
-from .automata import Automaton, Lasso
+from .arrays import NO_CHOICE, Answer, Bounds, Counterexample, Ran, Solution, bound, run, solve, verify
+from .automata import Automaton, Lasso, Realizability
 from .games import Game
+from .library import Refusal, version
 
-__all__ = ["NO_CHOICE", "Answer", "Automaton", "Bounds", "Counterexample", "Game", "Lasso", "Ran", "Refusal",
-           "Solution", "bound", "run", "solve", "verify", "version"]
+__all__ = ["NO_CHOICE", "Answer", "Automaton", "Bounds", "Counterexample", "Game", "Lasso", "Ran", "Realizability",
+           "Refusal", "Solution", "bound", "run", "solve", "verify", "version"]

@@ -1,49 +1,29 @@
-"""Games as arrays, and the program as a function: what the library's five exports take and give, over `ctypes`.
-
-The library is sought in `LIBOMEGA`, then beside this file, where a wheel has it, then in `out/` of the repository,
-then by the system. One whose version begins with another number has other arrays, and is an OSError.
-"""
+"""Games as arrays, and the program as a function."""
 from __future__ import annotations
 
 import ctypes
-import ctypes.util
 import operator
-import os
 from array import array
 from bisect import bisect_left
 from collections.abc import Iterable, Iterator, Mapping, Sequence
 from dataclasses import dataclass
-from typing import Any, NamedTuple, Union
+from typing import TYPE_CHECKING, Any, NamedTuple, Union
 
-# The first number of the versions of the library that have these arrays.
-INTERFACE = "1"
+from . import library
+from .library import BoundPair, GameArrays, Lifts, Outcome, Refusal, Verdict, room_of
+
+if TYPE_CHECKING:
+    from .games import Game
+
 NO_CHOICE = 0xFFFF_FFFF
 MOST_LIFTS = 2**40
 MOST_ENTRY = 2**32 - 1
 # The least room for what a run writes.
 LEAST_ROOM = 65536
-NAMES = {13: "TooManyNodes", 14: "TooManyEdges", 50: "TooWide", 51: "Budget", 53: "BadSolution", 57: "BadShape",
-         60: "Memory"}
 ARRAYS = ("priorities", "owners", "starts", "successors", "winner", "choice")
 
 Numbers = Union[Sequence[int], Any]
 Successors = Union[Sequence[Sequence[int]], "tuple[Numbers, Numbers]"]
-
-
-class Refusal(Exception):
-    """Why a call gave no answer: its `number` and `name`. For 57 `array` says which array has a wrong entry, and
-    `place` where; for 1 to 3 `place` is that of a byte in the text, and for 56 that of a state."""
-
-    def __init__(self, number: int, array: str | None = None, place: int | None = None,
-                 name: str | None = None) -> None:
-        self.number, self.array, self.place = number, array, place
-        self.name = name or NAMES.get(number, "Refused")
-        # The arguments that make it again where it comes from another process.
-        super().__init__(number, array, place, name)
-
-    def __str__(self) -> str:
-        inside = f" in {self.array}" if self.array is not None else ""
-        return f"{self.number} {self.name}{inside}" + (f" at {self.place}" if self.place is not None else "")
 
 
 class Answer(NamedTuple):
@@ -58,11 +38,12 @@ class Solution(Mapping[int, Answer]):
 
     `winners` and `choices` are the same by place, as arrays (of bytes, and of 32-bit numbers, `NO_CHOICE` for none),
     which numpy takes without a copy; `winner` and `choice` are lists, with None for no choice. `lifts` says how many
-    lifts the run for each player made. `str` gives the text of the solution."""
+    lifts the run for each player made. `str` gives the text of the solution. `game` is the game that was solved, and
+    None if that came as arrays."""
 
     def __init__(self, winners: array[int], choices: array[int], lifts: tuple[int, int] = (0, 0),
-                 identifiers: Sequence[int] | None = None) -> None:
-        self.winners, self.choices, self.lifts = winners, choices, lifts
+                 identifiers: Sequence[int] | None = None, game: Game | None = None) -> None:
+        self.winners, self.choices, self.lifts, self.game = winners, choices, lifts, game
         self.identifiers: Sequence[int] = range(len(winners)) if identifiers is None else identifiers
 
     @property
@@ -91,6 +72,9 @@ class Solution(Mapping[int, Answer]):
 
     def __repr__(self) -> str:
         return f"<solution of {len(self)} nodes, {self.winners.count(0)} of them won by player 0>"
+
+    def _repr_svg_(self) -> str | None:
+        return None if self.game is None else self.game.picture(self)
 
 
 def place_in(identifiers: Sequence[int], identifier: int) -> int:
@@ -123,76 +107,6 @@ class Ran:
     status: int
     output: bytes
     errors: bytes
-
-
-class _Game(ctypes.Structure):
-    _fields_ = [("priorities", ctypes.c_void_p), ("priority_count", ctypes.c_size_t),
-                ("owners", ctypes.c_void_p), ("owner_count", ctypes.c_size_t),
-                ("starts", ctypes.c_void_p), ("start_count", ctypes.c_size_t),
-                ("successors", ctypes.c_void_p), ("successor_count", ctypes.c_size_t)]
-
-
-class _Outcome(ctypes.Structure):
-    _fields_ = [("number", ctypes.c_uint32), ("array", ctypes.c_uint32), ("place", ctypes.c_uint64)]
-
-
-class _Lifts(ctypes.Structure):
-    _fields_ = [("zero", ctypes.c_uint64), ("one", ctypes.c_uint64)]
-
-
-class _Verdict(ctypes.Structure):
-    _fields_ = [("is_right", ctypes.c_uint32), ("player", ctypes.c_uint32), ("stem", ctypes.c_uint64),
-                ("cycle", ctypes.c_uint64)]
-
-
-class _Bound(ctypes.Structure):
-    _fields_ = [("low", ctypes.c_uint64), ("high", ctypes.c_uint64), ("fits", ctypes.c_uint64)]
-
-
-class _Bounds(ctypes.Structure):
-    _fields_ = [("zero", _Bound), ("one", _Bound)]
-
-
-class _Ran(ctypes.Structure):
-    _fields_ = [("status", ctypes.c_uint32), ("output", ctypes.c_uint64), ("errors", ctypes.c_uint64)]
-
-
-def _found() -> str:
-    """The path of the library."""
-    here = os.path.dirname(os.path.abspath(__file__))
-    for path in (os.environ.get("LIBOMEGA"), os.path.join(here, "libomega.so.1"),
-                 os.path.join(here, os.pardir, os.pardir, "out", "libomega.so.1")):
-        if path and os.path.exists(path):
-            return path
-    found = ctypes.util.find_library("omega")
-    if not found:
-        raise OSError("libomega.so.1 is not found: make it by `make libomega`, or name it in LIBOMEGA")
-    return found
-
-
-def _loaded(path: str) -> ctypes.CDLL:
-    """The library, with what its functions take and give."""
-    library = ctypes.CDLL(path)
-    room, game = (ctypes.c_void_p, ctypes.c_size_t), ctypes.POINTER(_Game)
-    library.omega_solve.argtypes = [game, ctypes.c_uint8, ctypes.c_uint64, *room, *room, ctypes.POINTER(_Lifts)]
-    library.omega_solve.restype = _Outcome
-    library.omega_verify.argtypes = [game, *room, *room, ctypes.POINTER(_Verdict), *room, *room]
-    library.omega_verify.restype = _Outcome
-    library.omega_bound.argtypes = [game, ctypes.POINTER(_Bounds)]
-    library.omega_bound.restype = _Outcome
-    library.omega_run.argtypes = [*room * 5]
-    library.omega_run.restype = _Ran
-    library.omega_version.argtypes = [*room]
-    library.omega_version.restype = ctypes.c_size_t
-    if _version_of(library).partition(".")[0] != INTERFACE:
-        raise OSError(f"{path} has version {_version_of(library)}, and this package is for version {INTERFACE}")
-    return library
-
-
-def _version_of(library: ctypes.CDLL) -> str:
-    room = (ctypes.c_uint8 * 64)()
-    length = library.omega_version(*_room(room))
-    return bytes(room[:length]).decode()
 
 
 def _viewed(numbers: Any) -> memoryview | None:
@@ -235,11 +149,6 @@ def _flat(successors: Successors) -> tuple[Numbers, Numbers]:
     return starts, targets
 
 
-def _room(array: Any) -> tuple[Any, int]:
-    """An array of C as a pointer and a length."""
-    return ctypes.addressof(array), len(array)
-
-
 def _made(kind: str, count: int) -> array[int]:
     """An array of Python with room for as many entries, and for one at least, since no pointer may be null."""
     made = array(kind)
@@ -256,10 +165,10 @@ class Arrays:
                      _array(starts, ctypes.c_uint32, MOST_ENTRY, copy),
                      _array(targets, ctypes.c_uint32, MOST_ENTRY, copy)]
         self.nodes = len(self.held[0])
-        self.game = _Game(*[part for array in self.held for part in _room(array)])
+        self.game = GameArrays(*[part for array in self.held for part in room_of(array)])
 
 
-def _judge(outcome: _Outcome) -> None:
+def _judge(outcome: Outcome) -> None:
     """Raises the refusal, if the outcome is one."""
     if outcome.number == 57:
         raise Refusal(57, ARRAYS[outcome.array], outcome.place)
@@ -286,13 +195,13 @@ def solve(priorities: Numbers, owners: Numbers, successors: Successors, search: 
     return solved(Arrays(priorities, owners, successors, copy), search, budget)
 
 
-def solved(arrays: Arrays, search: bool, budget: int | None, identifiers: Sequence[int] | None = None) -> Solution:
-    """The solution of a game in the form of C, by these identifiers."""
-    most, lifts = _lifts_within(budget), _Lifts()
+def solved(arrays: Arrays, search: bool, budget: int | None, game: Game | None = None) -> Solution:
+    """The solution of a game in the form of C, which is that of `game` if it is given."""
+    most, lifts = _lifts_within(budget), Lifts()
     winners, choices, count = _made("B", arrays.nodes), _made("I", arrays.nodes), arrays.nodes
-    _judge(_LIBRARY.omega_solve(arrays.game, bool(search), most, winners.buffer_info()[0], count,
+    _judge(library.LIBRARY.omega_solve(arrays.game, bool(search), most, winners.buffer_info()[0], count,
                                 choices.buffer_info()[0], count, lifts))
-    return Solution(winners, choices, (lifts.zero, lifts.one), identifiers)
+    return Solution(winners, choices, (lifts.zero, lifts.one), None if game is None else game.identifiers, game)
 
 
 def verify(priorities: Numbers, owners: Numbers, successors: Successors, winner: Numbers,
@@ -311,9 +220,9 @@ def judged(arrays: Arrays, winners: Any, choices: Any) -> Counterexample | None:
     """What is said of a solution whose winners and choices are arrays of C."""
     room = arrays.nodes
     while True:
-        verdict, stem, cycle = _Verdict(), (ctypes.c_uint32 * room)(), (ctypes.c_uint32 * room)()
-        _judge(_LIBRARY.omega_verify(arrays.game, *_room(winners), *_room(choices), verdict, *_room(stem),
-                                     *_room(cycle)))
+        verdict, stem, cycle = Verdict(), (ctypes.c_uint32 * room)(), (ctypes.c_uint32 * room)()
+        _judge(library.LIBRARY.omega_verify(arrays.game, *room_of(winners), *room_of(choices), verdict, *room_of(stem),
+                                     *room_of(cycle)))
         if verdict.is_right:
             return None
         if max(verdict.stem, verdict.cycle) <= room:
@@ -328,8 +237,8 @@ def bound(priorities: Numbers, owners: Numbers, successors: Successors, *, copy:
 
 def bounded(arrays: Arrays) -> Bounds:
     """The bounds of a game in the form of C."""
-    bounds = _Bounds()
-    _judge(_LIBRARY.omega_bound(arrays.game, bounds))
+    bounds = BoundPair()
+    _judge(library.LIBRARY.omega_bound(arrays.game, bounds))
     zero, one = [(it.high << 64) + it.low if it.fits else None for it in (bounds.zero, bounds.one)]
     return Bounds(zero, one)
 
@@ -346,15 +255,7 @@ def run(words: Sequence[str], input: bytes = b"", file: bytes = b"") -> Ran:
     rooms = [max(LEAST_ROOM, 4 * len(input)), LEAST_ROOM]
     while True:
         output, errors = [(ctypes.c_uint8 * room)() for room in rooms]
-        ran = _LIBRARY.omega_run(*[part for array in (*given, output, errors) for part in _room(array)])
+        ran = library.LIBRARY.omega_run(*[part for array in (*given, output, errors) for part in room_of(array)])
         if ran.output <= rooms[0] and ran.errors <= rooms[1]:
             return Ran(ran.status, bytes(output[:ran.output]), bytes(errors[:ran.errors]))
         rooms = [max(rooms[0], ran.output), max(rooms[1], ran.errors)]
-
-
-def version() -> str:
-    """The version of the library."""
-    return _version_of(_LIBRARY)
-
-
-_LIBRARY = _loaded(_found())

@@ -8,8 +8,8 @@ from collections.abc import Iterable
 from functools import cached_property
 from typing import Any
 
-from .arrays import (Arrays, Bounds, Counterexample, Numbers, Refusal, Solution, Successors, bounded, judged, place_in,
-                     solved)
+from .arrays import Arrays, Bounds, Counterexample, Numbers, Solution, Successors, bounded, judged, place_in, solved
+from .library import Refusal
 from .texts import Text, bytes_of, picture, ran, str_of, written
 
 # A line of the canonical text: identifier, priority, owner, successors and name.
@@ -104,7 +104,7 @@ class Game:
 
     def solve(self, search: bool = True, budget: int | None = None) -> Solution:
         """Who wins each node, with choices that win, as `omega.solve` finds them. Raises `Refusal` 50, 51 or 60."""
-        return solved(self._arrays, search, budget, self.identifiers)
+        return solved(self._arrays, search, budget, self)
 
     def verify(self, solution: Solution | Text) -> Counterexample | None:
         """None if for each player the choices win from all nodes given to that player; else why they do not, by
@@ -146,5 +146,9 @@ class Game:
         given = str(solution) if isinstance(solution, Solution) else solution
         return str_of(written(words, self._text, bytes_of(given)))
 
+    def picture(self, solution: Solution | Text | None = None) -> str:
+        """The drawing as SVG, where Graphviz's `dot` is installed, and else a picture that says so."""
+        return picture(bytes_of(self.draw(solution)))
+
     def _repr_svg_(self) -> str:
-        return picture(bytes_of(self.draw()))
+        return self.picture()

@@ -7,7 +7,8 @@ import subprocess
 from collections.abc import Sequence
 from typing import Union
 
-from .arrays import Ran, Refusal, run
+from .arrays import Ran, run
+from .library import Refusal
 
 Text = Union[str, bytes]
 REFUSED = re.compile(rb"omega: (\d+) (\w+)(?: at (\d+))?\n")

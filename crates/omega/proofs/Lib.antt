@@ -1,3 +1,6 @@
 -- Lemmas by theme.
+pub mod Given
+pub mod LooseWalks
 pub mod Runs
+pub mod TextWalks
 pub mod Words

@@ -1,5 +1,10 @@
 -- What the exports' contracts cite.
 pub mod Outcome
+pub mod Held
+pub mod Holding
+pub mod TextOutcome
+pub mod Giving
+pub mod Languages
 pub mod Solving
 pub mod Verifying
 pub mod Bounding

@@ -1,14 +1,25 @@
-//! The library `omega` for programs in C, C++ and Python: games as arrays, and the program as a function. Each export
-//! begins with the crate's name, and states again what the call states that it hands on.
+//! The library `omega` for programs in C, C++ and Python: games as arrays, automata as texts, and the program as a
+//! function. Each export begins with the crate's name, and states again what the call states that it hands on.
 #![tactic(auto)]
 
 mod bounding;
+mod complementing;
+mod containing;
+mod emptiness;
+mod freeing;
 mod game;
+mod giving;
+mod meeting;
 mod outcome;
+mod realizing;
 mod running;
 mod solving;
+mod text;
+mod text_outcome;
 mod verifying;
 mod version;
 
 pub use game::Game;
 pub use outcome::Outcome;
+pub use text::Text;
+pub use text_outcome::TextOutcome;

@@ -46,7 +46,7 @@ pub extern "C" fn omega_solve(
 }
 
 /// Whether a number is not 0.
-fn asks(number: u8) -> bool
+pub(crate) fn asks(number: u8) -> bool
     ensures { result ≡ asks number }
 {
     number != 0

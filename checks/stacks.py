@@ -1,0 +1,83 @@
+"""How much stack a call of the library needs: a program in C makes each call in a thread with a small stack, on texts
+whose labels and formulas are as deep as they may be."""
+import os
+import subprocess
+import tempfile
+from collections.abc import Iterator
+from functools import partial
+
+from program import SECONDS, Cases, Fault
+
+# How many KiB the header says that a call needs.
+PROMISED = 512
+GAME = "".join(f"{v} {v % 7} {v % 2} {(v + 1) % 20000},{v};" for v in range(20000))
+AUTOMATON = ('HOA: v1 States: 2 Start: 0 AP: 2 "a" "b" %sAcceptance: %s '
+             "--BODY-- State: 0 [%s] 1 {0} State: 1 [t] 0 --END--")
+CONTROL = "controllable-AP: 0 "
+CALLS = ("empty", "complement", "meet", "contained", "equal", "realize")
+RUNS = ("canon --format hoa", "check --format hoa", "show --format hoa", "draw --format hoa",
+        "draw --format hoa --lasso", "empty --search --word", "empty --word", "complement", "meet --with f", "contained --in f", "equal --to f",
+        "realize", "realize --controller", "game", "verify --automaton f")
+
+
+def nested(depth: int, left: str, right: str, innermost: str) -> str:
+    """An expression inside as many others."""
+    return left * depth + innermost + right * depth
+
+
+def labels() -> Iterator[tuple[str, str]]:
+    """Labels that are nearly as deep as they may be."""
+    yield "negations", nested(250, "!", "", "0")
+    yield "conjunctions", nested(120, "0 & (", ")", "1")
+    yield "conjunctions on the left", nested(120, "(", ") & 0", "1")
+    yield "conjunctions and disjunctions", nested(60, "0 & (1 | (", "))", "1")
+    yield "a chain", " & ".join(["0"] * 250)
+
+
+def texts() -> Iterator[tuple[str, str]]:
+    """Automata with such labels, and with such an acceptance."""
+    buchi = "acc-name: Buchi " + CONTROL
+    for name, label in labels():
+        yield name, AUTOMATON % (buchi, "1 Inf(0)", label)
+    deep = nested(60, "Inf(0) & (Fin(0) | (", "))", "Inf(0)")
+    yield "a deep acceptance", AUTOMATON % (CONTROL, f"1 {deep}", "0")
+
+
+def ended(program: str, kibibytes: int, words: list[str], text: str) -> int | None:
+    """The number with which a call ends on a text, or nothing if the stack is too small."""
+    with tempfile.TemporaryDirectory() as folder:
+        file = os.path.join(folder, "text")
+        with open(file, "w", encoding="ascii") as out:
+            out.write(text)
+        made = [program, str(kibibytes), words[0], file, file, *words[1:]]
+        ran = subprocess.run(made, capture_output=True, timeout=SECONDS)
+    return int(ran.stdout) if ran.returncode == 0 else None
+
+
+def least_stack(program: str, words: list[str], text: str) -> int:
+    """The least stack, to 16 KiB, in which a call ends."""
+    low, high = 0, 64
+    while ended(program, high * 16, words, text) is None:
+        low, high = high, high * 2
+    while high - low > 1:
+        middle = (low + high) // 2
+        low, high = (low, middle) if middle and ended(program, middle * 16, words, text) is not None else (middle, high)
+    return high * 16
+
+
+def calls() -> Iterator[list[str]]:
+    yield from ([call] for call in CALLS)
+    yield from (["run", *words.split()] for words in RUNS)
+
+
+def stack_fault(program: str, words: list[str], text: str) -> Fault:
+    return f"it needs over {PROMISED} KiB" if ended(program, PROMISED, words, text) is None else None
+
+
+def stack_checks(program: str) -> Cases:
+    for name, text in texts():
+        for words in calls():
+            yield f"the stack of {' '.join(words)} on {name}", partial(stack_fault, program, words, text)
+    for command in ("solve --search", "solve --budget 100000", "canon --format pg", "check --format pg",
+                    "show --format pg", "draw --format pg"):
+        yield f"the stack of {command}", partial(stack_fault, program, ["run", *command.split()], GAME)

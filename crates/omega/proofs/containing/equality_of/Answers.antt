@@ -1,0 +1,15 @@
+-- `equality_of`: what is answered of copies is answered of the texts.
+use Rattle.std.proofs.Common.{IfErr, IfOk, List, ℕ, subst}
+use Rattle.omega_containment_answers.specs.Equal.{IsEqualAnswer}
+use Rattle.omega.specs.Languages.{IsEqualRefused}
+use Rattle.omega.proofs.containing.equality_of.Goals as goal
+
+pub returns-clause-answer : goal.returns-clause-answer
+returns-clause-answer c =
+    subst (λ (xs : List ℕ). IfOk c.equal_texts.result (λ made. IsEqualAnswer xs c.args.text.now c.args.explain made.0 made.1.items)) c.in_ok-file.ensures.text
+    (subst (λ (ys : List ℕ). IfOk c.equal_texts.result (λ made. IsEqualAnswer c.in_ok-file.file.items ys c.args.explain made.0 made.1.items)) c.in_ok-input.ensures.text c.equal_texts.ensures.answer)
+
+pub returns-clause-refused : goal.returns-clause-refused
+returns-clause-refused c =
+    subst (λ (xs : List ℕ). IfErr c.equal_texts.result (IsEqualRefused xs c.args.text.now)) c.in_ok-file.ensures.text
+    (subst (λ (ys : List ℕ). IfErr c.equal_texts.result (IsEqualRefused c.in_ok-file.file.items ys)) c.in_ok-input.ensures.text c.equal_texts.ensures.refused)
