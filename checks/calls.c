@@ -118,13 +118,13 @@ static void version(void) {
 /* The words with a again and again, and those that begin with a. */
 static const char often[] =
     "HOA: v1 States: 1 Start: 0 AP: 1 \"a\" acc-name: Buchi Acceptance: 1 Inf(0)"
-    "--BODY-- State: 0 [0] 0 {0} [!0] 0 --END--";
+    " --BODY-- State: 0 [0] 0 {0} [!0] 0 --END--";
 static const char first[] =
     "HOA: v1 States: 2 Start: 0 AP: 1 \"a\" acc-name: all Acceptance: 0 t"
-    "--BODY-- State: 0 [0] 1 State: 1 [t] 1 --END--";
+    " --BODY-- State: 0 [0] 1 State: 1 [t] 1 --END--";
 static const char controlled[] =
     "HOA: v1 States: 1 Start: 0 AP: 1 \"a\" controllable-AP: 0 acc-name: all Acceptance: 0 t"
-    "--BODY-- State: 0 [0] 0 --END--";
+    " --BODY-- State: 0 [0] 0 --END--";
 static const char broken[] = "HOA: v1 ;";
 
 #define TEXT(text) held(text, sizeof text - 1), sizeof text - 1
