@@ -8,8 +8,9 @@ from functools import partial
 
 from program import SECONDS, Cases, Fault
 
-# How many KiB the header says that a call needs.
-PROMISED = 512
+# How many KiB the header says that a call needs: for texts as deep as they may be, and for texts of this depth.
+DEEPEST, MOST = 250, 256
+SHALLOW, FEWER = 50, 64
 GAME = "".join(f"{v} {v % 7} {v % 2} {(v + 1) % 20000},{v};" for v in range(20000))
 AUTOMATON = ('HOA: v1 States: 2 Start: 0 AP: 2 "a" "b" %sAcceptance: %s '
              "--BODY-- State: 0 [%s] 1 {0} State: 1 [t] 0 --END--")
@@ -25,21 +26,21 @@ def nested(depth: int, left: str, right: str, innermost: str) -> str:
     return left * depth + innermost + right * depth
 
 
-def labels() -> Iterator[tuple[str, str]]:
-    """Labels that are nearly as deep as they may be."""
-    yield "negations", nested(250, "!", "", "0")
-    yield "conjunctions", nested(120, "0 & (", ")", "1")
-    yield "conjunctions on the left", nested(120, "(", ") & 0", "1")
-    yield "conjunctions and disjunctions", nested(60, "0 & (1 | (", "))", "1")
-    yield "a chain", " & ".join(["0"] * 250)
+def labels(depth: int) -> Iterator[tuple[str, str]]:
+    """Labels that are about so deep. A parenthesis counts as one more."""
+    yield "negations", nested(depth, "!", "", "0")
+    yield "conjunctions", nested(depth // 2, "0 & (", ")", "1")
+    yield "conjunctions on the left", nested(depth // 2, "(", ") & 0", "1")
+    yield "conjunctions and disjunctions", nested(depth // 4, "0 & (1 | (", "))", "1")
+    yield "a chain", " & ".join(["0"] * depth)
 
 
-def texts() -> Iterator[tuple[str, str]]:
+def texts(depth: int) -> Iterator[tuple[str, str]]:
     """Automata with such labels, and with such an acceptance."""
     buchi = "acc-name: Buchi " + CONTROL
-    for name, label in labels():
+    for name, label in labels(depth):
         yield name, AUTOMATON % (buchi, "1 Inf(0)", label)
-    deep = nested(60, "Inf(0) & (Fin(0) | (", "))", "Inf(0)")
+    deep = nested(depth // 4, "Inf(0) & (Fin(0) | (", "))", "Inf(0)")
     yield "a deep acceptance", AUTOMATON % (CONTROL, f"1 {deep}", "0")
 
 
@@ -70,14 +71,16 @@ def calls() -> Iterator[list[str]]:
     yield from (["run", *words.split()] for words in RUNS)
 
 
-def stack_fault(program: str, words: list[str], text: str) -> Fault:
-    return f"it needs over {PROMISED} KiB" if ended(program, PROMISED, words, text) is None else None
+def stack_fault(program: str, kibibytes: int, words: list[str], text: str) -> Fault:
+    return f"it needs over {kibibytes} KiB" if ended(program, kibibytes, words, text) is None else None
 
 
 def stack_checks(program: str) -> Cases:
-    for name, text in texts():
-        for words in calls():
-            yield f"the stack of {' '.join(words)} on {name}", partial(stack_fault, program, words, text)
+    for depth, kibibytes in ((DEEPEST, MOST), (SHALLOW, FEWER)):
+        for name, text in texts(depth):
+            for words in calls():
+                label = f"{kibibytes} KiB of stack for {' '.join(words)} on {name}, {depth} deep"
+                yield label, partial(stack_fault, program, kibibytes, words, text)
     for command in ("solve --search", "solve --budget 100000", "canon --format pg", "check --format pg",
                     "show --format pg", "draw --format pg"):
-        yield f"the stack of {command}", partial(stack_fault, program, ["run", *command.split()], GAME)
+        yield f"the stack of {command}", partial(stack_fault, program, FEWER, ["run", *command.split()], GAME)
