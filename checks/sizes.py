@@ -1,7 +1,8 @@
 """Texts as large as the limits allow, and one step past them. A game of 1,048,576 nodes with long names is read,
 written, written back, described, solved and verified, right and wrong; a node more is refused 13, 12 after a small
 header, or 10 where one comes twice. The longest text, a byte more, and the most successors follow, and long lines,
-cycles and ladders that are solved within few lifts, judged and explained.
+cycles and ladders that are solved within few lifts, judged and explained. Streams of automata are about as long as
+what is read at once, with an automaton before its end, across it and after it.
 
 A call that always answered 60 at such sizes would meet every contract, and these runs are what excludes that.
 """
@@ -12,6 +13,8 @@ from program import Cases, Fault, fault_of, fault_with_file, refusal_fault, run_
 
 MOST_TEXT = 16_777_216
 MOST_NODES = 1_048_576
+# An input of automata that is shorter is read at once.
+LONG_INPUT = 1_048_576
 
 # Identifier, priority, owner and successors of a node.
 Line = tuple[int, int, int, list[int]]
@@ -121,6 +124,21 @@ def longest_texts() -> Cases:
         fault_of, ["show", "--format", "pg"], wide.encode(), 0, said.encode())
 
 
+def long_streams() -> Cases:
+    automaton = b"HOA: v1\nStates: 1\nAcceptance: 0 t\n--BODY--\nState: 0\n[t] 0\n--END--\n"
+    said = b"".join(
+        b"%d automaton states 1 edges 1 propositions 0 sets 0 acceptance t\n" % number for number in range(2))
+    for length in (LONG_INPUT - 1, LONG_INPUT, LONG_INPUT + 1, LONG_INPUT + 4096):
+        for past in (0, len(automaton) // 2, len(automaton)):
+            text = automaton.ljust(length - len(automaton) + past) + automaton
+            yield f"a stream of {len(text)} bytes, {past} of them past {length}", partial(
+                fault_of, ["show", "--format", "hoa"], text, 0, said)
+            # The mark of the end is broken: nothing begins as it does.
+            broken = text[:-3] + b"$\n"
+            yield f"its last mark broken, {past} past {length}", partial(
+                refusal_fault, ["check", "--format", "hoa"], broken, f"1 Lex at {len(text) - len('--END--') - 1}")
+
+
 def lasso_text(end: int, back: int, priority: int, last: int) -> bytes:
     """Nodes of player 0 from 0 to an end, each leading to the next and the last one back, all of one priority but the
     last."""
@@ -212,3 +230,4 @@ def size_checks() -> Cases:
     yield from most_nodes()
     yield from too_many_nodes()
     yield from longest_texts()
+    yield from long_streams()

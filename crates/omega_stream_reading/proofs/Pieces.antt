@@ -12,14 +12,7 @@ use Rattle.omega_io.specs.Reading.{IsRead, ReadsText}
 use Rattle.omega_hoa.specs.Stream.{IsStreamRefusal}
 use Rattle.omega_hoa.specs.declared.item.Item.{Item}
 use Rattle.omega_stream_reading.specs.declared.telling.Telling.{Telling}
-use Rattle.omega_stream_reading.specs.private.steps.Following.{FollowsTelling}
-
--- `total` bytes were read, and within the limit their texts written
-pub record IsReading (text : ℕ → Item → List ℕ) (before now : Option (List ℕ)) (total : ℕ) (telling : Telling) : Type 0 where
-  pub seen : List ℕ
-  pub consumed : Consumes before now seen
-  pub count : total ≡ length seen
-  pub follows : total ≤ most_text → FollowsTelling text seen telling
+use Rattle.omega_stream_reading.specs.private.steps.Following.{FollowsTelling, IsReading}
 
 -- a piece was read after them, and followed
 pub reads_piece : (text : ℕ → Item → List ℕ) (before now after : Option (List ℕ)) (total : ℕ) (old new : Telling) (piece : List ℕ) (count next : ℕ)

@@ -3,6 +3,7 @@
 //! docs/formats.md says when each refusal comes.
 #![tactic(auto)]
 
+mod front;
 mod item_text;
 mod stream_input;
 mod telling;

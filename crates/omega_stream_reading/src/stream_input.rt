@@ -5,6 +5,7 @@ ghost use Rattle.omega_io.specs.Failures.{failures_of};
 ghost use Rattle.omega_io.specs.Reading.{ReadsTextFrom, ReadsWholeFrom};
 ghost use Rattle.omega_stream_reading.specs.Telling.{IsTelling};
 
+use crate::front::take_front;
 use crate::item_text::ItemText;
 use crate::telling::{begin, end, take_piece};
 use omega_io::{Input, PIECE, read_piece};
@@ -14,8 +15,9 @@ use std::alloc::Global;
 /// Returns the texts of the items of the stream that `input` gives. Fails with the refusal of the stream's text, with
 /// [Refusal::Memory], or with [Refusal::Io] if a read failed.
 ///
-/// The input is never whole in memory. It is read in pieces, and only the segment that has not ended is kept, and the
-/// texts written so far. If the stream is refused, the rest of the input is read on, to its end or to the first byte
+/// An input of less than 1 MB is read whole, and each automaton in it once. A longer one is never whole in memory: its
+/// front is read so, and then it is read in pieces. Only the segment that has not ended is kept, and the texts written
+/// so far. If the stream is refused, the rest of the input is read on, to its end or to the first byte
 /// past the greatest length of a text.
 pub fn tell_stream<T: ItemText, R: Input>(alloc: Global, input: &mut R) -> Result<Vec<u8>, Refusal>
     requires { R.failed input.old < 2 ^ 64 - 1 }
@@ -26,8 +28,12 @@ pub fn tell_stream<T: ItemText, R: Input>(alloc: Global, input: &mut R) -> Resul
     ensures counted { R.failed input.new ≡ R.failed input.old + failures_of result }
 {
     let mut telling = begin::<T>(alloc);
+    let front = take_front::<T, R>(alloc, input, &mut telling)?;
+    if front.whole {
+        return end::<T>(telling);
+    }
     let mut piece = [0; PIECE];
-    let mut total = 0usize;
+    let mut total = front.count;
     while total <= MOST_TEXT {
         let count = read_piece(input, total, &mut piece)?;
         if count == 0 {

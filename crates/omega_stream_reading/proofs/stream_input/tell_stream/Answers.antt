@@ -1,6 +1,7 @@
 -- `tell_stream`: at the end of the input its text is what was followed.
-use Rattle.std.proofs.Common.{◌≡◌, ◌≤◌, length, refl, take, subst, arith}
+use Rattle.std.proofs.Common.{◌≡◌, ◌+◌, ◌≤◌, inl, length, refl, take, subst, arith}
 use Rattle.std.proofs.lemmas.List.{length-take-le}
+use Rattle.std.proofs.lemmas.Result.{IfOk-weaker}
 use Rattle.std.specs.Io.KnownBytes.{Consumes}
 use Rattle.std.specs.Prelude.{IfErr}
 use Rattle.omega_text.specs.Limits.{most_text}
@@ -18,22 +19,22 @@ returns-then-count-eq0-clause-refused g c =
     let now = g.R.Input.remaining c.loop-total.input in
     let after = g.R.Input.remaining c.read_piece.new.input in
     let nothing = subst (λ n. Consumes now after (take n c.read_piece.new.piece)) none c.in_ok-count.ensures.consumed in
-    reads_refused c.end.result _ _ reading.seen
+    reads_refused c.end-then-count-eq0.result _ _ reading.seen
     (record {
       consumed = reads_end _ now after reading.seen reading.consumed nothing;
       limit = omega (arith, short);
       whole = λ _. c.in_ok-count.ensures.end none;
     })
-    (at_text c.end.result g.T.ItemText.text c.loop-total.telling reading.seen short (reading.follows within) c.end.ensures.refused)
+    (at_text c.end-then-count-eq0.result g.T.ItemText.text c.loop-total.telling reading.seen short (reading.follows within) c.end-then-count-eq0.ensures.refused)
 
 pub returns-then-count-eq0-clause-counted : goal.returns-then-count-eq0-clause-counted
 returns-then-count-eq0-clause-counted g c =
     let reading = c.loop-total.invariant.reading in
     let within : c.loop-total.total ≤ most_text = omega (arith, c.loop-total-test.true) in
     let short : length reading.seen ≤ most_text = omega (arith, within, reading.count) in
-    let says : IfErr c.end.result (IsStreamRefusal reading.seen) =
-    at_text c.end.result g.T.ItemText.text c.loop-total.telling reading.seen short (reading.follows within) c.end.ensures.refused in
-    let none : failures_of c.end.result ≡ 0 = none_failed c.end.result reading.seen says in
+    let says : IfErr c.end-then-count-eq0.result (IsStreamRefusal reading.seen) =
+    at_text c.end-then-count-eq0.result g.T.ItemText.text c.loop-total.telling reading.seen short (reading.follows within) c.end-then-count-eq0.ensures.refused in
+    let none : failures_of c.end-then-count-eq0.result ≡ 0 = none_failed c.end-then-count-eq0.result reading.seen says in
     omega (arith, none, c.in_ok-count.ensures.counted, c.loop-total.invariant.counted)
 
 pub loop-total-preserved : goal.loop-total-preserved
@@ -50,4 +51,42 @@ loop-total-preserved g c =
           c.loop-total.invariant.reading within c.in_ok-count.ensures.consumed bytes refl c.in_ok-take_piece.ensures.follows;
       limit = omega (arith, c.in_ok-count.ensures.limit);
       counted = omega (arith, c.in_ok-count.ensures.counted, c.loop-total.invariant.counted);
+    }
+
+pub loop-total-init : goal.loop-total-init
+loop-total-init g c = record {
+  reading = c.in_ok-front.ensures.read;
+  limit = omega (arith, c.in_ok-front.ensures.short);
+  counted = omega (arith, c.in_ok-front.ensures.counted);
+}
+
+pub returns-then-count-eq0-clause-reported : goal.returns-then-count-eq0-clause-reported
+returns-then-count-eq0-clause-reported g c =
+    let reading = c.loop-total.invariant.reading in
+    let none : c.in_ok-count.count ≡ 0 = c.if-count-eq0.true in
+    let within : c.loop-total.total ≤ most_text = omega (arith, c.loop-total-test.true) in
+    let now = g.R.Input.remaining c.loop-total.input in
+    let after = g.R.Input.remaining c.read_piece.new.input in
+    let nothing = subst (λ n. Consumes now after (take n c.read_piece.new.piece)) none c.in_ok-count.ensures.consumed in
+    IfOk-weaker c.end-then-count-eq0.result _ _
+    (λ reported tells. record {
+      text = reading.seen;
+      read = reads_end _ now after reading.seen reading.consumed nothing;
+      end = c.in_ok-count.ensures.end none;
+      holds = tells reading.seen (reading.follows within);
+    })
+    c.end-then-count-eq0.ensures.reported
+
+pub returns-clause-refused : goal.returns-clause-refused
+returns-clause-refused g c =
+    let reading = c.loop-total.invariant.reading in
+    let long : most_text + 1 ≤ length reading.seen = omega (arith, c.loop-total-test.false, reading.count) in
+    record {
+      text = reading.seen;
+      read = record {
+        consumed = reading.consumed;
+        limit = omega (arith, c.loop-total.invariant.limit, reading.count);
+        whole = λ short. absurd (omega (arith, short, long));
+      };
+      holds = inl (refl, omega (arith, long));
     }

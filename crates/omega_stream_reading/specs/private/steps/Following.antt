@@ -1,9 +1,11 @@
 -- The texts written for the bytes of a stream that were taken so far.
-use Rattle.std.specs.Prelude.{◌≡◌, ℕ, ◌+◌, ◌≤◌, List, ◌++◌, length, MatchOption}
+use Rattle.std.specs.Io.KnownBytes.{Consumes}
+use Rattle.std.specs.Prelude.{◌≡◌, ℕ, ◌+◌, ◌≤◌, List, ◌++◌, Option, length, MatchOption}
 use Rattle.omega_text.specs.Limits.{most_text}
 use Rattle.omega_text.specs.declared.refusal.Refusal.{Refusal}
 use Rattle.omega_hoa.specs.Feeding.{IsFed}
 use Rattle.omega_hoa.specs.Kept.{Kept}
+use Rattle.omega_io.specs.declared.input.Input as input
 use Rattle.omega_hoa.specs.Stream.{IsStreamFault, IsStreamRefusal}
 use Rattle.omega_hoa.specs.declared.item.Item.{Item}
 use Rattle.omega_stream_reading.specs.Telling.{IsTelling, texts_from}
@@ -24,6 +26,17 @@ AreRefusedBy seen refusal = (more : List ℕ) → (items : List Item) × IsStrea
 abbrev pub FollowsTelling : (ℕ → Item → List ℕ) → List ℕ → Telling → Type 0
 FollowsTelling text seen telling =
     MatchOption telling.stream.refused (TellsItems text seen telling.stream telling.count telling.reported.items) (AreRefusedBy seen)
+
+-- `total` bytes were read, and if they are within the limit, this holds of them
+pub record IsReading (text : ℕ → Item → List ℕ) (before now : Option (List ℕ)) (total : ℕ) (telling : Telling) : Type 0 where
+  pub seen : List ℕ
+  pub consumed : Consumes before now seen
+  pub count : total ≡ length seen
+  pub follows : total ≤ most_text → FollowsTelling text seen telling
+
+-- the same of an input, by its ghost members
+abbrev pub HasReadFrom : {R : Type 0} → input.Ghosts R → (ℕ → Item → List ℕ) → (old new : R) → ℕ → Telling → Type 0
+HasReadFrom reading text old new total telling = IsReading text (reading.remaining old) (reading.remaining new) total telling
 
 -- this holds of some bytes
 abbrev pub FollowsSome : (ℕ → Item → List ℕ) → Telling → Type 0
