@@ -4,5 +4,5 @@ pub mod Moved
 pub mod Formulas
 pub mod Marks
 pub mod Words
-pub mod Unions
+pub mod Either
 pub mod One

@@ -1,5 +1,5 @@
 -- the law of words
-use Rattle.omega_union_laws.proofs.Unions.{accepted_by_one}
+use Rattle.omega_union_laws.proofs.Either.{accepted_by_one}
 use Rattle.omega_union_laws.proofs.unions.unions_accept_either.Goals as goal
 
 pub returns : goal.returns

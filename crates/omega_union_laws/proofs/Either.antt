@@ -105,7 +105,9 @@ module _ (one other : Description) (automaton : IsAutomaton one) (automaton' : I
         sharing_is = inr (apart, refl)
 
         never : (set : ℕ) → (one.sets ≤ set) → (s.first ≡ Some set → ⊥) → (i : ℕ) → holds set (in_first s i) ≡ false
-        never set past out = none_held (first_part s one other) one.sets (first_is_above one other s sharing_is) low below set (inr (omega (arith, past))) out
+        never set past out =
+            let far : 0 + one.sets ≤ set = omega (arith, past) in
+            none_held (first_part s one other) one.sets (first_is_above one other s sharing_is) low below set (inr far) out
 
         go : Satisfies (in_first s) (union_acceptance s one other) → Satisfies low one.acceptance
         go (inl own) = own_back s sharing_is (guarded_off (in_first s) s.first one.acceptance own)
