@@ -81,7 +81,7 @@ EXPORTS = {"omega_solve": "solving", "omega_verify": "verifying", "omega_bound":
 # The forms of the lines that begin at the left edge, beside comments: what is used, by names or by a short name of its
 # module; what a library hands on, and its parts; a declaration; a case of a definition, which begins with its name; and
 # the end of a record. All other lines are indented and belong to the definition above them.
-USE = re.compile(r"(?:(?:ghost|pub) )?use (?:Rattle\.|mathlib\.)([\w.]+?)(?:\.\{([^}]*)\}| as (\w+));?$")
+USE = re.compile(r"(?:(?:ghost|pub) )?use (?:Rattle\.|mathlib\.|(?=base\.|denote\.))([\w.]+?)(?:\.\{([^}]*)\}| as (\w+));?$")
 LISTED = re.compile(r"pub use Rattle\.[\w.]+$|pub mod \w+$")
 # Names that a file hands on from another one.
 HANDED = re.compile(r"^(pub use Rattle\..*\})$", re.MULTILINE)
@@ -158,9 +158,9 @@ leads from each promise to its clause.
 - `main`, which hands `read_words` the words that the program was started with, and `obey` the machine's streams and
   files. Of these the toolchain says nothing; that they are the right ones is tested;
 - for the library, what `include/omega.h` asks of its callers: each pointer leads to as many entries as the length
-  beside it says, what a call writes overlaps nothing else, and nobody writes what a call reads while it runs. No proof
-  sees the caller;
-- the package in `python/omega/`, which turns Python's values into such arrays and back. It is not proved;
+  beside it says, what a call writes overlaps nothing else, nobody writes what a call reads while it runs, and an
+  `omega_text` begins as nulls, is not copied, and is written by the library alone. No proof sees the caller;
+- the package in `python/omega/`, which turns Python's values into such arrays and texts, and back. It is not proved;
   `checks/run libomega` and `checks/run python` test it.
 
 """
