@@ -1,10 +1,12 @@
-//! Tests of the public calls of `omega_realize`, apart from it, so that the library is proved once.
+//! Tests of realizability, of texts of symbolic words, and of what `accepts` answers, apart from these libraries, so
+//! that each is proved once. They are one crate, since each crate of tests has to load what it tests. Controllers are
+//! judged by the built program.
 #![tactic(auto)]
 
 #[cfg(test)]
-mod answers;
+mod accepting;
 #[cfg(test)]
-mod controllers;
+mod answers;
 #[cfg(test)]
 mod examples;
 #[cfg(test)]
@@ -15,3 +17,5 @@ mod refusals;
 mod rows;
 #[cfg(test)]
 mod texts;
+#[cfg(test)]
+mod words;

@@ -1,5 +1,6 @@
 //! Texts of symbolic words, read.
 use crate::rows::assert_row;
+use crate::texts::is_text;
 use omega_label::{Aliases, RawLabel, expand, write_label};
 use omega_symbolic_word::SymbolicWord;
 use omega_text::{ByteString, Refusal};
@@ -50,14 +51,6 @@ fn read_and_shown(alloc: Global, text: &str) -> Result<Vec<u8>, Refusal> {
     }
 }
 
-// Whether this was shown.
-fn is_shown(made: Result<Vec<u8>, Refusal>, want: &str) -> bool {
-    match made {
-        Ok(made) => made.as_slice() == want.as_bytes(),
-        Err(_) => false,
-    }
-}
-
 // Words as `empty --word` writes them, and with other white space, comments and parentheses; names in the order of
 // their first occurrences, with quotes and without; and names that need quotes.
 static READ: [(&str, &str); 12] = [
@@ -84,7 +77,7 @@ static READ: [(&str, &str); 12] = [
 #[test]
 fn words_are_read(rt: HostRuntime) {
     for (row, (text, want)) in READ.iter().enumerate() {
-        assert_row(&rt, row, is_shown(read_and_shown(rt.alloc(), text), want));
+        assert_row(&rt, row, is_text(read_and_shown(rt.alloc(), text), want));
     }
 }
 
