@@ -76,12 +76,15 @@ COMMANDS = {
 }
 
 # The exports of the library for C, each with its file.
-EXPORTS = {"omega_solve": "solving", "omega_verify": "verifying", "omega_bound": "bounding", "omega_run": "running"}
+EXPORTS = {"omega_solve": "solving", "omega_verify": "verifying", "omega_bound": "bounding", "omega_empty": "emptiness",
+           "omega_meet": "meeting", "omega_complement": "complementing", "omega_contained": "containing",
+           "omega_equal": "containing", "omega_realize": "realizing", "omega_run": "running"}
 
 # The forms of the lines that begin at the left edge, beside comments: what is used, by names or by a short name of its
 # module; what a library hands on, and its parts; a declaration; a case of a definition, which begins with its name; and
 # the end of a record. All other lines are indented and belong to the definition above them.
 USE = re.compile(r"(?:(?:ghost|pub) )?use (?:Rattle\.|mathlib\.|(?=base\.|denote\.))([\w.]+?)(?:\.\{([^}]*)\}| as (\w+));?$")
+USE = re.compile(r"(?:(?:ghost|pub) )?use (?:Rattle\.|mathlib\.|base\.|denote\.)([\w.]+?)(?:\.\{([^}]*)\}| as (\w+));?$")
 LISTED = re.compile(r"pub use Rattle\.[\w.]+$|pub mod \w+$")
 # Names that a file hands on from another one.
 HANDED = re.compile(r"^(pub use Rattle\..*\})$", re.MULTILINE)

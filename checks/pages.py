@@ -186,12 +186,13 @@ def header_checks(newest: str) -> Cases:
     """The header for C names the newest version, and the numbers of refusals that the package for Python names."""
     with open(os.path.join(ROOT, "include", "omega.h")) as file:
         header = file.read()
-    with open(os.path.join(ROOT, "python", "omega", "arrays.py")) as file:
+    with open(os.path.join(ROOT, "python", "omega", "library.py")) as file:
         names = re.search(r"^NAMES = \{(.*?)\}", file.read(), re.MULTILINE | re.DOTALL)
     named = re.findall(r'^#define OMEGA_VERSION "(.*)"$', header, re.MULTILINE)
     yield "the version of include/omega.h", None if named == [newest] else f"it is {named} for {newest}"
-    numbers = {int(number): name.replace("_", "")
-               for name, number in re.findall(r"^    OMEGA_([A-Z_]+) = (\d\d)\b", header, re.MULTILINE)}
+    # OMEGA_VERSION is the version of the header, so that refusal 20 has a longer name.
+    numbers = {int(number): name.removesuffix("_UNKNOWN").replace("_", "")
+               for name, number in re.findall(r"^    OMEGA_([A-Z_]+) = (\d+),? +/\*", header, re.MULTILINE)}
     python = {int(number): name.upper() for number, name in re.findall(r'(\d+): "(\w+)"', names[1] if names else "")}
     yield "the refusals of include/omega.h", None if numbers == python else f"{numbers} for {python}"
 

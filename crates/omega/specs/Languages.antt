@@ -1,4 +1,4 @@
--- The refusals of the calls that are given the texts of two automata: that of a file, the second, and that of the input.
+-- The refusals of the calls that are given two texts of automata: that of a file, the second, and that of the input.
 use Rattle.std.specs.Prelude.{ℕ, List}
 use Rattle.omega_hoa.specs.Alone.{IsAutomatonRefusal}
 use Rattle.omega_io.specs.Refused.{IsAbout}

@@ -12,8 +12,8 @@ use omega_empty_answers::search_emptiness;
 use omega_text::Refusal;
 use std::alloc::Global;
 
-/// Gives `empty` if the automaton of `text` accepts no word, and else the lines of an accepting lasso. With `word` not 0
-/// the line of its word follows.
+/// Gives `empty` if the automaton of `text` accepts no word, and else the lines of an accepting lasso. With `word` not
+/// 0 the line of its word follows.
 ///
 /// The number of the outcome is 0, or that of the [Refusal::Text] or [Refusal::Automaton] of the text,
 /// [TaskFault::UniversalBranch], [TaskFault::TooManyPropositions] or [Refusal::Memory]. Unless it is 0, `out` stays.
