@@ -3,6 +3,7 @@ arrays of two dimensions or at odd addresses, budgets, choices from anywhere; re
 """
 import pickle
 import random
+import time
 from array import array
 from collections.abc import Callable
 from concurrent.futures import ProcessPoolExecutor, ThreadPoolExecutor
@@ -109,6 +110,36 @@ class Counting:
         return self.library.omega_run(*words)
 
 
+class Timing:
+    """A library that counts the processor seconds of `omega_solve`."""
+
+    def __init__(self, library: Any) -> None:
+        self.library, self.seconds = library, 0.0
+
+    def omega_solve(self, *words: Any) -> Any:
+        began = time.thread_time()
+        try:
+            return self.library.omega_solve(*words)
+        finally:
+            self.seconds += time.thread_time() - began
+
+
+def share_fault(omega: Any) -> Fault:
+    """What is wrong if the package takes over a tenth of the time in which a large game is solved, or nothing."""
+    draw, count = random.Random(5), 200_000
+    priorities, owners = array("I", (draw.randrange(8) for _ in range(count))), bytearray(count)
+    flat = array("I", range(0, 2 * count + 1, 2)), array("I", (draw.randrange(count) for _ in range(2 * count)))
+    library = omega.library.LIBRARY
+    timing = omega.library.LIBRARY = Timing(library)
+    try:
+        began = time.thread_time()
+        omega.solve(priorities, owners, flat)
+        whole = time.thread_time() - began
+    finally:
+        omega.library.LIBRARY = library
+    return None if whole - timing.seconds <= whole / 10 else f"{whole - timing.seconds:.3f} of {whole:.3f} seconds"
+
+
 def runs_fault(omega: Any, text: bytes, wanted: int) -> Fault:
     """What is wrong with how often `canon` of a text runs, or nothing."""
     library = omega.library.LIBRARY
@@ -126,3 +157,4 @@ def wrapper_checks(omega: Any) -> Cases:
     yield from crossing_checks(omega)
     line = b"".join(b"%d 0 0 %d;\n" % (v, v) for v in range(20_000))
     yield "a text of 300,000 bytes is answered in one run", runs_fault(omega, line, 1)
+    yield "the time of 200,000 nodes is spent in the library", share_fault(omega)
