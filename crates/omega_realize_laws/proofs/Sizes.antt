@@ -1,5 +1,5 @@
 -- The canonical text of an automaton has a byte at least for each tree node of its labels.
-use Rattle.std.proofs.Common.{ℕ, ◌+◌, ◌≤◌, Bool, true, false, nat_le, nat_lt, Option, Some, None, List, [], ◌∷◌, ◌++◌, codes, decimal, length, length-append, arith}
+use Rattle.std.proofs.Common.{ℕ, ◌≤◌, Bool, true, false, nat_le, nat_lt, Option, Some, None, List, [], ◌∷◌, ◌++◌, codes, decimal, length, length-append, arith}
 use Rattle.std.specs.Prelude.{IfSome, sum_by}
 use Rattle.std.specs.List.{AllByRecursion, flat_map}
 use Rattle.std.proofs.lemmas.Fmt.{decimal_nonempty}
