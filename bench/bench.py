@@ -221,6 +221,25 @@ def explained(commands: list[tuple[str, list[str]]], options: argparse.Namespace
     return all_well
 
 
+def pairs_compared(commands: list[tuple[str, list[str]]], options: argparse.Namespace, table: list[TableRow]) -> bool:
+    """Runs the commands on pairs of automata: is one contained in the other? Whether all went well."""
+    all_well = True
+    for family, (quick, full) in COMPARED.items():
+        if options.only and family not in options.only:
+            continue
+        one, other = (quick if options.quick else full)()
+        with tempfile.NamedTemporaryFile("w") as file, tempfile.NamedTemporaryFile("w") as given:
+            file.write(other)
+            file.flush()
+            given.write(one)
+            given.flush()
+            say(f"{family}: {len(one):,} and {len(other):,} bytes, {one.count('State:'):,} states each")
+            figures = [Figures(name, command, (0, NOT_WON)) for name, command in commands]
+            words = ["contained", "--in", file.name]
+            all_well = row_of(family, "contained", figures, words, given.name, options, table) and all_well
+    return all_well
+
+
 def solution_of(command: list[str], path: str, seconds: float) -> bytes:
     """The solution that the command writes for the game by the search; empty if it fails."""
     made = measured(command, ["solve", "--search"], path, seconds)
