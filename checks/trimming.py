@@ -141,9 +141,21 @@ def ring(states: int, dead: int) -> tuple[bytes, bytes]:
 
 def unlabelled(count: int, last: int) -> bytes:
     """A state with an edge for each set of so many propositions, without labels, to itself; the last one to a state."""
+    return head_of_unlabelled(2, count) + b"0\n" * (2 ** count - 1) + b"%d\n--END--\n" % last
+
+
+def head_of_unlabelled(states: int, count: int) -> bytes:
     names = b" ".join(b'"%d"' % number for number in range(count))
-    return (b"HOA: v1\nStates: 2\nStart: 0\nAP: %d %s\nAcceptance: 1 Inf(0)\n--BODY--\nState: 0 {0}\n" % (count, names)
-            + b"0\n" * (2 ** count - 1) + b"%d\n--END--\n" % last)
+    return (b"HOA: v1\nStates: %d\nStart: 0\nAP: %d %s\nAcceptance: 1 Inf(0)\n--BODY--\nState: 0 {0}\n"
+            % (states, count, names))
+
+
+def labelled(count: int) -> bytes:
+    """What is left where the last edge goes: each other edge with the label of its valuation."""
+    literals = [(b"!%d" % number, b"%d" % number) for number in range(count)]
+    labels = (b"&".join(literal[(index >> number) % 2] for number, literal in enumerate(literals))
+              for index in range(2 ** count - 1))
+    return head_of_unlabelled(1, count) + b"".join(b"[%s] 0\n" % label for label in labels) + b"--END--\n"
 
 
 def large_checks() -> Cases:
@@ -154,7 +166,8 @@ def large_checks() -> Cases:
     yield "the ring alone", partial(fault_of, ["trim"], left, 0, left)
     # The labels of 18 propositions have less than 2 ** 18 * 54 tree nodes, and those of 19 more than 2 ** 19 * 37.
     for count in (10, 18):
-        yield f"an edge of {count} propositions that goes", partial(trim_fault, unlabelled(count, 1))
+        yield f"an edge of {count} propositions that goes", partial(
+            fault_of, ["trim"], unlabelled(count, 1), 0, labelled(count))
     yield "an edge of 19 propositions that goes", partial(refusal_fault, ["trim"], unlabelled(19, 1), "55 TooLarge")
     kept = unlabelled(19, 0)
     yield "edges of 19 propositions that stay", partial(
