@@ -20,16 +20,16 @@ fn refusal_of(alloc: Global, first: &str, second: &str) -> Option<(u32, Option<W
     }
 }
 
-static BUCHI: &str =
+const BUCHI: &str =
     "HOA: v1 States: 1 Start: 0 AP: 1 \"a\" acc-name: Buchi Acceptance: 1 Inf(0) --BODY-- State: 0 [0] 0 {0} [!0] 0 --END--";
 
-static CO_BUCHI: &str =
+const CO_BUCHI: &str =
     "HOA: v1 States: 1 Start: 0 AP: 1 \"a\" acc-name: co-Buchi Acceptance: 1 Fin(0) --BODY-- State: 0 [0] 0 [!0] 0 {0} --END--";
 
-static ALL: &str =
+const ALL: &str =
     "HOA: v1 States: 1 Start: 0 AP: 1 \"a\" acc-name: all Acceptance: 0 t --BODY-- State: 0 [0] 0 --END--";
 
-static BRANCH: &str =
+const BRANCH: &str =
     "HOA: v1 States: 2 Start: 0&1 AP: 0 Acceptance: 0 t --BODY-- State: 0 [t] 0 State: 1 [t] 1 --END--";
 
 static JOINED: [(&str, &str, &str, &str); 5] = [

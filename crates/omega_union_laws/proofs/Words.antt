@@ -65,7 +65,7 @@ module _ (x u : Description) (part : Part) (counted : length part.places ≡ len
     }
 
   -- a run of the union that begins in the part, of the automaton
-  module _ (accepted : IsAccepted u word) (start : ℕ) (start_is : accepted.states 0 ≡ part.states + start) (low : start < x.states) (begins : IsStart x start) where
+  module _ (accepted : IsAccepted u word) (start : ℕ) (start_is : accepted.states 0 ≡ part.states + start) (start_low : start < x.states) (begins : IsStart x start) where
     record IsAt (i : ℕ) : Type 0 where
       pub old : ℕ
       pub is : accepted.states i ≡ part.states + old
@@ -77,7 +77,7 @@ module _ (x u : Description) (part : Part) (counted : length part.places ≡ len
         (subst (λ (n : ℕ). IsMove u n (word i) (accepted.states (i + 1)) (marks_at u (accepted.edges i))) at.is
         (step_moves u u_automaton (accepted.states i) (accepted.edges i) (accepted.states (i + 1)) (word i) (accepted.accepting.run.steps i) (accepted.taken i)))
 
-    next : (i : ℕ) → IsAt i → IsAt (suc i)
+    abbrev next : (i : ℕ) → IsAt i → IsAt (suc i)
     next i at =
         let m = move_at i at in
         let step : IsTakenStep x automaton at.old (part_word i) m.old_to m.old_marks = move_steps x automaton at.old (part_word i) m.old_to m.old_marks m.move in
@@ -87,8 +87,8 @@ module _ (x u : Description) (part : Part) (counted : length part.places ≡ len
           low = enters_low x automaton at.old step.number m.old_to step.step;
         }
 
-    at : (i : ℕ) → IsAt i
-    at zero = record { old = start; is = start_is; low = low }
+    abbrev at : (i : ℕ) → IsAt i
+    at zero = record { old = start; is = start_is; low = start_low }
     at (suc i) = next i (at i)
 
     abbrev old : ℕ → ℕ
