@@ -1,5 +1,5 @@
--- An automaton as the text of a controller has it: each edge has a label and leads to one state, there are no marks, and
--- all words are accepted. Its text is read back.
+-- An automaton as the text of a controller has it: each edge has a label and leads to one state, there are no marks,
+-- and all words are accepted. Its text is read back.
 use Rattle.std.proofs.Common.{◌≡◌, ℕ, ◌+◌, ◌<◌, ◌≤◌, Bool, true, false, not, ◌&&◌, ◌||◌, ◌==◌, ◌^◌, nat_lt, nat_eq, Option, Some, None, option_map, List, [], ◌∷◌, codes, length, map, refl, sym, ap, subst, ◌∙◌, arith}
 use Rattle.std.specs.Prelude.{IfSome, is_some, sum_by}
 use Rattle.std.specs.List.{AllByRecursion, list_any}

@@ -1,5 +1,5 @@
--- The word of a label under the valuations of the first six propositions is its truth table, and tables show what can be
--- true.
+-- The word of a label under the valuations of the first six propositions is its truth table, and tables show what can
+-- be true.
 use Rattle.std.proofs.Common.{◌≡◌, ℕ, ◌+◌, ◌/◌, ◌%◌, ◌^◌, ◌<◌, zero, suc, Bool, true, false, ◌&&◌, eqb, ltb, List, [], ◌∷◌, ap, bit_and, refl, sym, ◌∙◌, arith, inl, inr}
 use Rattle.std.specs.Int.{bit_at}
 use Rattle.std.specs.List.{list_all}
