@@ -2,6 +2,7 @@
 pub mod Listing
 pub mod Placing
 pub mod Counting
+pub mod NodesPushed
 pub mod Weighing
 pub mod Steps
 pub mod Parts

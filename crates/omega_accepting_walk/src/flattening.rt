@@ -1,36 +1,88 @@
-//! A formula as a list of nodes.
-ghost use Rattle.std.specs.Prelude.{◌≡◌, ◌<◌, ◌++◌, [], ◌∷◌, length, IfOk, OnOk, IsOkUnless};
-ghost use Rattle.omega_formula.specs.Shape.{acc_tree_of_shape};
-ghost use Rattle.omega_accepting_walk.specs.private.Lists.{Extends};
-ghost use Rattle.omega_accepting_walk.specs.private.Formulas.{IsFormula, IsMade, node_tree, tree_at};
+//! A formula as a list of nodes that name their parts.
+ghost use Rattle.std.specs.Prelude.{◌≡◌, ◌<◌, ◌++◌, [], ◌∷◌, length, All, IfOk, OnOk, IsOkUnless};
+ghost use Rattle.omega_accepting_walk.specs.private.Formulas.{ArePartsOf, IsFormula, IsMade, node_tree, tree_at, trees_at, trees_with};
 
 use crate::node::Node;
-use omega_formula::AccShape;
+use crate::places::Places;
+use omega_formula::{Acc, AccNode};
 use omega_text::Refusal;
+use std::alloc::Global;
 
-/// Appends the nodes of the formula `shape` to `nodes`, parts first, and returns the place of its root.
-pub(crate) fn add_formula(nodes: &mut Vec<Node>, shape: &AccShape) -> Result<u32, Refusal>
-    requires formula { IsFormula nodes.old.items }
+/// Appends the nodes of `formula` to `nodes`, parts first, and returns the place of its root. Linear in the formula,
+/// without recursion.
+#[tactic(auto, using(crate::proofs::NodesPushed::top_within))]
+pub(crate) fn add_formula(
+    alloc: Global,
+    nodes: &mut Vec<Node>,
+    formula: &Acc,
+) -> Result<u32, Refusal>
+    requires { IsFormula nodes.old.items }
     ensures formula { OnOk result (IsFormula nodes.new.items) }
-    ensures goes { OnOk result (Extends nodes.old.items nodes.new.items) }
     ensures place { IfOk result (λ place. place < length nodes.new.items) }
-    ensures tree { IfOk result (λ place. tree_at nodes.new.items place ≡ acc_tree_of_shape shape.now) }
+    ensures tree { IfOk result (λ place. tree_at nodes.new.items place ≡ formula.now) }
     ensures memory { IsOkUnless result Refusal.Memory }
 {
-    match shape {
-        AccShape::Constant(value) => push_node(nodes, Node::Constant(*value)),
-        AccShape::Inf(negated, set) => push_node(nodes, Node::Inf(*negated, *set)),
-        AccShape::Fin(negated, set) => push_node(nodes, Node::Fin(*negated, *set)),
-        AccShape::And(left, right) => {
-            let first = add_formula(nodes, left)?;
-            let second = add_formula(nodes, right)?;
-            push_node(nodes, Node::And(first, second))
+    let mut places = Places::new(alloc);
+    for node in formula.nodes() {
+        add_node(nodes, &mut places, *node)?;
+    }
+    match places.pop() {
+        Some(place) => Ok(place),
+        None => Err(Refusal::Memory),
+    }
+}
+
+/// Appends `node`, whose parts are at the places on top, and puts its own place in place of theirs. Also fails with
+/// [Refusal::Memory] if a part is missing, which can't happen for a formula.
+fn add_node(nodes: &mut Vec<Node>, places: &mut Places, node: AccNode) -> Result<(), Refusal>
+    requires { ArePartsOf nodes.old.items places.old }
+    ensures parts { OnOk result (ArePartsOf nodes.new.items places.new) }
+    ensures trees { OnOk result
+        (trees_at nodes.new.items places.new ≡ trees_with (trees_at nodes.old.items places.old) node) }
+    ensures memory { IsOkUnless result Refusal.Memory }
+{
+    let next = next_node(nodes.as_slice(), places, node)?;
+    let place = push_node(nodes, next)?;
+    places.push(place)?;
+    Ok(())
+}
+
+/// Returns the node for `node`, and pops the places of its parts. Also fails with [Refusal::Memory] if one is missing.
+#[tactic(auto, using(crate::proofs::NodesPushed::and_tree, crate::proofs::NodesPushed::or_tree))]
+fn next_node(nodes: &[Node], places: &mut Places, node: AccNode) -> Result<Node, Refusal>
+    requires { All (λ place. place < length nodes.now) places.old }
+    ensures made { IfOk result (IsMade (length nodes.now)) }
+    ensures within { OnOk result (All (λ place. place < length nodes.now) places.new) }
+    ensures tree { IfOk result (λ next. node_tree (tree_at nodes.now) next ∷ trees_at nodes.now places.new
+        ≡ trees_with (trees_at nodes.now places.old) node) }
+    ensures memory { IsOkUnless result Refusal.Memory }
+{
+    match node {
+        AccNode::Constant(value) => Ok(Node::Constant(value)),
+        AccNode::Inf(negated, set) => Ok(Node::Inf(negated, set)),
+        AccNode::Fin(negated, set) => Ok(Node::Fin(negated, set)),
+        AccNode::And => {
+            let parts = parts(places)?;
+            Ok(Node::And(parts.0, parts.1))
         }
-        AccShape::Or(left, right) => {
-            let first = add_formula(nodes, left)?;
-            let second = add_formula(nodes, right)?;
-            push_node(nodes, Node::Or(first, second))
+        AccNode::Or => {
+            let parts = parts(places)?;
+            Ok(Node::Or(parts.0, parts.1))
         }
+    }
+}
+
+/// Pops the places of the two parts on top, the left one first. Also fails with [Refusal::Memory] if one is missing.
+fn parts(places: &mut Places) -> Result<(u32, u32), Refusal>
+    ensures parts { IfOk result (λ parts. places.old ≡ parts.1 ∷ parts.0 ∷ places.new) }
+    ensures memory { IsOkUnless result Refusal.Memory }
+{
+    match places.pop() {
+        None => Err(Refusal::Memory),
+        Some(second) => match places.pop() {
+            None => Err(Refusal::Memory),
+            Some(first) => Ok((first, second)),
+        },
     }
 }
 

@@ -10,6 +10,7 @@ mod flattening;
 mod meeting;
 mod narrowing;
 mod node;
+mod places;
 mod round;
 mod search;
 mod set_table;
@@ -22,4 +23,4 @@ mod way;
 
 pub use accepting::accepting_walk;
 pub use omega_components::{Graph, Refusal};
-pub use omega_formula::AccShape;
+pub use omega_formula::Acc;

@@ -20,7 +20,7 @@ use Rattle.omega_automaton.specs.Faults.{automaton_fault_of}
 use Rattle.omega_raw.specs.declared.raw_automaton.RawAutomaton.{RawAutomaton}
 use Rattle.omega_complement.specs.Complement.{AreExclusiveBelow, AreFittingBelow}
 use Rattle.omega_complement.specs.Dual.{dual}
-use Rattle.omega_complement.specs.Judged.{HasLargeEdge, IsBoth, IsJudgedLabel, IsWrittenLabel}
+use Rattle.omega_complement.specs.Judged.{HasLargeEdge, HasLargeRest, IsBoth, IsJudgedLabel, IsWrittenLabel}
 use Rattle.omega_complement.specs.Labels.{is_full, is_full_at, labels_at, state_at}
 use Rattle.omega_complement.specs.Refusing.{AreUnjudged, HasStart, IsClashFault, IsComplementFault, IsFirstFault, IsStateFault, IsStatesFault, IsUncomplemented}
 use Rattle.omega_complement.specs.Written.{IsWrittenComplement}
@@ -92,6 +92,13 @@ module _ (full : Bool) (labels : List LabelTree) (number : ℕ) where
           subst (IsStateFault full labels number) (sym large) (inr (label, inl one, unfit_text label unfit))
       go fault (inr (inr (large, inr (label, both, unfit)))) =
           subst (IsStateFault full labels number) (sym large) (inl (label, (partial, inl both), unfit))
+
+-- the label of the missing letters that is too deep or too large
+pub rest_refused : (labels : List LabelTree) (number : ℕ) (refusal : Refusal) → IsLarge (HasLargeRest labels) refusal
+    → IsStateRefusal false labels number refusal
+rest_refused labels number refusal is =
+    large_task (HasLargeRest labels) (IsStateFault false labels number)
+    (λ large. inl (large.0, (refl, inr large.1), large.2)) refusal is
 
 -- the fault of judging a state is that of judging all, where those before it are apart
 pub first_refused : (a : Description) (number : ℕ) → number < a.states → AreExclusiveBelow a number → (refusal : Refusal)

@@ -32,6 +32,10 @@ HasLargeEdge labels = (label : LabelTree) × IsOne labels label × (FitsALabel l
 abbrev pub HasLargeBoth : List LabelTree → Type 0
 HasLargeBoth labels = (label : LabelTree) × IsBoth labels label × (FitsALabel label → ⊥)
 
+-- the label of the missing letters is too deep or too large
+abbrev pub HasLargeRest : List LabelTree → Type 0
+HasLargeRest labels = (label : LabelTree) × IsRestLabel labels label × (FitsALabel label → ⊥)
+
 -- the labels of two edges together may be left undecided
 abbrev pub HasUndecidedBoth : List LabelTree → Type 0
 HasUndecidedBoth labels = (label : LabelTree) × IsBoth labels label × IsHardLabel label

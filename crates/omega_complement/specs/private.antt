@@ -1,3 +1,4 @@
 -- What private contracts alone cite.
 pub mod Apart
+pub mod Rests
 pub mod Turned

@@ -5,10 +5,11 @@ ghost use Rattle.std.specs.List.{All};
 ghost use Rattle.omega_label.specs.Shape.{FitsALabel};
 ghost use Rattle.omega_complement.specs.Labels.{labels_of as labels_of_state};
 ghost use Rattle.omega_complement.specs.Judged.{HasLargeEdge};
-ghost use Rattle.omega_edge_labels.specs.Fitting.{IsLarge};
+ghost use Rattle.omega_edge_labels.specs.Fitting.{IsLarge, IsUnfit};
+ghost use Rattle.omega_edge_labels.specs.Labels.{label_at as label_of_edge};
 
-use omega_automaton::State;
-use omega_edge_labels::{fitting_label, label_at};
+use omega_automaton::{EdgeRef, State};
+use omega_edge_labels::{edge_label, judge_size};
 use omega_label::Label;
 use omega_text::Refusal;
 use std::alloc::Global;
@@ -23,8 +24,26 @@ pub(crate) fn labels_of(alloc: Global, count: usize, state: &State) -> Result<Ve
     let mut labels = Vec::with_capacity(alloc, state.edges.len())?;
     for at in 0..state.edges.len() {
         let edge = state.edges.edge(at);
-        let shape = label_at(alloc, count, state, &edge, at)?;
-        labels.push(fitting_label(alloc, &shape)?)?;
+        let label = fitting_label(alloc, count, state, &edge, at)?;
+        labels.push(label)?;
     }
     Ok(labels)
+}
+
+/// Returns the label of `edge` of `state`, whose index is `at`, over `count` propositions. Fails with
+/// [TaskFault::TooLarge] as `labels_of` does.
+fn fitting_label<'a>(
+    alloc: Global,
+    count: usize,
+    state: &'a State,
+    edge: &EdgeRef<'a>,
+    at: usize,
+) -> Result<Label, Refusal>
+    ensures label { IfOk result (λ label. label ≡ label_of_edge count state.now at edge.now) }
+    ensures fits { OnOk result (FitsALabel (label_of_edge count state.now at edge.now)) }
+    ensures err { IfErr result (IsUnfit (label_of_edge count state.now at edge.now)) }
+{
+    let label = edge_label(alloc, count, state, edge, at)?;
+    judge_size(label.get())?;
+    Ok(label.into_label(alloc)?)
 }

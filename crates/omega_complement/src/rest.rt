@@ -1,20 +1,21 @@
 //! The letters at which no edge of a state can be taken.
 
 ghost use Rattle.std.specs.Prelude.{◌<◌, length, IfErr, IfOk, IsOkUnless, OnOk};
-ghost use Rattle.omega_label.specs.Shape.{label_tree_of_shape};
-ghost use Rattle.omega_complement.specs.Judged.{RestFits, RestFitsAText};
-ghost use Rattle.omega_complement.specs.Letters.{IsAnyOf, IsRestLabel};
+ghost use Rattle.omega_complement.specs.Judged.{HasLargeRest, RestFits, RestFitsAText};
+ghost use Rattle.omega_complement.specs.Letters.{IsRestLabel};
 ghost use Rattle.omega_complement.specs.Written.{IsMissing};
+ghost use Rattle.omega_complement.specs.private.Rests.{IsAnyPut, IsRestPut};
 ghost use Rattle.omega_complement.specs.private.Turned.{IsJudgingRefusal};
+ghost use Rattle.omega_edge_labels.specs.Fitting.{IsLarge};
 
 use crate::state_labels::StateLabels;
-use omega_edge_labels::{can_hold, written_label};
-use omega_label::{Label, LabelShape, RawLabel};
+use omega_edge_labels::{can_hold, fitting_nodes, written_form};
+use omega_label::{Label, LabelNode, LabelNodes, RawLabel};
 use omega_text::Refusal;
 use std::alloc::Global;
 
 /// Returns the label of the letters at which no edge of `state` can be taken, or none if there is no such letter. Fails
-/// as `can_hold` does.
+/// with [TaskFault::TooLarge] if it is too deep or too large, and else as `can_hold` does.
 pub(crate) fn missing(alloc: Global, state: &StateLabels<'_>) -> Result<Option<RawLabel>, Refusal>
     ensures missing { IfOk result (IsMissing state.now.labels.now) }
     ensures judged { OnOk result (RestFits state.now.labels.now) }
@@ -23,35 +24,47 @@ pub(crate) fn missing(alloc: Global, state: &StateLabels<'_>) -> Result<Option<R
 {
     let rest = rest_of(alloc, state.labels)?;
     if can_hold(alloc, &rest)? {
-        Ok(Some(written_label(alloc, &rest)?))
+        Ok(Some(written_form(alloc, &rest)?))
     } else {
         Ok(None)
     }
 }
 
-/// Returns the label of the letters at which no edge can be taken.
-fn rest_of(alloc: Global, labels: &[Label]) -> Result<LabelShape, Refusal>
-    ensures rest { IfOk result (λ shape. IsRestLabel labels.now (label_tree_of_shape shape)) }
+/// Returns the label of the letters at which no edge can be taken. Fails with [TaskFault::TooLarge] if it is deeper
+/// than `MOST_DEPTH` or has over `MOST_SIZE` atoms and operators.
+fn rest_of(alloc: Global, labels: &[Label]) -> Result<Label, Refusal>
+    ensures rest { IfOk result (IsRestLabel labels.now) }
+    ensures err { IfErr result (IsLarge (HasLargeRest labels.now)) }
+{
+    let mut nodes = LabelNodes::new(alloc);
+    put_rest(labels, &mut nodes)?;
+    fitting_nodes(alloc, &nodes)
+}
+
+/// Appends the nodes of the label of the letters at which no edge can be taken.
+fn put_rest(labels: &[Label], nodes: &mut LabelNodes) -> Result<(), Refusal>
+    ensures rest { OnOk result (IsRestPut labels.now nodes.old nodes.new) }
     ensures memory { IsOkUnless result Refusal.Memory }
 {
     if labels.is_empty() {
-        return Ok(LabelShape::Constant(true));
+        return nodes.push(LabelNode::Constant(true));
     }
-    let any = any_of(alloc, labels)?;
-    Ok(LabelShape::Not(Box::new(alloc, any)?))
+    put_any(labels, nodes)?;
+    nodes.push(LabelNode::Not)
 }
 
-/// Joins `labels` by `|`, half by half, so that the result is as shallow as can be.
-fn any_of(alloc: Global, labels: &[Label]) -> Result<LabelShape, Refusal>
+/// Appends the nodes of `labels` joined by `|`, half by half, so that the result is as shallow as can be. Recurses as
+/// deep as the binary logarithm of their number.
+fn put_any(labels: &[Label], nodes: &mut LabelNodes) -> Result<(), Refusal>
     requires { 0 < length labels.now }
-    ensures any { IfOk result (λ shape. IsAnyOf labels.now (label_tree_of_shape shape)) }
+    ensures any { OnOk result (IsAnyPut labels.now nodes.old nodes.new) }
     ensures memory { IsOkUnless result Refusal.Memory }
 {
     if labels.len() == 1 {
-        return labels[0].shape(alloc);
+        return nodes.append(&labels[0]);
     }
     let middle = labels.len() / 2;
-    let left = any_of(alloc, &labels[..middle])?;
-    let right = any_of(alloc, &labels[middle..])?;
-    Ok(LabelShape::Or(Box::new(alloc, left)?, Box::new(alloc, right)?))
+    put_any(&labels[..middle], nodes)?;
+    put_any(&labels[middle..], nodes)?;
+    nodes.push(LabelNode::Or)
 }

@@ -15,7 +15,7 @@ use crate::labels::labels_of;
 use crate::rest::missing;
 use crate::state_labels::StateLabels;
 use omega_automaton::{EdgeRef, State, StateName};
-use omega_edge_labels::written_label;
+use omega_edge_labels::written_form;
 use omega_label::{Label, RawLabel};
 use omega_raw::{RawEdge, RawEdges, RawState};
 use omega_text::{ByteString, Marks, Numbers, Refusal};
@@ -152,8 +152,7 @@ fn turned_edge(
     ensures written { OnOk result (FitsAText label.now) }
     ensures err { IfErr result (IsLarge (FitsAText label.now → ⊥)) }
 {
-    let shape = label.shape(alloc)?;
-    let label = written_label(alloc, &shape)?;
+    let label = written_form(alloc, label)?;
     let targets = Numbers::from_slice(alloc, edge.targets())?;
     let mut marks = Numbers::from_slice(alloc, state.marks.as_slice())?;
     add_all(alloc, &mut marks, edge.marks())?;

@@ -6,7 +6,6 @@ use Rattle.omega_formula.specs.Kind.{buchi_formula}
 use Rattle.omega_automaton.specs.Automaton.{Description, sets_of}
 use Rattle.omega_product.specs.Acceptance.{IsJointAcceptance, moved_after}
 use Rattle.omega_product.proofs.Membership.{Contains-here}
-use Rattle.omega_word_laws.proofs.meeting.Buchi.{buchi_is}
 use Rattle.omega_word_laws.proofs.meeting.Labels.{and_both}
 
 -- marks that hold the same sets below a count, one by one
@@ -51,7 +50,6 @@ fewer_sets all m (suc n) h =
 pub first_accepts : (one other both : Description) → IsJointAcceptance one other both.acc_name both.acceptance → (all : List (List ℕ))
     → accepts all both.acceptance ≡ true → accepts all one.acceptance ≡ true
 first_accepts one other both (inl buchi) all h =
-    let first = buchi_is one buchi.first buchi.first_is in
-    ap (accepts all) first.0 ∙ fewer_sets all buchi.first buchi.second (ap (accepts all) (sym buchi.formula_is) ∙ h)
+    ap (accepts all) buchi.both.first ∙ fewer_sets all one.sets other.sets (ap (accepts all) (sym buchi.formula_is) ∙ h)
 first_accepts one other both (inr conjoined) all h =
     (and_both (accepts all one.acceptance) (accepts all (moved_after one.sets other.acceptance)) (ap (accepts all) (sym conjoined.formula_is) ∙ h)).0

@@ -2,13 +2,13 @@
 
 ghost use Rattle.std.specs.Prelude.{◌↔◌, IsTrue, IfErr, IfOk, IfSome, OnOk};
 ghost use Rattle.omega_label.specs.Label.{conjunction};
-ghost use Rattle.omega_label.specs.Shape.{FitsALabel, label_tree_of_shape};
+ghost use Rattle.omega_label.specs.Shape.{FitsALabel};
 ghost use Rattle.omega_satisfying.specs.Satisfiable.{IsSatisfiable};
 ghost use Rattle.omega_satisfying.specs.Tables.{IsTruthTable};
 ghost use Rattle.omega_edge_labels.specs.Fitting.{IsUnjudged};
 
-use crate::fitting::fitting_label;
-use omega_label::{Label, LabelShape};
+use crate::fitting::{fitting_conjunction, judge_size};
+use omega_label::Label;
 use omega_satisfying::{TruthTable, is_satisfiable, satisfiable_together};
 use omega_text::Refusal;
 use std::alloc::Global;
@@ -17,19 +17,20 @@ use std::alloc::Global;
 /// than it has atoms and operators.
 const MOST_SMALL: usize = 127;
 
-/// Whether a label can be true. Fails with [TaskFault::TooLarge] if it is deeper than `MOST_DEPTH` or has over
-/// `MOST_SIZE` atoms and operators. Fails with [TaskFault::TooManyPropositions] if it mentions over `MOST_MENTIONED`
-/// propositions and `is_satisfiable` gave it up.
-pub fn can_hold(alloc: Global, shape: &LabelShape) -> Result<bool, Refusal>
-    ensures judged { IfOk result (λ possible. IsTrue possible ↔ IsSatisfiable (label_tree_of_shape shape.now)) }
-    ensures fits { OnOk result (FitsALabel (label_tree_of_shape shape.now)) }
-    ensures err { IfErr result (IsUnjudged (label_tree_of_shape shape.now)) }
+/// Whether a label can be true. Fails with [TaskFault::TooLarge] if it has over `MOST_SIZE` atoms and operators. Fails
+/// with [TaskFault::TooManyPropositions] if it mentions over `MOST_MENTIONED` propositions and `is_satisfiable` gave it
+/// up.
+pub fn can_hold(alloc: Global, label: &Label) -> Result<bool, Refusal>
+    ensures judged { IfOk result (λ possible. IsTrue possible ↔ IsSatisfiable label.now) }
+    ensures fits { OnOk result (FitsALabel label.now) }
+    ensures err { IfErr result (IsUnjudged label.now) }
 {
-    let label = fitting_label(alloc, shape)?;
-    is_satisfiable(alloc, &label)
+    judge_size(label)?;
+    is_satisfiable(alloc, label)
 }
 
-/// Whether two labels can be true together. Fails as [`can_hold`] does for their conjunction.
+/// Whether two labels can be true together. Fails as [`can_hold`] does for their conjunction, and with
+/// [TaskFault::TooLarge] if that is deeper than `MOST_DEPTH`.
 ///
 /// Two labels with at most 127 atoms and operators each, which mention at most `MOST_MENTIONED` propositions together,
 /// are judged without memory.
@@ -90,7 +91,6 @@ fn can_conjunction_hold(alloc: Global, one: &Label, other: &Label) -> Result<boo
     ensures fits { OnOk result (FitsALabel (conjunction one.now other.now)) }
     ensures err { IfErr result (IsUnjudged (conjunction one.now other.now)) }
 {
-    let left = Box::new(alloc, one.shape(alloc)?)?;
-    let right = Box::new(alloc, other.shape(alloc)?)?;
-    can_hold(alloc, &LabelShape::And(left, right))
+    let both = fitting_conjunction(alloc, one, other)?;
+    is_satisfiable(alloc, &both)
 }

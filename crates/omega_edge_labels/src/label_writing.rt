@@ -3,18 +3,46 @@
 ghost use Rattle.std.specs.Prelude.{◌≡◌, ◌<◌, ◌≤◌, IfErr, IfOk, OnOk};
 ghost use Rattle.omega_expression.specs.Depth.{IsDeeper};
 ghost use Rattle.omega_expression.specs.Limits.{most_depth};
+ghost use Rattle.omega_label.specs.Label.{conjunction};
 ghost use Rattle.omega_label.specs.Writing.{label_text};
 ghost use Rattle.omega_label.specs.Writing.{grouped, label_written};
 ghost use Rattle.omega_label.specs.Raw.{raw_depth};
 ghost use Rattle.omega_label.specs.Shape.{label_tree_of_shape};
 ghost use Rattle.omega_edge_labels.specs.Fitting.{IsLarge};
 
-use omega_label::{LabelShape, RawLabel};
+use omega_label::{Label, LabelShape, RawLabel};
 use omega_text::{Refusal, TaskFault};
 use std::alloc::Global;
 
 /// Returns the written form of a label. Fails with [TaskFault::TooLarge] if it is deeper than `MOST_DEPTH`. Linear in
 /// the label.
+pub fn written_form(alloc: Global, label: &Label) -> Result<RawLabel, Refusal>
+    ensures shallow { OnOk result (raw_depth (label_written label.now) ≤ most_depth) }
+    ensures ok { IfOk result (λ raw. raw ≡ label_written label.now) }
+    ensures err { IfErr result (IsLarge (most_depth < raw_depth (label_written label.now))) }
+{
+    match label.written(alloc) {
+        Ok(raw) => Ok(raw),
+        Err(Refusal::Automaton(_)) => Err(Refusal::Task(TaskFault::TooLarge)),
+        Err(refusal) => Err(refusal),
+    }
+}
+
+/// Returns the written form of the conjunction of two labels. Fails with [TaskFault::TooLarge] if it is deeper than
+/// `MOST_DEPTH`. Linear in both.
+#[tactic(auto, using(crate::proofs::Depths::written_deeper))]
+pub fn written_conjunction(alloc: Global, one: &Label, other: &Label) -> Result<RawLabel, Refusal>
+    ensures ok { IfOk result (λ raw. raw ≡ label_written (conjunction one.now other.now)) }
+    ensures err { IfErr result (IsLarge (most_depth < raw_depth (label_written (conjunction one.now other.now)))) }
+{
+    match Label::conjunction(alloc, one, other) {
+        Ok(both) => written_form(alloc, &both),
+        Err(Refusal::Automaton(_)) => Err(Refusal::Task(TaskFault::TooLarge)),
+        Err(refusal) => Err(refusal),
+    }
+}
+
+/// Returns the written form of a tree. Fails with [TaskFault::TooLarge] if it is deeper than `MOST_DEPTH`.
 pub fn written_label(alloc: Global, shape: &LabelShape) -> Result<RawLabel, Refusal>
     ensures shallow { OnOk result (raw_depth (label_written (label_tree_of_shape shape.now)) ≤ most_depth) }
     ensures ok { IfOk result (λ raw. raw ≡ label_written (label_tree_of_shape shape.now)) }

@@ -5,11 +5,14 @@ pub mod BeginLemmas
 pub mod BelowLemmas
 pub mod ChainLemmas
 pub mod Equality
+pub mod JudgedLemmas
 pub mod Parities
 pub mod PlainLemmas
 pub mod PriorityLemmas
 pub mod RawLemmas
 pub mod ReadingLemmas
 pub mod ReadingUniqueness
+pub mod RewritingLemmas
 pub mod TextLemmas
 pub mod Unread
+pub mod WrittenLemmas

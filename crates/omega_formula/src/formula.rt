@@ -13,7 +13,7 @@ use std::marker::Model;
 
 /// A node of an acceptance formula. Its parts precede it. The truth value of an atom says whether `!` precedes its set.
 #[derive(Clone, Copy, Debug, PartialEq, Eq)]
-pub(crate) enum AccNode {
+pub enum AccNode {
     Constant(bool),
     Inf(bool, u32),
     Fin(bool, u32),
@@ -50,7 +50,8 @@ impl Model for Acc {
 }
 
 impl Acc {
-    ghost use Rattle.omega_formula.specs.private.layout.Acceptance.{IsAcc, acc_postfix, acc_tree_of};
+    ghost use Rattle.omega_formula.specs.Postfix.{acc_postfix};
+    ghost use Rattle.omega_formula.specs.private.layout.Acceptance.{IsAcc, acc_tree_of};
 
     /// Makes the formula `t` or `f`.
     pub fn constant(alloc: Global, value: bool) -> Result<Acc, Refusal>
@@ -139,7 +140,7 @@ impl Acc {
     }
 
     /// Returns its nodes, parts before their operators.
-    pub(crate) fn nodes(&self) -> &[AccNode]
+    pub fn nodes(&self) -> &[AccNode]
         ensures { result.now ≡ acc_postfix self.now }
     {
         self.nodes.as_slice()

@@ -5,6 +5,7 @@
 #![tactic(auto)]
 
 mod formula;
+mod judging;
 mod kind;
 mod laws;
 mod name;
@@ -13,18 +14,22 @@ mod priorities;
 mod raw;
 mod reading;
 mod recognition;
+mod rewriting;
 mod shape;
 mod shapes;
+mod truths;
 mod unfinished;
 mod writing;
+mod written;
 
-pub use formula::Acc;
+pub use formula::{Acc, AccNode};
+pub use judging::AtomJudge;
 pub use kind::{AccKind, Order, Parity, ParityKind};
 pub use laws::{equal_formulas_are_equal_trees, formulas_are_one};
 pub use name::{AccName, Parameter};
 pub use priorities::priority;
 pub use raw::RawAcc;
 pub use reading::{read_acc, read_raw_acc};
-pub use recognition::{acceptance_kind, parity_of};
+pub use recognition::{acceptance_kind, is_buchi, parity_of};
 pub use shape::AccShape;
 pub use writing::write_acc;

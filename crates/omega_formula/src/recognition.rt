@@ -52,6 +52,26 @@ pub fn acceptance_kind(name: &AccName, count: u32, formula: &Acc) -> Result<AccK
     }
 }
 
+/// Whether `formula` says that each of `sets` sets recurs: `t` if there are none, and else `Inf(0)&Inf(1)&..`, grouped
+/// to the left, as `all`, `Buchi` and `generalized-Buchi` have it (HOA v1, acceptance names). Takes no memory, and
+/// walks over the formula only.
+pub fn is_buchi(sets: u32, formula: &Acc) -> bool
+    ensures { IsTrue result ↔ (formula.now ≡ buchi_formula sets) }
+{
+    is_recurrence(sets, formula.nodes())
+}
+
+/// Whether `nodes` are the formula in which each of `sets` sets recurs.
+fn is_recurrence(sets: u32, nodes: &[AccNode]) -> bool
+    ensures { IsTrue result ↔ (nodes.now ≡ acc_postfix (buchi_formula sets)) }
+{
+    if sets == 0 {
+        is_alone(nodes, AccNode::Constant(true))
+    } else {
+        is_buchi_formula(sets, nodes)
+    }
+}
+
 /// Returns the parity kind that `name` names.
 fn named_kind(name: &AccName) -> Option<ParityKind>
     ensures { result ≡ parity_named name.now.name name.now.parameters }

@@ -4,6 +4,7 @@ pub mod BareLemmas
 pub mod BeginLemmas
 pub mod BelowLemmas
 pub mod CodeLemmas
+pub mod DepthLemmas
 pub mod EmitLemmas
 pub mod EntryLemmas
 pub mod Equality
@@ -11,6 +12,8 @@ pub mod ExpansionLemmas
 pub mod ExtentLemmas
 pub mod KeptLemmas
 pub mod LabelLemmas
+pub mod MovingLemmas
+pub mod PartLemmas
 pub mod PutLemmas
 pub mod RawLemmas
 pub mod ReadingLemmas

@@ -1,5 +1,5 @@
 -- Labels of trees of boxes: what makes nodes a label, and where one is too large.
-use Rattle.std.proofs.Common.{◌≡◌, ◌<◌, ◌≤◌, cond, ltb, List, None, Some, Result, Ok, Err, IfOk, ap, sym, ◌∙◌, arith}
+use Rattle.std.proofs.Common.{◌≡◌, ◌<◌, ◌≤◌, cond, ltb, List, None, Some, Result, Ok, Err, IfOk, OnOk, ap, sym, ◌∙◌, arith}
 use Rattle.std.proofs.lemmas.Bool.{le-ltb, lt-ltb}
 use Rattle.omega_text.specs.declared.refusal.automaton.AutomatonFault.TheVariants.{Expansion, TooDeep}
 use Rattle.omega_label.specs.Label.{LabelTree, label_depth, label_size}
@@ -12,6 +12,11 @@ use Rattle.omega_label.specs.declared.label.LabelNode.{LabelNode}
 pub value_then : {A E : Type 0} (result : Result A E) (said wanted_of : A → Type 0) → IfOk result said → ((value : A) → said value → wanted_of value) → IfOk result wanted_of
 value_then (Ok value) said wanted_of is follows = follows value is
 value_then (Err error) said wanted_of is follows = tt
+
+-- what holds anyway holds on success
+pub anyway : {A E : Type 0} (result : Result A E) (wanted_now : Type 0) → wanted_now → OnOk result wanted_now
+anyway (Ok value) wanted_now holds = holds
+anyway (Err error) wanted_now holds = tt
 
 -- a tree's nodes give that tree
 pub label_tree-is : (tree : LabelTree) (nodes : List LabelNode) → nodes ≡ postfix tree → tree_of nodes ≡ tree

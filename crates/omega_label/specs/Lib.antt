@@ -5,6 +5,7 @@ pub mod Label
 pub mod Postfix
 pub mod Raw
 pub mod Reading
+pub mod Renumbering
 pub mod Shape
 pub mod Writing
 pub mod private

@@ -1,5 +1,5 @@
 -- A label as nodes, each behind its parts.
-use Rattle.std.specs.Prelude.{List, [], ◌∷◌, ◌++◌}
+use Rattle.std.specs.Prelude.{◌≡◌, List, [], ◌∷◌, ◌++◌}
 use Rattle.omega_label.specs.Label.{LabelTree, conjunction, constant, disjunction, negation, proposition}
 use Rattle.omega_label.specs.declared.label.LabelNode.{LabelNode}
 use Rattle.omega_label.specs.declared.label.LabelNode.TheVariants.{And, Constant, Not, Or, Proposition}
@@ -11,3 +11,7 @@ postfix (proposition number) = Proposition number ∷ []
 postfix (negation part) = postfix part ++ Not ∷ []
 postfix (conjunction left right) = postfix left ++ (postfix right ++ And ∷ [])
 postfix (disjunction left right) = postfix left ++ (postfix right ++ Or ∷ [])
+
+-- the nodes are a label, whole
+abbrev pub IsInPostfix : List LabelNode → Type 0
+IsInPostfix nodes = (tree : LabelTree) × (nodes ≡ postfix tree)

@@ -85,6 +85,15 @@ impl Label {
         Ok(Label::of_written(Compact::of(alloc, notation)?))
     }
 
+    /// Makes the label of `nodes` in postfix order, in as much memory as they need.
+    pub(crate) fn of_slice(alloc: Global, nodes: &[LabelNode]) -> Result<Label, Refusal>
+        requires { IsLabelInPostfix nodes.now }
+        ensures ok { IfOk result (λ label. label ≡ tree_of nodes.now) }
+        ensures err { IfErr result IsMemory }
+    {
+        Ok(Label::of_written(Compact::copied(alloc, nodes, &[], 0)?))
+    }
+
     /// Makes the label of `written`, which has no aliases and parentheses. Its depth is not used.
     pub(crate) fn of_written(written: Compact) -> Label
         requires { IsLabelInPostfix written.nodes }

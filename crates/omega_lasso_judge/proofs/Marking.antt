@@ -5,6 +5,7 @@ use Rattle.std.specs.Prelude.{option_map}
 use Rattle.std.specs.Option.{is_some, unwrap_or}
 use Rattle.std.proofs.lemmas.Bool.{cases_Bool, cases_eq, eq-eqb, ne_eqb, eqb-true, false≢true, or_right}
 use Rattle.std.proofs.lemmas.List.{map_more, take_more}
+use Rattle.omega_formula.specs.Judging.{holds_by_atoms}
 use Rattle.omega_formula.specs.Acceptance.{AccTree, accepts, conjunction, constant, disjunction, fin, holds, inf, occurs}
 use Rattle.omega_automaton.specs.Automaton.{BodyEdge, Description, edge_at}
 use Rattle.omega_runs.specs.Lasso.{marks_at, marks_of}
@@ -203,6 +204,17 @@ module _ (rows : List (List ℕ)) (look : ℕ → Option ℕ) (are : AreRuns row
   holds_are (fin negated set) = ap not (occurs_are negated set)
   holds_are (conjunction left right) = let l = holds_are left in let r = holds_are right in cc
   holds_are (disjunction left right) = let l = holds_are left in let r = holds_are right in cc
+
+-- what holds by its atoms holds by the runs
+pub holds_by_runs : (look : ℕ → Option ℕ) (rows : ℕ) (tree : AccTree)
+    → holds_by_atoms (occurs_by look rows) (λ negated set. not (occurs_by look rows negated set)) tree ≡ holds_by look rows tree
+holds_by_runs look rows (constant value) = refl
+holds_by_runs look rows (inf negated set) = refl
+holds_by_runs look rows (fin negated set) = refl
+holds_by_runs look rows (conjunction left right) =
+    let one = holds_by_runs look rows left in let other = holds_by_runs look rows right in cc
+holds_by_runs look rows (disjunction left right) =
+    let one = holds_by_runs look rows left in let other = holds_by_runs look rows right in cc
 
 -- the rows of a cycle, one more
 pub rows_more : (a : Description) (cycle : List ℕ) (at : ℕ) (edge : BodyEdge) → at < length cycle → edge_at a (get_or cycle at 0) ≡ Some edge

@@ -1,16 +1,15 @@
 //! Whether an acceptance formula holds of the marks of a cycle.
-ghost use Rattle.std.specs.Prelude.{◌≡◌, nat_eq, All, IfOk, IsOkUnless};
+ghost use Rattle.std.specs.Prelude.{◌≡◌, nat_eq, not, All, IfOk, IsOkUnless};
 ghost use Rattle.indexmap.specs.IndexMap.{get};
-ghost use Rattle.omega_formula.specs.Shape.{acc_tree_of_shape};
 ghost use Rattle.omega_lasso_judge.specs.Conditions.{IsNumber, cycle_accepts};
 ghost use Rattle.omega_lasso_judge.specs.private.EdgeTable.{IsTable, automaton_of};
-ghost use Rattle.omega_lasso_judge.specs.private.Runs.{holds_by, occurs_by};
+ghost use Rattle.omega_lasso_judge.specs.private.Runs.{occurs_by};
 
 use crate::edge_table::EdgeTable;
 use crate::runs::{run_of, runs};
 use indexmap::IndexMap;
 use omega_automaton::Refusal;
-use omega_formula::AccShape;
+use omega_formula::AtomJudge;
 use std::alloc::Global;
 
 /// Whether the marks of `cycle` satisfy the acceptance formula. Linear in the formula and the marks.
@@ -25,22 +24,34 @@ pub(crate) fn is_accepted(
     ensures memory { IsOkUnless result Refusal.Memory }
 {
     let runs = runs(alloc, table, cycle)?;
-    let formula = table.automaton.acceptance().shape(alloc)?;
-    let accepted = holds(&runs, cycle.len(), &formula);
+    let judge = CycleJudge {
+        runs: &runs,
+        edges: cycle.len(),
+    };
+    let accepted = table.automaton.acceptance().holds_by(alloc, &judge)?;
     Ok(accepted)
 }
 
-/// Whether `formula` holds of a cycle with this number of `edges`, given the `runs` of its marks. Recurses as deep as
-/// the formula.
-fn holds(runs: &IndexMap<u32, usize>, edges: usize, formula: &AccShape) -> bool
-    ensures { result ≡ holds_by (get nat_eq runs.now) edges (acc_tree_of_shape formula.now) }
-{
-    match formula {
-        AccShape::Constant(value) => *value,
-        AccShape::Inf(negated, set) => occurs(runs, edges, *negated, *set),
-        AccShape::Fin(negated, set) => !occurs(runs, edges, *negated, *set),
-        AccShape::And(left, right) => holds(runs, edges, left) && holds(runs, edges, right),
-        AccShape::Or(left, right) => holds(runs, edges, left) || holds(runs, edges, right),
+/// A cycle with this number of `edges`, and the `runs` of its marks, as a judge of atoms.
+#[derive(Clone, Copy)]
+struct CycleJudge<'a> {
+    runs: &'a IndexMap<u32, usize>,
+    edges: usize,
+}
+
+impl<'a> AtomJudge for CycleJudge<'a> {
+    ghost can_judge = { λ _. Unit {0} };
+
+    ghost infs = { λ j negated set. occurs_by (get nat_eq j.runs.now) j.edges negated set };
+
+    ghost fins = { λ j negated set. not (occurs_by (get nat_eq j.runs.now) j.edges negated set) };
+
+    fn inf_holds(&self, negated: bool, set: u32) -> bool {
+        occurs(self.runs, self.edges, negated, set)
+    }
+
+    fn fin_holds(&self, negated: bool, set: u32) -> bool {
+        !occurs(self.runs, self.edges, negated, set)
     }
 }
 

@@ -1,6 +1,5 @@
 //! An accepting lasso for any acceptance formula, found by a search of the automaton itself.
 ghost use Rattle.std.specs.Prelude.{◌≡◌, false, IfErr, IfNone, IfOk, IfSome, IsOkUnless, OnOk, length};
-ghost use Rattle.omega_formula.specs.Shape.{acc_tree_of_shape};
 ghost use Rattle.omega_automaton.specs.Branching.{has_universal_branching};
 ghost use Rattle.omega_components.specs.Graph.{AreEdges};
 ghost use Rattle.omega_runs.specs.Verdict.{IsVerdict};
@@ -12,7 +11,7 @@ use crate::numbering::number_states;
 use crate::search::Search;
 use crate::turning::turned;
 use crate::usable::usable_edges;
-use omega_accepting_walk::{AccShape, accepting_walk};
+use omega_accepting_walk::{Acc, accepting_walk};
 use omega_automaton::{Automaton, Refusal, has_universal_branching};
 use omega_components::{Graph, path, reached};
 use omega_runs::Verdict;
@@ -70,13 +69,13 @@ fn found_in(alloc: Global, search: &Search<'_>) -> Result<Verdict, Refusal>
     ensures verdict { IfOk result (IsVerdict search.now.automaton.now) }
     ensures memory { IsOkUnless result Refusal.Memory }
 {
-    let formula = search.automaton.acceptance().shape(alloc)?;
-    let found = accepting_walk(alloc, search.graph, search.marks, search.edges, &formula)?;
+    let formula = search.automaton.acceptance();
+    let found = accepting_walk(alloc, search.graph, search.marks, search.edges, formula)?;
     match found {
         None => Ok(Verdict::Empty),
         Some(cycle) => match with_stem(alloc, search, cycle.as_slice())? {
             Some(verdict) => Ok(verdict),
-            None => found_among_reached(alloc, search, &formula),
+            None => found_among_reached(alloc, search, formula),
         },
     }
 }
@@ -85,10 +84,10 @@ fn found_in(alloc: Global, search: &Search<'_>) -> Result<Verdict, Refusal>
 fn found_among_reached(
     alloc: Global,
     search: &Search<'_>,
-    formula: &AccShape,
+    formula: &Acc,
 ) -> Result<Verdict, Refusal>
     requires ready { IsSearch search.now }
-    requires formula { acc_tree_of_shape formula.now ≡ search.now.automaton.now.acceptance }
+    requires formula { formula.now ≡ search.now.automaton.now.acceptance }
     ensures verdict { IfOk result (IsVerdict search.now.automaton.now) }
     ensures memory { IsOkUnless result Refusal.Memory }
 {

@@ -6,3 +6,4 @@ pub mod Truths
 pub mod Said
 pub mod Lines
 pub mod Fitted
+pub mod Infixes

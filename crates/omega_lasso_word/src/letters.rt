@@ -1,13 +1,14 @@
 //! Letters: what edges demand of the propositions.
 
-ghost use Rattle.std.specs.Prelude.{◌≡◌, ◌++◌, [], get_or, IsOkUnless, OnOk};
-ghost use Rattle.omega_label.specs.Shape.{label_tree_of_shape};
+ghost use Rattle.std.specs.Prelude.{◌≡◌, ◌++◌, [], List, ℕ, get_or, IsOkUnless, OnOk};
+ghost use Rattle.omega_lasso_word.specs.Infix.{sign_words, signs_words, whole_words, words_after};
 ghost use Rattle.omega_lasso_word.specs.Letters.{label_words, literal_text, valuation_text};
 ghost use Rattle.omega_lasso_word.specs.Names.{name_text};
 
 use crate::names::write_name;
+use crate::signs::{Infix, Sign, Signs};
 use omega_edge_labels::has_bit;
-use omega_label::{Label, LabelShape};
+use omega_label::{Label, LabelNode, ROOM};
 use omega_text::{ByteString, Refusal};
 
 /// Appends `label` with the `names` of its propositions.
@@ -19,56 +20,54 @@ pub(crate) fn write_label(
     ensures text { OnOk result (out.new.items ≡ out.old.items ++ label_words 0 names.now label.now) }
     ensures memory { IsOkUnless result Refusal.Memory }
 {
-    let shape = label.shape(*out.allocator())?;
-    write_words(0, names, &shape, out)
+    let alloc = *out.allocator();
+    let mut room = ROOM;
+    let mut text = Infix::new(alloc)?;
+    put_all(&mut text, label.nodes(&mut room))?;
+    text.finish()?;
+    write_signs(names, &mut text.signs, out)
 }
 
-/// Appends a label below an operator of this `tightness`: 0 for none or `|`, 1 for `&`, 2 for `!`.
-fn write_words(
-    tightness: u32,
-    names: &[ByteString],
-    shape: &LabelShape,
-    out: &mut Vec<u8>,
-) -> Result<(), Refusal>
-    ensures text { OnOk result
-        (out.new.items ≡ out.old.items ++ label_words tightness names.now (label_tree_of_shape shape.now)) }
+/// Puts the signs of `nodes`, from the last to the first, before those so far.
+fn put_all(text: &mut Infix, nodes: &[LabelNode]) -> Result<(), Refusal>
+    ensures ok { OnOk result ((names : List (List ℕ)) →
+        whole_words names text.new [] ≡ whole_words names text.old (words_after names [] nodes.now)) }
     ensures memory { IsOkUnless result Refusal.Memory }
 {
-    match shape {
-        LabelShape::Constant(value) => {
-            out.push(if *value { b'1' } else { b'0' })?;
-            Ok(())
-        }
-        LabelShape::Proposition(number) => write_proposition(names, *number as usize, out),
-        LabelShape::Not(part) => {
-            out.push(b'!')?;
-            write_words(2, names, part, out)
-        }
-        LabelShape::And(left, right) => {
-            if 1 < tightness {
-                out.push(b'(')?;
-            }
-            write_words(1, names, left, out)?;
-            out.extend_from_slice(b" & ")?;
-            write_words(1, names, right, out)?;
-            if 1 < tightness {
-                out.push(b')')?;
-            }
-            Ok(())
-        }
-        LabelShape::Or(left, right) => {
-            if 0 < tightness {
-                out.push(b'(')?;
-            }
-            write_words(0, names, left, out)?;
-            out.extend_from_slice(b" | ")?;
-            write_words(0, names, right, out)?;
-            if 0 < tightness {
-                out.push(b')')?;
-            }
-            Ok(())
-        }
+    let mut left = nodes;
+    while let Some((node, before)) = left.split_last() {
+        left = before;
+        text.put(*node)?;
     }
+    Ok(())
+}
+
+/// Appends `signs` with the `names` of their propositions.
+fn write_signs(names: &[ByteString], signs: &mut Signs, out: &mut Vec<u8>) -> Result<(), Refusal>
+    ensures text { OnOk result (out.new.items ≡ out.old.items ++ signs_words names.now signs.old) }
+    ensures memory { IsOkUnless result Refusal.Memory }
+{
+    while let Some(sign) = signs.take() {
+        write_sign(names, sign, out)?;
+    }
+    Ok(())
+}
+
+/// Appends `sign` with the `names` of its proposition.
+fn write_sign(names: &[ByteString], sign: Sign, out: &mut Vec<u8>) -> Result<(), Refusal>
+    ensures text { OnOk result (out.new.items ≡ out.old.items ++ sign_words names.now sign) }
+    ensures memory { IsOkUnless result Refusal.Memory }
+{
+    match sign {
+        Sign::Constant(value) => out.push(if value { b'1' } else { b'0' })?,
+        Sign::Name(number) => write_proposition(names, number as usize, out)?,
+        Sign::Not => out.push(b'!')?,
+        Sign::And => out.extend_from_slice(b" & ")?,
+        Sign::Or => out.extend_from_slice(b" | ")?,
+        Sign::Open => out.push(b'(')?,
+        Sign::Close => out.push(b')')?,
+    }
+    Ok(())
 }
 
 /// Appends the name of the proposition `number`, or empty quotes if there is no such proposition, which no automaton

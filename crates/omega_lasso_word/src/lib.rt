@@ -6,6 +6,7 @@
 pub mod laws;
 mod letters;
 mod names;
+mod signs;
 mod word;
 
 pub use names::write_name;

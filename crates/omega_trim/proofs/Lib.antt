@@ -1,4 +1,5 @@
 pub mod Among
+pub mod Apart
 pub mod Traced
 pub mod Turned
 pub mod ComponentGoals

@@ -52,8 +52,7 @@ fn written(
     ensures written { IfOk result (λ raw. raw ≡ written_form (trimmed kept.now.keys automaton.now)) }
     ensures err { IfErr result (IsLarge (PassesLimit (trimmed kept.now.keys automaton.now))) }
 {
-    let formula = automaton.acceptance().shape(alloc)?;
-    let formula = written_formula(alloc, &formula)?;
+    let formula = written_formula(alloc, automaton.acceptance())?;
     let items = header(alloc, automaton, kept, formula)?;
     let states = kept_states(alloc, automaton, kept)?;
     let version = ByteString::from_slice(alloc, b"v1")?;

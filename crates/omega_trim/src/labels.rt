@@ -9,7 +9,7 @@ ghost use Rattle.omega_trim.specs.Refusing.{IsDeepLabel};
 ghost use Rattle.omega_trim.specs.Trimmed.{label_kept};
 
 use omega_automaton::{EdgeRef, Refusal, State};
-use omega_edge_labels::{label_at, written_label};
+use omega_edge_labels::{edge_label, written_form};
 use omega_label::{Label, RawLabel};
 use std::alloc::Global;
 
@@ -21,22 +21,19 @@ pub(crate) fn same_label(alloc: Global, label: Option<&Label>) -> Result<Option<
 {
     match label {
         None => Ok(None),
-        Some(label) => {
-            let shape = label.shape(alloc)?;
-            Ok(Some(written_label(alloc, &shape)?))
-        }
+        Some(label) => Ok(Some(written_form(alloc, label)?)),
     }
 }
 
 /// Returns the label of `edge` of `state`, whose index is `at`, as it stays: as it is written if `as_written` is set,
 /// or else never left out. Fails with [TaskFault::TooLarge] if the written form is deeper than `MOST_DEPTH`.
-pub(crate) fn kept_label(
+pub(crate) fn kept_label<'a>(
     alloc: Global,
     as_written: bool,
     count: usize,
-    state: &State,
+    state: &'a State,
     at: usize,
-    edge: &EdgeRef<'_>,
+    edge: &EdgeRef<'a>,
 ) -> Result<Option<RawLabel>, Refusal>
     ensures label { IfOk result (λ raw.
         raw ≡ option_map label_written (label_kept as_written count state.now at edge.now)) }
@@ -46,6 +43,6 @@ pub(crate) fn kept_label(
     if as_written {
         return same_label(alloc, edge.label());
     }
-    let shape = label_at(alloc, count, state, edge, at)?;
-    Ok(Some(written_label(alloc, &shape)?))
+    let label = edge_label(alloc, count, state, edge, at)?;
+    Ok(Some(written_form(alloc, label.get())?))
 }

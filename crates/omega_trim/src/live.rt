@@ -43,7 +43,7 @@ fn goals_of(
     ensures memory { IsOkUnless result Refusal.Memory }
 {
     let marks = edge_marks(alloc, automaton)?;
-    let formula = automaton.acceptance().shape(alloc)?;
-    let goals = goals(alloc, graph, marks.as_slice(), edges, &formula)?;
+    let formula = automaton.acceptance();
+    let goals = goals(alloc, graph, marks.as_slice(), edges, formula)?;
     Ok(goals)
 }

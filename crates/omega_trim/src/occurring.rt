@@ -1,36 +1,56 @@
 //! Whether a formula holds of some edges together.
 
-ghost use Rattle.std.specs.Prelude.{◌≡◌, ◌<◌, length, map, All};
+ghost use Rattle.std.specs.Prelude.{◌≡◌, ◌<◌, not, length, map, All, IfOk, IsOkUnless};
 ghost use Rattle.omega_formula.specs.Acceptance.{holds, occurs};
-ghost use Rattle.omega_formula.specs.Shape.{acc_tree_of_shape};
 ghost use Rattle.omega_walk_laws.specs.Marks.{accepts_apart, meets};
 ghost use Rattle.omega_accepting_walk.specs.Rows.{row_at};
 
-use omega_accepting_walk::AccShape;
-use omega_text::Numbers;
+use omega_formula::{Acc, AtomJudge};
+use omega_text::{Numbers, Refusal};
+use std::alloc::Global;
 
 /// Whether `formula` holds if each `Inf` is judged on the edges `some` and each `Fin` on the edges `all`. `marks` has
 /// the marks of each edge. Linear in the marks of both for each atom.
-pub(crate) fn holds_apart(marks: &[Numbers], some: &[u32], all: &[u32], formula: &AccShape) -> bool
+pub(crate) fn holds_apart(
+    alloc: Global,
+    marks: &[Numbers],
+    some: &[u32],
+    all: &[u32],
+    formula: &Acc,
+) -> Result<bool, Refusal>
     requires some { All (λ edge. edge < length marks.now) some.now }
     requires all { All (λ edge. edge < length marks.now) all.now }
-    ensures { result ≡ accepts_apart (map (row_at marks.now) some.now) (map (row_at marks.now) all.now)
-        (acc_tree_of_shape formula.now) }
+    ensures holds { IfOk result (λ holds. holds ≡
+        accepts_apart (map (row_at marks.now) some.now) (map (row_at marks.now) all.now) formula.now) }
+    ensures memory { IsOkUnless result Refusal.Memory }
 {
-    match formula {
-        AccShape::Constant(value) => *value,
-        AccShape::Inf(negated, set) => occurs(marks, some, *negated, *set),
-        AccShape::Fin(negated, set) => !occurs(marks, all, *negated, *set),
-        AccShape::And(left, right) => {
-            let one = holds_apart(marks, some, all, left);
-            let other = holds_apart(marks, some, all, right);
-            one && other
-        }
-        AccShape::Or(left, right) => {
-            let one = holds_apart(marks, some, all, left);
-            let other = holds_apart(marks, some, all, right);
-            one || other
-        }
+    let judge = ApartJudge { marks, some, all };
+    let holds = formula.holds_by(alloc, &judge)?;
+    Ok(holds)
+}
+
+/// Edges on which each `Inf` is judged, and edges on which each `Fin` is. `marks` has the marks of each edge.
+#[derive(Clone, Copy)]
+struct ApartJudge<'a> {
+    marks: &'a [Numbers],
+    some: &'a [u32],
+    all: &'a [u32],
+}
+
+impl<'a> AtomJudge for ApartJudge<'a> {
+    ghost can_judge = { λ j. All (λ edge. edge < length j.marks.now) j.some.now
+        × All (λ edge. edge < length j.marks.now) j.all.now };
+
+    ghost infs = { λ j. occurs (map (row_at j.marks.now) j.some.now) };
+
+    ghost fins = { λ j negated set. not (occurs (map (row_at j.marks.now) j.all.now) negated set) };
+
+    fn inf_holds(&self, negated: bool, set: u32) -> bool {
+        occurs(self.marks, self.some, negated, set)
+    }
+
+    fn fin_holds(&self, negated: bool, set: u32) -> bool {
+        !occurs(self.marks, self.all, negated, set)
     }
 }
 

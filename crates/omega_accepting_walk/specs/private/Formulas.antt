@@ -1,6 +1,8 @@
 -- An acceptance formula as a list of nodes, each after its parts.
-use Rattle.std.specs.Prelude.{◌≡◌, ℕ, ◌<◌, false, List, [], ◌∷◌, ◌++◌, length, slice_index_or}
+use Rattle.std.specs.Prelude.{◌≡◌, ℕ, ◌<◌, false, List, [], ◌∷◌, ◌++◌, length, map, slice_index_or, All}
 use Rattle.omega_formula.specs.Acceptance.{AccTree, conjunction, constant, disjunction, fin, inf}
+use Rattle.omega_formula.specs.declared.formula.AccNode.{AccNode}
+use Rattle.omega_formula.specs.declared.formula.AccNode.TheVariants as plain
 use Rattle.omega_accepting_walk.specs.declared.node.Node.{Node}
 use Rattle.omega_accepting_walk.specs.declared.node.Node.TheVariants.{And, Constant, Fin, Inf, Or}
 
@@ -47,3 +49,26 @@ IsMade count (Inf negated set) = Unit {0}
 IsMade count (Fin negated set) = Unit {0}
 IsMade count (And left right) = (left < count) × (right < count)
 IsMade count (Or left right) = (left < count) × (right < count)
+
+-- the nodes form a formula, and each place of a list is that of a node
+pub record ArePartsOf (nodes : List Node) (places : List ℕ) : Type 0 where
+  pub formula : IsFormula nodes
+  pub within : All (λ place. place < length nodes) places
+
+-- the formulas at places
+abbrev pub trees_at : List Node → List ℕ → List AccTree
+trees_at nodes places = map (tree_at nodes) places
+
+-- formulas with that of a node in place of its parts, which are the last ones; they are as before if one is missing
+abbrev pub trees_with : List AccTree → AccNode → List AccTree
+trees_with trees (plain.Constant value) = constant value ∷ trees
+trees_with trees (plain.Inf negated set) = inf negated set ∷ trees
+trees_with trees (plain.Fin negated set) = fin negated set ∷ trees
+trees_with (right ∷ left ∷ trees) plain.And = conjunction left right ∷ trees
+trees_with (right ∷ left ∷ trees) plain.Or = disjunction left right ∷ trees
+trees_with trees operator = trees
+
+-- formulas with those of nodes in place of their parts
+abbrev pub trees_left : List AccTree → List AccNode → List AccTree
+trees_left trees [] = trees
+trees_left trees (node ∷ nodes) = trees_left (trees_with trees node) nodes

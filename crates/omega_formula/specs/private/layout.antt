@@ -4,8 +4,11 @@ pub mod Building
 pub mod Chain
 pub mod Fields
 pub mod Joining
+pub mod Judged
 pub mod Plain
 pub mod Raw
 pub mod RawFields
+pub mod Rewriting
 pub mod States
 pub mod Texts
+pub mod Written

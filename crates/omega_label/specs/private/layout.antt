@@ -4,10 +4,13 @@ pub mod Bare
 pub mod Building
 pub mod Codes
 pub mod Compact
+pub mod Depths
 pub mod Emitting
 pub mod Extents
 pub mod Joining
 pub mod Label
+pub mod Moving
+pub mod Parts
 pub mod Propositions
 pub mod Raw
 pub mod Texts

@@ -3,19 +3,12 @@ use Rattle.std.specs.Prelude.{◌≡◌, ℕ, ◌≤◌, false, List, [], ◌∷
 use Rattle.std.specs.Coded.{Coded, code_by, coded_list}
 use Rattle.omega_formula.specs.Acceptance.{AccTree, acc_depth, conjunction, constant, disjunction, fin, inf}
 use Rattle.omega_expression.specs.Limits.{most_depth}
+pub use Rattle.omega_formula.specs.Postfix.{acc_postfix}
 use Rattle.omega_expression.specs.Joins.{regrouped}
 use Rattle.omega_formula.specs.contracts.formula.AccNode as node
 use Rattle.omega_formula.specs.declared.formula.AccNode.{AccNode}
 use Rattle.omega_formula.specs.declared.formula.AccNode.TheVariants.{And, Constant, Fin, Inf, Or}
 use Rattle.std.proofs.Common.{append-nil, ap, refl, sym, ◌∙◌}
-
--- a tree in postfix order: its parts, and then its operator
-abbrev pub acc_postfix : AccTree → List AccNode
-acc_postfix (constant value) = Constant value ∷ []
-acc_postfix (inf negated set) = Inf negated set ∷ []
-acc_postfix (fin negated set) = Fin negated set ∷ []
-acc_postfix (conjunction left right) = acc_postfix left ++ (acc_postfix right ++ And ∷ [])
-acc_postfix (disjunction left right) = acc_postfix left ++ (acc_postfix right ++ Or ∷ [])
 
 -- the tree on top, or a constant if there is none
 abbrev pub acc_top : List AccTree → AccTree

@@ -2,7 +2,6 @@
 use Rattle.std.proofs.Common.{◌≡◌, ◌<◌, ℕ, Bool, false, List, get_or, length, All, sym, subst, ◌∙◌}
 use Rattle.std.proofs.lemmas.List.Elements.{All-filter}
 use Rattle.omega_formula.specs.Acceptance.{AccTree}
-use Rattle.omega_formula.specs.Shape.{acc_tree_of_shape}
 use Rattle.omega_components.specs.Graph.{ends_at, listed}
 use Rattle.omega_walk_laws.specs.Walks.{HasAccepting, IsAccepting}
 use Rattle.omega_accepting_walk.specs.Rows.{row_at}
@@ -35,7 +34,7 @@ pub returns-in-None-clause-verdict : goal.returns-in-None-clause-verdict
 returns-in-None-clause-verdict c =
     let search : Search = c.args.search.now in
     let states : List Bool = c.as_slice-flags.result.now in
-    let same_tree : acc_tree_of_shape c.args.formula.now ≡ search.automaton.now.acceptance = c.requires.formula in
+    let same_tree : c.args.formula.now ≡ search.automaton.now.acceptance = c.requires.formula in
     let same_edges : c.as_slice-kept.result.now ≡ kept states search = c.as_slice-kept.ensures.value ∙ c.in_ok-edges.ensures.left in
     let reached : AreReached search states =
     subst (AreReached search) (sym c.as_slice-flags.ensures.value) (λ state. c.in_ok-states.ensures.reached (row_at search.marks.now) state) in
@@ -57,7 +56,7 @@ with_stem-requires-clause-cycle c =
     cycle_reached search states reached c.as_slice-walk.result.now
     (subst (λ (cycle : List ℕ). IsAccepting (graph_of search) (listed (kept states search)) tree cycle) (sym c.as_slice-walk.ensures.value)
     (subst (λ tree. IsAccepting (graph_of search) (listed (kept states search)) tree c.in-Some.cycle.items) c.requires.formula
-    (subst (λ (edges : List ℕ). IsAccepting (graph_of search) (listed edges) (acc_tree_of_shape c.args.formula.now) c.in-Some.cycle.items) same_edges walk))) in
+    (subst (λ (edges : List ℕ). IsAccepting (graph_of search) (listed edges) c.args.formula.now c.in-Some.cycle.items) same_edges walk))) in
     is.accepting
 
 pub unreachable-requires : goal.unreachable-requires
@@ -73,6 +72,6 @@ unreachable-requires c =
     cycle_reached search states reached c.as_slice-walk.result.now
     (subst (λ (cycle : List ℕ). IsAccepting (graph_of search) (listed (kept states search)) tree cycle) (sym c.as_slice-walk.ensures.value)
     (subst (λ tree. IsAccepting (graph_of search) (listed (kept states search)) tree c.in-Some.cycle.items) c.requires.formula
-    (subst (λ (edges : List ℕ). IsAccepting (graph_of search) (listed edges) (acc_tree_of_shape c.args.formula.now) c.in-Some.cycle.items) same_edges walk))) in
+    (subst (λ (edges : List ℕ). IsAccepting (graph_of search) (listed edges) c.args.formula.now c.in-Some.cycle.items) same_edges walk))) in
     let none : Reaches search (beginning search c.as_slice-walk.result.now) → ⊥ = rw c.in-None-2.is at c.in_ok-verdict-in-Some.ensures.none in
     none is.reached
