@@ -1,6 +1,6 @@
 pub mod Membership
 pub mod Refused
-pub mod BuchiKinds
+pub mod Recurring
 pub mod Accepted
 pub mod Holding
 pub mod Rows

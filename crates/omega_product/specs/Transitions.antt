@@ -5,7 +5,7 @@ use Rattle.std.specs.Prelude.{ℕ, ◌+◌, ◌==◌, Bool, true, false, ◌||�
 use Rattle.omega_label.specs.Label.{LabelTree, propositions, truth}
 use Rattle.omega_automaton.specs.declared.edge.Edge.{Edge}
 use Rattle.omega_automaton.specs.declared.state.State.{State}
-use Rattle.omega_product.specs.Joining.{relabelled}
+use Rattle.omega_label.specs.Renumbering.{relabelled}
 use Rattle.omega_product.specs.declared.transition.Transition.{Transition}
 use Rattle.omega_edge_labels.specs.Labels.{label_at}
 

@@ -1,21 +1,18 @@
 //! The acceptance of a product, as a text writes it.
 
-ghost use Rattle.std.specs.Prelude.{◌≡◌, ◌+◌, ◌<◌, ◌≤◌, IfErr, IfOk, Some, IsOkUnless};
+ghost use Rattle.std.specs.Prelude.{◌≡◌, ◌+◌, ◌≤◌, IfErr, IfOk, IsOkUnless, None};
 ghost use Rattle.omega_expression.specs.Limits.{most_depth};
 ghost use Rattle.omega_formula.specs.Writing.{acc_written};
-ghost use Rattle.omega_formula.specs.Acceptance.{conjunction, disjunction};
 ghost use Rattle.omega_formula.specs.Kind.{buchi_formula};
-ghost use Rattle.omega_formula.specs.Shape.{acc_tree_of_shape};
-ghost use Rattle.omega_product.specs.Acceptance.{buchi_name as name_of_buchi, conjoined_acceptance, moved_after};
+ghost use Rattle.omega_product.specs.Acceptance.{AreBuchi, buchi_name as name_of_buchi, conjoined_acceptance};
 ghost use Rattle.omega_edge_labels.specs.Fitting.{IsLarge};
 ghost use Rattle.omega_product.specs.Refusing.{HasDeepAcceptance};
 ghost use Rattle.omega_product.specs.Written.{IsAcceptanceWritten};
 
-use crate::buchi::buchi_sets;
-use crate::numbers::following;
+use crate::buchi::are_buchi;
 use omega_automaton::Automaton;
-use omega_edge_labels::written_formula;
-use omega_formula::{AccName, AccShape, Parameter, RawAcc};
+use omega_edge_labels::{conjoined_formula, written_formula};
+use omega_formula::{Acc, AccName, Parameter, RawAcc};
 use omega_text::{ByteString, Refusal, Seq};
 use std::alloc::Global;
 
@@ -26,9 +23,10 @@ pub(crate) struct WrittenAcceptance {
     pub(crate) formula: RawAcc,
 }
 
-/// Returns the acceptance of the product. If `one` and `other` are both Büchi or generalized Büchi, it is generalized
-/// Büchi. Otherwise it is the conjunction of the two, with the sets of `other` numbered after those of `one`. Fails
-/// with [TaskFault::TooLarge] if the formula is too deep.
+/// Returns the acceptance of the product. If each set of `one` and of `other` has to recur, and they are at most
+/// `MOST_BUCHI_SETS` together, each set of the product has to, and the acceptance has a name. Otherwise it is the
+/// conjunction of the two, with the sets of `other` numbered after those of `one`. Fails with [TaskFault::TooLarge] if
+/// the formula is too deep.
 pub(crate) fn joint_acceptance(
     alloc: Global,
     one: &Automaton,
@@ -37,23 +35,24 @@ pub(crate) fn joint_acceptance(
     ensures ok { IfOk result (λ written. IsAcceptanceWritten one.now other.now written.name written.formula) }
     ensures err { IfErr result (IsLarge (HasDeepAcceptance one.now other.now)) }
 {
-    match buchi_sets(one) {
-        None => conjoined(alloc, one, other),
-        Some(first) => match buchi_sets(other) {
-            None => conjoined(alloc, one, other),
-            Some(second) => buchi_of_both(alloc, first + second),
-        },
+    if are_buchi(one, other) {
+        buchi_of_both(alloc, one, other)
+    } else {
+        conjoined(alloc, one, other)
     }
 }
 
-/// Returns the generalized Büchi acceptance of `sets` sets.
-fn buchi_of_both(alloc: Global, sets: u32) -> Result<WrittenAcceptance, Refusal>
-    requires some { 1 ≤ sets }
-    requires few { sets ≤ most_depth }
-    ensures name { IfOk result (λ written. written.name ≡ Some (name_of_buchi sets)) }
-    ensures formula { IfOk result (λ written. written.formula ≡ acc_written (buchi_formula sets)) }
+/// Returns the acceptance in which each set of both has to recur.
+fn buchi_of_both(
+    alloc: Global,
+    one: &Automaton,
+    other: &Automaton,
+) -> Result<WrittenAcceptance, Refusal>
+    requires { AreBuchi one.now other.now }
+    ensures ok { IfOk result (λ written. IsAcceptanceWritten one.now other.now written.name written.formula) }
     ensures memory { IsOkUnless result Refusal.Memory }
 {
+    let sets = one.set_count() + other.set_count();
     let name = buchi_name(alloc, sets)?;
     let formula = buchi_formula(alloc, sets)?;
     Ok(WrittenAcceptance {
@@ -62,21 +61,49 @@ fn buchi_of_both(alloc: Global, sets: u32) -> Result<WrittenAcceptance, Refusal>
     })
 }
 
-/// Returns the name of the generalized Büchi acceptance of `sets` sets.
+/// Returns the name of the acceptance in which each of `sets` sets has to recur.
+#[tactic(auto, using(crate::proofs::Recurring::named_many))]
 fn buchi_name(alloc: Global, sets: u32) -> Result<AccName, Refusal>
     ensures ok { IfOk result (λ name. name ≡ name_of_buchi sets) }
     ensures memory { IsOkUnless result Refusal.Memory }
 {
-    let name = ByteString::from_slice(alloc, b"generalized-Buchi")?;
+    if sets == 0 {
+        return name_of(alloc, b"all", vec![in alloc;]?);
+    }
+    if sets == 1 {
+        return name_of(alloc, b"Buchi", vec![in alloc;]?);
+    }
     let parameters = vec![in alloc; Parameter::Number(sets)]?;
+    name_of(alloc, b"generalized-Buchi", parameters)
+}
+
+/// Returns the acceptance name of a word and parameters.
+fn name_of(alloc: Global, word: &[u8], parameters: Vec<Parameter>) -> Result<AccName, Refusal>
+    ensures ok { IfOk result (λ name. name ≡ record { name = word.now; parameters = parameters.items }) }
+    ensures memory { IsOkUnless result Refusal.Memory }
+{
+    let name = ByteString::from_slice(alloc, word)?;
     Ok(AccName {
         name,
         parameters: Seq::from_vec(parameters),
     })
 }
 
-/// Returns the generalized Büchi formula of `sets` sets.
+/// Returns the formula in which each of `sets` sets has to recur.
 fn buchi_formula(alloc: Global, sets: u32) -> Result<RawAcc, Refusal>
+    requires { sets ≤ most_depth }
+    ensures ok { IfOk result (λ formula. formula ≡ acc_written (buchi_formula sets)) }
+    ensures memory { IsOkUnless result Refusal.Memory }
+{
+    if sets == 0 {
+        RawAcc::constant(alloc, true)
+    } else {
+        recurring_formula(alloc, sets)
+    }
+}
+
+/// Returns the formula in which each of `sets` sets, at least one, has to recur.
+fn recurring_formula(alloc: Global, sets: u32) -> Result<RawAcc, Refusal>
     requires some { 1 ≤ sets }
     requires few { sets ≤ most_depth }
     ensures ok { IfOk result (λ formula. formula ≡ acc_written (buchi_formula sets)) }
@@ -100,66 +127,20 @@ fn conjoined(
     ensures formula { IfOk result (λ written. written.formula ≡ acc_written (conjoined_acceptance one.now other.now)) }
     ensures err { IfErr result (IsLarge (HasDeepAcceptance one.now other.now)) }
 {
-    let first = one.acceptance().shape(alloc)?;
-    let second = moved_acceptance(alloc, other, one.set_count())?;
-    let shape = both(alloc, first, second)?;
-    let formula = written_formula(alloc, &shape)?;
+    let formula = conjunction(alloc, one, other)?;
+    let formula = written_formula(alloc, &formula)?;
     Ok(WrittenAcceptance {
         name: None,
         formula,
     })
 }
 
-/// Returns the formula of `automaton` with `before` added to the number of each set.
-fn moved_acceptance(alloc: Global, automaton: &Automaton, before: u32) -> Result<AccShape, Refusal>
-    ensures ok { IfOk result (λ shape. acc_tree_of_shape shape ≡ moved_after before automaton.now.acceptance) }
-    ensures memory { IsOkUnless result Refusal.Memory }
+/// Returns the conjunction of both formulas. Fails with [TaskFault::TooLarge] if it is too deep.
+fn conjunction(alloc: Global, one: &Automaton, other: &Automaton) -> Result<Acc, Refusal>
+    ensures formula { IfOk result (λ formula. formula ≡ conjoined_acceptance one.now other.now) }
+    ensures err { IfErr result (IsLarge (HasDeepAcceptance one.now other.now)) }
 {
-    let shape = automaton.acceptance().shape(alloc)?;
-    moved(alloc, &shape, before)
-}
-
-/// Adds `before` to the number of each set of the formula. Also fails with [Refusal::Memory] if a number does not fit,
-/// which can't happen for a product.
-fn moved(alloc: Global, shape: &AccShape, before: u32) -> Result<AccShape, Refusal>
-    ensures ok { IfOk result (λ moved. acc_tree_of_shape moved ≡ moved_after before (acc_tree_of_shape shape.now)) }
-    ensures memory { IsOkUnless result Refusal.Memory }
-{
-    match shape {
-        AccShape::Constant(value) => Ok(AccShape::Constant(*value)),
-        AccShape::Inf(negated, set) => Ok(AccShape::Inf(*negated, following(before, *set)?)),
-        AccShape::Fin(negated, set) => Ok(AccShape::Fin(*negated, following(before, *set)?)),
-        AccShape::And(left, right) => {
-            let left = moved(alloc, left, before)?;
-            let right = moved(alloc, right, before)?;
-            both(alloc, left, right)
-        }
-        AccShape::Or(left, right) => {
-            let left = moved(alloc, left, before)?;
-            let right = moved(alloc, right, before)?;
-            either(alloc, left, right)
-        }
-    }
-}
-
-/// Joins two formulas by `&`.
-fn both(alloc: Global, left: AccShape, right: AccShape) -> Result<AccShape, Refusal>
-    ensures ok { IfOk result (λ shape.
-        acc_tree_of_shape shape ≡ conjunction (acc_tree_of_shape left) (acc_tree_of_shape right)) }
-    ensures memory { IsOkUnless result Refusal.Memory }
-{
-    let left = Box::new(alloc, left)?;
-    let right = Box::new(alloc, right)?;
-    Ok(AccShape::And(left, right))
-}
-
-/// Joins two formulas by `|`.
-fn either(alloc: Global, left: AccShape, right: AccShape) -> Result<AccShape, Refusal>
-    ensures ok { IfOk result (λ shape.
-        acc_tree_of_shape shape ≡ disjunction (acc_tree_of_shape left) (acc_tree_of_shape right)) }
-    ensures memory { IsOkUnless result Refusal.Memory }
-{
-    let left = Box::new(alloc, left)?;
-    let right = Box::new(alloc, right)?;
-    Ok(AccShape::Or(left, right))
+    let first = one.acceptance().copied(alloc)?;
+    let second = other.acceptance().moved_after(alloc, one.set_count())?;
+    conjoined_formula(first, second)
 }

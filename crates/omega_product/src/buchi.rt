@@ -1,50 +1,32 @@
-//! Automata that are Büchi or generalized Büchi.
+//! Automata of which each set has to recur: those that are Büchi or generalized Büchi, and those without sets that
+//! accept by each run.
 
-ghost use Rattle.std.specs.Prelude.{◌≡◌, ◌≤◌, IfSome, MatchOption, Some};
+ghost use Rattle.std.specs.Prelude.{◌+◌, ◌≤◌, ◌↔◌, IsTrue};
 ghost use Rattle.omega_expression.specs.Limits.{most_buchi_sets};
-ghost use Rattle.omega_formula.specs.declared.kind.AccKind.{AccKind};
-ghost use Rattle.omega_automaton.specs.AcceptanceKind.{HasKind};
-ghost use Rattle.omega_product.specs.Acceptance.{IsBuchiCount, buchi_sets as sets_of_kind};
+ghost use Rattle.omega_product.specs.Acceptance.{AreBuchi, IsBuchi};
 
 use omega_automaton::Automaton;
-use omega_formula::{AccKind, Order, Parity, acceptance_kind};
+use omega_expression::MOST_BUCHI_SETS;
+use omega_formula::is_buchi;
 
-/// Returns the number of sets of `automaton` if it is Büchi or generalized Büchi. Requests no memory.
-pub(crate) fn buchi_sets(automaton: &Automaton) -> Option<u32>
-    ensures sets { IsBuchiCount automaton.now result }
-    ensures some { IfSome result (λ sets. 1 ≤ sets) }
-    ensures few { IfSome result (λ sets. sets ≤ most_buchi_sets) }
+/// Whether each set of both automata has to recur, and they are at most `MOST_BUCHI_SETS` together, as many as
+/// emptiness by lifting takes. Requests no memory.
+pub(crate) fn are_buchi(one: &Automaton, other: &Automaton) -> bool
+    ensures { IsTrue result ↔ AreBuchi one.now other.now }
 {
-    match kind_of(automaton) {
-        None => None,
-        Some(kind) => sets_of(kind),
-    }
+    are_few(one.set_count(), other.set_count()) && has_recurring(one) && has_recurring(other)
 }
 
-/// Returns the acceptance kind of `automaton`, if it has one.
-fn kind_of(automaton: &Automaton) -> Option<AccKind>
-    ensures { MatchOption result ((kind : AccKind) → HasKind automaton.now kind → ⊥) (HasKind automaton.now) }
+/// Whether two numbers of sets are at most `MOST_BUCHI_SETS` together.
+fn are_few(sets: u32, others: u32) -> bool
+    ensures { IsTrue result ↔ (sets + others ≤ most_buchi_sets) }
 {
-    match automaton.acc_name() {
-        None => None,
-        Some(name) => {
-            match acceptance_kind(name, automaton.set_count(), automaton.acceptance()) {
-                Ok(kind) => Some(kind),
-                Err(_) => None,
-            }
-        }
-    }
+    sets <= MOST_BUCHI_SETS && others <= MOST_BUCHI_SETS - sets
 }
 
-/// Returns how many sets must be visited infinitely often, if `kind` is Büchi or generalized Büchi.
-fn sets_of(kind: AccKind) -> Option<u32>
-    ensures { result ≡ sets_of_kind kind }
+/// Whether each set of `automaton` has to recur.
+fn has_recurring(automaton: &Automaton) -> bool
+    ensures { IsTrue result ↔ IsBuchi automaton.now }
 {
-    match kind {
-        AccKind::GenBuchi(sets) => Some(sets),
-        AccKind::Parity(parity) => match (parity.order, parity.parity) {
-            (Order::Max, Parity::Even) => { if parity.count == 1 { Some(1) } else { None } }
-            _ => None,
-        },
-    }
+    is_buchi(automaton.set_count(), automaton.acceptance())
 }

@@ -2,22 +2,15 @@
 
 ghost use Rattle.std.specs.Prelude.{◌≡◌, ◌<◌, ◌≤◌, ◌^◌, ◌++◌, length, map, IfErr, IfOk, OnOk, IsOkUnless};
 ghost use Rattle.omega_text.specs.Cases.{never, or_memory, or_task};
-ghost use Rattle.omega_label.specs.Label.{conjunction};
-ghost use Rattle.omega_label.specs.Raw.{raw_depth};
-ghost use Rattle.omega_label.specs.Writing.{label_written};
-ghost use Rattle.omega_expression.specs.Limits.{most_depth};
 ghost use Rattle.omega_product.specs.Pairs.{pair_number};
 ghost use Rattle.omega_product.specs.Product.{joint_transitions, joint_with, taken_together};
-ghost use Rattle.omega_edge_labels.specs.Fitting.{IsLarge};
 ghost use Rattle.omega_edge_labels.specs.Limits.{most_states};
 ghost use Rattle.omega_product.specs.private.Meeting.{HasUnmet, HasUnmetPartner, IsUnmet};
 ghost use Rattle.omega_product.specs.Written.{raw_edge};
 
-use crate::labels::both;
 use crate::tabled::Tabled;
 use indexmap::IndexSet;
-use omega_edge_labels::written_label;
-use omega_label::{Label, RawLabel};
+use omega_edge_labels::written_conjunction;
 use omega_raw::{RawEdge, RawEdges};
 use omega_text::{Marks, Numbers, Refusal};
 use std::alloc::Global;
@@ -76,23 +69,12 @@ fn joint_edge(
 {
     let marks = joined(alloc, first.marks(), second.marks())?;
     let target = number_of(found, first.joint_target(second));
-    let label = joint_label(alloc, first.label(), second.label())?;
+    let label = written_conjunction(alloc, first.label(), second.label())?;
     Ok(RawEdge {
         label: Some(label),
         targets: Numbers::one(target),
         marks: Marks::of(marks),
     })
-}
-
-/// Returns the conjunction of two labels, as a text has it. Fails with [TaskFault::TooLarge] if it is too deep.
-fn joint_label(alloc: Global, first: &Label, second: &Label) -> Result<RawLabel, Refusal>
-    ensures ok { IfOk result (λ raw. raw ≡ label_written (conjunction first.now second.now)) }
-    ensures err { IfErr result (IsLarge (most_depth < raw_depth (label_written (conjunction first.now second.now)))) }
-{
-    let left = first.shape(alloc)?;
-    let right = second.shape(alloc)?;
-    let shape = both(alloc, left, right)?;
-    written_label(alloc, &shape)
 }
 
 /// Returns the number of `pair`, or the number of pairs if it is not among them.

@@ -1,6 +1,6 @@
 //! The product of two automata, which accepts the words that both accept.
 //!
-//! A table holds the edges of each automaton as the product sees them (`table`, `transitions`, `labels`, `names`).
+//! A table holds the edges of each automaton as the product sees them (`table`, `transitions`, `names`).
 //! First the reachable pairs are found (`exploring`). Then their edges are joined (`edges`, `states`). The result is
 //! written as a text would have it, and is judged and read as every written automaton is (`forming`).
 //!
@@ -13,7 +13,6 @@ mod edges;
 mod exploring;
 mod forming;
 mod header;
-mod labels;
 mod names;
 mod numbers;
 mod operands;

@@ -1,20 +1,18 @@
 //! The edges of a state as a product sees them.
 
 ghost use Rattle.std.specs.Prelude.{◌≡◌, ◌+◌, ◌++◌, IfErr, IfOk, IsOkUnless, OnOk, map};
-ghost use Rattle.omega_label.specs.Shape.{label_tree_of_shape};
 ghost use Rattle.omega_product.specs.Refusing.{HasUnfitEdge};
 ghost use Rattle.omega_product.specs.Transitions.{transition_of as transition_of_edge};
 ghost use Rattle.omega_product.specs.private.Tables.{label_in_product, row_of, view_of};
 ghost use Rattle.omega_edge_labels.specs.Fitting.{IsLarge, IsUnfit};
 
-use crate::labels::renumbered;
 use crate::numbers::following;
 use crate::renumbering::Renumbering;
 use crate::tabled::Tabled;
 use crate::transition::Transition;
 use omega_automaton::{EdgeRef, State};
-use omega_edge_labels::{fitting_label, label_at};
-use omega_label::LabelShape;
+use omega_edge_labels::{edge_label, judge_size};
+use omega_label::Label;
 use omega_text::{Numbers, Refusal, Seq};
 use std::alloc::Global;
 
@@ -39,10 +37,10 @@ pub(crate) fn transitions_of(
 
 /// Returns the edge `edge` of `state`, whose index is `at`, as the product sees it. Fails with [TaskFault::TooLarge] if
 /// its label is too deep or too large.
-fn transition_of(
+fn transition_of<'a>(
     alloc: Global,
-    state: &State,
-    edge: &EdgeRef<'_>,
+    state: &'a State,
+    edge: &EdgeRef<'a>,
     at: usize,
     renumbering: &Renumbering<'_>,
 ) -> Result<Transition, Refusal>
@@ -50,8 +48,8 @@ fn transition_of(
         transition ≡ transition_of_edge (view_of renumbering.now) state.now at edge.now) }
     ensures err { IfErr result (IsUnfit (label_in_product renumbering.now.places.now state.now at edge.now)) }
 {
-    let shape = shape_of(alloc, state, edge, at, renumbering.places)?;
-    let label = fitting_label(alloc, &shape)?;
+    let label = label_of(alloc, state, edge, at, renumbering.places)?;
+    judge_size(&label)?;
     let target = edge.targets().first().copied().unwrap_or(0);
     let marks = marks_after(
         alloc,
@@ -67,19 +65,19 @@ fn transition_of(
 }
 
 /// Returns the label over the joined propositions of the edge `edge` of `state`, whose index is `at`.
-fn shape_of(
+fn label_of<'a>(
     alloc: Global,
-    state: &State,
-    edge: &EdgeRef<'_>,
+    state: &'a State,
+    edge: &EdgeRef<'a>,
     at: usize,
     places: &[u32],
-) -> Result<LabelShape, Refusal>
-    ensures ok { IfOk result (λ shape.
-        label_tree_of_shape shape ≡ label_in_product places.now state.now at edge.now) }
+) -> Result<Label, Refusal>
+    ensures ok { IfOk result (λ label. label ≡ label_in_product places.now state.now at edge.now) }
     ensures memory { IsOkUnless result Refusal.Memory }
 {
-    let label = label_at(alloc, places.len(), state, edge, at)?;
-    renumbered(alloc, &label, places)
+    let label = edge_label(alloc, places.len(), state, edge, at)?;
+    let moved = label.get().renumbered(alloc, places)?;
+    Ok(moved)
 }
 
 /// Returns the marks of a state and of an edge, each after `before` other sets. Also fails with [Refusal::Memory] if a

@@ -1,5 +1,5 @@
 -- The marks of a union rise, since those of both automata do and a guard is above them.
-use Rattle.std.proofs.Common.{◌≡◌, ◌⊎◌, ℕ, zero, suc, ◌+◌, ◌<◌, ◌≤◌, inl, inr, Bool, true, false, cond, Option, Some, None, List, [], ◌∷◌, ◌++◌, length, get_or, map, Contains, append-nil, refl, sym, subst, arith}
+use Rattle.std.proofs.Common.{◌≡◌, ◌⊎◌, ℕ, ◌+◌, ◌<◌, ◌≤◌, inl, inr, Bool, true, false, cond, Option, Some, None, List, [], ◌∷◌, ◌++◌, length, get_or, Contains, append-nil, refl, sym, subst, arith}
 use Rattle.std.specs.Prelude.{IfSome}
 use Rattle.std.specs.List.{AllByRecursion}
 use Rattle.std.specs.List.Sorted.{IsStrictlyIncreasing}
@@ -12,7 +12,7 @@ use Rattle.omega_automaton.specs.declared.edge.Edge.{Edge}
 use Rattle.omega_automaton.specs.declared.state.State.{State}
 use Rattle.omega_trim.proofs.Meant.{HasRisingMarks}
 use Rattle.omega_union.specs.Parts.{Part, edges_in, moved, states_in}
-use Rattle.omega_union.specs.Sharing.{IsSharing, guard_sets, holds_unmarked, separate_sets, shared_sets}
+use Rattle.omega_union.specs.Sharing.{IsSharing, guard_sets, holds_unmarked, separate_sets}
 use Rattle.omega_union.specs.Union.{first_part, second_part, united}
 use Rattle.omega_union.specs.declared.sharing.Sharing.{Sharing}
 

@@ -4,7 +4,7 @@ use Rattle.omega_label.specs.Label.{LabelTree}
 use Rattle.omega_automaton.specs.declared.edge.Edge.{Edge}
 use Rattle.omega_automaton.specs.declared.state.State.{State}
 use Rattle.omega_edge_labels.specs.Labels.{label_at}
-use Rattle.omega_product.specs.Joining.{relabelled}
+use Rattle.omega_label.specs.Renumbering.{relabelled}
 use Rattle.omega_union.specs.Sharing.{guard_sets}
 
 -- how a union has an automaton: the joined number of each of its propositions, how many states and how many sets are

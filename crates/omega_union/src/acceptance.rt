@@ -1,19 +1,17 @@
 //! The acceptance of a union, as a text writes it.
 
-ghost use Rattle.std.specs.Prelude.{◌≡◌, IfErr, IfOk, IsOkUnless};
-ghost use Rattle.omega_formula.specs.Acceptance.{conjunction, disjunction};
-ghost use Rattle.omega_formula.specs.Shape.{acc_tree_of_shape};
+ghost use Rattle.std.specs.Prelude.{◌≡◌, ◌<◌, false, IfErr, IfOk};
+ghost use Rattle.omega_expression.specs.Limits.{most_depth};
+ghost use Rattle.omega_formula.specs.Acceptance.{acc_depth, conjunction, inf};
 ghost use Rattle.omega_formula.specs.Writing.{acc_written};
 ghost use Rattle.omega_edge_labels.specs.Fitting.{IsLarge};
-ghost use Rattle.omega_product.specs.Acceptance.{moved_after};
 ghost use Rattle.omega_union.specs.Sharing.{guarded as guarded_formula, union_acceptance};
-ghost use Rattle.omega_union.specs.private.Operands.{IsDeepFormula};
+ghost use Rattle.omega_union.specs.private.Operands.{IsDeepFormula, either_guarded};
 
-use crate::numbers::following;
 use crate::sharing::Sharing;
 use omega_automaton::Automaton;
-use omega_edge_labels::written_formula;
-use omega_formula::{AccShape, RawAcc};
+use omega_edge_labels::{conjoined_formula, disjoined_formula, written_formula};
+use omega_formula::{Acc, RawAcc};
 use omega_text::Refusal;
 use std::alloc::Global;
 
@@ -28,87 +26,64 @@ pub(crate) fn written_acceptance(
     ensures formula { IfOk result (λ raw. raw ≡ acc_written (union_acceptance sharing.now one.now other.now)) }
     ensures err { IfErr result (IsLarge (IsDeepFormula (union_acceptance sharing.now one.now other.now))) }
 {
-    let shape = acceptance(alloc, sharing, one, other)?;
-    written_formula(alloc, &shape)
+    let formula = acceptance(alloc, sharing, one, other)?;
+    written_formula(alloc, &formula)
 }
 
-/// Returns the acceptance formula of the union.
+/// Returns the acceptance formula of the union. Fails with [TaskFault::TooLarge] if it is too deep.
 fn acceptance(
     alloc: Global,
     sharing: &Sharing,
     one: &Automaton,
     other: &Automaton,
-) -> Result<AccShape, Refusal>
-    ensures formula { IfOk result (λ shape. acc_tree_of_shape shape ≡ union_acceptance sharing.now one.now other.now) }
-    ensures memory { IsOkUnless result Refusal.Memory }
+) -> Result<Acc, Refusal>
+    ensures formula { IfOk result (λ formula. formula ≡ union_acceptance sharing.now one.now other.now) }
+    ensures err { IfErr result (IsLarge (IsDeepFormula (union_acceptance sharing.now one.now other.now))) }
 {
-    let formula = one.acceptance().shape(alloc)?;
-    if sharing.shared {
+    let shared = sharing.shared;
+    if shared {
+        let formula = one.acceptance().copied(alloc)?;
         return Ok(formula);
     }
-    let first = guarded(alloc, sharing.first, formula)?;
-    let formula = other.acceptance().shape(alloc)?;
-    let second = guarded(
-        alloc,
-        sharing.second,
-        moved(alloc, &formula, sharing.before)?,
-    )?;
-    either(alloc, first, second)
+    disjunction_of(alloc, sharing, one, other)
 }
 
-/// Returns `formula`, of runs alone that are infinitely often in the set of `guard`, if there is one.
-fn guarded(alloc: Global, guard: Option<u32>, formula: AccShape) -> Result<AccShape, Refusal>
-    ensures formula { IfOk result (λ shape.
-        acc_tree_of_shape shape ≡ guarded_formula guard (acc_tree_of_shape formula)) }
-    ensures memory { IsOkUnless result Refusal.Memory }
+/// Returns the disjunction of both formulas with their guards, and with the sets of the second after those of the
+/// first. Fails with [TaskFault::TooLarge] if it is too deep.
+fn disjunction_of(
+    alloc: Global,
+    sharing: &Sharing,
+    one: &Automaton,
+    other: &Automaton,
+) -> Result<Acc, Refusal>
+    ensures formula { IfOk result (λ formula. formula ≡ either_guarded sharing.now one.now other.now) }
+    ensures err { IfErr result (IsLarge (most_depth < acc_depth (either_guarded sharing.now one.now other.now))) }
+{
+    let own = one.acceptance().copied(alloc)?;
+    let first = guarded(alloc, sharing.first, own)?;
+    let moved = other.acceptance().moved_after(alloc, sharing.before)?;
+    let second = guarded(alloc, sharing.second, moved)?;
+    disjoined_formula(first, second)
+}
+
+/// Returns `formula`, of runs alone that are infinitely often in the set of `guard`, if there is one. Fails with
+/// [TaskFault::TooLarge] if it is too deep.
+fn guarded(alloc: Global, guard: Option<u32>, formula: Acc) -> Result<Acc, Refusal>
+    ensures formula { IfOk result (λ with. with ≡ guarded_formula guard formula) }
+    ensures err { IfErr result (IsLarge (most_depth < acc_depth (guarded_formula guard formula))) }
 {
     match guard {
         None => Ok(formula),
-        Some(set) => both(alloc, AccShape::Inf(false, set), formula),
+        Some(set) => guarded_by(alloc, set, formula),
     }
 }
 
-/// Adds `before` to the number of each set of the formula. Also fails with [Refusal::Memory] if a number does not fit,
-/// which can't happen for a union within the limits.
-fn moved(alloc: Global, shape: &AccShape, before: u32) -> Result<AccShape, Refusal>
-    ensures ok { IfOk result (λ moved. acc_tree_of_shape moved ≡ moved_after before (acc_tree_of_shape shape.now)) }
-    ensures memory { IsOkUnless result Refusal.Memory }
+/// Returns `formula`, of runs alone that are infinitely often in `set`. Fails with [TaskFault::TooLarge] if it is too
+/// deep.
+fn guarded_by(alloc: Global, set: u32, formula: Acc) -> Result<Acc, Refusal>
+    ensures formula { IfOk result (λ with. with ≡ conjunction (inf false set) formula) }
+    ensures err { IfErr result (IsLarge (most_depth < acc_depth (conjunction (inf false set) formula))) }
 {
-    match shape {
-        AccShape::Constant(value) => Ok(AccShape::Constant(*value)),
-        AccShape::Inf(negated, set) => Ok(AccShape::Inf(*negated, following(before, *set)?)),
-        AccShape::Fin(negated, set) => Ok(AccShape::Fin(*negated, following(before, *set)?)),
-        AccShape::And(left, right) => {
-            let left = moved(alloc, left, before)?;
-            let right = moved(alloc, right, before)?;
-            both(alloc, left, right)
-        }
-        AccShape::Or(left, right) => {
-            let left = moved(alloc, left, before)?;
-            let right = moved(alloc, right, before)?;
-            either(alloc, left, right)
-        }
-    }
-}
-
-/// Joins two formulas by `&`.
-fn both(alloc: Global, left: AccShape, right: AccShape) -> Result<AccShape, Refusal>
-    ensures ok { IfOk result (λ shape.
-        acc_tree_of_shape shape ≡ conjunction (acc_tree_of_shape left) (acc_tree_of_shape right)) }
-    ensures memory { IsOkUnless result Refusal.Memory }
-{
-    let left = Box::new(alloc, left)?;
-    let right = Box::new(alloc, right)?;
-    Ok(AccShape::And(left, right))
-}
-
-/// Joins two formulas by `|`.
-fn either(alloc: Global, left: AccShape, right: AccShape) -> Result<AccShape, Refusal>
-    ensures ok { IfOk result (λ shape.
-        acc_tree_of_shape shape ≡ disjunction (acc_tree_of_shape left) (acc_tree_of_shape right)) }
-    ensures memory { IsOkUnless result Refusal.Memory }
-{
-    let left = Box::new(alloc, left)?;
-    let right = Box::new(alloc, right)?;
-    Ok(AccShape::Or(left, right))
+    let occurs = Acc::inf(alloc, false, set)?;
+    conjoined_formula(occurs, formula)
 }

@@ -1,16 +1,14 @@
 //! Which sets the edges of a union are in.
 
-ghost use Rattle.std.specs.Prelude.{◌≡◌, ◌+◌, ◌<◌, ◌≤◌, ◌↔◌, [], ◌∷◌, IsTrue, length, IfErr, IfOk, IsOkUnless};
+ghost use Rattle.std.specs.Prelude.{◌≡◌, ◌+◌, ◌<◌, ◌≤◌, ◌↔◌, IsTrue, not, length, IfErr, IfOk, IsOkUnless};
 ghost use Rattle.omega_text.specs.Limits.{most_number};
-ghost use Rattle.omega_formula.specs.Acceptance.{accepts};
-ghost use Rattle.omega_formula.specs.Shape.{acc_tree_of_shape};
 ghost use Rattle.omega_edge_labels.specs.Fitting.{IsLarge};
 ghost use Rattle.omega_union.specs.Sharing.{AreAlike, IsSharing, guard_of, guard_sets, separate_sets, shared_sets};
 ghost use Rattle.omega_union.specs.private.Operands.{HaveManySets};
 
 use crate::sharing::Sharing;
 use omega_automaton::Automaton;
-use omega_formula::{AccShape, equal_formulas_are_equal_trees};
+use omega_formula::{AtomJudge, equal_formulas_are_equal_trees};
 use omega_text::{MOST_NUMBER, Refusal, TaskFault};
 use std::alloc::Global;
 
@@ -101,12 +99,12 @@ fn sets_of_both(one: &Automaton, other: &Automaton) -> Result<u32, Refusal>
 }
 
 /// Returns the guard that the acceptance of `automaton` needs, if it needs one: the set with this number.
+#[tactic(auto, using(crate::proofs::Guards::unmarked_by_atoms))]
 fn guard(alloc: Global, automaton: &Automaton, number: u32) -> Result<Option<u32>, Refusal>
     ensures guard { IfOk result (λ guard. guard ≡ guard_of number automaton.now.acceptance) }
     ensures memory { IsOkUnless result Refusal.Memory }
 {
-    let shape = automaton.acceptance().shape(alloc)?;
-    let unmarked = holds_unmarked(&shape);
+    let unmarked = automaton.acceptance().holds_by(alloc, &Unmarked {})?;
     if unmarked { Ok(Some(number)) } else { Ok(None) }
 }
 
@@ -121,23 +119,22 @@ fn after(sets: u32, guard: Option<u32>) -> u32
     }
 }
 
-/// Whether a formula holds of a run whose edges have no marks.
-fn holds_unmarked(shape: &AccShape) -> bool
-    ensures { result ≡ accepts ([] ∷ []) (acc_tree_of_shape shape.now) }
-{
-    match shape {
-        AccShape::Constant(value) => *value,
-        AccShape::Inf(negated, _) => *negated,
-        AccShape::Fin(negated, _) => !*negated,
-        AccShape::And(left, right) => {
-            let left = holds_unmarked(left);
-            let right = holds_unmarked(right);
-            left && right
-        }
-        AccShape::Or(left, right) => {
-            let left = holds_unmarked(left);
-            let right = holds_unmarked(right);
-            left || right
-        }
+/// A run whose edges have no marks, as a judge of atoms.
+#[derive(Clone, Copy)]
+struct Unmarked {}
+
+impl AtomJudge for Unmarked {
+    ghost can_judge = { λ _. Unit {0} };
+
+    ghost infs = { λ _ negated set. negated };
+
+    ghost fins = { λ _ negated set. not negated };
+
+    fn inf_holds(&self, negated: bool, _set: u32) -> bool {
+        negated
+    }
+
+    fn fin_holds(&self, negated: bool, _set: u32) -> bool {
+        !negated
     }
 }

@@ -2,13 +2,14 @@
 use Rattle.std.specs.Prelude.{◌⊎◌, ◌+◌, ◌<◌}
 use Rattle.omega_text.specs.Limits.{most_number}
 use Rattle.omega_expression.specs.Limits.{most_depth}
-use Rattle.omega_formula.specs.Acceptance.{AccTree}
+use Rattle.omega_formula.specs.Acceptance.{AccTree, disjunction}
 use Rattle.omega_formula.specs.Raw.{raw_acc_depth}
 use Rattle.omega_formula.specs.Writing.{acc_written}
 use Rattle.omega_automaton.specs.Automaton.{Description, edge_count}
 use Rattle.omega_edge_labels.specs.Limits.{most_edges, most_states}
 use Rattle.omega_union.specs.Parts.{Part}
-use Rattle.omega_union.specs.Sharing.{IsSharing}
+use Rattle.omega_product.specs.Acceptance.{moved_after}
+use Rattle.omega_union.specs.Sharing.{IsSharing, guarded}
 use Rattle.omega_union.specs.declared.operand.Operand.{Operand}
 use Rattle.omega_union.specs.declared.sharing.Sharing.{Sharing}
 
@@ -33,3 +34,8 @@ AreLarge one other =
 -- a formula is too deep as it is written
 abbrev pub IsDeepFormula : AccTree → Type 0
 IsDeepFormula formula = most_depth < raw_acc_depth (acc_written formula)
+
+-- the formula of the first, or that of the second, each with its guard, where they do not share their sets
+abbrev pub either_guarded : Sharing → Description → Description → AccTree
+either_guarded sharing one other =
+    disjunction (guarded sharing.first one.acceptance) (guarded sharing.second (moved_after sharing.before other.acceptance))

@@ -1,56 +1,11 @@
 -- Generalized Büchi acceptance: each set occurs for ever.
-use Rattle.std.proofs.Common.{◌≡◌, ◌==◌, ◌⊎◌, ℕ, zero, suc, ◌+◌, ◌-◌, ◌<◌, ◌≤◌, inl, inr, Bool, true, false, if◌then◌else◌, List, Some, None, refl, sym, ap, subst, ◌∙◌, arith, eqb-true}
+use Rattle.std.proofs.Common.{◌≡◌, ◌⊎◌, ℕ, zero, suc, ◌+◌, ◌-◌, ◌<◌, ◌≤◌, inl, inr, false, List, refl, sym, subst, arith}
 use Rattle.std.proofs.lemmas.Bool.{cases_lt}
 use Rattle.omega_formula.specs.Acceptance.{AccTree}
-use Rattle.omega_formula.specs.Kind.{buchi_formula, parity_formula}
-use Rattle.omega_formula.specs.Names.{IsAcceptanceRow}
-use Rattle.omega_formula.specs.declared.kind.AccKind.{AccKind}
-use Rattle.omega_formula.specs.declared.kind.AccKind.TheVariants as kind
-use Rattle.omega_formula.specs.declared.kind.Order.{Order}
-use Rattle.omega_formula.specs.declared.kind.Order.TheVariants.{Max, Min}
-use Rattle.omega_formula.specs.declared.kind.Parity.{Parity}
-use Rattle.omega_formula.specs.declared.kind.Parity.TheVariants.{Even, Odd}
-use Rattle.omega_formula.specs.declared.name.AccName.{AccName}
-use Rattle.omega_automaton.specs.Automaton.{Description}
+use Rattle.omega_formula.specs.Kind.{buchi_formula}
 use Rattle.omega_runs.specs.Runs.{ForEver, Satisfies}
-use Rattle.omega_product.specs.Acceptance.{IsBuchi, buchi_sets, moved_after, parity_buchi_sets}
+use Rattle.omega_product.specs.Acceptance.{moved_after}
 use Rattle.omega_word_laws.proofs.meeting.Marks.{moved_nowhere}
-
--- the formula and the count of sets of a Büchi kind
-parity_is : (order : Order) (parity : Parity) (count m : ℕ) → parity_buchi_sets order parity count ≡ Some m
-    → (parity_formula (record { order = order; parity = parity; count = count }) ≡ buchi_formula m) × (count ≡ m)
-parity_is Max Even count m e = go (count == 1) refl e
-  where
-    go : (b : Bool) → (count == 1) ≡ b → (if b then Some 1 else None) ≡ Some m
-        → (parity_formula (record { order = Max; parity = Even; count = count }) ≡ buchi_formula m) × (count ≡ m)
-    go true one some =
-        let is : count ≡ 1 = eqb-true count 1 one in
-        let m_is : 1 ≡ m = cc in
-        (ap (λ (c : ℕ). parity_formula (record { order = Max; parity = Even; count = c })) is ∙ ap buchi_formula m_is, is ∙ m_is)
-    go false one some = absurd (none some)
-      where
-        none : None ≡ Some m → ⊥
-        none e = cc
-parity_is Max Odd count m e = absurd (none e)
-  where
-    none : None ≡ Some m → ⊥
-    none e = cc
-parity_is Min parity count m e = absurd (none e)
-  where
-    none : None ≡ Some m → ⊥
-    none e = cc
-
-row_is : (name : AccName) (count : ℕ) (formula : AccTree) (k : AccKind) (m : ℕ) → IsAcceptanceRow name count formula k → buchi_sets k ≡ Some m
-    → (formula ≡ buchi_formula m) × (count ≡ m)
-row_is name count formula (kind.Parity p) m row e =
-    let is = parity_is p.order p.parity p.count m e in
-    (row.formula_is ∙ is.0, row.counted ∙ is.1)
-row_is name count formula (kind.GenBuchi sets) m row e =
-    let is : sets ≡ m = cc in
-    (row.formula_is ∙ ap buchi_formula is, row.counted ∙ is)
-
-pub buchi_is : (a : Description) (m : ℕ) → IsBuchi a m → (a.acceptance ≡ buchi_formula m) × (a.sets ≡ m)
-buchi_is a m is = row_is is.kind_is.name a.sets a.acceptance is.kind m is.kind_is.row is.sets_are
 
 module _ (all : ℕ → List ℕ) where
   -- what holds of all sets below one more

@@ -5,7 +5,6 @@ use Rattle.std.specs.Option.{IfSome, option_or}
 use Rattle.std.proofs.lemmas.Bool.{lt-ltb}
 use Rattle.std.proofs.lemmas.List.Elements.{All-append, All-contains}
 use Rattle.omega_formula.specs.Acceptance.{AccTree, holds}
-use Rattle.omega_formula.specs.Kind.{buchi_formula}
 use Rattle.omega_label.specs.Label.{LabelTree, conjunction, truth}
 use Rattle.omega_satisfying.specs.Satisfiable.{IsSatisfiable}
 use Rattle.omega_automaton.specs.Automaton.{AreTargets, BodyEdge, Description, IsAutomaton, edge_at, edges_of, sets_of}
@@ -23,7 +22,7 @@ use Rattle.omega_product.specs.Product.{IsJointEdge, IsPairState, IsProduct, joi
 use Rattle.omega_product.specs.Transitions.{View, transitions_at}
 use Rattle.omega_product.specs.declared.transition.Transition.{Transition}
 use Rattle.omega_word_laws.specs.Products.{ProductsMeet}
-use Rattle.omega_word_laws.proofs.meeting.Buchi.{both_buchi, buchi_both, buchi_is}
+use Rattle.omega_word_laws.proofs.meeting.Buchi.{both_buchi, buchi_both}
 use Rattle.omega_word_laws.proofs.meeting.Found.{number_below, number_tells, starts_found, targets_found}
 use Rattle.omega_word_laws.proofs.meeting.Labels.{and_both, both_and, can_hold_iff}
 use Rattle.omega_word_laws.proofs.meeting.Lists.{beside_left, beside_right, contains_at, contains_filter, contains_flat_map, contains_map, filter_contains, flat_map_contains, index_of, map_contains, passes_nowhere, same_some}
@@ -199,24 +198,18 @@ module _ (one other a : Description) (automaton : IsAutomaton one) (automaton' :
 
   joint_accepts : (all : ℕ → List ℕ) → both_accept all → IsJointAcceptance one other a.acc_name a.acceptance → Satisfies all a.acceptance
   joint_accepts all both (inl buchi) =
-      let first = buchi_is one buchi.first buchi.first_is in
-      let second = buchi_is other buchi.second buchi.second_is in
       let P : AccTree → Type 0 = λ f. Satisfies all f in
-      let Q : ℕ → AccTree → Type 0 = λ n f. Satisfies all (moved_after n f) in
       subst P (sym buchi.formula_is)
-      (both_buchi all buchi.first buchi.second (subst P first.0 both.0)
-      (subst (λ n. Q n (buchi_formula buchi.second)) first.1 (subst (Q one.sets) second.0 both.1)))
+      (both_buchi all one.sets other.sets (subst P buchi.both.first both.0)
+      (subst (λ f. Satisfies all (moved_after one.sets f)) buchi.both.second both.1))
   joint_accepts all both (inr conjoined) = let P : AccTree → Type 0 = λ f. Satisfies all f in subst P (sym conjoined.formula_is) both
 
   pub accepts_joint : (all : ℕ → List ℕ) → Satisfies all a.acceptance → IsJointAcceptance one other a.acc_name a.acceptance → both_accept all
   accepts_joint all h (inl buchi) =
-      let first = buchi_is one buchi.first buchi.first_is in
-      let second = buchi_is other buchi.second buchi.second_is in
       let P : AccTree → Type 0 = λ f. Satisfies all f in
-      let Q : ℕ → AccTree → Type 0 = λ n f. Satisfies all (moved_after n f) in
-      let both = buchi_both all buchi.first buchi.second (subst P buchi.formula_is h) in (
-        subst P (sym first.0) both.0,
-        subst (Q one.sets) (sym second.0) (subst (λ n. Q n (buchi_formula buchi.second)) (sym first.1) both.1),
+      let both = buchi_both all one.sets other.sets (subst P buchi.formula_is h) in (
+        subst P (sym buchi.both.first) both.0,
+        subst (λ f. Satisfies all (moved_after one.sets f)) (sym buchi.both.second) both.1,
       )
   accepts_joint all h (inr conjoined) = let P : AccTree → Type 0 = λ f. Satisfies all f in subst P conjoined.formula_is h
 

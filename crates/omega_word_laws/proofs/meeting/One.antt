@@ -7,7 +7,6 @@ use Rattle.std.proofs.lemmas.Grind.{flat_map-append}
 use Rattle.std.proofs.lemmas.List.{get_or_append_left, length-append, take-append-drop, take_all, take_more_same}
 use Rattle.indexmap.specs.IndexSet.{insert_all, insert_key}
 use Rattle.omega_formula.specs.Acceptance.{AccTree}
-use Rattle.omega_formula.specs.Kind.{buchi_formula}
 use Rattle.omega_formula.specs.declared.name.AccName.{AccName}
 use Rattle.omega_label.specs.Label.{LabelTree}
 use Rattle.omega_automaton.specs.Automaton.{Description}
@@ -17,13 +16,12 @@ use Rattle.omega_automaton.specs.declared.header.Header.{Header}
 use Rattle.omega_automaton.specs.declared.state.State.{State}
 use Rattle.omega_automaton.specs.declared.tool.Tool.{Tool}
 use Rattle.omega_automaton.proofs.MarkLemmas.{rising_is_one}
-use Rattle.omega_product.specs.Acceptance.{IsJointAcceptance, buchi_name}
+use Rattle.omega_product.specs.Acceptance.{IsJointAcceptance}
 use Rattle.omega_product.specs.Pairs.{AreReached, Pair, found_after, pair_number, same_pair, start_pairs, targets_of}
 use Rattle.omega_product.specs.Product.{IsJointEdge, IsPairState, joint_edges_of}
 use Rattle.omega_product.specs.declared.transition.Transition.{Transition}
 use Rattle.omega_product.proofs.Reaching.{insert_both}
 use Rattle.omega_word_laws.specs.Products.{ProductsAreOne}
-use Rattle.omega_word_laws.proofs.meeting.Buchi.{buchi_is}
 
 -- what is there stays where it is when more is inserted
 record Stays (ks more : List Pair) (k : ℕ) : Type 0 where
@@ -94,12 +92,9 @@ module _ (one other : Description) where
   joint_one : (name name' : Option AccName) (formula formula' : AccTree) → IsJointAcceptance one other name formula → IsJointAcceptance one other name' formula'
       → (name ≡ name') × (formula ≡ formula')
   joint_one name name' formula formula' (inl buchi) (inl buchi') =
-      let count : buchi.first + buchi.second ≡ buchi'.first + buchi'.second =
-      ap₂ ◌+◌ (sym (buchi_is one buchi.first buchi.first_is).1 ∙ (buchi_is one buchi'.first buchi'.first_is).1)
-      (sym (buchi_is other buchi.second buchi.second_is).1 ∙ (buchi_is other buchi'.second buchi'.second_is).1) in
-      (buchi.name_is ∙ ap (λ n. Some (buchi_name n)) count ∙ sym buchi'.name_is, buchi.formula_is ∙ ap buchi_formula count ∙ sym buchi'.formula_is)
-  joint_one name name' formula formula' (inl buchi) (inr conjoined) = absurd (conjoined.others buchi.first buchi.second buchi.first_is buchi.second_is)
-  joint_one name name' formula formula' (inr conjoined) (inl buchi) = absurd (conjoined.others buchi.first buchi.second buchi.first_is buchi.second_is)
+      (buchi.name_is ∙ sym buchi'.name_is, buchi.formula_is ∙ sym buchi'.formula_is)
+  joint_one name name' formula formula' (inl buchi) (inr conjoined) = absurd (conjoined.others buchi.both)
+  joint_one name name' formula formula' (inr conjoined) (inl buchi) = absurd (conjoined.others buchi.both)
   joint_one name name' formula formula' (inr conjoined) (inr conjoined') =
       (conjoined.name_is ∙ sym conjoined'.name_is, conjoined.formula_is ∙ sym conjoined'.formula_is)
 

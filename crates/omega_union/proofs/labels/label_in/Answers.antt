@@ -2,11 +2,10 @@
 use Rattle.std.proofs.Common.{◌≡◌, ℕ, Bool, false, if◌then◌else◌, Some, None, List, length, sym, ap, subst, ◌∙◌}
 use Rattle.std.specs.Prelude.{is_some}
 use Rattle.omega_label.specs.Label.{LabelTree}
-use Rattle.omega_label.specs.Shape.{label_tree_of_shape}
 use Rattle.omega_automaton.specs.declared.state.State.{State}
 use Rattle.omega_edge_labels.specs.Labels.{label_at}
 use Rattle.omega_edge_labels.proofs.Refusals.{large_weaker, passed_on}
-use Rattle.omega_product.specs.Joining.{relabelled}
+use Rattle.omega_label.specs.Renumbering.{relabelled}
 use Rattle.omega_runs.specs.Judging.{IsLabelWith}
 use Rattle.omega_trim.specs.Refusing.{IsDeepLabel}
 use Rattle.omega_union.specs.Parts.{label_in}
@@ -19,10 +18,10 @@ returns-in_err-raw-clause-err c =
     let tree : LabelTree = relabelled places (label_at (length places) state c.args.at c.args.edge.now) in
     let bare : is_some state.label ≡ false = sym c.is_some.ensures ∙ c.if-is_some.false in
     passed_on c.from_residual-in_err-raw.result _ _ c.from_residual-in_err-raw.ensures.1
-    (large_weaker (IsDeepLabel (relabelled places (label_tree_of_shape c.in_ok-shape.shape))) (IsLabelWith IsDeepLabel (label_in places state c.args.at c.args.edge.now))
+    (large_weaker (IsDeepLabel (relabelled places c.get.result.now)) (IsLabelWith IsDeepLabel (label_in places state c.args.at c.args.edge.now))
     (λ deep. (
       tree,
       ap (λ (b : Bool). if b then None else Some tree) bare,
-      subst (λ (label : LabelTree). IsDeepLabel (relabelled places label)) c.in_ok-shape.ensures.label deep,
+      subst (λ (label : LabelTree). IsDeepLabel (relabelled places label)) (c.get.ensures ∙ c.in_ok-label.ensures.label) deep,
     ))
     _ c.in_err-raw.ensures.err)

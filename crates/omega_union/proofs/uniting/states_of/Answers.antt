@@ -1,5 +1,5 @@
 -- the states of both, and a label of one of them that is too deep
-use Rattle.std.proofs.Common.{◌≡◌, ◌++◌, ℕ, List, map, ap₂, subst, ◌∙◌}
+use Rattle.std.proofs.Common.{◌≡◌, ◌++◌, map, ap₂, subst, ◌∙◌}
 use Rattle.omega_automaton.specs.Automaton.{Description}
 use Rattle.omega_edge_labels.proofs.Refusals.{large_weaker, passed_on}
 use Rattle.omega_product.specs.Joining.{joined_names, places_among}

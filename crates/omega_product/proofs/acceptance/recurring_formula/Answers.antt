@@ -3,9 +3,9 @@ use Rattle.omega_expression.specs.Limits.{most_depth}
 use Rattle.omega_formula.specs.Writing.{acc_written}
 use Rattle.omega_formula.specs.Kind.{buchi_formula}
 use Rattle.omega_formula.specs.Raw.{raw_acc_depth}
-use Rattle.omega_product.proofs.BuchiKinds.{buchi_depth}
+use Rattle.omega_product.proofs.Recurring.{buchi_depth}
 use Rattle.omega_edge_labels.proofs.Refusals.{not_deeper, passed_on}
-use Rattle.omega_product.proofs.acceptance.buchi_formula.Goals as goal
+use Rattle.omega_product.proofs.acceptance.recurring_formula.Goals as goal
 
 pub returns-in_err-formula-2-clause-memory : goal.returns-in_err-formula-2-clause-memory
 returns-in_err-formula-2-clause-memory c =
