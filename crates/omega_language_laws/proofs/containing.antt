@@ -1,2 +1,3 @@
 -- That texts which are met and complemented say whether the words of one are words of another.
 pub mod Texts
+pub mod Trimmed

@@ -1,0 +1,2 @@
+-- Which text a refusal is about.
+pub mod About

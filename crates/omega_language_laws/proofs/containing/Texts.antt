@@ -25,16 +25,16 @@ use Rattle.omega_word_laws.proofs.naming.Parted.{products_meet_named}
 use Rattle.omega_word_laws.proofs.naming.Same.{same_names}
 use Rattle.omega_word_laws.proofs.parting.Plain.{or_parts}
 
-is_automaton : MeaningsAreAutomata → (text : List ℕ) (a : Description) → IsAutomatonText text a → IsAutomaton a
+pub is_automaton : MeaningsAreAutomata → (text : List ℕ) (a : Description) → IsAutomatonText text a → IsAutomaton a
 is_automaton automata text a read = automata read.value.raw a read.value.means
 
 -- the automaton of a text that accepts is the text's
-of_text : AutomataAreOne → (text : List ℕ) (a : Description) (word : NamedWord) → IsAutomatonText text a → TextAccepts text word → AcceptsNamed a word
+pub of_text : AutomataAreOne → (text : List ℕ) (a : Description) (word : NamedWord) → IsAutomatonText text a → TextAccepts text word → AcceptsNamed a word
 of_text one text a word read accepts =
     let P : Description → Type 0 = λ x. AcceptsNamed x word in
     subst P (one text accepts.automaton a accepts.read read) accepts.accepted
 
-of_automaton : (text : List ℕ) (a : Description) (word : NamedWord) → IsAutomatonText text a → AcceptsNamed a word → TextAccepts text word
+pub of_automaton : (text : List ℕ) (a : Description) (word : NamedWord) → IsAutomatonText text a → AcceptsNamed a word → TextAccepts text word
 of_automaton text a word read accepted = record { automaton = a; read = read; accepted = accepted }
 
 pub met_accept_both : AutomataAreOne → MeaningsAreAutomata → ProductsAreReadBack → ProductsMeet → MetTextsAcceptBoth

@@ -1,5 +1,5 @@
 -- A product as it is written has the form of what is read: so its canonical text is read back.
-use Rattle.std.proofs.Common.{◌≡◌, ℕ, ◌+◌, ◌≤◌, inl, inr, List, [], length, map, codes, Option, Some, None, refl, sym, ap, subst, ◌∙◌, arith}
+use Rattle.std.proofs.Common.{◌≡◌, ℕ, zero, suc, ◌+◌, ◌<◌, ◌≤◌, inl, inr, List, [], length, map, codes, Option, Some, None, refl, sym, ap, subst, ◌∙◌, arith}
 use Rattle.std.specs.Prelude.{IfSome}
 use Rattle.std.specs.List.{AllByRecursion}
 use Rattle.std.proofs.lemmas.List.Sums.{AllPass-from_list_all}
@@ -27,32 +27,33 @@ use Rattle.omega_product.specs.Pairs.{Pair, first_leaving, pair_number, same_pai
 use Rattle.omega_product.specs.Product.{joint_transitions}
 use Rattle.omega_product.specs.Written.{IsWritten, name_items, raw_edge, raw_product, raw_start, raw_state_of}
 use Rattle.omega_product.specs.declared.transition.Transition.{Transition}
-use Rattle.omega_product.proofs.BuchiKinds.{few_sets}
 use Rattle.omega_product.proofs.Formulas.{place_within}
 use Rattle.omega_product.proofs.Meaning.{sets_written, states_written}
 use Rattle.omega_round_trips.specs.Laws.{ReadAutomataAreWritable, WasRead}
-use Rattle.omega_round_trips.specs.Writable.{IsWritableName, IsWritableNumber}
+use Rattle.omega_round_trips.specs.Writable.{IsWritableName, IsWritableNumber, IsWritableParameter}
 use Rattle.omega_round_trips.proofs.meanings.Meant.{Meanings}
 use Rattle.omega_round_trips.proofs.meanings.ReadBack.{meant-read}
 use Rattle.omega_round_trips.proofs.texts.Spelled.{Known}
 use Rattle.omega_round_trips.proofs.values.Rows.{IsReadAutomaton, IsReadEdge, IsReadItem, IsReadState}
 use Rattle.omega_language_laws.proofs.reading_back.Quotable.{all_both, all_filtered, all_made, name_quotable}
 
--- the name of a generalized Büchi acceptance is an identifier
+-- an acceptance name of a word that is neither `t` nor `f`, and of numbers that a text can have, can be written
+word_writable : (name : AccName) → IsWord name.name → (name.name ≡ codes "t" → ⊥) → (name.name ≡ codes "f" → ⊥) → AllByRecursion IsWritableParameter name.parameters
+    → IsWritableName name
+word_writable name word t f parameters = record { name_is = (word, t, f); parameters = parameters }
+
+longer : (word letter : List ℕ) → length letter < length word → word ≡ letter → ⊥
+longer word letter less e = let same : length word ≡ length letter = ap length e in omega (arith, less, same)
+
+-- the names of acceptances in which each set has to recur are identifiers
 writable_name : (sets : ℕ) → sets ≤ most_number → IsWritableName (buchi_name sets)
-writable_name sets small = record {
-  name_is = (word, λ e. longer_t (ap length e), λ e. longer_f (ap length e));
-  parameters = (small, tt);
-}
-  where
-    word : IsWord (codes "generalized-Buchi")
-    word = (omega arith, refl, AllPass-from_list_all is_word_byte (codes "generalized-Buchi") refl)
-
-    longer_t : length (codes "generalized-Buchi") ≡ length (codes "t") → ⊥
-    longer_t e = omega (arith, e)
-
-    longer_f : length (codes "generalized-Buchi") ≡ length (codes "f") → ⊥
-    longer_f e = omega (arith, e)
+writable_name zero small =
+    word_writable (buchi_name 0) (omega arith, refl, AllPass-from_list_all is_word_byte (codes "all") refl) (longer _ _ (omega arith)) (longer _ _ (omega arith)) tt
+writable_name (suc zero) small =
+    word_writable (buchi_name 1) (omega arith, refl, AllPass-from_list_all is_word_byte (codes "Buchi") refl) (longer _ _ (omega arith)) (longer _ _ (omega arith)) tt
+writable_name (suc (suc more)) small =
+    word_writable (buchi_name (suc (suc more))) (omega arith, refl, AllPass-from_list_all is_word_byte (codes "generalized-Buchi") refl)
+    (longer _ _ (omega arith)) (longer _ _ (omega arith)) (small, tt)
 
 module _ (mean : WrittenLabelsMean) (formulas : WrittenFormulasMean) (one other : Description) (pairs : List Pair) (few : length pairs ≤ most_states) where
   number_small : (pair : Pair) → IsWritableNumber (pair_number pairs pair)
@@ -118,10 +119,8 @@ module _ (mean : WrittenLabelsMean) (formulas : WrittenFormulasMean) (one other 
 -- the name of the acceptance of both
 joint_named : (one other : Description) (name : Option AccName) (tree : AccTree) → IsJointAcceptance one other name tree → IfSome name IsWritableName
 joint_named one other name tree (inl buchi) =
-    let first = few_sets one buchi.first buchi.first_is in
-    let second = few_sets other buchi.second buchi.second_is in
     subst (λ (n : Option AccName). IfSome n IsWritableName) (sym buchi.name_is)
-    (writable_name (buchi.first + buchi.second) (omega (arith, first.few, second.few)))
+    (writable_name (one.sets + other.sets) (omega (arith, buchi.both.few)))
 joint_named one other name tree (inr conjoined) = subst (λ (n : Option AccName). IfSome n IsWritableName) (sym conjoined.name_is) tt
 
 pub product-read : Known → Meanings → MeaningsAreAutomata → AutomataFillSegments → ReadAutomataAreWritable → (one other a : Description) → WasRead one → WasRead other

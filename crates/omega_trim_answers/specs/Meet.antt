@@ -1,0 +1,64 @@
+-- The answer of `meet --trim` for the texts of two automata, that of a file and that of the input: the canonical text
+-- of their product without its useless states; and its refusals.
+use Rattle.std.specs.Prelude.{◌≡◌, ◌⊎◌, List, ℕ}
+use Rattle.omega_text.specs.declared.refusal.Refusal.{Refusal}
+use Rattle.omega_text.specs.declared.refusal.Refusal.TheVariants.{Memory}
+use Rattle.omega_automaton.specs.Automaton.{Description, IsAutomaton}
+use Rattle.omega_canon.specs.Canonical.{canonical_automaton}
+use Rattle.omega_hoa.specs.Alone.{IsAutomatonRefusal, IsAutomatonText}
+use Rattle.omega_language_answers.specs.Meet.{IsProductRefused, IsTextRefused}
+use Rattle.omega_lasso_search.specs.Searching.{IsSearchable}
+use Rattle.omega_product.specs.Limits.{IsWithin}
+use Rattle.omega_product.specs.Product.{IsProduct}
+use Rattle.omega_product.specs.Refusing.{HaveNoBranch}
+use Rattle.omega_product.specs.Written.{IsWritten}
+use Rattle.omega_trim.specs.Refusing.{IsTrimRefusal}
+use Rattle.omega_trim.specs.Trimmed.{IsTrimmed}
+
+-- the product of two automata without universal branching, within the limits
+pub record IsMeeting (first second product : Description) : Type 0 where
+  pub given : HaveNoBranch first second
+  pub is : IsProduct first second product
+  pub written : IsWritten first second product
+  pub within : IsWithin product
+
+-- the canonical text of an automaton, which has no universal branching, without its useless states
+pub record IsTrimText (a : Description) (output : List ℕ) : Type 0 where
+  pub given : IsSearchable a
+  pub trim : Description
+  pub right : IsTrimmed a trim
+  pub is_automaton : IsAutomaton trim
+  pub written : output ≡ canonical_automaton trim
+
+-- both texts are those of automata, that of the input first, which have this product
+pub record AreMeetingTexts (file input : List ℕ) (product : Description) : Type 0 where
+  pub second : Description
+  pub second_read : IsAutomatonText file second
+  pub first : Description
+  pub first_read : IsAutomatonText input first
+  pub meeting : IsMeeting first second product
+
+-- the answer of `meet --trim`: both texts are those of automata, and the canonical text of their product without its
+-- useless states is written
+pub record IsMeetTrimmedAnswer (file input output : List ℕ) : Type 0 where
+  pub product : Description
+  pub texts : AreMeetingTexts file input product
+  pub trimmed : IsTrimText product output
+
+-- both texts are those of automata, and the trimming of their product is refused
+pub record IsTrimRefused (file input : List ℕ) (refusal : Refusal) : Type 0 where
+  pub product : Description
+  pub texts : AreMeetingTexts file input product
+  pub refused : IsTrimRefusal product refusal
+
+-- the refusal of `meet --trim`: that of the file's text, or else that of the input's, or else that of the product, or
+-- else that of its trimming
+abbrev pub IsMeetTrimmedRefusal : List ℕ → List ℕ → Refusal → Type 0
+IsMeetTrimmedRefusal file input refusal =
+    (IsAutomatonRefusal file refusal ⊎ IsTextRefused file input refusal)
+    ⊎ (IsProductRefused file input refusal ⊎ IsTrimRefused file input refusal)
+
+-- no text is at fault: want of memory, or the refusal of the product, or else that of its trimming
+abbrev pub IsOfNoText : List ℕ → List ℕ → Refusal → Type 0
+IsOfNoText file input refusal =
+    (refusal ≡ Memory) ⊎ (IsProductRefused file input refusal ⊎ IsTrimRefused file input refusal)

@@ -1,0 +1,65 @@
+ghost use Rattle.std.specs.Prelude.{IfErr, IfOk, OnOk};
+ghost use Rattle.omega_hoa.specs.Alone.{IsAutomatonRefusal};
+ghost use Rattle.omega_io.specs.Refused.{IsAbout};
+ghost use Rattle.omega_language_answers.specs.Meet.{IsTextRefused};
+ghost use Rattle.omega_trim.specs.Refusing.{IsTrimRefusal};
+ghost use Rattle.omega_trim_answers.specs.Meet.{IsMeetTrimmedAnswer, IsOfNoText, IsTrimText};
+ghost use Rattle.omega_trim_answers.specs.private.Met.{IsMetTrimmed, IsUnmet};
+
+use omega_automaton::{Automaton, Refusal};
+use omega_canon::canonical;
+use omega_hoa::read_one;
+use omega_io::{Refused, Which};
+use omega_product::product;
+use omega_trim::trim;
+use std::alloc::Global;
+
+/// Returns the canonical text of the product of the automaton of `input` and that of `file`, in this order, without the
+/// useless states of the product. Those are the states that no start reaches, or in which no accepting lasso starts.
+/// The cost is that of `product` and `trim`, and linear in the texts.
+///
+/// Fails with the [Refusal::Text] or [Refusal::Automaton] of `file`, or else with that of `input`. Or else fails with
+/// the refusal of the product, or else with that of `trim` for the product, which are about neither text:
+/// [TaskFault::UniversalBranch], [TaskFault::TooManyPropositions] or [TaskFault::TooLarge].
+pub fn meet_trimmed_texts(alloc: Global, file: &[u8], input: &[u8]) -> Result<Vec<u8>, Refused>
+    ensures answer { IfOk result (λ output. IsMeetTrimmedAnswer file.now input.now output.items) }
+    ensures refused { IfErr result (λ refused. IsAbout (IsOfNoText file.now input.now)
+        (IsAutomatonRefusal file.now) (IsTextRefused file.now input.now) refused.text refused.refusal) }
+{
+    match read_one(alloc, file) {
+        Ok(second) => match read_one(alloc, input) {
+            Ok(first) => match met(alloc, &first, &second) {
+                Ok(output) => Ok(output),
+                Err(refusal) => Err(Refused::from(refusal)),
+            },
+            Err(refusal) => Err(Refused::of(Which::Input, refusal)),
+        },
+        Err(refusal) => Err(Refused::of(Which::File, refusal)),
+    }
+}
+
+/// Returns the canonical text of the product of `first` and `second` without its useless states. Fails as `product`
+/// does, or else as `trim` does for the product.
+fn met(alloc: Global, first: &Automaton, second: &Automaton) -> Result<Vec<u8>, Refusal>
+    ensures met { IfOk result (λ output. IsMetTrimmed first.now second.now output.items) }
+    ensures refused { IfErr result (IsUnmet first.now second.now) }
+{
+    match product(alloc, first, second) {
+        Ok(meeting) => trimmed_text(alloc, &meeting),
+        Err(refusal) => Err(refusal),
+    }
+}
+
+/// Returns the canonical text of `automaton` without its useless states. Fails as `trim` does.
+fn trimmed_text(alloc: Global, automaton: &Automaton) -> Result<Vec<u8>, Refusal>
+    ensures text { IfOk result (λ output. IsTrimText automaton.now output.items) }
+    ensures refused { IfErr result (IsTrimRefusal automaton.now) }
+{
+    match trim(alloc, automaton) {
+        Ok(trimmed) => {
+            trimmed.keeps_limits();
+            canonical(alloc, &trimmed)
+        }
+        Err(refusal) => Err(refusal),
+    }
+}
