@@ -1,5 +1,5 @@
 -- The edges of the automaton of a word: one for each letter, from its state to the next.
-use Rattle.std.proofs.Common.{◌≡◌, ℕ, zero, suc, ◌+◌, ◌<◌, List, [], ◌∷◌, ◌++◌, length, map, Option, Some, None, option_map, refl, sym, ap, ◌∙◌, subst, arith, add-one, add-zero}
+use Rattle.std.proofs.Common.{◌≡◌, ℕ, zero, suc, ◌+◌, List, [], ◌∷◌, ◌++◌, length, map, Contains, Option, Some, None, option_map, refl, sym, ap, ◌∙◌, subst, arith, add-zero}
 use Rattle.std.specs.Prelude.{slice_get}
 use Rattle.std.specs.List.{AllZip, flat_map}
 use Rattle.std.specs.Option.{option_or}
@@ -12,7 +12,7 @@ use Rattle.omega_automaton.specs.declared.edge.Edge.{Edge}
 use Rattle.omega_automaton.specs.declared.state.State.{State}
 use Rattle.omega_raw.specs.declared.raw_edge.RawEdge.{RawEdge}
 use Rattle.omega_runs.specs.Lasso.{label_of}
-use Rattle.omega_accepts.specs.Written.{letter_states, next_state}
+use Rattle.omega_accepts.specs.Written.{letter_state, letter_states, next_state}
 use Rattle.omega_accepts.proofs.Letters.{some_is}
 
 -- the edge of a letter leaves the state of its number alone, and enters the one that follows
@@ -110,3 +110,43 @@ edges_counted count back number (x ∷ xs) [] all = absurd all
 edges_counted count back number (x ∷ xs) (state ∷ states) all =
     let only = only_edge (record { label = Some x; targets = next_state count back number ∷ []; marks = None }) state.edges all.0.edges in
     ap length (edges_first state states only.edge only.only) ∙ ap suc (edges_counted count back (number + 1) xs states all.1)
+
+-- the state of a letter has one edge, whose label means the letter
+pub record IsLetterState (letter : RawLabelTree) (state : State) : Type 0 where
+  pub edge : Edge
+  pub only : state.edges ≡ edge ∷ []
+  pub tree : LabelTree
+  pub label : edge.label ≡ Some tree
+  pub meant : option_map (λ (m : Meaning). m.tree) (expansion [] letter) ≡ Some tree
+
+of_letter : (number next : ℕ) (letter : RawLabelTree) (state : State) → IsStateOf [] (letter_state number next letter) state → IsLetterState letter state
+of_letter number next letter state is =
+    let only = only_edge (record { label = Some letter; targets = next ∷ []; marks = None }) state.edges is.edges in
+    let found = meant_label letter only.edge.label only.is.label in
+    record { edge = only.edge; only = only.only; tree = found.tree; label = found.is; meant = found.meant }
+
+nothing_listed : {X : Type 0} (x : X) → Contains [] x → ⊥
+nothing_listed x has = omega (arith, has.1)
+
+-- each letter has such a state
+pub state_of_letter : (count back number : ℕ) (letters : List RawLabelTree) (defined : List State) → AllZip (IsStateOf []) (letter_states count back number letters) defined
+    → (letter : RawLabelTree) → Contains letters letter → (state : State) × Contains defined state × IsLetterState letter state
+state_of_letter count back number [] defined all letter has = absurd (nothing_listed letter has)
+state_of_letter count back number (x ∷ xs) [] all letter has = absurd all
+state_of_letter count back number (x ∷ xs) (state ∷ states) all letter (zero, below, same) =
+    (state, (0, omega arith, refl), subst (λ (l : RawLabelTree). IsLetterState l state) same (of_letter number (next_state count back number) x state all.0))
+state_of_letter count back number (x ∷ xs) (state ∷ states) all letter (suc k, below, same) =
+    let rest = state_of_letter count back (number + 1) xs states all.1 letter (k, omega (arith, below), same) in
+    (rest.0, (suc rest.1.0, omega (arith, rest.1.1), rest.1.2), rest.2)
+
+-- and each state is that of a letter
+pub letter_of_state : (count back number : ℕ) (letters : List RawLabelTree) (defined : List State) → AllZip (IsStateOf []) (letter_states count back number letters) defined
+    → (state : State) → Contains defined state → (letter : RawLabelTree) × Contains letters letter × IsLetterState letter state
+letter_of_state count back number [] [] all state has = absurd (nothing_listed state has)
+letter_of_state count back number [] (first ∷ states) all state has = absurd all
+letter_of_state count back number (x ∷ xs) [] all state has = absurd all
+letter_of_state count back number (x ∷ xs) (first ∷ states) all state (zero, below, same) =
+    (x, (0, omega arith, refl), subst (IsLetterState x) same (of_letter number (next_state count back number) x first all.0))
+letter_of_state count back number (x ∷ xs) (first ∷ states) all state (suc k, below, same) =
+    let rest = letter_of_state count back (number + 1) xs states all.1 state (k, omega (arith, below), same) in
+    (rest.0, (suc rest.1.0, omega (arith, rest.1.1), rest.1.2), rest.2)

@@ -1,6 +1,11 @@
--- Lemmas on automata of words: letters, edges, states, runs, and membership.
+-- Lemmas on automata of words: letters, edges, states, runs, membership, and refusals.
+pub mod Below
 pub mod Edges
 pub mod Judging
 pub mod Letters
+pub mod Opened
+pub mod Refused
+pub mod Rejecting
 pub mod Rows
 pub mod Running
+pub mod Together

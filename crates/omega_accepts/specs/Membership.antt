@@ -1,7 +1,8 @@
 -- Whether an automaton accepts each word that a symbolic word admits, and if not, words that show it.
-use Rattle.std.specs.Prelude.{ℕ, Bool, List}
+use Rattle.std.specs.Prelude.{◌⊎◌, ℕ, Bool, List}
 use Rattle.std.specs.List.{AllByRecursion}
 use Rattle.omega_automaton.specs.Automaton.{Description}
+use Rattle.omega_complement.specs.Complement.{IsDeterministic}
 use Rattle.omega_lasso_word.specs.Fitting.{Fits}
 use Rattle.omega_lasso_word.specs.Laws.{HasStrings}
 use Rattle.omega_symbolic_word.specs.Admitted.{Admits}
@@ -9,6 +10,7 @@ use Rattle.omega_symbolic_word.specs.declared.symbolic_word.SymbolicWord.{Symbol
 use Rattle.omega_text.specs.hoa.Forms.{IsQuotable}
 use Rattle.omega_word_laws.specs.Complements.{RecursOrCeases}
 use Rattle.omega_word_laws.specs.NamedWords.{AcceptsNamed, NamedWord}
+use Rattle.omega_accepts.specs.OneWord.{IsOneWordFor}
 use Rattle.omega_accepts.specs.declared.membership.Membership.{Membership}
 use Rattle.omega_accepts.specs.declared.membership.Membership.TheVariants.{Accepted, Rejected}
 
@@ -38,3 +40,7 @@ pub record IsRejection (word : SymbolicWord) (a : Description) (text : List ℕ)
 abbrev pub IsMembership : SymbolicWord → Description → Membership → Type 0
 IsMembership word a Accepted = ((test : ℕ → Bool) → RecursOrCeases test) → AcceptsAdmitted word a
 IsMembership word a (Rejected text) = IsRejection word a text
+
+-- membership is decided of a deterministic automaton, and of any automaton if it sees one word at most
+abbrev pub IsDecided : SymbolicWord → Description → Type 0
+IsDecided word a = IsDeterministic a ⊎ IsOneWordFor word a

@@ -7,6 +7,8 @@ mod accepting;
 pub mod laws;
 mod making;
 mod membership;
+mod one_word;
+mod open_letters;
 mod states;
 
 pub use accepting::accepts;

@@ -1,17 +1,16 @@
--- The answer of `accepts` for the text of a word and that of a deterministic automaton: whether the automaton accepts
--- each word that the letters admit. Propositions that have one name are the same.
+-- The answer of `accepts` for the text of a word and that of an automaton, which is deterministic or sees one word at
+-- most: whether the automaton accepts each word that the letters admit. Propositions that have one name are the same.
 use Rattle.std.specs.Prelude.{◌≡◌, ◌⊎◌, Bool, true, false, List, ℕ, ◌++◌, codes}
 use Rattle.omega_text.specs.declared.refusal.Refusal.{Refusal}
 use Rattle.omega_text.specs.declared.refusal.Refusal.TheVariants.{Memory}
 use Rattle.omega_automaton.specs.Automaton.{Description}
-use Rattle.omega_complement.specs.Complement.{IsDeterministic}
 use Rattle.omega_containment_answers.specs.Contained.{IsChoice}
 use Rattle.omega_hoa.specs.Alone.{IsAutomatonRefusal, IsAutomatonText}
 use Rattle.omega_io.specs.declared.exit.Exit.{Exit}
 use Rattle.omega_io.specs.declared.exit.Exit.TheVariants.{Done, No}
 use Rattle.omega_symbolic_word.specs.declared.symbolic_word.SymbolicWord.{SymbolicWord}
 use Rattle.omega_word_text.specs.Text.{IsWordText}
-use Rattle.omega_accepts.specs.Membership.{IsMembership}
+use Rattle.omega_accepts.specs.Membership.{IsDecided, IsMembership}
 use Rattle.omega_accepts.specs.Refusing.{IsMembershipRefusal}
 use Rattle.omega_accepts.specs.declared.membership.Membership.{Membership}
 use Rattle.omega_accepts.specs.declared.membership.Membership.TheVariants.{Accepted, Rejected}
@@ -35,7 +34,7 @@ membership_text explain (Rejected words) = no_text explain words
 -- else `no` with words that show that it does not
 pub record IsMembershipVerdict (word : SymbolicWord) (a : Description) (explain : Bool) (exit : Exit) (output : List ℕ)
     : Type 0 where
-  pub deterministic : IsDeterministic a
+  pub decided : IsDecided word a
   pub answer : Membership
   pub right : IsMembership word a answer
   pub exit_is : exit ≡ exit_of answer

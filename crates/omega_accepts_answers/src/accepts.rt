@@ -16,17 +16,18 @@ use omega_text::TaskFault;
 use omega_word_text::read_word;
 use std::alloc::Global;
 
-/// Decides whether the automaton of `text`, which is to be deterministic, accepts each word that the letters of `word`
-/// admit. Propositions that have one name are the same. Returns `yes` with [Exit::Done], else `no` with [Exit::No]. If
-/// `explain` is set, a line `word` follows `no`: each word that fits it is admitted and not accepted. Both texts are
-/// dropped once read.
+/// Decides whether the automaton of `text` accepts each word that the letters of `word` admit. Propositions that have
+/// one name are the same. Returns `yes` with [Exit::Done], else `no` with [Exit::No]. If `explain` is set, a line
+/// `word` follows `no`: each word that fits it is admitted and not accepted. Both texts are dropped once read.
 ///
-/// If no word is admitted, as by `cycle{a & !a}`, the answer is `yes`.
+/// The automaton is to be deterministic, or each letter of `word` is to fix each of its propositions: `!a & b` fixes
+/// `a` and `b`, and `a | b` fixes neither. If no word is admitted, as by `cycle{a & !a}`, the answer is `yes`.
 ///
 /// `word` is the text that a refusal calls the file, and `text` the one that it calls the input. Fails with the
 /// [Refusal::Text] of `word`, or else with the [Refusal::Text] or [Refusal::Automaton] of `text`. Or else fails as
-/// `accepts` of `omega_accepts` does: [TaskFault::NotDeterministic] is about `text`, and [TaskFault::TooLarge],
-/// [TaskFault::TooManyPropositions] and [TaskFault::UniversalBranch] are about neither.
+/// `accepts` of `omega_accepts` does. [TaskFault::NotDeterministic] is about `text`: it has a choice, and a letter
+/// leaves a proposition of it open. [TaskFault::TooLarge], [TaskFault::TooManyPropositions] and
+/// [TaskFault::UniversalBranch] are about neither.
 pub fn accepts_text(
     alloc: Global,
     word: Vec<u8>,

@@ -1,9 +1,13 @@
--- Lemmas on texts of words: tokens, names, letters, and where no word goes on.
+-- Lemmas on texts of words: tokens, names, letters, where no word goes on, and texts that a word fits.
 pub mod Exact
+pub mod Fitted
 pub mod Following
+pub mod Formulas
 pub mod Leading
 pub mod Naming
+pub mod Pieces
 pub mod Refusals
+pub mod Sayings
 pub mod Semicolons
 pub mod Spelled
 pub mod Splitting

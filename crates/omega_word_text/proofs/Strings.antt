@@ -32,7 +32,7 @@ identifier_quotable (byte ∷ bytes) is =
     plain byte bytes (λ e. false≢true (ap is_letter (sym e) ∙ parts.0)) (λ e. false≢true (ap is_letter (sym e) ∙ parts.0)) (rest_quotable bytes parts.1)
 
 -- what stands between the quotes of a string
-between : (inside : List ℕ) → between_quotes (34 ∷ (inside ++ 34 ∷ [])) ≡ inside
+pub between : (inside : List ℕ) → between_quotes (34 ∷ (inside ++ 34 ∷ [])) ≡ inside
 between inside =
     let size : length (34 ∷ (inside ++ 34 ∷ [])) - 2 ≡ length inside = omega (arith, length-append inside (34 ∷ [])) in
     ap (λ n. take n (inside ++ 34 ∷ [])) size ∙ take-append_seam inside (34 ∷ [])

@@ -2,9 +2,10 @@
 
 ghost use Rattle.omega_text.specs.Format.{GoesOneWay};
 ghost use Rattle.omega_word_text.specs.Cut.{word_format};
-ghost use Rattle.omega_word_text.specs.Laws.{NamesAreStrings, WordsAreNotRefused, WordsOfTextsAreOne};
+ghost use Rattle.omega_word_text.specs.Laws.{FittingTextsAreRead, NamesAreStrings, WordsAreNotRefused, WordsOfTextsAreOne};
 
 use omega_label::labels_are_one;
+use omega_text::hoa::laws::{closed_are_longest, numbers_are_longest, words_are_longest};
 use omega_text::{HoaKind, TokenKind};
 
 /// States that from each place the text of a word goes on in one way: with one token, with one fault, or with nothing
@@ -33,4 +34,15 @@ pub fn words_are_not_refused()
     ensures { WordsAreNotRefused }
 {
     word_texts_go_on_one_way();
+}
+
+/// States that a text that some word fits is read as a word, if it is within the limit of texts, and that this word
+/// admits exactly the words that fit the text.
+pub fn fitting_texts_are_read()
+    ensures { FittingTextsAreRead }
+{
+    closed_are_longest();
+    numbers_are_longest();
+    words_are_longest();
+    words_of_texts_are_one();
 }

@@ -1,8 +1,8 @@
--- the automaton of the word is refused, or containment; or what is contained is accepted
+-- the automaton of the word is refused, or else what is said of this automaton is said of the word
 use Rattle.std.proofs.Common.{subst, sym}
+use Rattle.std.proofs.lemmas.Result.{IfErr-weaker, IfOk-weaker}
 use Rattle.omega_expression.proofs.PassingLemmas.{error_then}
-use Rattle.omega_containment.specs.Refusing.{IsContainmentRefusal}
-use Rattle.omega_accepts.specs.Refusing.{not_contained, oversized}
+use Rattle.omega_accepts.specs.Refusing.{oversized}
 use Rattle.omega_accepts.specs.Written.{IsOversized}
 use Rattle.omega_accepts.proofs.accepting.accepts.Goals as goal
 
@@ -11,12 +11,14 @@ returns-in_err-one-clause-refused c =
     error_then c.from_residual.result _ _ c.from_residual.ensures.1
     (λ e is. oversized (subst (IsOversized c.args.word) (sym is) c.in_err-one.ensures.refused))
 
-pub returns-in_err-answer-clause-refused : goal.returns-in_err-answer-clause-refused
-returns-in_err-answer-clause-refused c =
-    error_then c.from_residual-in_err-answer.result _ _ c.from_residual-in_err-answer.ensures.1
-    (λ e is. not_contained c.in_ok-one.one c.in_ok-one.ensures.automaton
-    (subst (IsContainmentRefusal c.in_ok-one.one c.args.automaton.now) (sym is) c.in_err-answer.ensures.refused))
-
 pub returns-clause-right : goal.returns-clause-right
 returns-clause-right c =
-    c.membership_of.ensures c.args.word c.in_ok-one.one c.args.automaton.now c.in_ok-one.ensures.automaton c.in_ok-answer.ensures.right
+    IfOk-weaker c.membership.result _ _ (λ answer right. right c.args.word c.in_ok-one.ensures.automaton) c.membership.ensures.right
+
+pub returns-clause-refused : goal.returns-clause-refused
+returns-clause-refused c =
+    IfErr-weaker c.membership.result _ _ (λ refusal refused. refused c.args.word c.in_ok-one.ensures.automaton) c.membership.ensures.refused
+
+pub returns-clause-decided : goal.returns-clause-decided
+returns-clause-decided c =
+    IfOk-weaker c.membership.result _ _ (λ answer decided. decided c.args.word c.in_ok-one.ensures.automaton) c.membership.ensures.decided
