@@ -96,10 +96,10 @@ fn accepted(alloc: Global, graph: &Graph, text: &[u8]) -> Result<Vec<u8>, Refusa
     requires states { graph.now.states ≡ 3 }
     requires edges { length graph.now.edges ≡ 4 }
 {
-    let shape = formula_in(alloc, text)?.shape(alloc)?;
+    let formula = formula_in(alloc, text)?;
     let none = Numbers::from_slice(alloc, &[])?;
     let marks = [Numbers::one(0), Numbers::one(1), none, Numbers::one(1)];
-    let walk = accepting_walk(alloc, graph, marks.as_slice(), EDGES.as_slice(), &shape)?;
+    let walk = accepting_walk(alloc, graph, marks.as_slice(), EDGES.as_slice(), &formula)?;
     written_walk(alloc, walk)
 }
 

@@ -90,6 +90,7 @@ text_of name.Word options = option_map (λ text. text.now) options.word
 text_of name.WordText options = option_map (λ text. text.now) options.word_text
 text_of name.Status options = option_map (λ text. text.now) options.status
 text_of name.With options = option_map (λ text. text.now) options.with
+text_of name.Trim options = option_map (λ text. text.now) options.trim
 text_of name.In options = option_map (λ text. text.now) options.within
 text_of name.To options = option_map (λ text. text.now) options.to
 text_of name.Controller options = option_map (λ text. text.now) options.controller
@@ -150,7 +151,9 @@ AsksBeside subcommand options file (beside.VerifyController explain) =
     × (text_of name.Automaton options ≡ None) × (text_of name.From options ≡ None)
     × GivesFlag (text_of name.Explain options) explain
 AsksBeside subcommand options file (beside.Accepts explain) = ⊥
-AsksBeside subcommand options file beside.Meet = (subcommand ≡ codes "meet") × (text_of name.With options ≡ Some file)
+AsksBeside subcommand options file (beside.Meet trim) =
+    (subcommand ≡ codes "meet") × (text_of name.With options ≡ Some file) × GivesFlag (text_of name.Trim options) trim
+AsksBeside subcommand options file beside.Join = (subcommand ≡ codes "join") × (text_of name.With options ≡ Some file)
 AsksBeside subcommand options file (beside.Contained explain) =
     (subcommand ≡ codes "contained") × (text_of name.In options ≡ Some file) × GivesFlag (text_of name.Explain options) explain
 AsksBeside subcommand options file (beside.Equal explain) =
@@ -271,7 +274,8 @@ HasOption subcommand name.Explain =
 HasOption subcommand name.Word = subcommand ≡ codes "empty"
 HasOption subcommand name.WordText = subcommand ≡ codes "accepts"
 HasOption subcommand name.Status = subcommand ≡ codes "empty"
-HasOption subcommand name.With = subcommand ≡ codes "meet"
+HasOption subcommand name.With = (subcommand ≡ codes "meet") ⊎ (subcommand ≡ codes "join")
+HasOption subcommand name.Trim = subcommand ≡ codes "meet"
 HasOption subcommand name.In = subcommand ≡ codes "contained"
 HasOption subcommand name.To = subcommand ≡ codes "equal"
 HasOption subcommand name.Controller = subcommand ≡ codes "realize"
@@ -301,6 +305,7 @@ IsRequired name.Word options = ⊥
 IsRequired name.WordText options = Unit {0}
 IsRequired name.Status options = ⊥
 IsRequired name.With options = Unit {0}
+IsRequired name.Trim options = ⊥
 IsRequired name.In options = Unit {0}
 IsRequired name.To options = Unit {0}
 IsRequired name.Controller options = ⊥
@@ -329,6 +334,7 @@ StandsForNothing name.Word text = (flag : Bool) → IsTruthText text flag → �
 StandsForNothing name.WordText text = ⊥
 StandsForNothing name.Status text = (flag : Bool) → IsTruthText text flag → ⊥
 StandsForNothing name.With text = ⊥
+StandsForNothing name.Trim text = (flag : Bool) → IsTruthText text flag → ⊥
 StandsForNothing name.In text = ⊥
 StandsForNothing name.To text = ⊥
 StandsForNothing name.Controller text = (flag : Bool) → IsTruthText text flag → ⊥
@@ -362,6 +368,7 @@ pub record IsUnknownSubcommand (subcommand : List ℕ) : Type 0 where
   pub empty : subcommand ≢ codes "empty"
   pub game : subcommand ≢ codes "game"
   pub meet : subcommand ≢ codes "meet"
+  pub join : subcommand ≢ codes "join"
   pub accepts : subcommand ≢ codes "accepts"
   pub contained : subcommand ≢ codes "contained"
   pub equal : subcommand ≢ codes "equal"
@@ -385,6 +392,7 @@ IsUsed name.Word options = GivesFlag (text_of name.Word options) true
 IsUsed name.WordText options = text_of name.WordText options ≢ None
 IsUsed name.Status options = GivesFlag (text_of name.Status options) true
 IsUsed name.With options = text_of name.With options ≢ None
+IsUsed name.Trim options = GivesFlag (text_of name.Trim options) true
 IsUsed name.In options = text_of name.In options ≢ None
 IsUsed name.To options = text_of name.To options ≢ None
 IsUsed name.Controller options = GivesFlag (text_of name.Controller options) true

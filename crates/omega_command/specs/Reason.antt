@@ -57,6 +57,7 @@ IsReason name.Word text why = why ≡ reason.NoTruth
 IsReason name.WordText text why = ⊥
 IsReason name.Status text why = why ≡ reason.NoTruth
 IsReason name.With text why = ⊥
+IsReason name.Trim text why = why ≡ reason.NoTruth
 IsReason name.In text why = ⊥
 IsReason name.To text why = ⊥
 IsReason name.Controller text why = why ≡ reason.NoTruth

@@ -1,2 +1,4 @@
 -- What only private contracts cite.
+pub mod Flags
 pub mod Numbers
+pub mod Subcommands

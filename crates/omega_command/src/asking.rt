@@ -14,11 +14,8 @@ use crate::line::{Line, Source, Task};
 use crate::mistake::Mistake;
 use crate::options::{OptionName, Options};
 use crate::source::source_in;
-use crate::values::{
-    budget_in, depth_in, format_in, identifier_in, is_as_game, is_explained, is_lifting,
-    is_observed, is_search, is_verbose, is_with_controller, is_with_lasso, is_with_legend,
-    is_with_status, is_with_word, player_in,
-};
+use crate::subcommand::{Subcommand, subcommand_named};
+use crate::values::{budget_in, depth_in, format_in, identifier_in, is_set, other_in, player_in};
 use std::alloc::Global;
 
 /// Returns the line that `subcommand` requests with `options`, or what is wrong with them. Options that the subcommand
@@ -31,7 +28,7 @@ pub fn line_for<'a>(
     ensures asked { IfOk result (Asks subcommand.now options.now) }
     ensures mistaken { IfErr result (IsMistake subcommand.now options.now) }
 {
-    let verbose = is_verbose(options)?;
+    let verbose = is_set(OptionName::Verbose, options.verbose)?;
     match by_text(alloc, subcommand, options)? {
         Some((asked, file)) => Ok(Line::ByText {
             asked,
@@ -70,52 +67,27 @@ fn task_for<'a>(alloc: Global, subcommand: &str, options: &Options<'a>) -> Resul
     ensures asked { IfOk result (AsksFor subcommand.now options.now) }
     ensures mistaken { IfErr result (IsMistake subcommand.now options.now) }
 {
-    if subcommand == "show" {
-        return Ok(Task::Run(Command::Show(format_in(options)?), MOST_BUDGET));
+    let Some(known) = subcommand_named(subcommand) else {
+        return Err(Mistake::Unknown);
+    };
+    match known {
+        Subcommand::Show => Ok(Task::Run(Command::Show(format_in(options)?), MOST_BUDGET)),
+        Subcommand::Check => Ok(Task::Run(Command::Check(format_in(options)?), MOST_BUDGET)),
+        Subcommand::Canon => canonical_for(options),
+        Subcommand::Solve => solving_for(options),
+        Subcommand::Verify => verifying_for(alloc, options),
+        Subcommand::Empty => emptiness_for(options),
+        Subcommand::Game => Ok(Task::Run(Command::Game, MOST_BUDGET)),
+        Subcommand::Meet => meeting_for(alloc, options),
+        Subcommand::Join => joining_for(alloc, options),
+        Subcommand::Accepts => accepted_for(alloc, options),
+        Subcommand::Contained => contained_for(alloc, options),
+        Subcommand::Equal => equal_for(alloc, options),
+        Subcommand::Complement => Ok(Task::Run(Command::Complement, MOST_BUDGET)),
+        Subcommand::Trim => Ok(Task::Run(Command::Trim, MOST_BUDGET)),
+        Subcommand::Realize => realizing_for(options),
+        Subcommand::Draw => drawing_for(alloc, options),
     }
-    if subcommand == "check" {
-        return Ok(Task::Run(Command::Check(format_in(options)?), MOST_BUDGET));
-    }
-    if subcommand == "canon" {
-        return canonical_for(options);
-    }
-    if subcommand == "solve" {
-        return solving_for(options);
-    }
-    if subcommand == "verify" {
-        return verifying_for(alloc, options);
-    }
-    if subcommand == "empty" {
-        return emptiness_for(options);
-    }
-    if subcommand == "game" {
-        return Ok(Task::Run(Command::Game, MOST_BUDGET));
-    }
-    if subcommand == "meet" {
-        return meeting_for(alloc, options);
-    }
-    if subcommand == "accepts" {
-        return accepted_for(alloc, options);
-    }
-    if subcommand == "contained" {
-        return contained_for(alloc, options);
-    }
-    if subcommand == "equal" {
-        return equal_for(alloc, options);
-    }
-    if subcommand == "complement" {
-        return Ok(Task::Run(Command::Complement, MOST_BUDGET));
-    }
-    if subcommand == "trim" {
-        return Ok(Task::Run(Command::Trim, MOST_BUDGET));
-    }
-    if subcommand == "realize" {
-        return realizing_for(options);
-    }
-    if subcommand == "draw" {
-        return drawing_for(alloc, options);
-    }
-    Err(Mistake::Unknown)
 }
 
 /// Returns the command and the file whose text tells the format, or nothing if it is not left to a text. Or else
@@ -175,10 +147,10 @@ fn drawing_of_either<'a>(options: &Options<'a>) -> Result<Option<OfEither>, Mist
     ensures none { IfOk result (λ found. IfNone found (GoesWithEither either.Draw options.now → ⊥)) }
     ensures mistaken { IfErr result (IsMistake (codes "draw") options.now) }
 {
-    if is_with_legend(options)? {
+    if is_set(OptionName::Legend, options.legend)? {
         return Ok(None);
     }
-    if is_with_lasso(options)? {
+    if is_set(OptionName::Lasso, options.lasso)? {
         return Ok(None);
     }
     if options.solution.is_some() || options.from.is_some() || options.depth.is_some() {
@@ -208,7 +180,7 @@ fn verifying_for<'a>(alloc: Global, options: &Options<'a>) -> Result<Task, Mista
     ensures asked { IfOk result (AsksFor (codes "verify") options.now) }
     ensures mistaken { IfErr result (IsMistake (codes "verify") options.now) }
 {
-    let explain = is_explained(options)?;
+    let explain = is_set(OptionName::Explain, options.explain)?;
     if let Some(specification) = options.specification {
         return controller_verifying_for(alloc, options, specification, explain);
     }
@@ -278,8 +250,8 @@ fn solving_for<'a>(options: &Options<'a>) -> Result<Task, Mistake<'a>>
     let player = player_in(options)?;
     let from = identifier_in(options)?;
     let budget = budget_in(options)?;
-    let observed = is_observed(options)?;
-    if !is_search(options)? {
+    let observed = is_set(OptionName::Progress, options.progress)?;
+    if !is_set(OptionName::Search, options.search)? {
         let command = Command::Solve { player, from };
         return Ok(if observed {
             Task::Observed(command, budget)
@@ -303,11 +275,11 @@ fn emptiness_for<'a>(options: &Options<'a>) -> Result<Task, Mistake<'a>>
     ensures asked { IfOk result (AsksFor (codes "empty") options.now) }
     ensures mistaken { IfErr result (IsMistake (codes "empty") options.now) }
 {
-    let word = is_with_word(options)?;
-    let status = is_with_status(options)?;
+    let word = is_set(OptionName::Word, options.word)?;
+    let status = is_set(OptionName::Status, options.status)?;
     let budget = budget_in(options)?;
-    let observed = is_observed(options)?;
-    if !is_search(options)? {
+    let observed = is_set(OptionName::Progress, options.progress)?;
+    if !is_set(OptionName::Search, options.search)? {
         let command = Command::Empty { word, status };
         return Ok(if observed {
             Task::Observed(command, budget)
@@ -330,13 +302,27 @@ fn meeting_for<'a>(alloc: Global, options: &Options<'a>) -> Result<Task, Mistake
     ensures asked { IfOk result (AsksFor (codes "meet") options.now) }
     ensures mistaken { IfErr result (IsMistake (codes "meet") options.now) }
 {
-    let Some(name) = options.with else {
-        return Err(Mistake::Missing(OptionName::With));
-    };
+    let trim = is_set(OptionName::Trim, options.trim)?;
+    let name = other_in(options)?;
     match String::from_str(alloc, name) {
         Ok(file) => Ok(Task::Beside {
             file,
-            asked: Beside::Meet,
+            asked: Beside::Meet { trim },
+        }),
+        Err(_) => Err(Mistake::Memory),
+    }
+}
+
+/// Returns the task that `join` requests with `options`, or what is wrong with them.
+fn joining_for<'a>(alloc: Global, options: &Options<'a>) -> Result<Task, Mistake<'a>>
+    ensures asked { IfOk result (AsksFor (codes "join") options.now) }
+    ensures mistaken { IfErr result (IsMistake (codes "join") options.now) }
+{
+    let name = other_in(options)?;
+    match String::from_str(alloc, name) {
+        Ok(file) => Ok(Task::Beside {
+            file,
+            asked: Beside::Join,
         }),
         Err(_) => Err(Mistake::Memory),
     }
@@ -347,7 +333,7 @@ fn accepted_for<'a>(alloc: Global, options: &Options<'a>) -> Result<Task, Mistak
     ensures asked { IfOk result (AsksFor (codes "accepts") options.now) }
     ensures mistaken { IfErr result (IsMistake (codes "accepts") options.now) }
 {
-    let explain = is_explained(options)?;
+    let explain = is_set(OptionName::Explain, options.explain)?;
     let Some(word) = options.word_text else {
         return Err(Mistake::Missing(OptionName::WordText));
     };
@@ -365,7 +351,7 @@ fn contained_for<'a>(alloc: Global, options: &Options<'a>) -> Result<Task, Mista
     ensures asked { IfOk result (AsksFor (codes "contained") options.now) }
     ensures mistaken { IfErr result (IsMistake (codes "contained") options.now) }
 {
-    let explain = is_explained(options)?;
+    let explain = is_set(OptionName::Explain, options.explain)?;
     let Some(name) = options.within else {
         return Err(Mistake::Missing(OptionName::In));
     };
@@ -383,7 +369,7 @@ fn equal_for<'a>(alloc: Global, options: &Options<'a>) -> Result<Task, Mistake<'
     ensures asked { IfOk result (AsksFor (codes "equal") options.now) }
     ensures mistaken { IfErr result (IsMistake (codes "equal") options.now) }
 {
-    let explain = is_explained(options)?;
+    let explain = is_set(OptionName::Explain, options.explain)?;
     let Some(name) = options.to else {
         return Err(Mistake::Missing(OptionName::To));
     };
@@ -401,11 +387,12 @@ fn realizing_for<'a>(options: &Options<'a>) -> Result<Task, Mistake<'a>>
     ensures asked { IfOk result (AsksFor (codes "realize") options.now) }
     ensures mistaken { IfErr result (IsMistake (codes "realize") options.now) }
 {
-    let controller = is_with_controller(options)?;
-    let as_game = is_as_game(options)?;
+    let controller = is_set(OptionName::Controller, options.controller)?;
+    let as_game = is_set(OptionName::AsGame, options.as_game)?;
     let budget = budget_in(options)?;
-    let observed = is_observed(options)?;
-    if is_lifting(options)? {
+    let observed = is_set(OptionName::Progress, options.progress)?;
+    let lift = is_set(OptionName::Lift, options.lift)?;
+    if lift {
         if as_game {
             return Err(Mistake::Conflict(OptionName::Lift, OptionName::AsGame));
         }
@@ -446,7 +433,7 @@ fn game_drawing_for<'a>(alloc: Global, options: &Options<'a>) -> Result<Task, Mi
     ensures asked { IfOk result (AsksFor (codes "draw") options.now) }
     ensures mistaken { IfErr result (IsMistake (codes "draw") options.now) }
 {
-    if is_with_lasso(options)? {
+    if is_set(OptionName::Lasso, options.lasso)? {
         return Err(Mistake::OnlyWith(OptionName::Lasso, Format::Hoa));
     }
     let from = identifier_in(options)?;
@@ -454,7 +441,7 @@ fn game_drawing_for<'a>(alloc: Global, options: &Options<'a>) -> Result<Task, Mi
     if depth.is_some() && from.is_none() {
         return Err(Mistake::Missing(OptionName::From));
     }
-    let legend = is_with_legend(options)?;
+    let legend = is_set(OptionName::Legend, options.legend)?;
     let Some(name) = options.solution else {
         if legend {
             return Err(Mistake::Missing(OptionName::Solution));
@@ -486,7 +473,7 @@ fn automaton_drawing_for<'a>(options: &Options<'a>) -> Result<Task, Mistake<'a>>
     if options.solution.is_some() {
         return Err(Mistake::OnlyWith(OptionName::Solution, Format::Pg));
     }
-    if is_with_legend(options)? {
+    if is_set(OptionName::Legend, options.legend)? {
         return Err(Mistake::OnlyWith(OptionName::Legend, Format::Pg));
     }
     if options.from.is_some() {
@@ -495,7 +482,7 @@ fn automaton_drawing_for<'a>(options: &Options<'a>) -> Result<Task, Mistake<'a>>
     if options.depth.is_some() {
         return Err(Mistake::OnlyWith(OptionName::Depth, Format::Pg));
     }
-    if is_with_lasso(options)? {
+    if is_set(OptionName::Lasso, options.lasso)? {
         return Ok(Task::Run(Command::DrawLasso, MOST_BUDGET));
     }
     Ok(Task::Run(Command::Draw(Format::Hoa), MOST_BUDGET))

@@ -19,7 +19,12 @@ pub enum Beside {
         explain: bool,
     },
     /// Writes an automaton that accepts the words that both accept, the one of the input and the one of the file.
-    Meet,
+    Meet {
+        /// Whether useless states are left out.
+        trim: bool,
+    },
+    /// Writes an automaton that accepts the words that one of the two accepts, that of the input or that of the file.
+    Join,
     /// Says whether the automaton of the input accepts each word that the word of the other text admits.
     Accepts {
         /// Whether a `no` is explained.

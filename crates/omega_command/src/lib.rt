@@ -11,6 +11,7 @@ mod mistake;
 mod number;
 mod options;
 mod source;
+mod subcommand;
 mod values;
 
 pub use asking::line_for;

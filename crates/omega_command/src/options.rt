@@ -17,6 +17,7 @@ pub enum OptionName {
     WordText,
     Status,
     With,
+    Trim,
     In,
     To,
     Controller,
@@ -49,6 +50,7 @@ impl fmt::Display for OptionName {
             OptionName::WordText => "--word <WORD>",
             OptionName::Status => "--status",
             OptionName::With => "--with <FILE>",
+            OptionName::Trim => "--trim",
             OptionName::In => "--in <FILE>",
             OptionName::To => "--to <FILE>",
             OptionName::Controller => "--controller",
@@ -94,6 +96,8 @@ pub struct Options<'a> {
     pub status: Option<&'a str>,
     /// The name of the file of the other automaton.
     pub with: Option<&'a str>,
+    /// As `search`.
+    pub trim: Option<&'a str>,
     /// The name of the file of the automaton in whose words those of another are to be.
     pub within: Option<&'a str>,
     /// The name of the file of the automaton with which another is compared.

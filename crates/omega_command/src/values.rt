@@ -1,9 +1,10 @@
 //! The values of options.
-ghost use Rattle.std.specs.Prelude.{◌≡◌, Bool, Some, IfOk, IfErr, MatchOption};
+ghost use Rattle.std.specs.Prelude.{◌≡◌, Bool, Some, IfOk, IfErr, MatchOption, option_map};
 ghost use Rattle.omega_text.specs.Limits.{most_number};
 ghost use Rattle.omega_command.specs.CommandLine.{Gives, GivesBudget, GivesFlag, IsFaulty};
 ghost use Rattle.omega_command.specs.CommandLine.{IsFormatText, IsNumberText, IsPlayerText, IsTruthText, text_of};
 ghost use Rattle.omega_command.specs.declared.options.OptionName.TheVariants as name;
+ghost use Rattle.omega_command.specs.private.Flags.{IsNoTruth};
 
 use crate::command::Format;
 use crate::limits::MOST_BUDGET;
@@ -27,6 +28,17 @@ pub fn format_in<'a>(options: &Options<'a>) -> Result<Format, Mistake<'a>>
         Ok(Format::Hoa)
     } else {
         Err(Mistake::Value(OptionName::Format, text, Reason::NoFormat))
+    }
+}
+
+/// Returns the name of the file of the other automaton, which has to be given.
+pub fn other_in<'a>(options: &Options<'a>) -> Result<&'a str, Mistake<'a>>
+    ensures given { IfOk result (λ file. text_of name.With options.now ≡ Some file.now) }
+    ensures faulty { IfErr result (IsFaulty name.With options.now) }
+{
+    match options.with {
+        Some(file) => Ok(file),
+        None => Err(Mistake::Missing(OptionName::With)),
     }
 }
 
@@ -72,157 +84,17 @@ pub fn depth_in<'a>(options: &Options<'a>) -> Result<Option<u32>, Mistake<'a>>
     }
 }
 
-/// Whether the task is done by a search in place of lifting.
-pub fn is_search<'a>(options: &Options<'a>) -> Result<bool, Mistake<'a>>
-    ensures given { IfOk result (GivesFlag (text_of name.Search options.now)) }
-    ensures faulty { IfErr result (IsFaulty name.Search options.now) }
+/// Whether the flag `option`, which has this text if it is given, is set.
+pub fn is_set<'a>(option: OptionName, text: Option<&'a str>) -> Result<bool, Mistake<'a>>
+    ensures given { IfOk result (GivesFlag (option_map (λ text. text.now) text.entry)) }
+    ensures faulty { IfErr result (IsNoTruth option (option_map (λ text. text.now) text.entry)) }
 {
-    let Some(text) = options.search else {
+    let Some(text) = text else {
         return Ok(false);
     };
     match truth_in(text) {
         Some(flag) => Ok(flag),
-        None => Err(Mistake::Value(OptionName::Search, text, Reason::NoTruth)),
-    }
-}
-
-/// Whether a `no` is explained.
-pub fn is_explained<'a>(options: &Options<'a>) -> Result<bool, Mistake<'a>>
-    ensures given { IfOk result (GivesFlag (text_of name.Explain options.now)) }
-    ensures faulty { IfErr result (IsFaulty name.Explain options.now) }
-{
-    let Some(text) = options.explain else {
-        return Ok(false);
-    };
-    match truth_in(text) {
-        Some(flag) => Ok(flag),
-        None => Err(Mistake::Value(OptionName::Explain, text, Reason::NoTruth)),
-    }
-}
-
-/// Whether the word of a lasso is written too.
-pub fn is_with_word<'a>(options: &Options<'a>) -> Result<bool, Mistake<'a>>
-    ensures given { IfOk result (GivesFlag (text_of name.Word options.now)) }
-    ensures faulty { IfErr result (IsFaulty name.Word options.now) }
-{
-    let Some(text) = options.word else {
-        return Ok(false);
-    };
-    match truth_in(text) {
-        Some(flag) => Ok(flag),
-        None => Err(Mistake::Value(OptionName::Word, text, Reason::NoTruth)),
-    }
-}
-
-/// Whether the exit says whether something is accepted.
-pub fn is_with_status<'a>(options: &Options<'a>) -> Result<bool, Mistake<'a>>
-    ensures given { IfOk result (GivesFlag (text_of name.Status options.now)) }
-    ensures faulty { IfErr result (IsFaulty name.Status options.now) }
-{
-    let Some(text) = options.status else {
-        return Ok(false);
-    };
-    match truth_in(text) {
-        Some(flag) => Ok(flag),
-        None => Err(Mistake::Value(OptionName::Status, text, Reason::NoTruth)),
-    }
-}
-
-/// Whether the winner's automaton is written in place of a line.
-pub fn is_with_controller<'a>(options: &Options<'a>) -> Result<bool, Mistake<'a>>
-    ensures given { IfOk result (GivesFlag (text_of name.Controller options.now)) }
-    ensures faulty { IfErr result (IsFaulty name.Controller options.now) }
-{
-    let Some(text) = options.controller else {
-        return Ok(false);
-    };
-    match truth_in(text) {
-        Some(flag) => Ok(flag),
-        None => Err(Mistake::Value(OptionName::Controller, text, Reason::NoTruth)),
-    }
-}
-
-/// Whether the game is written in place of its answer.
-pub fn is_as_game<'a>(options: &Options<'a>) -> Result<bool, Mistake<'a>>
-    ensures given { IfOk result (GivesFlag (text_of name.AsGame options.now)) }
-    ensures faulty { IfErr result (IsFaulty name.AsGame options.now) }
-{
-    let Some(text) = options.as_game else {
-        return Ok(false);
-    };
-    match truth_in(text) {
-        Some(flag) => Ok(flag),
-        None => Err(Mistake::Value(OptionName::AsGame, text, Reason::NoTruth)),
-    }
-}
-
-/// Whether the task is done by lifting in place of a search.
-pub fn is_lifting<'a>(options: &Options<'a>) -> Result<bool, Mistake<'a>>
-    ensures given { IfOk result (GivesFlag (text_of name.Lift options.now)) }
-    ensures faulty { IfErr result (IsFaulty name.Lift options.now) }
-{
-    let Some(text) = options.lift else {
-        return Ok(false);
-    };
-    match truth_in(text) {
-        Some(flag) => Ok(flag),
-        None => Err(Mistake::Value(OptionName::Lift, text, Reason::NoTruth)),
-    }
-}
-
-/// Whether the drawing has a legend of its colours.
-pub fn is_with_legend<'a>(options: &Options<'a>) -> Result<bool, Mistake<'a>>
-    ensures given { IfOk result (GivesFlag (text_of name.Legend options.now)) }
-    ensures faulty { IfErr result (IsFaulty name.Legend options.now) }
-{
-    let Some(text) = options.legend else {
-        return Ok(false);
-    };
-    match truth_in(text) {
-        Some(flag) => Ok(flag),
-        None => Err(Mistake::Value(OptionName::Legend, text, Reason::NoTruth)),
-    }
-}
-
-/// Whether a lasso is drawn.
-pub fn is_with_lasso<'a>(options: &Options<'a>) -> Result<bool, Mistake<'a>>
-    ensures given { IfOk result (GivesFlag (text_of name.Lasso options.now)) }
-    ensures faulty { IfErr result (IsFaulty name.Lasso options.now) }
-{
-    let Some(text) = options.lasso else {
-        return Ok(false);
-    };
-    match truth_in(text) {
-        Some(flag) => Ok(flag),
-        None => Err(Mistake::Value(OptionName::Lasso, text, Reason::NoTruth)),
-    }
-}
-
-/// Whether progress is reported.
-pub(super) fn is_observed<'a>(options: &Options<'a>) -> Result<bool, Mistake<'a>>
-    ensures given { IfOk result (GivesFlag (text_of name.Progress options.now)) }
-    ensures faulty { IfErr result (IsFaulty name.Progress options.now) }
-{
-    let Some(text) = options.progress else {
-        return Ok(false);
-    };
-    match truth_in(text) {
-        Some(flag) => Ok(flag),
-        None => Err(Mistake::Value(OptionName::Progress, text, Reason::NoTruth)),
-    }
-}
-
-/// Whether a refusal is written with the text or the file that it is about.
-pub fn is_verbose<'a>(options: &Options<'a>) -> Result<bool, Mistake<'a>>
-    ensures given { IfOk result (GivesFlag (text_of name.Verbose options.now)) }
-    ensures faulty { IfErr result (IsFaulty name.Verbose options.now) }
-{
-    let Some(text) = options.verbose else {
-        return Ok(false);
-    };
-    match truth_in(text) {
-        Some(flag) => Ok(flag),
-        None => Err(Mistake::Value(OptionName::Verbose, text, Reason::NoTruth)),
+        None => Err(Mistake::Value(option, text, Reason::NoTruth)),
     }
 }
 

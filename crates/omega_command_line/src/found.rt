@@ -25,6 +25,7 @@ pub fn options_in<'a>(found: &ArgMatches<'a>) -> Options<'a>
         word_text: found.get_str("word-text"),
         status: found.get_str("status"),
         with: found.get_str("with"),
+        trim: found.get_str("trim"),
         within: found.get_str("in"),
         to: found.get_str("to"),
         controller: found.get_str("controller"),

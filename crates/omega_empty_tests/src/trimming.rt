@@ -1,7 +1,8 @@
-//! Automata and what is left of them, worked by hand.
+//! Automata and what is left of them, and of products, worked by hand.
 use crate::rows::assert_named;
+use omega_io::{Refused, Which};
 use omega_text::Refusal;
-use omega_trim_answers::trim_text;
+use omega_trim_answers::{meet_trimmed_texts, trim_text};
 use std::alloc::Global;
 
 // The answer for a text.
@@ -132,5 +133,75 @@ static REFUSED: [(&str, &str, u32); 3] = [
 fn refusals_are_by_the_table(rt: HostRuntime) {
     for (name, text, number) in &REFUSED {
         assert_named(&rt, name, number_of(rt.alloc(), text) == *number);
+    }
+}
+
+// Whether what is left of the product of two texts, the first one in front, is written so.
+fn meet(alloc: Global, first: &str, second: &str, wanted: &str) -> bool {
+    match meet_trimmed_texts(alloc, second.as_bytes(), first.as_bytes()) {
+        Ok(text) => text.as_slice() == wanted.as_bytes(),
+        Err(_) => false,
+    }
+}
+
+// The number of the refusal of two texts and the text that it is about, or none for an answer.
+fn refusal_of(alloc: Global, first: &str, second: &str) -> Option<(u32, Option<Which>)> {
+    match meet_trimmed_texts(alloc, second.as_bytes(), first.as_bytes()) {
+        Ok(_) => None,
+        Err(Refused { text, refusal }) => Some((refusal.number(), text)),
+    }
+}
+
+const OFTEN: &str =
+    "HOA: v1 States: 1 Start: 0 AP: 1 \"a\" acc-name: Buchi Acceptance: 1 Inf(0) --BODY-- State: 0 [0] 0 {0} [!0] 0 --END--";
+
+const ALWAYS_NOT: &str =
+    "HOA: v1 States: 1 Start: 0 AP: 1 \"a\" acc-name: Buchi Acceptance: 1 Inf(0) --BODY-- State: 0 [!0] 0 {0} --END--";
+
+static MET: [(&str, &str, &str, &str); 3] = [
+    (
+        "a pair in which no accepting lasso starts",
+        OFTEN,
+        "HOA: v1 States: 2 Start: 0 AP: 1 \"a\" acc-name: Buchi Acceptance: 1 Inf(0) --BODY-- State: 0 [0] 0 {0} [!0] 1 State: 1 [!0] 1 {0} --END--",
+        "HOA: v1\nStates: 1\nStart: 0\nAP: 1 \"a\"\nacc-name: generalized-Buchi 2\nAcceptance: 2 Inf(0)&Inf(1)\n--BODY--\nState: 0 \"0,0\"\n[0&0] 0 {0 1}\n--END--\n",
+    ),
+    (
+        "no pair left",
+        OFTEN,
+        ALWAYS_NOT,
+        "HOA: v1\nStates: 0\nAP: 1 \"a\"\nacc-name: generalized-Buchi 2\nAcceptance: 2 Inf(0)&Inf(1)\n--BODY--\n--END--\n",
+    ),
+    (
+        "the first in front",
+        ALWAYS_NOT,
+        "HOA: v1 States: 1 Start: 0 AP: 1 \"b\" acc-name: Buchi Acceptance: 1 Inf(0) --BODY-- State: 0 [0] 0 {0} --END--",
+        "HOA: v1\nStates: 1\nStart: 0\nAP: 2 \"a\" \"b\"\nacc-name: generalized-Buchi 2\nAcceptance: 2 Inf(0)&Inf(1)\n--BODY--\nState: 0 \"0,0\"\n[!0&1] 0 {0 1}\n--END--\n",
+    ),
+];
+
+#[test]
+fn products_lose_their_useless_states(rt: HostRuntime) {
+    for (name, first, second, wanted) in &MET {
+        assert_named(&rt, name, meet(rt.alloc(), first, second, wanted));
+    }
+}
+
+static UNMET: [(&str, &str, &str, u32, Option<Which>); 3] = [
+    ("file", "", "HOA: v1", 3, Some(Which::File)),
+    ("input", "", OFTEN, 3, Some(Which::Input)),
+    (
+        "branch",
+        OFTEN,
+        "HOA: v1 States: 2 Start: 0&1 AP: 0 Acceptance: 0 t --BODY-- State: 0 [t] 0 State: 1 [t] 1 --END--",
+        41,
+        None,
+    ),
+];
+
+#[test]
+fn products_are_refused(rt: HostRuntime) {
+    for (name, first, second, number, which) in &UNMET {
+        let refused = refusal_of(rt.alloc(), first, second);
+        assert_named(&rt, name, refused == Some((*number, *which)));
     }
 }

@@ -81,7 +81,10 @@ abbrev pub equal : Shape
 equal = with_options (codes "equal") (required (codes "to") ∷ flag (codes "explain") ∷ verbose ∷ operand (codes "file") ∷ [])
 
 abbrev pub meet : Shape
-meet = with_options (codes "meet") (required (codes "with") ∷ verbose ∷ operand (codes "file") ∷ [])
+meet = with_options (codes "meet") (required (codes "with") ∷ flag (codes "trim") ∷ verbose ∷ operand (codes "file") ∷ [])
+
+abbrev pub join : Shape
+join = with_options (codes "join") (required (codes "with") ∷ verbose ∷ operand (codes "file") ∷ [])
 
 abbrev pub complement : Shape
 complement = with_options (codes "complement") (verbose ∷ operand (codes "file") ∷ [])
@@ -107,5 +110,5 @@ draw =
 abbrev pub program : App
 program = record {
   top = record (new_shape (codes "omega")) { is_leaf = false; has_version = true; subcommand_required = true };
-  subs = show ∷ check ∷ canon ∷ solve ∷ verify ∷ empty ∷ game ∷ accepts ∷ contained ∷ equal ∷ meet ∷ complement ∷ trim ∷ realize ∷ draw ∷ [];
+  subs = show ∷ check ∷ canon ∷ solve ∷ verify ∷ empty ∷ game ∷ accepts ∷ contained ∷ equal ∷ meet ∷ join ∷ complement ∷ trim ∷ realize ∷ draw ∷ [];
 }

@@ -10,6 +10,7 @@ mod draw;
 mod empty;
 mod equal;
 mod game;
+mod join;
 mod meet;
 mod options;
 mod program;

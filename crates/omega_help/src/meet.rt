@@ -2,7 +2,7 @@ ghost use Rattle.std.specs.Prelude.{◌≡◌, IfOk};
 ghost use Rattle.omega_help.specs.Program.{meet};
 ghost use Rattle.clap.specs.Words.{shape_of};
 
-use crate::options::{FILE, OptionHelp, VERBOSE, WITH};
+use crate::options::{FILE, OptionHelp, VERBOSE, Value, WITH};
 use crate::subcommand::subcommand;
 use clap::Command;
 use std::alloc::{AllocError, Global};
@@ -22,7 +22,8 @@ a word exactly if both do.
   States: 2
   Start: 0
   AP: 2 \"request\" \"grant\"
-  Acceptance: 1 t&Inf(0)
+  acc-name: Buchi
+  Acceptance: 1 Inf(0)
   --BODY--
   State: 0 \"0,0\"
   [0&!1] 1 {0}
@@ -44,9 +45,30 @@ their order. Each is named by its two numbers. From a pair, an edge leads for ea
 and each edge of the other whose labels can hold together, and its label joins both by &. Edges without
 labels get those of their valuations, and labels and marks of states are moved to the edges that leave
 them. The acceptance formula joins both by &, with
-the sets of the other automaton after those of the one in FILE. If both are Buchi or generalized-Buchi,
-the product is named generalized-Buchi with all sets. Else it has no name, and `omega empty --search`
-decides it. What `tool:`, `name:` and `properties:` say is left out.
+the sets of the other automaton after those of the one in FILE. If each set of both has to recur, and
+they are at most 16, each set of the product has to, and it is named all, Buchi or generalized-Buchi.
+Else it has no name, and `omega empty --search` decides it. What `tool:`, `name:` and `properties:` say
+is left out.
+
+With --trim the product is written without the states that no accepting run needs, as `omega trim` writes
+it. The states that stay keep their names, and are numbered anew. The text of the whole product is not
+made, and may be over the limit that the next command of a pipe has.
+
+  $ echo 'HOA: v1 States: 2 Start: 0 AP: 1 \"grant\" acc-name: Buchi Acceptance: 1 Inf(0)
+    --BODY-- State: 0 [0] 0 {0} [!0] 1 State: 1 [t] 1 --END--' > always.hoa
+  $ omega meet --trim --with always.hoa system.hoa
+  HOA: v1
+  States: 2
+  Start: 0
+  AP: 2 \"request\" \"grant\"
+  acc-name: Buchi
+  Acceptance: 1 Inf(0)
+  --BODY--
+  State: 0 \"0,0\"
+  [0&1] 1 {0}
+  State: 1 \"1,0\"
+  [1&1] 0 {0}
+  --END--
 
 Faults of the other automaton's text come first, then those of the text in FILE; `omega check --help`
 lists them. A text with --ABORT--, with no automaton or with several is not one automaton, and is refused
@@ -60,14 +82,24 @@ or `omega: in the automaton`:
 Then, if a start or an edge of one of them lists several states joined by &, the refusal is
 41 UniversalBranch. It is 55 TooLarge if the product would have over 1048576 states or 8388608 edges, or
 would be over another limit of automata. 42 TooManyPropositions comes only where two labels together
-mention over 12 propositions, and 4194304 steps do not decide whether they can hold together. A file that
+mention over 12 propositions, and 4194304 steps do not decide whether they can hold together. With --trim
+the same two come of the product's own labels, as from `omega trim`, if they do not come before. A file that
 can't be read is refused as 61 Io, and with --verbose a second line has its name. Files are read before
 standard input.
 
 Exit status: 0 done, 1 a text or the task is refused, 2 the command line is wrong, 4 out of memory, 5 a
 read or a write failed.";
 
-const OPTIONS: &[OptionHelp] = &[WITH, VERBOSE, FILE];
+const OPTIONS: &[OptionHelp] = &[
+    WITH,
+    OptionHelp {
+        name: "trim",
+        value: Value::None,
+        help: "Leave out the states of the product that no accepting run needs",
+    },
+    VERBOSE,
+    FILE,
+];
 
 /// Returns the subcommand that writes an automaton of the words that two automata accept.
 pub fn meet_command<'a>(alloc: Global) -> Result<Command<'a>, AllocError>

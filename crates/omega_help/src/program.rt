@@ -13,6 +13,7 @@ use crate::draw::draw_command;
 use crate::empty::empty_command;
 use crate::equal::equal_command;
 use crate::game::game_command;
+use crate::join::join_command;
 use crate::meet::meet_command;
 use crate::realize::realize_command;
 use crate::show::show_command;
@@ -44,8 +45,8 @@ Here one state has two edges to itself: one where a holds, which is in set 0, an
 A word is accepted if its run takes the first edge again and again. `omega show`, `check` and `canon`
 read both formats, and --format says which, or of a file its first token. `omega empty`, `omega game`,
 `omega accepts`, `omega complement`, `omega trim` and `omega realize` read one automaton,
-`omega contained`, `omega equal` and `omega meet` read two, and `omega draw` draws one automaton or a
-game.
+`omega contained`, `omega equal`, `omega meet` and `omega join` read two, and `omega draw` draws one
+automaton or a game.
 
 A command reads the file that its last word names, as in `omega solve game.pg`. Without a name, or with
 -, it reads standard input. It writes its answer to standard output. If a text or the task is refused, a
@@ -89,6 +90,7 @@ enum Subcommand {
     Contained,
     Equal,
     Meet,
+    Join,
     Complement,
     Trim,
     Realize,
@@ -96,7 +98,7 @@ enum Subcommand {
 }
 
 /// The subcommands in the order in which help lists them.
-const SUBCOMMANDS: [Subcommand; 15] = [
+const SUBCOMMANDS: [Subcommand; 16] = [
     Subcommand::Show,
     Subcommand::Check,
     Subcommand::Canon,
@@ -108,6 +110,7 @@ const SUBCOMMANDS: [Subcommand; 15] = [
     Subcommand::Contained,
     Subcommand::Equal,
     Subcommand::Meet,
+    Subcommand::Join,
     Subcommand::Complement,
     Subcommand::Trim,
     Subcommand::Realize,
@@ -130,6 +133,7 @@ impl Subcommand {
             Subcommand::Contained => contained_command(alloc),
             Subcommand::Equal => equal_command(alloc),
             Subcommand::Meet => meet_command(alloc),
+            Subcommand::Join => join_command(alloc),
             Subcommand::Complement => complement_command(alloc),
             Subcommand::Trim => trim_command(alloc),
             Subcommand::Realize => realize_command(alloc),
@@ -169,6 +173,7 @@ fn subcommand_named(name: &str) -> Option<Subcommand> {
         "contained" => Some(Subcommand::Contained),
         "equal" => Some(Subcommand::Equal),
         "meet" => Some(Subcommand::Meet),
+        "join" => Some(Subcommand::Join),
         "complement" => Some(Subcommand::Complement),
         "trim" => Some(Subcommand::Trim),
         "realize" => Some(Subcommand::Realize),
@@ -210,8 +215,8 @@ fn without_subcommands<'a>(alloc: Global) -> Result<Command<'a>, AllocError>
     Command::new(alloc, "omega")
         .about(
             "Reads, checks, writes and draws parity games and omega-automata, solves games, says whether an \
-             automaton accepts anything, verifies such answers, compares what automata accept, forms products and \
-             complements of them, trims them, and finds controllers.",
+             automaton accepts anything, verifies such answers, compares what automata accept, forms products, unions \
+             and complements of them, trims them, and finds controllers.",
         )
         .version(VERSION)
         .after_help("`omega <COMMAND> --help` says more about a command.")

@@ -19,6 +19,10 @@ static FIRST: &str =
 static AT_LAST: &str =
     "HOA: v1 States: 2 Start: 0 AP: 1 \"a\" Acceptance: 1 Inf(0) --BODY-- State: 0 [t] 0 [0] 1 State: 1 {0} [0] 1 --END--";
 
+// From some point on only `a`, or else only `b`: not deterministic, over two propositions.
+static AT_LAST_ONE: &str =
+    "HOA: v1 States: 3 Start: 0 AP: 2 \"b\" \"a\" Acceptance: 1 Inf(0) --BODY-- State: 0 [t] 0 [1&!0] 1 [0&!1] 2 State: 1 {0} [1&!0] 1 State: 2 {0} [0&!1] 2 --END--";
+
 // The exit and the text of the answer, with an explanation.
 fn answer(alloc: Global, word: &str, text: &str) -> Result<(Exit, Vec<u8>), Refused> {
     let word = match Vec::from_slice(alloc, word.as_bytes()) {
@@ -40,8 +44,9 @@ fn is_answered(made: Result<(Exit, Vec<u8>), Refused>, want: bool) -> bool {
     }
 }
 
-// Words of letters that are full and that are not, and of letters that no valuation satisfies.
-static WORDS: [(&str, &str, bool); 16] = [
+// Words of letters that are full and that are not, and of letters that no valuation satisfies. Those for an automaton
+// that is not deterministic fix its propositions.
+static WORDS: [(&str, &str, bool); 26] = [
     ("cycle{a}", "often", true),
     ("cycle{!a}", "often", false),
     ("cycle{1}", "often", false),
@@ -58,6 +63,16 @@ static WORDS: [(&str, &str, bool); 16] = [
     ("1; cycle{a}", "first", false),
     ("cycle{a; !a}", "first", true),
     ("cycle{!a; a}", "first", false),
+    ("cycle{a}", "last", true),
+    ("cycle{!a; a}", "last", false),
+    ("!a; !a; cycle{a & b; a}", "last", true),
+    ("cycle{a & !a}", "last", true),
+    ("0; cycle{!a}", "last", true),
+    ("cycle{a & !b}", "one", true),
+    ("a & b; !a & !b; cycle{!(!b | a)}", "one", true),
+    ("cycle{(a | b) & !a; !b & a}", "one", false),
+    ("cycle{(a | b) & !a}", "one", true),
+    ("cycle{a & !b & c}", "one", true),
 ];
 
 // The automaton of a name.
@@ -66,6 +81,10 @@ fn automaton(name: &str) -> &'static str {
         OFTEN
     } else if name == "two" {
         OFTEN_OF_TWO
+    } else if name == "last" {
+        AT_LAST
+    } else if name == "one" {
+        AT_LAST_ONE
     } else {
         FIRST
     }
@@ -100,9 +119,21 @@ fn texts_are_refused(rt: HostRuntime) {
         1,
         refusal_of(alloc, "cycle{1}", "") == Some((3, Some(Which::Input))),
     );
-    assert_row(
-        &rt,
-        2,
-        refusal_of(alloc, "cycle{a}", AT_LAST) == Some((56, Some(Which::Input))),
-    );
+}
+
+// Letters that leave a proposition of an automaton with choices open.
+static OPEN: [(&str, &str); 5] = [
+    ("cycle{1}", "last"),
+    ("cycle{a; b}", "last"),
+    ("cycle{a}", "one"),
+    ("a & !b; cycle{a | !b}", "one"),
+    ("cycle{a & !b; c}", "one"),
+];
+
+#[test]
+fn open_letters_are_refused(rt: HostRuntime) {
+    for (row, (word, name)) in OPEN.iter().enumerate() {
+        let refused = refusal_of(rt.alloc(), word, automaton(name));
+        assert_row(&rt, row, refused == Some((56, Some(Which::Input))));
+    }
 }

@@ -1,15 +1,14 @@
 -- Runs over two texts: what one of the texts is refused for refuses the run.
-use Rattle.std.proofs.Common.{◌≡◌, ◌⊎◌, List, ℕ, Option, None, Some, false, Result, Ok, Err, IfErr, inl, inr, refl}
+use Rattle.std.proofs.Common.{◌≡◌, ◌⊎◌, List, ℕ, Option, None, Some, true, false, Result, Ok, Err, IfErr, inl, inr, refl}
 use Rattle.omega_text.specs.Cases.{or_io, or_memory}
 use Rattle.omega_text.specs.declared.refusal.Refusal.{Refusal}
 use Rattle.omega_text.specs.declared.refusal.Refusal.TheVariants.{Automaton, Game, Io, Memory, Task, Text}
 use Rattle.omega_command.specs.declared.beside.Beside.{Beside}
-use Rattle.omega_command.specs.declared.beside.Beside.TheVariants.{Accepts, Contained, DrawSolution, Equal, Meet, Verify, VerifyController, VerifyLasso}
+use Rattle.omega_command.specs.declared.beside.Beside.TheVariants.{Accepts, Contained, DrawSolution, Equal, Join, Meet, Verify, VerifyController, VerifyLasso}
 use Rattle.omega_io.specs.Failures.{IsTransferRefusal, failures_in, failures_of}
 use Rattle.omega_io.specs.Reading.{IsRead, ReadsText}
-use Rattle.omega_accepts.specs.Refusing.{IsMembershipRefusal, oversized, not_contained as not_within}
+use Rattle.omega_accepts.proofs.Refused.{membership_io}
 use Rattle.omega_accepts_answers.specs.Accepts as accepts
-use Rattle.omega_symbolic_word.specs.declared.symbolic_word.SymbolicWord.{SymbolicWord}
 use Rattle.omega_containment.specs.Refusing.{IsContainmentRefusal, not_complemented, not_met, not_searched}
 use Rattle.omega_containment_answers.specs.Contained as contained
 use Rattle.omega_containment_answers.specs.Equal as equal
@@ -72,7 +71,9 @@ module _ (file : List ℕ) (before after : Option (List ℕ)) where
   file_refuses (VerifyLasso explain) refusal h = record { text = h.text; read = h.read; holds = inl h.holds }
   file_refuses (VerifyController explain) refusal h = record { text = h.text; read = h.read; holds = inl h.holds }
   file_refuses (Accepts explain) refusal h = record { text = h.text; read = h.read; holds = inl h.holds }
-  file_refuses Meet refusal h = record { text = h.text; read = h.read; holds = inl (inl h.holds) }
+  file_refuses (Meet false) refusal h = record { text = h.text; read = h.read; holds = inl (inl h.holds) }
+  file_refuses (Meet true) refusal h = record { text = h.text; read = h.read; holds = inl (inl h.holds) }
+  file_refuses Join refusal h = record { text = h.text; read = h.read; holds = inl (inl h.holds) }
   file_refuses (Contained explain) refusal h = record { text = h.text; read = h.read; holds = contained_file file h.text refusal h.holds }
   file_refuses (Equal explain) refusal h = record { text = h.text; read = h.read; holds = equal_file file h.text refusal h.holds }
   file_refuses (DrawSolution from depth legend) refusal h = record { text = h.text; read = h.read; holds = inr h.holds }
@@ -84,7 +85,9 @@ module _ (file : List ℕ) (before after : Option (List ℕ)) where
   input_refuses (VerifyLasso explain) refusal h = record { text = h.text; read = h.read; holds = inr h.holds }
   input_refuses (VerifyController explain) refusal h = record { text = h.text; read = h.read; holds = inr (inl h.holds) }
   input_refuses (Accepts explain) refusal h = record { text = h.text; read = h.read; holds = accepts_input file h.text refusal h.holds }
-  input_refuses Meet refusal h = record { text = h.text; read = h.read; holds = inl (inr h.holds) }
+  input_refuses (Meet false) refusal h = record { text = h.text; read = h.read; holds = inl (inr h.holds) }
+  input_refuses (Meet true) refusal h = record { text = h.text; read = h.read; holds = inl (inr h.holds) }
+  input_refuses Join refusal h = record { text = h.text; read = h.read; holds = inl (inr h.holds) }
   input_refuses (Contained explain) refusal h = record { text = h.text; read = h.read; holds = inr (inl h.holds) }
   input_refuses (Equal explain) refusal h = record { text = h.text; read = h.read; holds = equal_input file h.text refusal h.holds }
   input_refuses (DrawSolution from depth legend) refusal h = record { text = h.text; read = h.read; holds = inl h.holds }
@@ -96,7 +99,9 @@ module _ (file : List ℕ) (before after : Option (List ℕ)) where
   both_refuse (VerifyLasso explain) refusal h = absurd h.holds
   both_refuse (VerifyController explain) refusal h = record { text = h.text; read = h.read; holds = inr (inr h.holds) }
   both_refuse (Accepts explain) refusal h = record { text = h.text; read = h.read; holds = inr (inr h.holds.0) }
-  both_refuse Meet refusal h = record { text = h.text; read = h.read; holds = inr h.holds }
+  both_refuse (Meet false) refusal h = record { text = h.text; read = h.read; holds = inr h.holds }
+  both_refuse (Meet true) refusal h = record { text = h.text; read = h.read; holds = inr h.holds }
+  both_refuse Join refusal h = record { text = h.text; read = h.read; holds = inr h.holds }
   both_refuse (Contained explain) refusal h = record { text = h.text; read = h.read; holds = inr (inr h.holds.0) }
   both_refuse (Equal explain) refusal h = record { text = h.text; read = h.read; holds = equal_both file h.text refusal h.holds }
   both_refuse (DrawSolution from depth legend) refusal h = absurd h.holds
@@ -161,10 +166,6 @@ choice_io : contained.IsChoice Io → ⊥
 choice_io (state, is) = cc
 
 -- nor is membership
-membership_io : (word : SymbolicWord) (a : Description) → IsMembershipRefusal word a Io → ⊥
-membership_io word a (oversized large) = large
-membership_io word a (not_within one is refused) = containment_io one a refused
-
 member_io : (word input : List ℕ) → accepts.IsPairRefused word input Io → ⊥
 member_io word input pair = membership_io pair.symbolic pair.automaton pair.refused
 
@@ -187,7 +188,10 @@ io_about (Verify from explain) file input None (inr h) = h
 io_about (VerifyLasso explain) file input None (inr h) = h
 io_about (VerifyController explain) file input None (inr h) = judged_io file input None h
 io_about (Accepts explain) file input None (inr h) = member_io file input h.0
-io_about Meet file input None (inr h) = h.refused
+io_about (Meet false) file input None (inr h) = h.refused
+io_about (Meet true) file input None (inr (inl h)) = h.refused
+io_about (Meet true) file input None (inr (inr h)) = h.refused
+io_about Join file input None (inr h) = h.refused
 io_about (Contained explain) file input None (inr h) = pair_io file input h.0
 io_about (Equal explain) file input None (inr (inl pair, other)) = pair_io file input pair
 io_about (Equal explain) file input None (inr (inr pair, other)) = pair_io input file pair
@@ -200,7 +204,8 @@ io_about (VerifyLasso explain) file input (Some File) (inr h) = h.refused
 io_about (VerifyController explain) file input (Some File) (inl text) = automaton_io file text
 io_about (VerifyController explain) file input (Some File) (inr pair) = judged_io file input (Some File) pair
 io_about (Accepts explain) file input (Some File) h = h
-io_about Meet file input (Some File) h = automaton_io file h
+io_about (Meet trim) file input (Some File) h = automaton_io file h
+io_about Join file input (Some File) h = automaton_io file h
 io_about (Contained explain) file input (Some File) (inl text) = automaton_io file text
 io_about (Contained explain) file input (Some File) (inr (pair, choice)) = pair_io file input pair
 io_about (Equal explain) file input (Some File) (inl text) = automaton_io file text
@@ -212,7 +217,8 @@ io_about (VerifyController explain) file input (Some Input) (inl text) = automat
 io_about (VerifyController explain) file input (Some Input) (inr pair) = judged_io file input (Some Input) pair
 io_about (Accepts explain) file input (Some Input) (inl text) = automaton_io input text.refused
 io_about (Accepts explain) file input (Some Input) (inr (pair, choice)) = member_io file input pair
-io_about Meet file input (Some Input) h = automaton_io input h.refused
+io_about (Meet trim) file input (Some Input) h = automaton_io input h.refused
+io_about Join file input (Some Input) h = automaton_io input h.refused
 io_about (Contained explain) file input (Some Input) h = automaton_io input h.refused
 io_about (Equal explain) file input (Some Input) (inl text) = automaton_io input text.refused
 io_about (Equal explain) file input (Some Input) (inr (pair, choice)) = pair_io input file pair

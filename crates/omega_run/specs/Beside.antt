@@ -4,7 +4,7 @@ use Rattle.std.specs.Prelude.{◌≡◌, ◌⊎◌, Bool, true, false, List, Opt
 use Rattle.omega_text.specs.declared.refusal.Refusal.{Refusal}
 use Rattle.omega_game_answers.specs.Verify.{IsJudgedGameRefusal, RefusesSolution}
 use Rattle.omega_command.specs.declared.beside.Beside.{Beside}
-use Rattle.omega_command.specs.declared.beside.Beside.TheVariants.{Accepts, Contained, DrawSolution, Equal, Meet, Verify, VerifyController, VerifyLasso}
+use Rattle.omega_command.specs.declared.beside.Beside.TheVariants.{Accepts, Contained, DrawSolution, Equal, Join, Meet, Verify, VerifyController, VerifyLasso}
 use Rattle.omega_accepts_answers.specs.Accepts as accepts
 use Rattle.omega_containment_answers.specs.Contained as contained
 use Rattle.omega_containment_answers.specs.Equal as equal
@@ -13,6 +13,8 @@ use Rattle.omega_hoa.specs.Alone.{IsAutomatonRefusal}
 use Rattle.omega_io.specs.declared.exit.Exit.{Exit}
 use Rattle.omega_language_answers.specs.Verify.{RefusesAutomaton, RefusesLasso}
 use Rattle.omega_language_answers.specs.Meet.{IsProductRefused, IsTextRefused}
+use Rattle.omega_trim_answers.specs.Meet.{IsTrimRefused}
+use Rattle.omega_union_answers.specs.Join.{IsUnionRefused}
 use Rattle.omega_io.specs.declared.refused.Which.{Which}
 use Rattle.omega_io.specs.declared.refused.Which.TheVariants.{File, Input}
 use Rattle.omega_io.specs.Failures.{IsTransferRefusal}
@@ -36,8 +38,10 @@ name_of (VerifyController explain) File = codes "specification"
 name_of (VerifyController explain) Input = codes "controller"
 name_of (Accepts explain) File = codes "word"
 name_of (Accepts explain) Input = codes "automaton"
-name_of Meet File = codes "other automaton"
-name_of Meet Input = codes "automaton"
+name_of (Meet trim) File = codes "other automaton"
+name_of (Meet trim) Input = codes "automaton"
+name_of Join File = codes "other automaton"
+name_of Join Input = codes "automaton"
 name_of (Contained explain) File = codes "other automaton"
 name_of (Contained explain) Input = codes "automaton"
 name_of (Equal explain) File = codes "other automaton"
@@ -51,7 +55,8 @@ RefusesFile (Verify from explain) file input refusal = IsJudgedGameRefusal file 
 RefusesFile (VerifyLasso explain) file input refusal = RefusesAutomaton file input refusal
 RefusesFile (VerifyController explain) file input refusal = controller.IsFileRefusal file input refusal
 RefusesFile (Accepts explain) file input refusal = IsWordRefusal file refusal
-RefusesFile Meet file input refusal = IsAutomatonRefusal file refusal
+RefusesFile (Meet trim) file input refusal = IsAutomatonRefusal file refusal
+RefusesFile Join file input refusal = IsAutomatonRefusal file refusal
 RefusesFile (Contained explain) file input refusal = contained.IsFileRefusal file input refusal
 RefusesFile (Equal explain) file input refusal = equal.IsFileRefusal file input refusal
 RefusesFile (DrawSolution from depth legend) file input refusal = RefusesSolution input from file refusal
@@ -62,7 +67,8 @@ RefusesInput (Verify from explain) file input refusal = RefusesSolution file fro
 RefusesInput (VerifyLasso explain) file input refusal = RefusesLasso file input refusal
 RefusesInput (VerifyController explain) file input refusal = controller.IsInputRefusal file input refusal
 RefusesInput (Accepts explain) file input refusal = accepts.IsInputRefusal file input refusal
-RefusesInput Meet file input refusal = IsTextRefused file input refusal
+RefusesInput (Meet trim) file input refusal = IsTextRefused file input refusal
+RefusesInput Join file input refusal = IsTextRefused file input refusal
 RefusesInput (Contained explain) file input refusal = IsTextRefused file input refusal
 RefusesInput (Equal explain) file input refusal = equal.IsInputRefusal file input refusal
 RefusesInput (DrawSolution from depth legend) file input refusal = IsJudgedGameRefusal input from refusal
@@ -73,7 +79,9 @@ RefusesBoth (Verify from explain) file input refusal = ⊥
 RefusesBoth (VerifyLasso explain) file input refusal = ⊥
 RefusesBoth (VerifyController explain) file input refusal = controller.IsPairRefused file input None refusal
 RefusesBoth (Accepts explain) file input refusal = accepts.IsPairRefused file input refusal × ¬ contained.IsChoice refusal
-RefusesBoth Meet file input refusal = IsProductRefused file input refusal
+RefusesBoth (Meet false) file input refusal = IsProductRefused file input refusal
+RefusesBoth (Meet true) file input refusal = IsProductRefused file input refusal ⊎ IsTrimRefused file input refusal
+RefusesBoth Join file input refusal = IsUnionRefused file input refusal
 RefusesBoth (Contained explain) file input refusal = contained.IsPairRefused file input refusal × ¬ contained.IsChoice refusal
 RefusesBoth (Equal explain) file input refusal =
     (contained.IsPairRefused file input refusal ⊎ contained.IsPairRefused input file refusal) × ¬ contained.IsChoice refusal

@@ -5,7 +5,7 @@ use Rattle.omega_text.specs.declared.refusal.Refusal.{Refusal}
 use Rattle.omega_pg.specs.game.Refusing.{IsRefusal}
 use Rattle.omega_parity_game.specs.declared.player.Player.{Player}
 use Rattle.omega_command.specs.declared.beside.Beside.{Beside}
-use Rattle.omega_command.specs.declared.beside.Beside.TheVariants.{Accepts, Contained, DrawSolution, Equal, Meet, Verify, VerifyController, VerifyLasso}
+use Rattle.omega_command.specs.declared.beside.Beside.TheVariants.{Accepts, Contained, DrawSolution, Equal, Join, Meet, Verify, VerifyController, VerifyLasso}
 use Rattle.omega_command.specs.declared.command.Command.{Command}
 use Rattle.omega_command.specs.declared.command.Command.TheVariants.{Canon, CanonPart, Check, Complement, Draw, DrawLasso, DrawPart, Empty, EmptySearch, Game, RealizabilityGame, Realize, RealizeByLifting, Search, Show, Solve, Trim}
 use Rattle.omega_command.specs.declared.command.Format.TheVariants.{Hoa, Pg}
@@ -45,7 +45,9 @@ use Rattle.omega_hoa.specs.Stream.{IsStreamRefusal}
 use Rattle.omega_io.specs.Reading.{ReadsText, ReadsWhole}
 use Rattle.omega_language_answers.specs.Verify.{IsLassoAnswer, IsLassoAnswerRefusal}
 use Rattle.omega_language_answers.specs.Meet.{IsMeetAnswer, IsMeetRefusal, IsTextRefused}
+use Rattle.omega_trim_answers.specs.Meet.{IsMeetTrimmedAnswer, IsMeetTrimmedRefusal}
 use Rattle.omega_trim_answers.specs.Trim.{IsTrimAnswer, IsTrimAnswerRefusal}
+use Rattle.omega_union_answers.specs.Join.{IsJoinAnswer, IsJoinRefusal}
 
 -- for which players a game is solved: for one, or for both if none is named
 abbrev pub asked_for : Option Player → Asked
@@ -134,7 +136,9 @@ AnswersBeside (VerifyLasso explain) file input = Concludes (IsLassoAnswer file i
 AnswersBeside (VerifyController explain) file input =
     Concludes (controller.IsControllerAnswer file input explain) (IsControllerRefusal file input)
 AnswersBeside (Accepts explain) word input = Concludes (accepts.IsAcceptsAnswer word input explain) (IsAcceptsRefusal word input)
-AnswersBeside Meet file input = Replies (IsMeetAnswer file input) (IsMeetRefusal file input)
+AnswersBeside (Meet false) file input = Replies (IsMeetAnswer file input) (IsMeetRefusal file input)
+AnswersBeside (Meet true) file input = Replies (IsMeetTrimmedAnswer file input) (IsMeetTrimmedRefusal file input)
+AnswersBeside Join file input = Replies (IsJoinAnswer file input) (IsJoinRefusal file input)
 AnswersBeside (Contained explain) file input = Concludes (IsContainedAnswer file input explain) (IsContainedRefusal file input)
 AnswersBeside (Equal explain) file input = Concludes (IsEqualAnswer file input explain) (IsEqualRefusal file input)
 AnswersBeside (DrawSolution from depth legend) file input =

@@ -19,6 +19,8 @@ use omega_controller_answers::verify_controller;
 use omega_game_answers::{draw_solution_text, verify_solution};
 use omega_io::{Exit, Input, InputFiles, Output, Refused, read_all, write_text};
 use omega_language_answers::{meet_texts, verify_lasso};
+use omega_trim_answers::meet_trimmed_texts;
+use omega_union_answers::join_texts;
 use std::alloc::Global;
 
 /// Reads the file of this name and then the input, writes the answer to both, or the lines of a refusal, and returns
@@ -136,7 +138,19 @@ fn answer_texts(
         Beside::VerifyLasso { explain } => verify_lasso(alloc, file, input, explain),
         Beside::VerifyController { explain } => verify_controller(alloc, file, input, explain),
         Beside::Accepts { explain } => accepts_text(alloc, file, input, explain),
-        Beside::Meet => match meet_texts(alloc, file.as_slice(), input.as_slice()) {
+        Beside::Meet { trim: false } => {
+            match meet_texts(alloc, file.as_slice(), input.as_slice()) {
+                Ok(made) => Ok((Exit::Done, made)),
+                Err(refused) => Err(refused),
+            }
+        }
+        Beside::Meet { trim: true } => {
+            match meet_trimmed_texts(alloc, file.as_slice(), input.as_slice()) {
+                Ok(made) => Ok((Exit::Done, made)),
+                Err(refused) => Err(refused),
+            }
+        }
+        Beside::Join => match join_texts(alloc, file.as_slice(), input.as_slice()) {
             Ok(made) => Ok((Exit::Done, made)),
             Err(refused) => Err(refused),
         },

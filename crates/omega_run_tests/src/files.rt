@@ -41,7 +41,8 @@ HOA: v1
 States: 2
 Start: 0
 AP: 1 \"a\"
-Acceptance: 0 t&t
+acc-name: all
+Acceptance: 0 t
 --BODY--
 State: 0 \"0,0\"
 [0&0] 1

@@ -72,7 +72,7 @@ static ASKED: [(&str, &str); 39] = [
     ),
     (
         "omega meet --verbose --with g h",
-        "Do { task: Beside { file: \"g\", asked: Meet }, source: File(\"h\"), verbose: true }",
+        "Do { task: Beside { file: \"g\", asked: Meet { trim: false } }, source: File(\"h\"), verbose: true }",
     ),
     (
         "omega complement",

@@ -12,12 +12,12 @@ returns-then-is_some-clause-mistaken c = inr (elim c.then-is_some.branch [
     one = name.Budget;
     needed = (refl, refl);
     one_used = some_read _ c.args.options.now.budget (sym w.if-is_some.ensures);
-    missing = unset (text_of name.Lift c.args.options.now) (rw c.if-branch.false at c.in_ok-is_lifting.ensures.given);
+    missing = unset (text_of name.Lift c.args.options.now) (rw c.if-lift.false at c.in_ok-lift.ensures.given);
   }
   | then-is_some-via-else-is_some+then-observed-2 w ↦ record {
     one = name.Progress;
     needed = (refl, refl);
     one_used = rw w.if-observed-2.true at c.in_ok-observed.ensures.given;
-    missing = unset (text_of name.Lift c.args.options.now) (rw c.if-branch.false at c.in_ok-is_lifting.ensures.given);
+    missing = unset (text_of name.Lift c.args.options.now) (rw c.if-lift.false at c.in_ok-lift.ensures.given);
   }
 ])

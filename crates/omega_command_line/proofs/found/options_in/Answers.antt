@@ -3,7 +3,7 @@ use Rattle.std.proofs.Common.{◌∙◌}
 use Rattle.clap.proofs.WalkLemmas.{first_value-rows}
 use Rattle.clap.specs.Words.{found_of}
 use Rattle.omega_command_line.specs.Found.{id_of}
-use Rattle.omega_command.specs.declared.options.OptionName.TheVariants.{AsGame, Automaton, Budget, Controller, Depth, Explain, File, Format, From, Game, In, Lasso, Legend, Lift, Player, Progress, Search, Solution, Specification, Status, To, Verbose, With, Word, WordText}
+use Rattle.omega_command.specs.declared.options.OptionName.TheVariants.{AsGame, Automaton, Budget, Controller, Depth, Explain, File, Format, From, Game, In, Lasso, Legend, Lift, Player, Progress, Search, Solution, Specification, Status, To, Trim, Verbose, With, Word, WordText}
 use Rattle.omega_command_line.proofs.found.options_in.Goals as goal
 
 pub returns : goal.returns
@@ -20,15 +20,16 @@ returns c Word = c.get_str-10.ensures ∙ first_value-rows (found_of c.args.foun
 returns c WordText = c.get_str-11.ensures ∙ first_value-rows (found_of c.args.found.now) (id_of WordText)
 returns c Status = c.get_str-12.ensures ∙ first_value-rows (found_of c.args.found.now) (id_of Status)
 returns c With = c.get_str-13.ensures ∙ first_value-rows (found_of c.args.found.now) (id_of With)
-returns c In = c.get_str-14.ensures ∙ first_value-rows (found_of c.args.found.now) (id_of In)
-returns c To = c.get_str-15.ensures ∙ first_value-rows (found_of c.args.found.now) (id_of To)
-returns c Controller = c.get_str-16.ensures ∙ first_value-rows (found_of c.args.found.now) (id_of Controller)
-returns c AsGame = c.get_str-17.ensures ∙ first_value-rows (found_of c.args.found.now) (id_of AsGame)
-returns c Lift = c.get_str-18.ensures ∙ first_value-rows (found_of c.args.found.now) (id_of Lift)
-returns c Solution = c.get_str-19.ensures ∙ first_value-rows (found_of c.args.found.now) (id_of Solution)
-returns c Legend = c.get_str-20.ensures ∙ first_value-rows (found_of c.args.found.now) (id_of Legend)
-returns c Lasso = c.get_str-21.ensures ∙ first_value-rows (found_of c.args.found.now) (id_of Lasso)
-returns c Depth = c.get_str-22.ensures ∙ first_value-rows (found_of c.args.found.now) (id_of Depth)
-returns c Progress = c.get_str-23.ensures ∙ first_value-rows (found_of c.args.found.now) (id_of Progress)
-returns c Verbose = c.get_str-24.ensures ∙ first_value-rows (found_of c.args.found.now) (id_of Verbose)
-returns c File = c.get_str-25.ensures ∙ first_value-rows (found_of c.args.found.now) (id_of File)
+returns c Trim = c.get_str-14.ensures ∙ first_value-rows (found_of c.args.found.now) (id_of Trim)
+returns c In = c.get_str-15.ensures ∙ first_value-rows (found_of c.args.found.now) (id_of In)
+returns c To = c.get_str-16.ensures ∙ first_value-rows (found_of c.args.found.now) (id_of To)
+returns c Controller = c.get_str-17.ensures ∙ first_value-rows (found_of c.args.found.now) (id_of Controller)
+returns c AsGame = c.get_str-18.ensures ∙ first_value-rows (found_of c.args.found.now) (id_of AsGame)
+returns c Lift = c.get_str-19.ensures ∙ first_value-rows (found_of c.args.found.now) (id_of Lift)
+returns c Solution = c.get_str-20.ensures ∙ first_value-rows (found_of c.args.found.now) (id_of Solution)
+returns c Legend = c.get_str-21.ensures ∙ first_value-rows (found_of c.args.found.now) (id_of Legend)
+returns c Lasso = c.get_str-22.ensures ∙ first_value-rows (found_of c.args.found.now) (id_of Lasso)
+returns c Depth = c.get_str-23.ensures ∙ first_value-rows (found_of c.args.found.now) (id_of Depth)
+returns c Progress = c.get_str-24.ensures ∙ first_value-rows (found_of c.args.found.now) (id_of Progress)
+returns c Verbose = c.get_str-25.ensures ∙ first_value-rows (found_of c.args.found.now) (id_of Verbose)
+returns c File = c.get_str-26.ensures ∙ first_value-rows (found_of c.args.found.now) (id_of File)

@@ -2,7 +2,7 @@
 use Rattle.std.specs.Prelude.{List, [], ◌∷◌, true, codes}
 use Rattle.clap.specs.Simple.{new_shape}
 use Rattle.clap.specs.Words.{App, Rule, Shape, Text, with_rule, with_subcommand}
-use Rattle.omega_help.specs.Program.{accepts, canon, check, complement, contained, draw, empty, equal, flag, game, lettered, meet, named, operand, optional, realize, required, required_as, show, solve, trim, verify}
+use Rattle.omega_help.specs.Program.{accepts, canon, check, complement, contained, draw, empty, equal, flag, game, join, lettered, meet, named, operand, optional, realize, required, required_as, show, solve, trim, verify}
 use Rattle.omega_help.specs.declared.options.OptionHelp.{OptionHelp}
 use Rattle.omega_help.specs.declared.options.Value.{Value}
 use Rattle.omega_help.specs.declared.options.Value.TheVariants as value
@@ -36,6 +36,7 @@ shape_for subcommand.Accepts = accepts
 shape_for subcommand.Contained = contained
 shape_for subcommand.Equal = equal
 shape_for subcommand.Meet = meet
+shape_for subcommand.Join = join
 shape_for subcommand.Complement = complement
 shape_for subcommand.Trim = trim
 shape_for subcommand.Realize = realize
