@@ -200,7 +200,7 @@ def specification(states: int, inputs: int = 4, outputs: int = 4, edges: int = 4
     """A deterministic parity automaton over propositions of the environment and of the system. The label of an edge
     is a disjunction of so many cubes, and its mark is drawn."""
     draw = random.Random(seed)
-    rows = []
+    rows: list[State] = []
     for _ in range(states):
         leaves = paths(draw, inputs + outputs, edges * cubes)
         rows.append(([], [(" | ".join(leaves[at * cubes:(at + 1) * cubes]), draw.randrange(states),

@@ -61,7 +61,9 @@ RUNS: list[Run] = [
     *((["verify", "--explain", "--automaton"], text, TWO_SETS)
       for text in (b"stem cycle 1 2 0", b"stem 0 cycle 2", b"stem")),
     *((["meet", "--with"], BUCHI, text) for text in (BUCHI, TWO_SETS, WRITTEN, b"HOA: v1")),
+    *((["meet", "--trim", "--with"], BUCHI, text) for text in (BUCHI, TWO_SETS)),
     (["meet", "-v", "--with"], BUCHI, b"HOA: v1"),
+    *((["join", "--with"], BUCHI, text) for text in (BUCHI, TWO_SETS, WRITTEN, b"HOA: v1")),
     *((["accepts", *more, "--word", word], b"", text) for text in (BUCHI, OFTEN)
       for more in (NONE, ["--explain"]) for word in ("cycle{a}", '"b c" & !a; cycle{1; a}', "cycle{a")),
     (["accepts", "-v", "--word", "a;"], BUCHI, None),

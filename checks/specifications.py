@@ -153,7 +153,7 @@ class Specifications(Maker):
             if not open_ones:
                 break
             cube = self.random.choice(open_ones)
-            free = [number + 1 for number in range(self.propositions) if number + 1 not in map(abs, cube)]
+            free = [number + 1 for number in range(self.propositions) if number + 1 not in {abs(literal) for literal in cube}]
             number = self.random.choice(free)
             cubes.remove(cube)
             cubes += [[*cube, number], [*cube, -number]]

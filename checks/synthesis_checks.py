@@ -14,8 +14,9 @@ import re
 from functools import partial
 
 from automata import Refused, read_one
-from comparing_checks import beside, explained_fault, told
+from comparing_checks import explained_fault, told
 from games import read_game, winners
+from product_checks import beside
 from program import Cases, Fault, Ran, run_of, shown
 from realizability import Parted, asked, game_fault, is_controller, is_realizable, judgeable, lack_fault, lacks, parted
 from realizability import winner_fault, winner_text
@@ -155,7 +156,8 @@ def winner_of_all(asked_of: Parted) -> bytes:
 
 
 def own_fault(text: bytes, controller: bytes) -> Fault:
-    for words in ([], ["--explain"]):
+    ways: list[list[str]] = [[], ["--explain"]]
+    for words in ways:
         ran = beside(["verify", *words, "--specification"], text, controller)
         if answer_of(ran) != YES:
             return f"{told(ran)}, of {controller!r}"
@@ -214,10 +216,11 @@ def refusal_fault(words: list[str], held: bytes | None, text: bytes, lines: list
 
 def refusal_checks() -> Cases:
     """Each fault, and each two: the first is refused."""
+    ways: list[list[str]] = [[], ["--controller"], ["--game"], LIFT]
     yield "realize without a fault", partial(unlike_fault, ["realize"], None, SOUND, REALIZABLE)
     for (first, one), (second, other) in itertools.combinations_with_replacement(REALIZE_FAULTS.items(), 2):
         text = SOUND.replace(*one).replace(*other) if one != other else SOUND.replace(*one)
-        for words in ([], ["--controller"], ["--game"], LIFT):
+        for words in ways:
             yield f"realize {' '.join(words)} with {first} and {second}", partial(
                 refusal_fault, ["realize", *words], None, text, [first.encode()])
     yield "verify --specification without a fault", partial(
@@ -235,10 +238,11 @@ def refusal_checks() -> Cases:
 def wide_checks() -> Cases:
     """As many propositions of the environment in one state as there may be, and one more. An edge for each and one more
     answer all letters; those with an odd number lose, so that the environment lets one of their propositions hold."""
+    ways: list[list[str]] = [[], ["--controller"], ["--game"]]
     text = first_that_holds(12, [0, 1])
     asked_of, label = parted(read_one(text)), "12 propositions of the environment at once"
     lost = [winner_text(asked_of, {at}, {0: frozenset([at])}) for at in range(1, 12, 2)]
-    ran = [run_of(["realize", *words], text) for words in ([], ["--controller"], ["--game"])]
+    ran = [run_of(["realize", *words], text) for words in ways]
     yield f"realize, {label}", None if answer_of(ran[0]) == UNREALIZABLE else told(ran[0])
     is_lost = ran[1].returncode == 6 and ran[1].stdout in lost
     yield f"realize --controller, {label}", None if is_lost else told(ran[1])

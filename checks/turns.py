@@ -33,7 +33,8 @@ def bounds(game: Game) -> list[int]:
 def same_fault(game: Game) -> Fault:
     """Where a way to solve the game differs from the answers for both players, or nothing."""
     wanted = by_player(game)
-    for words in ([], ["--budget", str(max(bounds(game)))]):
+    ways: list[list[str]] = [[], ["--budget", str(max(bounds(game)))]]
+    for words in ways:
         fault = difference("output", output_of(["solve", *words], text_of(game)), wanted)
         if fault:
             return f"{' '.join(['solve', *words])}: {fault}"

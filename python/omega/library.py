@@ -121,9 +121,11 @@ def _declared(library: ctypes.CDLL) -> ctypes.CDLL:
     library.omega_version.restype = ctypes.c_size_t
     text, held = (ctypes.c_char_p, ctypes.c_size_t), ctypes.POINTER(Text)
     verdict = ctypes.POINTER(ctypes.c_uint32)
-    for name, words in (("empty", [*text, ctypes.c_uint8]), ("complement", [*text]), ("meet", [*text, *text]),
-                        ("contained", [*text, *text, ctypes.c_uint8, verdict]),
-                        ("equal", [*text, *text, ctypes.c_uint8, verdict]), ("realize", [*text, verdict])):
+    calls: list[tuple[str, list[Any]]] = [
+        ("empty", [*text, ctypes.c_uint8]), ("complement", [*text]), ("meet", [*text, *text]),
+        ("contained", [*text, *text, ctypes.c_uint8, verdict]), ("equal", [*text, *text, ctypes.c_uint8, verdict]),
+        ("realize", [*text, verdict])]
+    for name, words in calls:
         call = getattr(library, f"omega_{name}")
         call.argtypes, call.restype = [*words, held], TextOutcome
     library.omega_free.argtypes, library.omega_free.restype = [held], None
