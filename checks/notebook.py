@@ -11,7 +11,8 @@ from typing import Any
 
 from program import ROOT, SECONDS, Cases, Fault
 
-NOTEBOOK = os.path.join(ROOT, "examples", "omega.ipynb")
+FOLDER = os.path.join(ROOT, "examples")
+NOTEBOOK = os.path.join(FOLDER, "omega.ipynb")
 # What a picture is that says that there is none.
 MISSING = "is not installed"
 
@@ -25,9 +26,13 @@ def cells() -> list[str]:
 def shown_by(cell: str, names: dict[str, Any]) -> Any:
     """Runs a cell. The value of the expression that it ends with, which a notebook shows."""
     tree = ast.parse(cell)
-    last = tree.body.pop() if isinstance(tree.body[-1], ast.Expr) else None
+    last = tree.body[-1]
+    if not isinstance(last, ast.Expr):
+        exec(compile(tree, "cell", "exec"), names)
+        return None
+    tree.body.pop()
     exec(compile(tree, "cell", "exec"), names)
-    return eval(compile(ast.Expression(last.value), "cell", "eval"), names) if last else None
+    return eval(compile(ast.Expression(last.value), "cell", "eval"), names)
 
 
 def cell_fault(cell: str, names: dict[str, Any]) -> Fault:
@@ -48,15 +53,16 @@ def jupyter_fault(env: dict[str, str]) -> Fault:
     """What is wrong where Jupyter runs the notebook, or nothing."""
     with tempfile.TemporaryDirectory() as folder:
         words = ["jupyter", "nbconvert", "--to", "html", "--execute", "--output-dir", folder, NOTEBOOK]
-        ran = subprocess.run(words, cwd=ROOT, env=env, capture_output=True, text=True, timeout=SECONDS)
+        ran = subprocess.run(words, cwd=FOLDER, env=env, capture_output=True, text=True, timeout=SECONDS)
     return ran.stderr[-600:] if ran.returncode else None
 
 
 def notebook_checks(env: dict[str, str]) -> Cases:
-    """Each cell, in the folder of the repository; and by Jupyter, in an environment that finds the package."""
+    """Each cell, in the folder of the notebook, as Jupyter runs it; and by Jupyter, in an environment that finds the
+    package."""
     names: dict[str, Any] = {}
     before = os.getcwd()
-    os.chdir(ROOT)
+    os.chdir(FOLDER)
     try:
         for number, cell in enumerate(cells()):
             yield f"the cell {number} of examples/omega.ipynb", cell_fault(cell, names)
