@@ -2,13 +2,15 @@
 1,500 random words of formulas are asked of random deterministic automata, whose propositions are other names in part.
 Each line `word` after `no` admits words that the word admits and the automaton does not accept.
 
-A letter may be true at many sets of names, so that a word admits infinite words that repeat nothing. What is not
+A letter may be true at many sets of names, so that a word admits infinite words that repeat nothing. 600 words whose
+letters leave no proposition open are asked of random automata, most of them with choices. Else what is not
 deterministic is refused 56. 500 words with a byte changed are read, or refused with a place in the text of the word, as
-a slow reader says.
+a slow reader says. The line `word` that `empty --word` writes of 300 random deterministic automata is accepted.
 """
 import itertools
 import random
 import re
+from collections.abc import Callable
 from functools import partial
 from typing import TypeVar
 
@@ -16,7 +18,7 @@ from automata import Automaton, Tree, read_one
 from containing import after, dual, formula_of, with_letters
 from emptiness import Move, has_accepting_walk
 from product_checks import INFINITELY, LANGUAGES, NO_STARTS, NO_STATES, SETLESS, Paired
-from products import Word, accepts, is_deterministic, valuations
+from products import Word, accepts, is_deterministic, names_of, valuations
 from program import Cases, Fault, Ran, fault_of, refusal_fault, run_of, shown
 from words import Formula, NoWord, Reader, admitted, read_word
 
@@ -49,6 +51,23 @@ def is_accepted(automaton: Automaton, word: Symbolic) -> bool:
     arrows = [Move(number, source, [target], None, {*marks}, 0)
               for number, (source, target, marks) in enumerate(sorted(taken, key=repr))]
     return not has_accepting_walk(begun, arrows, rejected)
+
+
+def letters_for(automaton: Automaton, formula: Formula) -> set[frozenset[bytes]]:
+    """What the automaton sees of the sets of names at which a formula is true."""
+    names = names_of(automaton)
+    return {letter & frozenset(names) for letter in valuations(sorted({*NAMES, *names})) if formula(letter)}
+
+
+def is_one_word(automaton: Automaton, word: Symbolic) -> bool:
+    """Whether the automaton sees one letter at most at each place of a word."""
+    return all(len(letters_for(automaton, formula)) <= 1 for formula in word[0] + word[1])
+
+
+def is_one_accepted(automaton: Automaton, word: Symbolic) -> bool:
+    """Whether the automaton accepts the one word that it sees, if there is one."""
+    stem, cycle = ([letter for formula in part for letter in letters_for(automaton, formula)] for part in word)
+    return (len(stem), len(cycle)) != (len(word[0]), len(word[1])) or accepts(automaton, stem, cycle)
 
 
 def unrolled(stem: list[Part], cycle: list[Part], count: int) -> list[Part]:
@@ -88,11 +107,12 @@ def accepts_fault(word: bytes, text: bytes) -> Fault:
     automaton, symbolic = read_one(text), Reader(word).word()
     given = ["accepts", "--word", word.decode()]
     plain, explained = run_of(given, text), run_of([*given, "--explain"], text)
-    if not is_deterministic(automaton):
+    deterministic = is_deterministic(automaton)
+    if not deterministic and not is_one_word(automaton, symbolic):
         refused = [ran.returncode == 1 and not ran.stdout and ran.stderr.startswith(b"omega: 56 NotDeterministic at ")
                    for ran in (plain, explained)]
         return None if all(refused) else f"{told(plain)}, {told(explained)}"
-    yes = is_accepted(automaton, symbolic)
+    yes = (is_accepted if deterministic else is_one_accepted)(automaton, symbolic)
     if plain.stderr or (plain.returncode, plain.stdout) != ((0, b"yes\n") if yes else (6, b"no\n")):
         return f"the judge says {yes}, the answer is {told(plain)}"
     if explained.stderr or explained.returncode != plain.returncode or not explained.stdout.startswith(plain.stdout):
@@ -119,6 +139,17 @@ def read_fault(word: bytes) -> Fault:
     return None
 
 
+def own_word_fault(text: bytes) -> Fault:
+    """Whether an automaton accepts the word that `empty --word` writes of it, or what is wrong."""
+    ran = run_of(["empty", "--search", "--word"], text)
+    if ran.returncode or ran.stderr:
+        return told(ran)
+    line = ran.stdout.split(b"\n")[-2]
+    if line == b"empty":
+        return None
+    return fault_of(asked(line.removeprefix(b"word ").decode()), text, 0, b"yes\n")
+
+
 class Spelling:
     """Makes words of formulas at random."""
 
@@ -132,8 +163,16 @@ class Spelling:
         one, other = self.formula(depth - 1), self.formula(depth - 1)
         return [f"!({one})", f"{one} & ({other})", f"({one})|{other}"][choice - 5]
 
-    def word(self) -> bytes:
-        letters = [[self.formula(2) for _ in range(self.random.randint(least, 3))] for least in (0, 1)]
+    def full(self) -> str:
+        """A formula that leaves neither `a` nor `b` open."""
+        one, other = self.random.sample([self.random.choice(["a", "!a"]), self.random.choice(["b", "!b"])], 2)
+        return self.random.choice([f"{one} & {other}"] * 6 + [
+            f"({one} | 0) & ({other} & 1)", f"({one} & {other}) & !\"c d\"", f"({one} | !({other})) & {other}",
+            f"{one} & \"c d\" & {other} | {one} & {other}", f"!(!({one}) | !({other}))", f"{one} & {other} & !({one})"])
+
+    def word(self, formula: Callable[[], str] | None = None) -> bytes:
+        made = formula or partial(self.formula, 2)
+        letters = [[made() for _ in range(self.random.randint(least, 3))] for least in (0, 1)]
         space = self.random.choice(["", " "])
         stem, cycle = ("".join(f"{letter};{space}" for letter in letters[0]), f";{space}".join(letters[1]))
         return f"{stem}cycle{{{cycle}}}".encode()
@@ -177,6 +216,12 @@ def accepting_checks() -> Cases:
     for number in range(1500):
         word, text = spelling.word(), automata.automaton(number % 10 != 0)
         yield f"{word!r} in {text!r}", partial(accepts_fault, word, text)
+    for number in range(600):
+        word, text = spelling.word(spelling.full), automata.automaton(number % 6 == 0)
+        yield f"{word!r} in {text!r}", partial(accepts_fault, word, text)
+    for _ in range(300):
+        text = automata.automaton(True)
+        yield f"the word of {text!r}", partial(own_word_fault, text)
     for _ in range(500):
         word = spelling.damaged()
         yield f"the text {word!r}", partial(read_fault, word)

@@ -1,14 +1,15 @@
-"""What `meet`, `complement` and `empty --word` write, against a plain judge of words. Five known languages, their
-complements and products are compared on all words of up to 3 letters of 2 propositions; 2,000 random pairs follow, with
-the states of products in order, 400 lines `word`, and refusal 56; 13 more lines `word` have names that Spot reads as
-something else. Two products are at the limit of states.
+"""What `meet`, `join`, `complement` and `empty --word` write, against a plain judge of words. Five known languages,
+their complements, products and unions are compared on all words of up to 3 letters of 2 propositions; 2,000 random
+pairs follow, with the states of products and unions in order, 400 lines `word`, and refusal 56; 13 more lines `word`
+have names that Spot reads as something else. Two products and two unions are at the limit of states.
 
-The products of the five are made in both orders; the stem and the cycle of a word have up to 3 letters together. The
-random pairs are deterministic and not, with propositions in the same order and in another, labels of states and of
-edges, edges without labels, sets that no edge is in, several starts and none. The states of a product are the pairs
-that a slow search reaches, in its order. What is not deterministic is refused 56. The line `word` is that of a slow
-writer; read back, it admits words, four of which are tried and accepted. Of two products one is at the limit of states,
-and one past it.
+The products and unions of the five are made in both orders; the stem and the cycle of a word have up to 3 letters
+together. The random pairs are deterministic and not, with propositions in the same order and in another, labels of
+states and of edges, edges without labels, sets that no edge is in, several starts and none. The states of a product are
+the pairs that a slow search reaches, in its order; those of a union are those of both texts, with their names, and it
+has their edges. What is not deterministic is refused 56. The line `word` is that of a slow writer; read back, it admits
+words, four of which are tried and accepted. Of two products, and of two unions, one is at the limit of states, and one
+past it.
 """
 import random
 import tempfile
@@ -19,7 +20,7 @@ from automata import Automaton, Refused, read_one
 from emptiness import branches, read_lasso
 from emptiness_checks import Emptied
 from products import Word, accepts, is_deterministic, names_of, pairs_reached, valuations, word_line, words_over
-from program import Cases, Fault, Ran, fault_of, run_of, shown
+from program import Cases, Fault, Ran, fault_of, fault_with_file, run_of, shown
 from words import NoWord, admitted, read_word
 
 HEAD = b'HOA: v1 States: %d Start: 0 AP: %d %s acc-name: %s Acceptance: %s --BODY-- %s --END--'
@@ -99,12 +100,22 @@ class Paired(Emptied):
                 + b"--END--\n")
 
 
-def meet(one: bytes, other: bytes) -> Ran:
-    """A run of `meet` on two texts."""
+def beside(words: list[str], held: bytes, text: bytes) -> Ran:
+    """A run on a text, with the path of a file that holds another one as the last word."""
     with tempfile.NamedTemporaryFile() as file:
-        file.write(other)
+        file.write(held)
         file.flush()
-        return run_of(["meet", "--with", file.name], one)
+        return run_of([*words, file.name], text)
+
+
+def meet(one: bytes, other: bytes, *options: str) -> Ran:
+    """A run of `meet` on two texts, with further options."""
+    return beside(["meet", *options, "--with"], other, one)
+
+
+def join(one: bytes, other: bytes) -> Ran:
+    """A run of `join` on two texts."""
+    return beside(["join", "--with"], other, one)
 
 
 def read_written(ran: Ran) -> Automaton | str:
@@ -138,10 +149,32 @@ def meet_fault(one: bytes, other: bytes, words: list[tuple[Word, Word]]) -> Faul
     named = [state.name for state in product.states]
     if named != [b'"%d,%d"' % pair for pair in pairs] or sum(len(state.edges) for state in product.states) != edges:
         return f"its states are {named}, and not {pairs}"
-    joined = names_of(first) + [name for name in names_of(second) if name not in names_of(first)]
-    if names_of(product) != joined:
+    if names_of(product) != joined_names(first, second):
         return f"its propositions are {names_of(product)}"
     return word_fault(product, words, lambda *word: accepts(first, *word) and accepts(second, *word))
+
+
+def joined_names(first: Automaton, second: Automaton) -> list[bytes]:
+    """The names of the first automaton, and then those that only the second has."""
+    return names_of(first) + [name for name in names_of(second) if name not in names_of(first)]
+
+
+def join_fault(one: bytes, other: bytes, words: list[tuple[Word, Word]]) -> Fault:
+    """What is wrong with what `join` writes of two texts, or nothing."""
+    first, second = read_one(one), read_one(other)
+    union = read_written(join(one, other))
+    if isinstance(union, str):
+        return union
+    if names_of(union) != joined_names(first, second):
+        return f"its propositions are {names_of(union)}"
+    before = first.first(b"States:", 0)
+    both = [(0, state) for state in first.states] + [(before, state) for state in second.states]
+    wanted = [(raised + state.number, state.name, len(state.edges)) for raised, state in both]
+    written = [(state.number, state.name, len(state.edges)) for state in union.states]
+    starts = first.said(b"Start:") + [[before + state for state in start] for start in second.said(b"Start:")]
+    if written != wanted or union.said(b"Start:") != starts:
+        return f"its states are {written}, and not {wanted}, or its starts {union.said(b'Start:')}, and not {starts}"
+    return word_fault(union, words, lambda *word: accepts(first, *word) or accepts(second, *word))
 
 
 def complement_fault(text: bytes, words: list[tuple[Word, Word]]) -> Fault:
@@ -199,9 +232,12 @@ def known_checks() -> Cases:
         yield f"the complement of {shown(one)}", partial(complement_fault, one, WORDS)
         for other, of_other in LANGUAGES:
             yield f"{shown(one)} meets {shown(other)}", partial(meet_fault, one, other, WORDS)
+            yield f"{shown(one)} joins {shown(other)}", partial(join_fault, one, other, WORDS)
     for text in (NO_STARTS, NO_STATES, SETLESS):
         yield f"{shown(text)} meets another", partial(meet_fault, text, UNTIL, WORDS)
         yield f"another meets {shown(text)}", partial(meet_fault, UNTIL, text, WORDS)
+        yield f"{shown(text)} joins another", partial(join_fault, text, UNTIL, WORDS)
+        yield f"another joins {shown(text)}", partial(join_fault, UNTIL, text, WORDS)
         yield f"the complement of {shown(text)}", partial(complement_fault, text, WORDS)
 
 
@@ -221,6 +257,11 @@ def limit_checks() -> Cases:
     ran = meet(chain(1025, b'"a"'), chain(1024, b'"b"'))
     yield "1,049,600 pairs", None if (ran.returncode, ran.stdout) == (1, b"") and ran.stderr.startswith(
         b"omega: 55 TooLarge\n") else f"status {ran.returncode}: {shown(ran.stderr)}"
+    half, more = (b"HOA: v1 States: %d Acceptance: 0 t --BODY-- --END--" % states for states in (524_288, 524_289))
+    yield "1,048,576 states of a union", fault_with_file(
+        ["join", "--with"], half, half, 0, b"HOA: v1\nStates: 1048576\nAP: 0\nAcceptance: 0 t\n--BODY--\n--END--\n")
+    yield "1,048,577 states of a union", fault_with_file(
+        ["join", "--with"], more, half, 1, b"", b"omega: 55 TooLarge\n")
 
 
 def random_checks() -> Cases:
@@ -231,6 +272,7 @@ def random_checks() -> Cases:
         words = maker.random.sample(WORDS, 8)
         assert not branches(read_one(one))
         yield f"the pair {number}: {one!r} meets {other!r}", partial(meet_fault, one, other, words)
+        yield f"the pair {number}: {one!r} joins {other!r}", partial(join_fault, one, other, words)
         yield f"the complement of {one!r}", partial(complement_fault, one, words)
         if number < 400:
             yield f"the word of {one!r}", partial(word_of_lasso_fault, one)

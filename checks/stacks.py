@@ -17,8 +17,9 @@ AUTOMATON = ('HOA: v1 States: 2 Start: 0 AP: 2 "a" "b" %sAcceptance: %s '
 CONTROL = "controllable-AP: 0 "
 CALLS = ("empty", "complement", "meet", "contained", "equal", "realize")
 RUNS = ("canon --format hoa", "check --format hoa", "show --format hoa", "draw --format hoa",
-        "draw --format hoa --lasso", "empty --search --word", "empty --word", "complement", "meet --with f", "contained --in f", "equal --to f",
-        "realize", "realize --controller", "game", "verify --automaton f")
+        "draw --format hoa --lasso", "empty --search --word", "empty --word", "complement", "meet --with f",
+        "join --with f", "contained --in f", "equal --to f", "realize", "realize --controller", "game",
+        "verify --automaton f")
 
 
 def nested(depth: int, left: str, right: str, innermost: str) -> str:

@@ -4,6 +4,9 @@ plain judge says that the same words are accepted, and nothing goes a second tim
 
 For each state it is tried whether a start reaches it, and whether a walk from it goes round for ever so that the
 formula holds. Universal branching is refused 41. A ring of 100,000 states stays, whatever dead ends leave it.
+
+What `meet --trim` writes of 250 random pairs is what the slow trimmer leaves of what `meet` writes of them. It accepts
+the words that both accept, by the plain judge.
 """
 from dataclasses import replace
 from functools import partial
@@ -12,7 +15,7 @@ from automata import Automaton, Edge, Refused, State, Tree, bare, canonical, cou
 from automaton_texts import Maker
 from emptiness import Move, has_accepting_walk, is_usable, judge_search, moves_of, reached_from
 from emptiness_checks import FORMULAS, KINDS, REFUSED, Emptied, fruitless, wide
-from product_checks import LANGUAGES, NO_STARTS, NO_STATES, SETLESS, WORDS, Paired, read_written, word_fault
+from product_checks import LANGUAGES, NO_STARTS, NO_STATES, SETLESS, WORDS, Paired, meet, read_written, word_fault
 from products import Word, accepts
 from program import Cases, Fault, fault_of, refusal_fault, run_of, shown
 
@@ -78,6 +81,27 @@ def trimmed_words_fault(text: bytes, words: list[tuple[Word, Word]]) -> Fault:
     """A word of which what `trim` writes says something else than the automaton of the text, or nothing."""
     automaton, left = read_one(text), read_written(run_of(["trim"], text))
     return left if isinstance(left, str) else word_fault(left, words, partial(accepts, automaton))
+
+
+def met_fault(one: bytes, other: bytes, words: list[tuple[Word, Word]]) -> Fault:
+    """What is wrong with what `meet --trim` writes of two texts, or nothing."""
+    ran, product = meet(one, other, "--trim"), read_written(meet(one, other))
+    if isinstance(product, str):
+        return product
+    wanted = canonical(trimmed(product))
+    if ran.stderr or (ran.returncode, ran.stdout) != (0, wanted):
+        return f"status {ran.returncode}: {shown(ran.stdout)} {shown(ran.stderr)}, and not {shown(wanted)}"
+    first, second = read_one(one), read_one(other)
+    return word_fault(read_one(wanted), words, lambda *word: accepts(first, *word) and accepts(second, *word))
+
+
+def met_checks() -> Cases:
+    """What `meet --trim` writes of random pairs."""
+    pairs = Paired(2034)
+    for number in range(250):
+        one, other = pairs.automaton(bool(number % 2)), pairs.automaton(bool(number % 3))
+        words = pairs.random.sample(WORDS, 8)
+        yield f"what is left of {one!r} and {other!r}", partial(met_fault, one, other, words)
 
 
 def known_checks() -> Cases:
@@ -178,4 +202,5 @@ def large_checks() -> Cases:
 def trimming_checks() -> Cases:
     yield from known_checks()
     yield from random_checks()
+    yield from met_checks()
     yield from large_checks()
