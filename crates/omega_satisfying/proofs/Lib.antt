@@ -4,6 +4,7 @@ pub mod Cubes
 pub mod Leading
 pub mod Parities
 pub mod Parts
+pub mod Remaining
 pub mod TruthTables
 pub mod Valuations
 pub mod WordLemmas

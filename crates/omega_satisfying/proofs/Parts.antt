@@ -1,15 +1,15 @@
 -- How labels become steps: the parts of a label, and the exits on from them.
-use Rattle.std.proofs.Common.{◌≡◌, ℕ, Bool, true, false, not, ◌&&◌, ◌||◌, List, Result, Ok, Err, IfOk, ap, refl, subst, sym, ◌∙◌, arith}
+use Rattle.std.proofs.Common.{◌≡◌, ℕ, Bool, true, false, not, ◌&&◌, ◌||◌, List, ap, refl, subst, sym, ◌∙◌, arith}
 use Rattle.std.proofs.lemmas.Bool.Decides.{Decides-eqb}
-use Rattle.omega_label.specs.Label.{LabelTree, conjunction, disjunction, truth}
+use Rattle.omega_label.specs.Label.{LabelTree, negation, truth}
 use Rattle.omega_satisfying.specs.declared.steps.Step.{Step}
-use Rattle.omega_satisfying.specs.declared.encoding.Exits.{Exits}
+use Rattle.omega_satisfying.specs.declared.exits.Exits.{Exits}
 use Rattle.omega_satisfying.specs.private.Leading.{ArePlanned, IsKept, is_as, leads}
 use Rattle.omega_satisfying.specs.Cubes.{cubes, cubes_of_parts}
 use Rattle.omega_satisfying.specs.private.Encoding.{AreExits, AreVisited, IsEncoded, leads_past, left_exits, right_exits}
 use Rattle.omega_satisfying.specs.private.Visits.{visits}
 use Rattle.omega_satisfying.proofs.Cubes.{cubes-positive, visited-parts}
-use Rattle.omega_satisfying.proofs.Parities.{conjunction-joined, disjunction-joined, joined}
+use Rattle.omega_satisfying.proofs.Parities.{joined, negation-as}
 
 -- the exits stay where steps are kept
 AreExits-kept : (old new : List Step) (exits : Exits) → AreExits old exits → IsKept old new → AreExits new exits
@@ -73,7 +73,7 @@ either-past true false false otherwise = refl
 either-past false right after otherwise = refl
 
 -- two parts, the right one taken in first, are the label
-IsEncoded-joined : (both : Bool) (old mid new : List Step) (exits : Exits) (left right tree : LabelTree) (wanted : Bool) (at place : ℕ)
+pub IsEncoded-joined : (both : Bool) (old mid new : List Step) (exits : Exits) (left right tree : LabelTree) (wanted : Bool) (at place : ℕ)
     → ((held : ℕ → Bool) → is_as wanted (truth held tree) ≡ joined both (is_as wanted (truth held left)) (is_as wanted (truth held right)))
     → cubes wanted tree ≡ cubes_of_parts both (cubes wanted left) (cubes wanted right)
     → ArePlanned old → AreExits old exits → IsKept old mid → IsEncoded old mid right wanted (right_exits both exits) at
@@ -106,30 +106,11 @@ IsEncoded-joined false old mid new exits left right tree wanted at place means p
       (subst (λ n. AreVisited (cubes wanted left) n (visits mid at) (visits new place)) (kept.visited exits.after are.after_there) second.visited));
 }
 
--- the same of a result, if the exits of the parts are known by equations
-IsEncoded-result : {E : Type 0} (both : Bool) (old mid new : List Step) (exits one other : Exits) (left right tree : LabelTree) (wanted : Bool) (at : ℕ) (result : Result ℕ E)
-    → ((held : ℕ → Bool) → is_as wanted (truth held tree) ≡ joined both (is_as wanted (truth held left)) (is_as wanted (truth held right)))
-    → cubes wanted tree ≡ cubes_of_parts both (cubes wanted left) (cubes wanted right) → one ≡ right_exits both exits → other ≡ left_exits both exits at
-    → ArePlanned old → AreExits old exits → IsKept old mid → IsEncoded old mid right wanted one at → IfOk result (IsEncoded mid new left wanted other)
-    → IfOk result (IsEncoded old new tree wanted exits)
-IsEncoded-result both old mid new exits one other left right tree wanted at (Ok place) means parts is_one is_other planned are kept first second =
-    IsEncoded-joined both old mid new exits left right tree wanted at place means parts planned are kept
-    (subst (λ e. IsEncoded old mid right wanted e at) is_one first) (subst (λ e. IsEncoded mid new left wanted e place) is_other second)
-IsEncoded-result both old mid new exits one other left right tree wanted at (Err e) means parts is_one is_other planned are kept first second = tt
-
--- so is a conjunction, both of its parts if it is wanted, and a disjunction, one of them
-pub IsEncoded-and : {E : Type 0} (old mid new : List Step) (exits one other : Exits) (left right tree : LabelTree) (wanted : Bool) (at : ℕ) (result : Result ℕ E)
-    → tree ≡ conjunction left right → one ≡ right_exits wanted exits → other ≡ left_exits wanted exits at
-    → ArePlanned old → AreExits old exits → IsKept old mid → IsEncoded old mid right wanted one at → IfOk result (IsEncoded mid new left wanted other)
-    → IfOk result (IsEncoded old new tree wanted exits)
-IsEncoded-and old mid new exits one other left right tree wanted at result is =
-    IsEncoded-result wanted old mid new exits one other left right tree wanted at result
-    (λ held. ap (λ t. is_as wanted (truth held t)) is ∙ conjunction-joined wanted (truth held left) (truth held right)) (ap (cubes wanted) is)
-
-pub IsEncoded-or : {E : Type 0} (old mid new : List Step) (exits one other : Exits) (left right tree : LabelTree) (wanted : Bool) (at : ℕ) (result : Result ℕ E)
-    → tree ≡ disjunction left right → one ≡ right_exits (not wanted) exits → other ≡ left_exits (not wanted) exits at
-    → ArePlanned old → AreExits old exits → IsKept old mid → IsEncoded old mid right wanted one at → IfOk result (IsEncoded mid new left wanted other)
-    → IfOk result (IsEncoded old new tree wanted exits)
-IsEncoded-or old mid new exits one other left right tree wanted at result is =
-    IsEncoded-result (not wanted) old mid new exits one other left right tree wanted at result
-    (λ held. ap (λ t. is_as wanted (truth held t)) is ∙ disjunction-joined wanted (truth held left) (truth held right)) (ap (cubes wanted) is)
+-- the part of a negation is wanted the other way round
+pub IsEncoded-not : (old new : List Step) (exits : Exits) (part : LabelTree) (wanted : Bool) (place : ℕ)
+    → IsEncoded old new part (not wanted) exits place → IsEncoded old new (negation part) wanted exits place
+IsEncoded-not old new exits part wanted place encoded = record {
+  there = encoded.there;
+  leading = λ held. encoded.leading held ∙ ap (leads_past (leads held old) exits) (sym (negation-as wanted (truth held part)));
+  visited = encoded.visited;
+}

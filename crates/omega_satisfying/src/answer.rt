@@ -4,7 +4,8 @@ ghost use Rattle.omega_satisfying.specs.Limits.{most_visited};
 ghost use Rattle.omega_satisfying.specs.Satisfiable.{IsSatisfiable};
 ghost use Rattle.omega_satisfying.specs.Undecided.{IsUndecidedLabel};
 
-use crate::encoding::{Exits, append_label};
+use crate::encoding::append_label;
+use crate::exits::Exits;
 use crate::satisfying::satisfiable;
 use crate::search::search;
 use crate::steps::{DONE, STUCK, first_steps};
@@ -38,13 +39,12 @@ fn searched(alloc: Global, label: &Label) -> Result<Option<bool>, Refusal>
     ensures none { IfOk result (λ answer. IfNone answer (most_visited ≤ 2 * literal_count label.now)) }
     ensures memory { IsOkUnless result Refusal.Memory }
 {
-    let shape = label.shape(alloc)?;
     let mut steps = first_steps(alloc)?;
     let exits = Exits {
         after: DONE,
         otherwise: STUCK,
         whole: true,
     };
-    let start = append_label(&shape, true, exits, &mut steps)?;
+    let start = append_label(label, exits, &mut steps)?;
     search(alloc, steps.as_slice(), start)
 }

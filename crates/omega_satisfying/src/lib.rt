@@ -2,8 +2,9 @@
 //!
 //! A label that mentions few is judged under all their valuations (`satisfying`), 64 at once in the bits of a word
 //! (`words`, `mentioned`), and so are two labels together (`together`). Those under the valuations of the first six
-//! propositions are its truth table (`tables`). Another label is turned into steps of a search (`steps`, `encoding`),
-//! whose open branches lie on a stack (`branches`); the search goes from step to step (`search`).
+//! propositions are its truth table (`tables`). Another label is turned into steps of a search (`steps`, `encoding`)
+//! part by part (`part`, `exits`), while left parts wait on a stack (`left_parts`). The search goes from step to step
+//! (`search`), and its open branches lie on a stack too (`branches`).
 //!
 //! docs/formats.md says when each [`Refusal`] comes.
 #![tactic(auto)]
@@ -11,9 +12,12 @@
 mod answer;
 mod branches;
 mod encoding;
+mod exits;
 mod laws;
+mod left_parts;
 mod limits;
 mod mentioned;
+mod part;
 mod satisfying;
 mod search;
 mod steps;

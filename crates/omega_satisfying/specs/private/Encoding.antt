@@ -1,8 +1,10 @@
 -- How a label is encoded as steps of a search.
-use Rattle.std.specs.Prelude.{◌≡◌, ℕ, ◌+◌, ◌*◌, ◌<◌, ◌≤◌, ◌==◌, Bool, true, false, ◌&&◌, ◌||◌, List, length}
+use Rattle.std.specs.Prelude.{◌≡◌, ℕ, ◌+◌, ◌*◌, ◌<◌, ◌≤◌, ◌==◌, Bool, true, false, not, ◌&&◌, ◌||◌, List, [], ◌∷◌, length}
 use Rattle.omega_label.specs.Label.{LabelTree, truth}
 use Rattle.omega_satisfying.specs.declared.steps.Step.{Step}
-use Rattle.omega_satisfying.specs.declared.encoding.Exits.{Exits}
+use Rattle.omega_satisfying.specs.declared.exits.Exits.{Exits}
+use Rattle.omega_satisfying.specs.declared.left_parts.Joined.{Joined}
+use Rattle.omega_satisfying.specs.declared.part.Part.{Part}
 use Rattle.omega_satisfying.specs.Cubes.{cubes, literals_in}
 use Rattle.omega_satisfying.specs.private.Leading.{is_as, leads}
 use Rattle.omega_satisfying.specs.private.Visits.{visits}
@@ -16,6 +18,28 @@ right_exits false exits = exits
 abbrev pub left_exits : Bool → Exits → ℕ → Exits
 left_exits true exits right = record { after = right; otherwise = exits.otherwise; whole = exits.otherwise == 0 }
 left_exits false exits right = record { after = exits.after; otherwise = right; whole = exits.whole }
+
+-- the part of a negation
+abbrev pub negated_part : Part → Part
+negated_part part = record { wanted = not part.wanted; exits = part.exits }
+
+-- the right one of two parts, both of which are to hold, or one
+abbrev pub right_part : Bool → Part → Part
+right_part both part = record { wanted = part.wanted; exits = right_exits both part.exits }
+
+-- the left one, if the right one is encoded at a place
+abbrev pub left_part : Bool → Part → ℕ → Part
+left_part both part right = record { wanted = part.wanted; exits = left_exits both part.exits right }
+
+-- the next of the left parts that wait, if the right one is encoded at a place; the last part if none waits
+abbrev pub next_part : Part → List Joined → ℕ → Part
+next_part last [] right = last
+next_part last (joined ∷ waiting) right = left_part joined.both joined.whole right
+
+-- those that wait after it
+abbrev pub parts_below : List Joined → List Joined
+parts_below [] = []
+parts_below (joined ∷ waiting) = waiting
 
 -- whether a valuation leads to the end by a part that holds or not, if `onward` says from which places it does
 abbrev pub leads_past : (ℕ → Bool) → Exits → Bool → Bool
