@@ -12,3 +12,4 @@ pub mod Spelled
 pub mod Texts
 pub mod WellFormed
 pub mod Written
+pub mod Prioritized

@@ -8,3 +8,6 @@ pub mod Outcomes
 pub mod RoundTrip
 pub mod Steps
 pub mod Texts
+pub mod WinnerLines
+pub mod WinnerSteps
+pub mod WinnerTexts

@@ -2,5 +2,6 @@
 pub mod Canonical
 pub mod Grammar
 pub mod Laws
+pub mod Priorities
 pub mod Refusing
 pub mod Text

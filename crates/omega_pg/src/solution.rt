@@ -6,4 +6,7 @@ mod reader;
 pub(crate) mod reading;
 mod stage;
 mod syntax;
+mod winner_lines;
+mod winner_reader;
+pub(crate) mod winner_reading;
 pub(crate) mod writing;

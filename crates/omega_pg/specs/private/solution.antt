@@ -1,2 +1,3 @@
--- What the reader of solutions keeps.
+-- What the readers of solutions and of winners keep.
 pub mod reader
+pub mod winners

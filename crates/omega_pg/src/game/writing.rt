@@ -2,6 +2,7 @@ ghost use Rattle.std.specs.Prelude.{◌≡◌, ◌<◌, ◌++◌, All, IfOk, IsO
 ghost use Rattle.omega_parity_game.specs.Building.{specified};
 ghost use Rattle.omega_parity_game.specs.Game.{IsGame, node_at, identifier_at};
 ghost use Rattle.omega_pg.specs.game.Canonical.{canonical_game, header_line, name_part, node_line, successors_after, successors_text};
+ghost use Rattle.omega_pg.specs.game.Priorities.{with_priorities, with_priority};
 
 use omega_parity_game::{ForwardGame, Refusal};
 use omega_text::write_number;
@@ -20,6 +21,27 @@ pub fn write_game(alloc: Global, game: &ForwardGame) -> Result<Vec<u8>, Refusal>
     write_header(game.id(nodes as u32 - 1), &mut out)?;
     for place in 0..nodes as u32 {
         write_node(game, place, &mut out)?;
+    }
+    Ok(out)
+}
+
+/// Returns the canonical text of `game` with these `priorities` by place in place of its own.
+///
+/// The cost is linear in the text.
+pub fn write_game_with_priorities(
+    alloc: Global,
+    game: &ForwardGame,
+    priorities: &[u32],
+) -> Result<Vec<u8>, Refusal>
+    requires { length priorities.now ≡ length game.now }
+    ensures text { IfOk result (λ text. text.items ≡ canonical_game (with_priorities game.now priorities.now)) }
+    ensures memory { IsOkUnless result Refusal.Memory }
+{
+    let nodes = game.len();
+    let mut out = Vec::with_capacity(alloc, 32 + 16 * nodes + 4 * game.edges())?;
+    write_header(game.id(nodes as u32 - 1), &mut out)?;
+    for place in 0..nodes as u32 {
+        write_node_with(game, place, priorities[place as usize], &mut out)?;
     }
     Ok(out)
 }
@@ -43,8 +65,24 @@ fn write_node(game: &ForwardGame, place: u32, out: &mut Vec<u8>) -> Result<(), R
         (out.new.items ≡ out.old.items ++ node_line (specified game.now (node_at game.now place))) }
     ensures memory { IsOkUnless result Refusal.Memory }
 {
+    write_node_with(game, place, game.priority(place), out)
+}
+
+/// Appends the line of the node at `place`, with this `priority` in place of its own.
+fn write_node_with(
+    game: &ForwardGame,
+    place: u32,
+    priority: u32,
+    out: &mut Vec<u8>,
+) -> Result<(), Refusal>
+    requires game { IsGame game.now }
+    requires place { place < length game.now }
+    ensures ok { OnOk result (out.new.items ≡ out.old.items
+        ++ node_line (with_priority priority (specified game.now (node_at game.now place)))) }
+    ensures memory { IsOkUnless result Refusal.Memory }
+{
     write_part(game.id(place), out)?;
-    write_part(game.priority(place), out)?;
+    write_part(priority, out)?;
     write_part(game.owner(place).number(), out)?;
     write_listed(game, game.successors(place), out)?;
     write_name(game.name(place), out)?;

@@ -119,7 +119,7 @@ impl TokenReader<PgKind> for Reader<'_> {
 
 /// Returns the stage after a `number`, if a text goes on so.
 #[tactic(auto, using(crate::proofs::games::Players::player_found, crate::proofs::games::Players::no_player_found))]
-fn after_number(stage: Stage, number: u32) -> Option<Stage>
+pub(crate) fn after_number(stage: Stage, number: u32) -> Option<Stage>
     ensures { result ≡ stage_after_number stage number }
 {
     match stage {
@@ -138,7 +138,7 @@ fn after_number(stage: Stage, number: u32) -> Option<Stage>
 }
 
 /// Returns the stage after the word `paritysol`, if a text goes on so.
-fn after_word(stage: Stage) -> Option<Stage>
+pub(crate) fn after_word(stage: Stage) -> Option<Stage>
     ensures { result ≡ stage_after_word stage }
 {
     match stage {

@@ -1,8 +1,8 @@
--- `write_node`: its parts are the line of the node.
+-- `write_node_with`: its parts are the line of the node.
 use Rattle.std.proofs.Common.{◌<◌, length}
 use Rattle.std.proofs.lemmas.List.Elements.{All-same}
 use Rattle.omega_pg.proofs.games.Listed.{successors_are_places}
-use Rattle.omega_pg.proofs.game.writing.write_node.Goals as goal
+use Rattle.omega_pg.proofs.game.writing.write_node_with.Goals as goal
 
 pub write_listed-requires : goal.write_listed-requires
 write_listed-requires c =
