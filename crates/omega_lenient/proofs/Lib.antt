@@ -1,0 +1,3 @@
+-- Lemmas of lenient game texts.
+pub mod grammar
+pub mod texts

@@ -1,0 +1,3 @@
+-- Lemmas of plain texts and of the tokens of lenient texts.
+pub mod OneWay
+pub mod Plain

@@ -1,0 +1,10 @@
+-- What contracts of lenient game texts cite.
+pub mod DeadEnds
+pub mod Format
+pub mod Grammar
+pub mod Laws
+pub mod Plain
+pub mod Refusing
+pub mod Symbols
+pub mod Text
+pub mod private

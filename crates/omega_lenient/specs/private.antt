@@ -1,0 +1,4 @@
+-- What only the reader of lenient texts keeps and promises.
+pub mod Automaton
+pub mod Reader
+pub mod Run

@@ -1,0 +1,62 @@
+//! Laws of all lenient texts, for the proofs of callers: each function does nothing and states one law.
+
+ghost use Rattle.omega_text.specs.Syntax.{SyntaxFaultsAreFirst};
+ghost use Rattle.omega_lenient.specs.Grammar.{lenient_syntax};
+ghost use Rattle.omega_lenient.specs.Laws.{LenientGamesAreNotRefused, LenientGamesAreOne, LenientRefusalsAreOne, LenientTextsAreReadOrRefused, PlainTextsKeepPlaces};
+
+use crate::kind::LenientKind;
+use crate::syntax::LenientSyntax;
+use omega_parity_game::{
+    games_exist, games_have_no_fault, games_keep_limits, specifications_have_one_game,
+};
+use omega_text::laws::{
+    cuts_are_one, text_faults_are_one, texts_are_read_or_faulty, texts_have_no_fault,
+};
+
+/// States that a plain text has a byte for each of the text.
+pub fn plain_texts_keep_places()
+    ensures { PlainTextsKeepPlaces }
+{}
+
+/// States that a text describes at most one game.
+pub fn lenient_games_are_one()
+    ensures { LenientGamesAreOne }
+{
+    cuts_are_one::<LenientKind>();
+    specifications_have_one_game();
+}
+
+/// States that a text has at most one refusal.
+pub fn lenient_refusals_are_one()
+    ensures { LenientRefusalsAreOne }
+{
+    cuts_are_one::<LenientKind>();
+    text_faults_are_one::<LenientSyntax>();
+    texts_have_no_fault::<LenientSyntax>();
+}
+
+/// States that a text that describes a game has no refusal.
+pub fn lenient_games_are_not_refused()
+    ensures { LenientGamesAreNotRefused }
+{
+    cuts_are_one::<LenientKind>();
+    texts_have_no_fault::<LenientSyntax>();
+    games_have_no_fault();
+}
+
+/// States that a text describes a game or has a refusal.
+pub fn lenient_texts_are_read_or_refused()
+    ensures { LenientTextsAreReadOrRefused }
+{
+    texts_are_read_or_faulty::<LenientSyntax>();
+    games_exist();
+    games_keep_limits();
+}
+
+/// States that some text of the grammar begins with the tokens before the place of a syntax fault, and none with one
+/// token more.
+pub fn lenient_syntax_faults_are_first()
+    ensures { SyntaxFaultsAreFirst lenient_syntax }
+{
+    omega_text::laws::syntax_faults_are_first::<LenientSyntax>();
+}

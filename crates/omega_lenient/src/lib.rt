@@ -1,0 +1,20 @@
+//! PGSolver's game texts as other tools write them: with comments, `start`, dead ends and names of any bytes.
+//!
+//! docs/formats.md says what each leniency means and when each `Refusal` comes.
+#![tactic(auto)]
+
+mod bytes;
+mod context;
+mod format;
+mod kind;
+pub mod laws;
+mod plain;
+mod reader;
+mod reading;
+mod stage;
+mod syntax;
+mod token;
+
+pub use omega_parity_game::{ForwardGame, Game, Refusal};
+pub use plain::plain_text;
+pub use reading::{read_lenient_forward_game, read_lenient_game};
