@@ -1,3 +1,4 @@
 -- Lemmas of lenient game texts.
 pub mod grammar
+pub mod playing
 pub mod texts

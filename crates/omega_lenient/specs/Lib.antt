@@ -4,6 +4,7 @@ pub mod Format
 pub mod Grammar
 pub mod Laws
 pub mod Plain
+pub mod Playing
 pub mod Refusing
 pub mod Symbols
 pub mod Text

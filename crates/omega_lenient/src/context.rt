@@ -6,7 +6,7 @@ use crate::bytes::{byte_at, tail};
 
 /// Where a lenient text is between two of its bytes.
 #[derive(Clone, Copy, Debug, PartialEq, Eq)]
-pub enum Context {
+pub(crate) enum Context {
     /// Outside names and comments.
     Outside,
     /// After the quote that begins a name.

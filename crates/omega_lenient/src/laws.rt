@@ -3,6 +3,7 @@
 ghost use Rattle.omega_text.specs.Syntax.{SyntaxFaultsAreFirst};
 ghost use Rattle.omega_lenient.specs.Grammar.{lenient_syntax};
 ghost use Rattle.omega_lenient.specs.Laws.{LenientGamesAreNotRefused, LenientGamesAreOne, LenientRefusalsAreOne, LenientTextsAreReadOrRefused, PlainTextsKeepPlaces};
+ghost use Rattle.omega_lenient.specs.Playing.{CompletionKeepsWinners};
 
 use crate::kind::LenientKind;
 use crate::syntax::LenientSyntax;
@@ -60,3 +61,9 @@ pub fn lenient_syntax_faults_are_first()
 {
     omega_text::laws::syntax_faults_are_first::<LenientSyntax>();
 }
+
+/// States that each node of a game with dead ends is won by the same player in the game where these are completed: each
+/// is its only successor, with a priority that loses for its owner.
+pub fn completion_keeps_winners()
+    ensures { CompletionKeepsWinners }
+{}

@@ -12,7 +12,7 @@ use omega_text::{PgKind, Span, TextFault, Token, next_pg_token};
 /// Returns the next token of the plain text `source` from `at` on, or none if only white space is left.
 ///
 /// A fault is [TextFault::Lex] or [TextFault::Number], at the least place from there. No memory is taken.
-pub fn next_lenient_token(
+pub(crate) fn next_lenient_token(
     source: &[u8],
     at: usize,
 ) -> Result<Option<Token<'_, LenientKind>>, TextFault>
