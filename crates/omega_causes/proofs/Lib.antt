@@ -1,0 +1,1 @@
+-- Lemmas of the lines that say what is to be mended.
