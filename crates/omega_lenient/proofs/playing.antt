@@ -1,5 +1,7 @@
 -- Lemmas of games with dead ends.
+pub mod Back
 pub mod Choices
 pub mod Completed
 pub mod Forth
-pub mod Back
+pub mod Opened
+pub mod Rearranged

@@ -1,3 +1,4 @@
 -- Lemmas of plain texts and of the tokens of lenient texts.
 pub mod OneWay
 pub mod Plain
+pub mod PlainParts

@@ -3,6 +3,7 @@ pub mod DeadEnds
 pub mod Format
 pub mod Grammar
 pub mod Laws
+pub mod Parts
 pub mod Plain
 pub mod Playing
 pub mod Refusing

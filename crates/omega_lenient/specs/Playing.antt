@@ -1,13 +1,29 @@
 -- Games with dead ends: who wins there, and the game in which dead ends are completed.
-use Rattle.std.specs.Prelude.{◌≡◌, ◌↔◌, ℕ, suc, ◌<◌, Option, List, [], ◌∷◌, length}
-use Rattle.omega_parity_game.specs.Game.{Node, owner_at, successors_at}
+use Rattle.std.specs.Prelude.{◌≡◌, ◌↔◌, ℕ, suc, ◌<◌, Option, List, [], ◌∷◌, length, map}
+use Rattle.std.specs.List.Sorted.{IsPermutation, IsStrictlyIncreasing}
+use Rattle.omega_parity_game.specs.Building.{specified}
+use Rattle.omega_parity_game.specs.Game.{HasEdge, Node, identifiers, owner_at, successors_at}
 use Rattle.omega_parity_game.specs.Winning.{InRegion, IsStrategy, IsWalk, Wins, end_of}
+use Rattle.omega_parity_game.specs.declared.node_spec.NodeSpec.{NodeSpec}
 use Rattle.omega_parity_game.specs.declared.player.Player.{Player}
 use Rattle.omega_lenient.specs.DeadEnds.{losing_priority}
+use Rattle.omega_lenient.specs.Text.{IsLenientGameText}
 
 -- a node without successors
 abbrev pub IsDeadEnd : List Node → ℕ → Type 0
 IsDeadEnd nodes v = successors_at nodes v ≡ []
+
+-- a game that may have dead ends: a non-empty list of nodes in rising order of identifiers, whose successors are nodes
+-- of the game
+pub record IsOpenGame (nodes : List Node) : Type 0 where
+  pub inhabited : 0 < length nodes
+  pub rising : IsStrictlyIncreasing (identifiers nodes)
+  pub closed : (v w : ℕ) → HasEdge nodes v w → w < length nodes
+
+-- the game of specifications as they are written, which may have dead ends
+pub record IsOpenGameOf (written : List NodeSpec) (nodes : List Node) : Type 0 where
+  pub game : IsOpenGame nodes
+  pub rearranged : IsPermutation written (map (specified nodes) nodes)
 
 -- the strategy wins from v where there may be dead ends: no play that it leaves possible ends in a dead end of the
 -- player, who loses there, and those that go on forever are won as in a game without dead ends
@@ -41,3 +57,14 @@ completed_nodes nodes = completed_from 0 nodes
 abbrev pub CompletionKeepsWinners : Type 0
 CompletionKeepsWinners =
     (nodes : List Node) (player : Player) (v : ℕ) → InOpenRegion nodes player v ↔ InRegion (completed_nodes nodes) player v
+
+-- the game of written specifications, which may have dead ends, has the winners of the other game
+pub record HasOpenGame (written : List NodeSpec) (game : List Node) : Type 0 where
+  pub nodes : List Node
+  pub of_written : IsOpenGameOf written nodes
+  pub winners : (player : Player) (v : ℕ) → InOpenRegion nodes player v ↔ InRegion game player v
+
+-- who wins at a node of a text's game wins there in the game as it is written
+abbrev pub LenientGamesKeepWinners : Type 0
+LenientGamesKeepWinners =
+    (source : List ℕ) (game : List Node) (text : IsLenientGameText source game) → HasOpenGame text.spells.text.written game

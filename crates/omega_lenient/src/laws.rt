@@ -3,7 +3,8 @@
 ghost use Rattle.omega_text.specs.Syntax.{SyntaxFaultsAreFirst};
 ghost use Rattle.omega_lenient.specs.Grammar.{lenient_syntax};
 ghost use Rattle.omega_lenient.specs.Laws.{LenientGamesAreNotRefused, LenientGamesAreOne, LenientRefusalsAreOne, LenientTextsAreReadOrRefused, PlainTextsKeepPlaces};
-ghost use Rattle.omega_lenient.specs.Playing.{CompletionKeepsWinners};
+ghost use Rattle.omega_lenient.specs.Parts.{BlockCommentsAreBlank, LineCommentsAreBlank, NamesAreShown, OtherBytesStay};
+ghost use Rattle.omega_lenient.specs.Playing.{CompletionKeepsWinners, LenientGamesKeepWinners};
 
 use crate::kind::LenientKind;
 use crate::syntax::LenientSyntax;
@@ -17,6 +18,15 @@ use omega_text::laws::{
 /// States that a plain text has a byte for each of the text.
 pub fn plain_texts_keep_places()
     ensures { PlainTextsKeepPlaces }
+{}
+
+/// States what stands for each part of a text in its plain text: spaces for comments, the bytes of a name that a name
+/// of a game may have, and each byte that begins neither.
+pub fn plain_texts_show_parts()
+    ensures line_comments { LineCommentsAreBlank }
+    ensures block_comments { BlockCommentsAreBlank }
+    ensures names { NamesAreShown }
+    ensures others { OtherBytesStay }
 {}
 
 /// States that a text describes at most one game.
@@ -66,4 +76,10 @@ pub fn lenient_syntax_faults_are_first()
 /// is its only successor, with a priority that loses for its owner.
 pub fn completion_keeps_winners()
     ensures { CompletionKeepsWinners }
+{}
+
+/// States that whoever wins at a node of a text's game wins there in the game as it is written, which may have dead
+/// ends.
+pub fn lenient_games_keep_winners()
+    ensures { LenientGamesKeepWinners }
 {}

@@ -1,8 +1,8 @@
 -- The nodes of a completed game, one by one.
-use Rattle.std.proofs.Common.{◌≡◌, ℕ, zero, suc, ◌+◌, ◌<◌, ◌≤◌, ◌⊎◌, inl, inr, ⊎_elim, List, [], ◌∷◌, length, Contains, refl, ap, sym, ◌∙◌, subst, arith}
+use Rattle.std.proofs.Common.{◌≡◌, ℕ, zero, suc, ◌+◌, ◌<◌, ◌≤◌, ◌⊎◌, inl, inr, ⊎_elim, List, [], ◌∷◌, length, Contains, refl, ap, ap₂, sym, ◌∙◌, subst, arith}
 use Rattle.std.proofs.lemmas.List.{get_or_past}
 use Rattle.std.proofs.str.Laws.{order}
-use Rattle.omega_parity_game.specs.Game.{HasEdge, Node, no_node, node_at, owner_at, priority_at, successors_at}
+use Rattle.omega_parity_game.specs.Game.{HasEdge, Node, identifier_at, identifiers, no_node, node_at, owner_at, priority_at, successors_at}
 use Rattle.omega_parity_game.specs.Winning.{IsWalk, end_of}
 use Rattle.omega_parity_game.specs.declared.player.Player.{Player}
 use Rattle.omega_parity_game.specs.declared.player.Player.TheVariants.{One, Zero}
@@ -57,7 +57,7 @@ live_inside nodes v live =
     (order v (length nodes))
 
 -- such a node stays
-live_by : (successors : List ℕ) (v : ℕ) (node : Node) → 0 < length successors → completed_node_by successors v node ≡ node
+pub live_by : (successors : List ℕ) (v : ℕ) (node : Node) → 0 < length successors → completed_node_by successors v node ≡ node
 live_by [] v node live = absurd (omega (arith, live))
 live_by (first ∷ others) v node live = refl
 
@@ -83,6 +83,25 @@ owner_same nodes v =
     ⊎_elim
     (λ inside. ap (λ (node : Node). node.owner) (at_completed nodes v inside) ∙ owner_by (successors_at nodes v) v (node_at nodes v))
     (λ past. ap (λ (node : Node). node.owner) (past_completed nodes v past ∙ sym (past_node nodes v past)))
+    (order v (length nodes))
+
+-- identifiers stay
+identifier_by : (successors : List ℕ) (v : ℕ) (node : Node) → (completed_node_by successors v node).identifier ≡ node.identifier
+identifier_by [] v node = refl
+identifier_by (first ∷ others) v node = refl
+
+identifiers_from : (from : ℕ) (nodes : List Node) → identifiers (completed_from from nodes) ≡ identifiers nodes
+identifiers_from from [] = refl
+identifiers_from from (node ∷ nodes) = ap₂ ◌∷◌ (identifier_by node.successors from node) (identifiers_from (suc from) nodes)
+
+pub identifiers_same : (nodes : List Node) → identifiers (completed_nodes nodes) ≡ identifiers nodes
+identifiers_same nodes = identifiers_from 0 nodes
+
+pub identifier_same : (nodes : List Node) (v : ℕ) → identifier_at (completed_nodes nodes) v ≡ identifier_at nodes v
+identifier_same nodes v =
+    ⊎_elim
+    (λ inside. ap (λ (node : Node). node.identifier) (at_completed nodes v inside) ∙ identifier_by (successors_at nodes v) v (node_at nodes v))
+    (λ past. ap (λ (node : Node). node.identifier) (past_completed nodes v past ∙ sym (past_node nodes v past)))
     (order v (length nodes))
 
 -- an edge leaves a node with successors
