@@ -9,4 +9,5 @@ pub mod Quoted
 pub mod Runs
 pub mod Shown
 pub mod Spelled
+pub mod Strict
 pub mod WellFormed

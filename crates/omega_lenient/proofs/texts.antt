@@ -1,4 +1,6 @@
 -- Lemmas of plain texts and of the tokens of lenient texts.
+pub mod Bare
 pub mod OneWay
 pub mod Plain
 pub mod PlainParts
+pub mod StrictPlain

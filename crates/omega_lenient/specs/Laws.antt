@@ -2,6 +2,7 @@
 use Rattle.std.specs.Prelude.{◌≡◌, ℕ, ◌⊎◌, List, length}
 use Rattle.omega_text.specs.declared.refusal.Refusal.{Refusal}
 use Rattle.omega_parity_game.specs.Game.{Node}
+use Rattle.omega_pg.specs.game.Text.{IsGameText}
 use Rattle.omega_lenient.specs.Plain.{plain_text}
 use Rattle.omega_lenient.specs.Refusing.{RefusesLenient}
 use Rattle.omega_lenient.specs.Text.{IsLenientGameText}
@@ -13,12 +14,14 @@ PlainTextsKeepPlaces = (source : List ℕ) → length (plain_text source) ≡ le
 -- a text describes at most one game
 abbrev pub LenientGamesAreOne : Type 0
 LenientGamesAreOne =
-    (source : List ℕ) (one other : List Node) → IsLenientGameText source one → IsLenientGameText source other → one ≡ other
+    (source : List ℕ) (one other : List Node)
+    → IsLenientGameText source one → IsLenientGameText source other → one ≡ other
 
 -- a text has at most one refusal
 abbrev pub LenientRefusalsAreOne : Type 0
 LenientRefusalsAreOne =
-    (source : List ℕ) (one other : Refusal) → RefusesLenient source one → RefusesLenient source other → one ≡ other
+    (source : List ℕ) (one other : Refusal)
+    → RefusesLenient source one → RefusesLenient source other → one ≡ other
 
 -- a text that describes a game has no refusal
 abbrev pub LenientGamesAreNotRefused : Type 0
@@ -31,3 +34,8 @@ abbrev pub LenientTextsAreReadOrRefused : Type 0
 LenientTextsAreReadOrRefused =
     (source : List ℕ)
     → ((game : List Node) × IsLenientGameText source game) ⊎ ((refusal : Refusal) × RefusesLenient source refusal)
+
+-- a game text describes the same game as a lenient text
+abbrev pub StrictTextsAreLenient : Type 0
+StrictTextsAreLenient =
+    (source : List ℕ) (game : List Node) → IsGameText source game → IsLenientGameText source game

@@ -7,6 +7,8 @@ pub mod Parts
 pub mod Plain
 pub mod Playing
 pub mod Refusing
+pub mod SolutionLines
+pub mod SolutionText
 pub mod Symbols
 pub mod Text
 pub mod private

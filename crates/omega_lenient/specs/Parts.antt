@@ -10,11 +10,14 @@ IsInLine bytes = AllPass (λ byte. not (byte == 10)) bytes
 
 -- `//` or `#`, and bytes of the same line
 abbrev pub IsInLineComment : List ℕ → Type 0
-IsInLineComment text = (inside : List ℕ) × ((text ≡ 47 ∷ 47 ∷ inside) ⊎ (text ≡ 35 ∷ inside)) × IsInLine inside
+IsInLineComment text =
+    (inside : List ℕ) × ((text ≡ 47 ∷ 47 ∷ inside) ⊎ (text ≡ 35 ∷ inside)) × IsInLine inside
 
 -- `/*`, bytes without `*/`, and `*/`
 abbrev pub IsBlockComment : List ℕ → Type 0
-IsBlockComment text = (inside : List ℕ) × (text ≡ 47 ∷ 42 ∷ (inside ++ 42 ∷ 47 ∷ [])) × (is_closed (inside ++ 42 ∷ []) ≡ false)
+IsBlockComment text =
+    (inside : List ℕ) × (text ≡ 47 ∷ 42 ∷ (inside ++ 42 ∷ 47 ∷ []))
+    × (is_closed (inside ++ 42 ∷ []) ≡ false)
 
 -- as many spaces as bytes
 abbrev pub blanks : List ℕ → List ℕ
@@ -34,7 +37,8 @@ BlockCommentsAreBlank = (comment rest : List ℕ) → IsBlockComment comment
 -- a name without a quote in it stays a name, with `?` for what no name may have
 abbrev pub NamesAreShown : Type 0
 NamesAreShown = (name rest : List ℕ) → AllPass (λ byte. not (byte == 34)) name
-    → plain_from Outside (34 ∷ (name ++ 34 ∷ rest)) ≡ 34 ∷ (map shown_in_name name ++ 34 ∷ plain_from Outside rest)
+    → plain_from Outside (34 ∷ (name ++ 34 ∷ rest))
+    ≡ 34 ∷ (map shown_in_name name ++ 34 ∷ plain_from Outside rest)
 
 -- a byte that begins neither a name nor a comment stays
 abbrev pub OtherBytesStay : Type 0

@@ -62,7 +62,8 @@ shown Unclosed next byte = byte
 -- the plain text of the bytes that are left
 abbrev pub plain_from : Context → List ℕ → List ℕ
 plain_from context [] = []
-plain_from context (byte ∷ rest) = shown context (after context byte rest) byte ∷ plain_from (after context byte rest) rest
+plain_from context (byte ∷ rest) =
+    shown context (after context byte rest) byte ∷ plain_from (after context byte rest) rest
 
 -- the byte order mark of UTF-8 begins the text
 abbrev pub begins_with_mark : List ℕ → Bool
@@ -71,4 +72,5 @@ begins_with_mark source = (slice_index source 0 == 239 && slice_index source 1 =
 -- the plain text of a text
 abbrev pub plain_text : List ℕ → List ℕ
 plain_text source =
-    if begins_with_mark source then 32 ∷ 32 ∷ 32 ∷ plain_from Outside (drop 3 source) else plain_from Outside source
+    if begins_with_mark source then 32 ∷ 32 ∷ 32 ∷ plain_from Outside (drop 3 source) else
+    plain_from Outside source

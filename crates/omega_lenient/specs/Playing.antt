@@ -56,7 +56,8 @@ completed_nodes nodes = completed_from 0 nodes
 -- each node is won by the same player in the completed game
 abbrev pub CompletionKeepsWinners : Type 0
 CompletionKeepsWinners =
-    (nodes : List Node) (player : Player) (v : ℕ) → InOpenRegion nodes player v ↔ InRegion (completed_nodes nodes) player v
+    (nodes : List Node) (player : Player) (v : ℕ)
+    → InOpenRegion nodes player v ↔ InRegion (completed_nodes nodes) player v
 
 -- the game of written specifications, which may have dead ends, has the winners of the other game
 pub record HasOpenGame (written : List NodeSpec) (game : List Node) : Type 0 where
@@ -67,4 +68,5 @@ pub record HasOpenGame (written : List NodeSpec) (game : List Node) : Type 0 whe
 -- who wins at a node of a text's game wins there in the game as it is written
 abbrev pub LenientGamesKeepWinners : Type 0
 LenientGamesKeepWinners =
-    (source : List ℕ) (game : List Node) (text : IsLenientGameText source game) → HasOpenGame text.spells.text.written game
+    (source : List ℕ) (game : List Node) (text : IsLenientGameText source game)
+    → HasOpenGame text.spells.text.written game

@@ -21,7 +21,8 @@ pub record IsLenientGameFault (source : List ℕ) (fault : GameFault) : Type 0 w
 
 -- the refusal of a lenient text
 abbrev pub RefusesLenient : List ℕ → Refusal → Type 0
-RefusesLenient source = or_text (IsTextFault lenient_syntax (plain_text source)) (or_game (IsLenientGameFault source) never)
+RefusesLenient source =
+    or_text (IsTextFault lenient_syntax (plain_text source)) (or_game (IsLenientGameFault source) never)
 
 -- what a call that reads may answer in place of a game: memory, or the refusal of the text
 abbrev pub IsLenientReadRefusal : List ℕ → Refusal → Type 0

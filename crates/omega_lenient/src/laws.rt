@@ -2,8 +2,9 @@
 
 ghost use Rattle.omega_text.specs.Syntax.{SyntaxFaultsAreFirst};
 ghost use Rattle.omega_lenient.specs.Grammar.{lenient_syntax};
-ghost use Rattle.omega_lenient.specs.Laws.{LenientGamesAreNotRefused, LenientGamesAreOne, LenientRefusalsAreOne, LenientTextsAreReadOrRefused, PlainTextsKeepPlaces};
+ghost use Rattle.omega_lenient.specs.Laws.{LenientGamesAreNotRefused, LenientGamesAreOne, LenientRefusalsAreOne, LenientTextsAreReadOrRefused, PlainTextsKeepPlaces, StrictTextsAreLenient};
 ghost use Rattle.omega_lenient.specs.Parts.{BlockCommentsAreBlank, LineCommentsAreBlank, NamesAreShown, OtherBytesStay};
+ghost use Rattle.omega_lenient.specs.SolutionText.{BareTextsKeepPlaces};
 ghost use Rattle.omega_lenient.specs.Playing.{CompletionKeepsWinners, LenientGamesKeepWinners};
 
 use crate::kind::LenientKind;
@@ -19,6 +20,13 @@ use omega_text::laws::{
 pub fn plain_texts_keep_places()
     ensures { PlainTextsKeepPlaces }
 {}
+
+/// States that a bare text of a solution text has a byte for each of the text.
+pub fn bare_texts_keep_places()
+    ensures { BareTextsKeepPlaces }
+{
+    plain_texts_keep_places();
+}
 
 /// States what stands for each part of a text in its plain text: spaces for comments, the bytes of a name that a name
 /// of a game may have, and each byte that begins neither.
@@ -71,6 +79,11 @@ pub fn lenient_syntax_faults_are_first()
 {
     omega_text::laws::syntax_faults_are_first::<LenientSyntax>();
 }
+
+/// States that a game text describes the same game as a lenient text.
+pub fn strict_texts_are_lenient()
+    ensures { StrictTextsAreLenient }
+{}
 
 /// States that each node of a game with dead ends is won by the same player in the game where these are completed: each
 /// is its only successor, with a priority that loses for its owner.

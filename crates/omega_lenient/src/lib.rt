@@ -1,4 +1,5 @@
-//! PGSolver's game texts as other tools write them: with comments, `start`, dead ends and names of any bytes.
+//! PGSolver's texts of games, and texts of solutions, as other tools write them: with comments, `start`, dead ends, and
+//! names of any bytes.
 //!
 //! docs/formats.md says what each leniency means and when each `Refusal` comes.
 #![tactic(auto)]
@@ -8,13 +9,16 @@ mod context;
 mod format;
 mod kind;
 pub mod laws;
+mod line_place;
 mod plain;
 mod reader;
 mod reading;
+mod solution;
 mod stage;
 mod syntax;
 mod token;
 
-pub use omega_parity_game::{ForwardGame, Game, Refusal};
+pub use omega_parity_game::{ForwardGame, Game, Refusal, Solution};
 pub use plain::plain_text;
 pub use reading::{read_lenient_forward_game, read_lenient_game};
+pub use solution::read_lenient_solution;
