@@ -1,1 +1,2 @@
 -- Lemmas of the lines that say what is to be mended.
+mod games

@@ -1,2 +1,4 @@
 -- The lines that say what is to be mended in a refused text.
+pub mod GameCauses
 pub mod Places
+pub mod private

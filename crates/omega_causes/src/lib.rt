@@ -3,6 +3,12 @@
 //! docs/formats.md says when each `Refusal` comes.
 #![tactic(auto)]
 
+mod game_causes;
+mod game_syntax;
+mod grammar;
+mod lines;
 mod places;
+mod written_game;
 
+pub use game_causes::game_cause;
 pub use places::place_line;

@@ -1,0 +1,4 @@
+-- Lemmas of what is at fault in a game text.
+pub mod Repeats
+pub mod Spelled
+pub mod Texts

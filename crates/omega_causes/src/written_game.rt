@@ -1,0 +1,126 @@
+//! What is read of a game text to find what is at fault in it.
+
+ghost use Rattle.std.specs.Prelude.{◌≡◌, IfOk, IsOkUnless, OnOk, map};
+ghost use Rattle.omega_causes.specs.private.WrittenGame.{after_number, nothing, run, step};
+ghost use Rattle.omega_pg.specs.Symbols.{pg_symbol_of};
+ghost use Rattle.omega_text.specs.Lexeme.{lexeme_of};
+
+use omega_text::{PgKind, Refusal, Token};
+use std::alloc::Global;
+use std::marker::Model;
+
+/// Which number of a game text is next, with the identifier of its node.
+#[derive(Clone, Copy)]
+pub(crate) enum Next {
+    /// The number of the header.
+    Header,
+    /// The identifier of a node.
+    Identifier,
+    Priority { node: u32 },
+    Owner { node: u32 },
+    /// A successor, or the end of the node.
+    Successor { node: u32 },
+}
+
+/// The numbers of a game text that may be at fault, in the order of the text.
+#[derive(Drop)]
+pub(crate) struct WrittenGame {
+    next: Next,
+    /// The number of the header, if there is one.
+    header: Option<u32>,
+    /// The identifiers of the nodes.
+    ids: Vec<u32>,
+    /// Each successor after the identifier of the node that lists it.
+    listed: Vec<(u32, u32)>,
+}
+
+impl Model for WrittenGame {
+    ghost use Rattle.omega_causes.specs.private.WrittenGame.{Written};
+
+    ghost Value = { Written };
+
+    ghost view = { λ game. record { next = game.next; header = game.header; ids = game.ids.items; listed = game.listed.items } };
+}
+
+impl WrittenGame {
+    /// Reads the tokens of a game text. The cost is linear.
+    pub(crate) fn read(alloc: Global, tokens: &[Token<'_, PgKind>]) -> Result<Self, Refusal>
+        ensures read { IfOk result (λ game. game ≡ run nothing (map pg_symbol_of (map lexeme_of tokens.now))) }
+        ensures memory { IsOkUnless result Refusal.Memory }
+    {
+        let mut game = WrittenGame::new(alloc);
+        for token in tokens {
+            game.take(token)?;
+        }
+        Ok(game)
+    }
+
+    /// Returns the number of the header, if there is one.
+    pub(crate) fn header(&self) -> Option<u32>
+        ensures { result ≡ self.now.header }
+    {
+        self.header
+    }
+
+    /// Returns the identifiers of the nodes, in the order of the text.
+    pub(crate) fn ids(&self) -> &[u32]
+        ensures { result.now ≡ self.now.ids }
+    {
+        &self.ids
+    }
+
+    /// Returns each successor after the identifier of the node that lists it, in the order of the text.
+    pub(crate) fn listed(&self) -> &[(u32, u32)]
+        ensures { result.now ≡ self.now.listed }
+    {
+        &self.listed
+    }
+
+    fn new(alloc: Global) -> Self
+        ensures { result ≡ nothing }
+    {
+        WrittenGame {
+            next: Next::Identifier,
+            header: None,
+            ids: Vec::new(alloc),
+            listed: Vec::new(alloc),
+        }
+    }
+
+    /// Takes one more token.
+    fn take(&mut self, token: &Token<'_, PgKind>) -> Result<(), Refusal>
+        ensures taken { OnOk result (self.new ≡ step self.old (pg_symbol_of (lexeme_of token.now))) }
+        ensures memory { IsOkUnless result Refusal.Memory }
+    {
+        match token.kind {
+            PgKind::Number => self.take_number(token.value),
+            PgKind::Parity => {
+                self.next = Next::Header;
+                Ok(())
+            }
+            PgKind::Semicolon => {
+                self.next = Next::Identifier;
+                Ok(())
+            }
+            PgKind::ParitySol | PgKind::Comma | PgKind::Name => Ok(()),
+        }
+    }
+
+    /// Takes one more number.
+    fn take_number(&mut self, number: u32) -> Result<(), Refusal>
+        ensures taken { OnOk result (self.new ≡ after_number self.old.next self.old number) }
+        ensures memory { IsOkUnless result Refusal.Memory }
+    {
+        match self.next {
+            Next::Header => self.header = Some(number),
+            Next::Identifier => {
+                self.ids.push(number)?;
+                self.next = Next::Priority { node: number };
+            }
+            Next::Priority { node } => self.next = Next::Owner { node },
+            Next::Owner { node } => self.next = Next::Successor { node },
+            Next::Successor { node } => self.listed.push((node, number))?,
+        }
+        Ok(())
+    }
+}
