@@ -1,4 +1,4 @@
--- The texts written for a stream's bytes, with a piece more, and at its end.
+-- What was asked of the items of a stream's bytes, with a piece more, and at its end.
 use Rattle.std.proofs.Common.{◌≡◌, ℕ, ◌+◌, ◌≤◌, ◌⊎◌, List, [], ◌∷◌, ◌++◌, Option, None, Some, length, refl, sym, ap, subst, ◌∙◌, inl, inr, arith, append_assoc, append-nil, length-append}
 use Rattle.std.specs.Prelude.{IfSome, MatchOption, Result, Err, Ok}
 use Rattle.omega_text.specs.Cut.{Cuts}
@@ -16,17 +16,8 @@ use Rattle.omega_hoa.specs.Stream.{IsItemOf, IsSegment, IsStream, IsStreamFault,
 use Rattle.omega_hoa.specs.declared.item.Item.{Item}
 use Rattle.omega_hoa.specs.declared.item.Item.TheVariants.{Aborted, Automaton}
 use Rattle.omega_hoa.proofs.Wholes.{errors_are_one}
-use Rattle.omega_stream_reading.specs.Telling.{IsTelling, texts_from}
-use Rattle.omega_stream_reading.specs.private.steps.Following.{AreRefusedBy, TellsItems}
-
--- the texts of items with others after them
-pub texts_from-append : (text : ℕ → Item → List ℕ) (number : ℕ) (items more : List Item)
-    → texts_from text number (items ++ more) ≡ texts_from text number items ++ texts_from text (number + length items) more
-texts_from-append text number [] more = ap (λ n. texts_from text n more) (omega arith)
-texts_from-append text number (item ∷ items) more =
-    let next : number + 1 + length items ≡ number + length (item ∷ items) = omega arith in
-    ap (λ rest. text number item ++ rest) (texts_from-append text (number + 1) items more ∙ ap (λ n. texts_from text (number + 1) items ++ texts_from text n more) next)
-    ∙ sym (append_assoc (text number item) (texts_from text (number + 1) items) (texts_from text (number + length (item ∷ items)) more))
+use Rattle.omega_stream_reading.specs.declared.asked.Asked.{Asked}
+use Rattle.omega_stream_reading.specs.private.steps.Following.{AreRefusedBy, AsksItems, AsksMore}
 
 -- as many bytes as tokens lie between the ends of a cut
 pub cut_count : {Kind : Type 0} (format : TextFormat Kind) → GoesOneWay format → (source : List ℕ) (from to : ℕ) (lexemes : List (Lexeme Kind)) → Cuts format source from lexemes to
@@ -87,35 +78,36 @@ refused_more seen piece refusal refused more =
     let found = refused (piece ++ more) in
     (found.0, subst (λ source. IsStreamFault source found.0 refusal) (sym (append_assoc seen piece more)) found.1)
 
-module _ (text : ℕ → Item → List ℕ) (seen : List ℕ) (kept : Kept) (count : ℕ) (reported : List ℕ) (follows : MatchOption kept.refused (TellsItems text seen kept count reported) (AreRefusedBy seen)) where
-  -- the texts written for the bytes if none were refused
-  tells_of : kept.refused ≡ None → TellsItems text seen kept count reported
-  tells_of none = subst (λ refused. MatchOption refused (TellsItems text seen kept count reported) (AreRefusedBy seen)) none follows
+module _ (Holds : List Item → Asked → Type 0) (seen : List ℕ) (kept : Kept) (count : ℕ) (asked : Asked) (follows : MatchOption kept.refused (AsksItems Holds seen kept count asked) (AreRefusedBy seen)) where
+  -- what was asked if no bytes were refused
+  asks_of : kept.refused ≡ None → AsksItems Holds seen kept count asked
+  asks_of none = subst (λ refused. MatchOption refused (AsksItems Holds seen kept count asked) (AreRefusedBy seen)) none follows
 
   -- the bytes were taken then
-  taken_of : kept.refused ≡ None → (tells : TellsItems text seen kept count reported) → IsTaken seen tells.items kept
-  taken_of none tells = subst (λ refused. MatchOption refused (IsTaken seen tells.items kept) (IsRefusedSoFar seen tells.items kept)) none tells.fed
+  taken_of : kept.refused ≡ None → (asks : AsksItems Holds seen kept count asked) → IsTaken seen asks.items kept
+  taken_of none asks = subst (λ refused. MatchOption refused (IsTaken seen asks.items kept) (IsRefusedSoFar seen asks.items kept)) none asks.fed
 
   -- a piece stays within the limit
   pub piece_fits : kept.refused ≡ None → (more : ℕ) → length seen + more ≤ most_text → kept.begins + length kept.bytes + more ≤ most_text
   piece_fits none more fits =
-      let taken = taken_of none (tells_of none) in omega (arith, taken.total, fits)
+      let taken = taken_of none (asks_of none) in omega (arith, taken.total, fits)
 
   -- ---- the end
 
-  -- the texts of the whole text were written
-  pub ends_reported : kept.refused ≡ None → ((items : List Item) → IsFed seen items kept → IsStreamText seen items) → IsTelling text seen reported
-  ends_reported none ends =
-      let tells = tells_of none in record { items = tells.items; read = ends tells.items tells.fed; all = tells.all }
+  -- the items of the whole text were asked
+  pub ends_asked : kept.refused ≡ None → ((items : List Item) → IsFed seen items kept → IsStreamText seen items)
+      → (items : List Item) × IsStreamText seen items × Holds items asked
+  ends_asked none ends =
+      let asks = asks_of none in (asks.items, ends asks.items asks.fed, asks.holds)
 
   ends_refused_by : (refused : Option Refusal) (refusal : Refusal) → kept.refused ≡ refused → length seen ≤ most_text
       → (kept.refused ≡ None → (items : List Item) → IsFed seen items kept → IsStreamFault seen items refusal)
       → IfSome refused (λ before. refusal ≡ before)
       → IsStreamRefusal seen refusal
   ends_refused_by None refusal is short ends before =
-      let tells = tells_of is in inr (short, (tells.items, ends is tells.items tells.fed))
+      let asks = asks_of is in inr (short, (asks.items, ends is asks.items asks.fed))
   ends_refused_by (Some earlier) refusal is short ends before =
-      let refused : AreRefusedBy seen earlier = subst (λ state. MatchOption state (TellsItems text seen kept count reported) (AreRefusedBy seen)) is follows in
+      let refused : AreRefusedBy seen earlier = subst (λ state. MatchOption state (AsksItems Holds seen kept count asked) (AreRefusedBy seen)) is follows in
       let found = refused [] in
       let fault : IsStreamFault seen found.0 refusal = subst (IsStreamFault seen found.0) (sym before) (subst (λ source. IsStreamFault source found.0 earlier) (append-nil seen) found.1) in
       inr (short, (found.0, fault))
@@ -130,36 +122,34 @@ module _ (text : ℕ → Item → List ℕ) (seen : List ℕ) (kept : Kept) (cou
   -- ---- a piece more
 
   module _ (piece : List ℕ) (before given : List Item) (after : Kept) (empty : before ≡ []) where
-    -- the piece was taken, and the texts of its items written
-    pub follows_taken : (next : List ℕ) → kept.refused ≡ None → after.refused ≡ None
+    -- the piece was taken, and its items asked
+    pub follows_taken : (next : Asked) → kept.refused ≡ None → after.refused ≡ None
         → (added : List Item) × (given ≡ before ++ added) × TakesPiece kept piece added after
-        → next ≡ reported ++ texts_from text count given
-        → MatchOption after.refused (TellsItems text (seen ++ piece) after (count + length given) next) (AreRefusedBy (seen ++ piece))
+        → AsksMore Holds count given asked next
+        → MatchOption after.refused (AsksItems Holds (seen ++ piece) after (count + length given) next) (AreRefusedBy (seen ++ piece))
     follows_taken next none still takes more =
-        let tells = tells_of none in
+        let asks = asks_of none in
         let added = takes.0 in
         let is : given ≡ added = takes.1 ∙ ap (λ front. front ++ added) empty in
-        let number : count ≡ 0 + length tells.items = omega (arith, tells.counted) in
-        let now : TellsItems text (seen ++ piece) after (count + length given) next = record {
-          items = tells.items ++ added;
-          fed = takes.2 seen tells.items tells.fed;
-          counted = omega (arith, tells.counted, ap length is, length-append tells.items added);
-          all = more ∙ ap (λ front. front ++ texts_from text count given) tells.all ∙ ap (λ n. texts_from text 0 tells.items ++ texts_from text n given) number
-              ∙ ap (λ items. texts_from text 0 tells.items ++ texts_from text (0 + length tells.items) items) is ∙ sym (texts_from-append text 0 tells.items added);
+        let now : AsksItems Holds (seen ++ piece) after (count + length given) next = record {
+          items = asks.items ++ added;
+          fed = takes.2 seen asks.items asks.fed;
+          counted = omega (arith, asks.counted, ap length is, length-append asks.items added);
+          holds = subst (λ items. Holds (asks.items ++ items) next) is (more asks.items asks.counted asks.holds);
         } in
-        subst (λ refused. MatchOption refused (TellsItems text (seen ++ piece) after (count + length given) next) (AreRefusedBy (seen ++ piece))) (sym still) now
+        subst (λ refused. MatchOption refused (AsksItems Holds (seen ++ piece) after (count + length given) next) (AreRefusedBy (seen ++ piece))) (sym still) now
 
-    -- the number of items with a text is then far from the greatest number
+    -- the number of items is then far from the greatest number
     pub count_within : GoesOneWay hoa_format → kept.refused ≡ None → after.refused ≡ None
         → (added : List Item) × (given ≡ before ++ added) × TakesPiece kept piece added after
         → count + length given ≤ most_text
     count_within exact none still takes =
-        let tells = tells_of none in
+        let asks = asks_of none in
         let added = takes.0 in
         let is : given ≡ added = takes.1 ∙ ap (λ front. front ++ added) empty in
-        let all = tells.items ++ added in
-        let now : IsTaken (seen ++ piece) all after = subst (λ refused. MatchOption refused (IsTaken (seen ++ piece) all after) (IsRefusedSoFar (seen ++ piece) all after)) still (takes.2 seen tells.items tells.fed) in
-        omega (arith, tells.counted, ap length is, length-append tells.items added, items_within exact (seen ++ piece) all after now, now.short)
+        let all = asks.items ++ added in
+        let now : IsTaken (seen ++ piece) all after = subst (λ refused. MatchOption refused (IsTaken (seen ++ piece) all after) (IsRefusedSoFar (seen ++ piece) all after)) still (takes.2 seen asks.items asks.fed) in
+        omega (arith, asks.counted, ap length is, length-append asks.items added, items_within exact (seen ++ piece) all after now, now.short)
 
     -- the piece is refused, or those before were
     refused_now : (refused : Option Refusal) (refusal : Refusal) → kept.refused ≡ refused → (refusal ≡ Memory → ⊥)
@@ -167,20 +157,20 @@ module _ (text : ℕ → Item → List ℕ) (seen : List ℕ) (kept : Kept) (cou
         → IfSome refused (λ before. refusal ≡ before)
         → AreRefusedBy (seen ++ piece) refusal
     refused_now None refusal is other refuses same =
-        let tells = tells_of is in
-        elim (refuses is tells.items tells.fed) [
+        let asks = asks_of is in
+        elim (refuses is asks.items asks.fed) [
           | inl memory ↦ absurd (other memory)
-          | inr refused ↦ λ more. (tells.items ++ refused.added, refused.holds more)
+          | inr refused ↦ λ more. (asks.items ++ refused.added, refused.holds more)
         ]
     refused_now (Some earlier) refusal is other refuses same =
-        let refused : AreRefusedBy seen earlier = subst (λ state. MatchOption state (TellsItems text seen kept count reported) (AreRefusedBy seen)) is follows in
+        let refused : AreRefusedBy seen earlier = subst (λ state. MatchOption state (AsksItems Holds seen kept count asked) (AreRefusedBy seen)) is follows in
         refused_more seen piece refusal (subst (AreRefusedBy seen) (sym same) refused)
 
     -- what follows then
-    pub follows_refused : (number : ℕ) (next : List ℕ) (refusal : Refusal) → after.refused ≡ Some refusal → (refusal ≡ Memory → ⊥)
+    pub follows_refused : (number : ℕ) (next : Asked) (refusal : Refusal) → after.refused ≡ Some refusal → (refusal ≡ Memory → ⊥)
         → (kept.refused ≡ None → (items : List Item) → IsFed seen items kept → IsRefusedThen (seen ++ piece) before given items refusal)
         → IfSome kept.refused (λ before. refusal ≡ before)
-        → MatchOption after.refused (TellsItems text (seen ++ piece) after number next) (AreRefusedBy (seen ++ piece))
+        → MatchOption after.refused (AsksItems Holds (seen ++ piece) after number next) (AreRefusedBy (seen ++ piece))
     follows_refused number next refusal is other refuses same =
-        subst (λ refused. MatchOption refused (TellsItems text (seen ++ piece) after number next) (AreRefusedBy (seen ++ piece))) (sym is)
+        subst (λ refused. MatchOption refused (AsksItems Holds (seen ++ piece) after number next) (AreRefusedBy (seen ++ piece))) (sym is)
         (refused_now kept.refused refusal refl other refuses same)

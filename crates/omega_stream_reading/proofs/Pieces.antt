@@ -11,15 +11,16 @@ use Rattle.omega_io.specs.Failures.{failures_of}
 use Rattle.omega_io.specs.Reading.{IsRead, ReadsText}
 use Rattle.omega_hoa.specs.Stream.{IsStreamRefusal}
 use Rattle.omega_hoa.specs.declared.item.Item.{Item}
-use Rattle.omega_stream_reading.specs.declared.telling.Telling.{Telling}
-use Rattle.omega_stream_reading.specs.private.steps.Following.{FollowsTelling, IsReading}
+use Rattle.omega_stream_reading.specs.declared.asked.Asked.{Asked}
+use Rattle.omega_stream_reading.specs.declared.asking.Asking.{Asking}
+use Rattle.omega_stream_reading.specs.private.steps.Following.{FollowsAsking, IsReading}
 
 -- a piece was read after them, and followed
-pub reads_piece : (text : ℕ → Item → List ℕ) (before now after : Option (List ℕ)) (total : ℕ) (old new : Telling) (piece : List ℕ) (count next : ℕ)
-    → IsReading text before now total old → total ≤ most_text → Consumes now after piece → count ≡ length piece → next ≡ total + count
-    → ((seen : List ℕ) → length seen + length piece ≤ most_text → FollowsTelling text seen old → FollowsTelling text (seen ++ piece) new)
-    → IsReading text before after next new
-reads_piece text before now after total old new piece count next reading short consumed is sum goes_on = record {
+pub reads_piece : (Holds : List Item → Asked → Type 0) (before now after : Option (List ℕ)) (total : ℕ) (old new : Asking) (piece : List ℕ) (count next : ℕ)
+    → IsReading Holds before now total old → total ≤ most_text → Consumes now after piece → count ≡ length piece → next ≡ total + count
+    → ((seen : List ℕ) → length seen + length piece ≤ most_text → FollowsAsking Holds seen old → FollowsAsking Holds (seen ++ piece) new)
+    → IsReading Holds before after next new
+reads_piece Holds before now after total old new piece count next reading short consumed is sum goes_on = record {
   seen = reading.seen ++ piece;
   consumed = Consumes-trans before now after reading.seen piece reading.consumed consumed;
   count = omega (arith, reading.count, is, sum, length-append reading.seen piece);
@@ -65,8 +66,17 @@ reads_refused (Err Memory) before after source read refused = tt
 reads_refused (Err Io) before after source read refused = tt
 
 -- what is said of each text that was followed is said of this one
-pub at_text : {A : Type 0} (result : Result A Refusal) (text : ℕ → Item → List ℕ) (telling : Telling) (seen : List ℕ) → length seen ≤ most_text → FollowsTelling text seen telling
-    → IfErr result (λ refusal. (source : List ℕ) → length source ≤ most_text → FollowsTelling text source telling → IsStreamRefusal source refusal)
+pub at_text : {A : Type 0} (result : Result A Refusal) (Holds : List Item → Asked → Type 0) (asking : Asking) (seen : List ℕ) → length seen ≤ most_text → FollowsAsking Holds seen asking
+    → IfErr result (λ refusal. (source : List ℕ) → length source ≤ most_text → FollowsAsking Holds source asking → IsStreamRefusal source refusal)
     → IfErr result (IsStreamRefusal seen)
-at_text (Ok value) text telling seen short follows says = tt
-at_text (Err refusal) text telling seen short follows says = says seen short follows
+at_text (Ok value) Holds asking seen short follows says = tt
+at_text (Err refusal) Holds asking seen short follows says = says seen short follows
+
+-- a refusal other than for memory is one of the others
+pub other_refusal : (Others : Refusal → Type 0) (refusal : Refusal) → or_memory Others refusal → (refusal ≡ Memory → ⊥) → Others refusal
+other_refusal Others (Text fault) refused other = refused
+other_refusal Others (Game fault) refused other = refused
+other_refusal Others (Automaton fault) refused other = refused
+other_refusal Others (Task fault) refused other = refused
+other_refusal Others Memory refused other = absurd (other refl)
+other_refusal Others Io refused other = refused

@@ -5,10 +5,11 @@ ghost use Rattle.std.specs.Io.KnownBytes.{IsAtEnd};
 ghost use Rattle.omega_text.specs.Limits.{most_text};
 ghost use Rattle.omega_io.specs.Failures.{IsTransferRefusal, failures_of};
 ghost use Rattle.omega_io.specs.Reading.{ConsumesFrom};
-ghost use Rattle.omega_stream_reading.specs.private.steps.Following.{FollowsTelling, HasReadFrom};
+ghost use Rattle.omega_stream_reading.specs.private.steps.Following.{FollowsAsking, HasReadFrom};
+ghost use Rattle.omega_stream_reading.specs.private.steps.Question.{AreAskedBy};
 
-use crate::item_text::ItemText;
-use crate::telling::{Telling, take_piece};
+use crate::asking::{Asking, take_piece};
+use crate::item_question::ItemQuestion;
 use omega_io::{Input, PIECE, read_piece};
 use omega_text::Refusal;
 use std::alloc::Global;
@@ -27,14 +28,16 @@ pub(crate) struct Front {
 
 /// Reads the front of `input`, and takes its bytes. Those of an input that is not long are taken at once, so that each
 /// automaton in them is read once.
-pub(crate) fn take_front<T: ItemText, R: Input>(
+pub(crate) fn take_front<Q: ItemQuestion, R: Input>(
     alloc: Global,
     input: &mut R,
-    telling: &mut Telling,
+    question: &Q,
+    asking: &mut Asking,
 ) -> Result<Front, Refusal>
     requires failed { R.failed input.old < 2 ^ 64 - 1 }
-    requires begun { FollowsTelling T.text [] telling.old }
-    ensures read { IfOk result (λ front. HasReadFrom R.Input T.text input.old input.new front.count telling.new) }
+    requires begun { FollowsAsking (AreAskedBy Q.ItemQuestion question.now) [] asking.old }
+    ensures read { IfOk result (λ front.
+        HasReadFrom R.Input (AreAskedBy Q.ItemQuestion question.now) input.old input.new front.count asking.new) }
     ensures short { IfOk result (λ front. front.count ≤ most_text) }
     ensures whole { IfOk result (λ front. front.whole ≡ true → IsAtEnd (R.remaining input.new)) }
     ensures counted { R.failed input.new ≡ R.failed input.old + failures_of result }
@@ -44,9 +47,9 @@ pub(crate) fn take_front<T: ItemText, R: Input>(
     let count = bytes.len();
     let whole = count < LONG;
     if whole {
-        take_piece::<T>(telling, bytes.as_slice())?;
+        take_piece::<Q>(alloc, question, asking, bytes.as_slice())?;
     } else {
-        take_in_two::<T>(telling, bytes.as_slice())?;
+        take_in_two::<Q>(alloc, question, asking, bytes.as_slice())?;
     }
     Ok(Front { count, whole })
 }
@@ -74,13 +77,19 @@ fn read_front<R: Input>(alloc: Global, input: &mut R) -> Result<Vec<u8>, Refusal
 
 /// Takes the bytes at the front of a long input in two parts. The first is short, so that a long automaton is not read
 /// in vain as far as the bytes are there.
-fn take_in_two<T: ItemText>(telling: &mut Telling, bytes: &[u8]) -> Result<(), Refusal>
-    requires begun { FollowsTelling T.text [] telling.old }
+fn take_in_two<Q: ItemQuestion>(
+    alloc: Global,
+    question: &Q,
+    asking: &mut Asking,
+    bytes: &[u8],
+) -> Result<(), Refusal>
+    requires begun { FollowsAsking (AreAskedBy Q.ItemQuestion question.now) [] asking.old }
     requires short { length bytes.now ≤ most_text }
-    ensures follows { OnOk result (FollowsTelling T.text bytes.now telling.new) }
+    ensures follows { OnOk result
+        (FollowsAsking (AreAskedBy Q.ItemQuestion question.now) bytes.now asking.new) }
     ensures memory { IsOkUnless result Refusal.Memory }
 {
     let (first, rest) = bytes.split_at(bytes.len().min(PIECE));
-    take_piece::<T>(telling, first)?;
-    take_piece::<T>(telling, rest)
+    take_piece::<Q>(alloc, question, asking, first)?;
+    take_piece::<Q>(alloc, question, asking, rest)
 }

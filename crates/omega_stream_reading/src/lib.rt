@@ -1,15 +1,25 @@
-//! Reads streams of automata from an input in pieces, and writes a text for each item.
+//! Reads streams of automata from an input in pieces, and asks each item a question, or writes a text for it.
 //!
 //! docs/formats.md says when each refusal comes.
 #![tactic(auto)]
 
+mod answers;
+mod asked;
+mod asking;
 mod front;
+mod item_question;
 mod item_text;
+mod several;
 mod stream_input;
-mod telling;
+mod told;
 
+pub use answers::Answers;
+pub use asked::Asked;
+pub use item_question::ItemQuestion;
 pub use item_text::ItemText;
 pub use omega_hoa::{Automaton, Item};
 pub use omega_io::Input;
 pub use omega_text::Refusal;
-pub use stream_input::tell_stream;
+pub use several::is_several;
+pub use stream_input::{ask_each, ask_stream};
+pub use told::tell_stream;

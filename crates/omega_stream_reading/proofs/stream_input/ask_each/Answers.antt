@@ -1,4 +1,4 @@
--- `tell_stream`: at the end of the input its text is what was followed.
+-- `ask_each`: at the end of the input its text is what was followed.
 use Rattle.std.proofs.Common.{◌≡◌, ◌+◌, ◌≤◌, inl, length, refl, take, subst, arith}
 use Rattle.std.proofs.lemmas.List.{length-take-le}
 use Rattle.std.proofs.lemmas.Result.{IfOk-weaker}
@@ -7,8 +7,9 @@ use Rattle.std.specs.Prelude.{IfErr}
 use Rattle.omega_text.specs.Limits.{most_text}
 use Rattle.omega_io.specs.Failures.{failures_of}
 use Rattle.omega_hoa.specs.Stream.{IsStreamRefusal}
+use Rattle.omega_stream_reading.specs.private.steps.Question.{AreAskedBy}
 use Rattle.omega_stream_reading.proofs.Pieces.{at_text, none_failed, reads_end, reads_piece, reads_refused}
-use Rattle.omega_stream_reading.proofs.stream_input.tell_stream.Goals as goal
+use Rattle.omega_stream_reading.proofs.stream_input.ask_each.Goals as goal
 
 pub returns-then-count-eq0-clause-refused : goal.returns-then-count-eq0-clause-refused
 returns-then-count-eq0-clause-refused g c =
@@ -25,7 +26,7 @@ returns-then-count-eq0-clause-refused g c =
       limit = omega (arith, short);
       whole = λ _. c.in_ok-count.ensures.end none;
     })
-    (at_text c.end-then-count-eq0.result g.T.ItemText.text c.loop-total.telling reading.seen short (reading.follows within) c.end-then-count-eq0.ensures.refused)
+    (at_text c.end-then-count-eq0.result (AreAskedBy g.Q.ItemQuestion c.args.question.now) c.loop-total.asking reading.seen short (reading.follows within) c.end-then-count-eq0.ensures.refused)
 
 pub returns-then-count-eq0-clause-counted : goal.returns-then-count-eq0-clause-counted
 returns-then-count-eq0-clause-counted g c =
@@ -33,7 +34,7 @@ returns-then-count-eq0-clause-counted g c =
     let within : c.loop-total.total ≤ most_text = omega (arith, c.loop-total-test.true) in
     let short : length reading.seen ≤ most_text = omega (arith, within, reading.count) in
     let says : IfErr c.end-then-count-eq0.result (IsStreamRefusal reading.seen) =
-    at_text c.end-then-count-eq0.result g.T.ItemText.text c.loop-total.telling reading.seen short (reading.follows within) c.end-then-count-eq0.ensures.refused in
+    at_text c.end-then-count-eq0.result (AreAskedBy g.Q.ItemQuestion c.args.question.now) c.loop-total.asking reading.seen short (reading.follows within) c.end-then-count-eq0.ensures.refused in
     let none : failures_of c.end-then-count-eq0.result ≡ 0 = none_failed c.end-then-count-eq0.result reading.seen says in
     omega (arith, none, c.in_ok-count.ensures.counted, c.loop-total.invariant.counted)
 
@@ -47,7 +48,7 @@ loop-total-preserved g c =
     let within : c.loop-total.total ≤ most_text = omega (arith, c.loop-total-test.true) in
     record {
       reading =
-          reads_piece g.T.ItemText.text _ now after c.loop-total.total c.loop-total.telling c.take_piece.new.telling piece count _
+          reads_piece (AreAskedBy g.Q.ItemQuestion c.args.question.now) _ now after c.loop-total.total c.loop-total.asking c.take_piece.new.asking piece count _
           c.loop-total.invariant.reading within c.in_ok-count.ensures.consumed bytes refl c.in_ok-take_piece.ensures.follows;
       limit = omega (arith, c.in_ok-count.ensures.limit);
       counted = omega (arith, c.in_ok-count.ensures.counted, c.loop-total.invariant.counted);
@@ -60,8 +61,8 @@ loop-total-init g c = record {
   counted = omega (arith, c.in_ok-front.ensures.counted);
 }
 
-pub returns-then-count-eq0-clause-reported : goal.returns-then-count-eq0-clause-reported
-returns-then-count-eq0-clause-reported g c =
+pub returns-then-count-eq0-clause-asked : goal.returns-then-count-eq0-clause-asked
+returns-then-count-eq0-clause-asked g c =
     let reading = c.loop-total.invariant.reading in
     let none : c.in_ok-count.count ≡ 0 = c.if-count-eq0.true in
     let within : c.loop-total.total ≤ most_text = omega (arith, c.loop-total-test.true) in
@@ -69,13 +70,13 @@ returns-then-count-eq0-clause-reported g c =
     let after = g.R.Input.remaining c.read_piece.new.input in
     let nothing = subst (λ n. Consumes now after (take n c.read_piece.new.piece)) none c.in_ok-count.ensures.consumed in
     IfOk-weaker c.end-then-count-eq0.result _ _
-    (λ reported tells. record {
+    (λ asked asks. record {
       text = reading.seen;
       read = reads_end _ now after reading.seen reading.consumed nothing;
       end = c.in_ok-count.ensures.end none;
-      holds = tells reading.seen (reading.follows within);
+      holds = (let ends = asks reading.seen (reading.follows within) in record { items = ends.0; read = ends.1; asks = ends.2 });
     })
-    c.end-then-count-eq0.ensures.reported
+    c.end-then-count-eq0.ensures.asked
 
 pub returns-clause-refused : goal.returns-clause-refused
 returns-clause-refused g c =
