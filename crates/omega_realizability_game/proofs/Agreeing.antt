@@ -1,11 +1,9 @@
 -- An edge answers both or none of two letters that agree on the inputs that the labels mention.
-use Rattle.std.proofs.Common.{◌≡◌, ◌==◌, ◌<◌, ℕ, zero, suc, inl, inr, Bool, true, false, cond, not, ◌&&◌, ◌||◌, List, [], ◌∷◌, ◌++◌, length, get_or, Contains, Option, Some, sym, ap, refl, ◌∙◌, subst, arith}
+use Rattle.std.proofs.Common.{◌≡◌, ℕ, Bool, true, false, cond, not, List, [], Contains, Option, Some, sym, ap, refl, ◌∙◌}
 use Rattle.std.specs.Prelude.{filter, option_map}
-use Rattle.std.specs.List.{flat_map, list_any}
+use Rattle.std.specs.List.{flat_map}
 use Rattle.std.specs.Option.{unwrap_or}
-use Rattle.std.proofs.lemmas.Bool.{cond_both, eq-eqb, eqb-true, false≢true, or_cases, or_left, or_right}
-use Rattle.omega_label.specs.Label.{LabelTree, conjunction, constant, disjunction, negation, proposition, propositions, truth}
-use Rattle.omega_satisfying.specs.Satisfiable.{each_once}
+use Rattle.omega_label.specs.Label.{LabelTree, constant, propositions}
 use Rattle.omega_automaton.specs.Automaton.{BodyEdge, Description, edge_at}
 use Rattle.omega_runs.specs.Laws.{EdgesAreTakenWhereTrue}
 use Rattle.omega_runs.specs.Words.{CanBeTaken}

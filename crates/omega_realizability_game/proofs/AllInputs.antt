@@ -1,5 +1,5 @@
 -- The inputs of edges are each once, and all that the label of each of the edges mentions.
-use Rattle.std.proofs.Common.{◌≡◌, ℕ, inl, inr, Bool, true, false, eqb, not, List, [], ◌∷◌, ◌++◌, Contains, Some, sym, ap, refl, ◌∙◌}
+use Rattle.std.proofs.Common.{◌≡◌, ℕ, inl, inr, false, eqb, not, List, [], ◌∷◌, ◌++◌, Contains, Some, sym, ap, refl, ◌∙◌}
 use Rattle.std.specs.List.{flat_map}
 use Rattle.std.proofs.lemmas.Bool.{cases_Bool, cond_both, eqb-false, false≢true, ne_eqb, or_from, or_parts}
 use Rattle.std.proofs.lemmas.List.Folds.{list_any-append}

@@ -1,6 +1,6 @@
 -- Letters that have their answers, one more; and the questions of a state, by the first letter of each class.
 use Rattle.std.proofs.Common.{◌≡◌, ◌↔◌, ℕ, zero, suc, ◌+◌, ◌^◌, ◌<◌, inl, inr, All, Bool, List, [], ◌∷◌, ◌++◌, length, map, get_or, Contains, sym, ap, refl, ◌∙◌, subst, arith, length-append, Result, Ok, Err}
-use Rattle.std.specs.Prelude.{IfOk, filter}
+use Rattle.std.specs.Prelude.{IfOk}
 use Rattle.std.proofs.Math.Seq.{get_or-append_seam}
 use Rattle.std.proofs.lemmas.Bool.{cases_eq, cases_order}
 use Rattle.std.proofs.lemmas.List.{get_or-map, get_or_append_left, length-map}

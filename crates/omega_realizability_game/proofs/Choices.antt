@@ -1,5 +1,5 @@
 -- The words of blocks laid on one another: what the lanes of a letter with all choices say.
-use Rattle.std.proofs.Common.{◌≡◌, ◌↔◌, ℕ, ◌+◌, ◌-◌, ◌*◌, ◌/◌, ◌%◌, ◌^◌, ◌<◌, ◌≤◌, inl, inr, Bool, true, false, eqb, List, [], ◌++◌, length, sym, ap, refl, ◌∙◌, subst, arith, div-lt_iff_lt-mul, mod-lt, mul-add, mul-le-mul_left, mul-one, mul-zero, mul_assoc, mul_comm, mul_right_comm, pow-suc}
+use Rattle.std.proofs.Common.{◌≡◌, ◌↔◌, ℕ, ◌+◌, ◌-◌, ◌*◌, ◌/◌, ◌%◌, ◌^◌, ◌<◌, ◌≤◌, inl, inr, true, eqb, List, ◌++◌, length, sym, ap, refl, ◌∙◌, subst, arith, div-lt_iff_lt-mul, mod-lt, mul-add, mul-le-mul_left, mul-one, mul-zero, mul_assoc, mul_comm, mul_right_comm}
 use Rattle.std.specs.Prelude.{bit_or}
 use Rattle.std.proofs.Math.Nat.{div-div-eq-div-mul}
 use Rattle.std.proofs.Math.Pow.{pow_mono}
@@ -9,7 +9,6 @@ use Rattle.omega_label.specs.Label.{LabelTree}
 use Rattle.omega_satisfying.specs.private.Words.{word_among, word_of}
 use Rattle.omega_satisfying.proofs.WordLemmas.{lane-off, on}
 use Rattle.omega_realizability_game.specs.Lanes.{AreInputsFor, IsAnswerWord, IsFolded}
-use Rattle.omega_realizability_game.specs.Letters.{letter_numbered}
 use Rattle.omega_realizability_game.proofs.LaneWords.{answer_lane, free_of, lane_answers, on-or}
 use Rattle.omega_realizability_game.proofs.Lettering.{numbered}
 

@@ -1,7 +1,6 @@
 -- Words of edges: one edge more, the edges of which a lane is set, and words made lane by lane.
-use Rattle.std.proofs.Common.{◌≡◌, ◌↔◌, ℕ, zero, suc, ◌+◌, ◌*◌, ◌%◌, ◌^◌, ◌<◌, ◌≤◌, inl, inr, Bool, true, false, cond, eqb, List, [], ◌∷◌, ◌++◌, length, get_or, drop, Contains, Option, Some, None, Result, Ok, Err, sym, ap, refl, ◌∙◌, subst, arith, add-one, append_assoc, drop-cons, length-append, w64}
-use Rattle.std.specs.Int.{bit_at}
-use Rattle.std.specs.Prelude.{IfErr, IfOk, IfSome, IsTrue, bit_or}
+use Rattle.std.proofs.Common.{◌≡◌, ◌↔◌, ℕ, suc, ◌+◌, ◌*◌, ◌%◌, ◌^◌, ◌<◌, ◌≤◌, inl, inr, true, false, cond, eqb, List, [], ◌∷◌, ◌++◌, length, get_or, drop, Contains, Option, Some, None, Result, Ok, Err, sym, ap, refl, ◌∙◌, subst, arith, add-one, append_assoc, drop-cons, length-append, w64}
+use Rattle.std.specs.Prelude.{IfOk, IfSome, IsTrue, bit_or}
 use Rattle.std.proofs.Math.Seq.{get_or-append_seam}
 use Rattle.std.proofs.lemmas.Bool.{cases_Bool, cases_eq, cond-false, cond-true, false≢true}
 use Rattle.std.proofs.lemmas.List.{get_or_append_left}
@@ -9,7 +8,6 @@ use Rattle.std.proofs.lemmas.Nat.Bits.{bit_at_set_other, bit_at_set_same}
 use Rattle.omega_text.specs.declared.refusal.Refusal.{Refusal}
 use Rattle.omega_text.specs.declared.refusal.Refusal.TheVariants.{Automaton, Game, Io, Memory, Task, Text}
 use Rattle.omega_label.specs.Label.{LabelTree}
-use Rattle.omega_satisfying.specs.Satisfiable.{each_once}
 use Rattle.omega_automaton.specs.Automaton.{BodyEdge, Description, edge_at}
 use Rattle.omega_controllers.specs.Controllers.{Answers}
 use Rattle.omega_runs.specs.Laws.{EdgesAreTakenWhereTrue}

@@ -1,13 +1,13 @@
 -- Labels that are apart in each block of letters are exclusive.
-use Rattle.std.proofs.Common.{◌≡◌, ℕ, zero, suc, ◌+◌, ◌-◌, if◌then◌else◌, ◌*◌, ◌/◌, ◌%◌, ◌^◌, ◌<◌, inl, inr, Bool, true, false, cond, eqb, not, ◌&&◌, ◌||◌, List, [], ◌∷◌, length, min, get_or, Option, Some, None, sym, ap, refl, ◌∙◌, subst, arith}
+use Rattle.std.proofs.Common.{◌≡◌, ℕ, zero, suc, ◌+◌, ◌-◌, if◌then◌else◌, ◌/◌, ◌%◌, ◌^◌, ◌<◌, inl, inr, Bool, true, false, eqb, ◌&&◌, List, [], ◌∷◌, length, min, get_or, Option, Some, None, sym, ap, refl, ◌∙◌, subst, arith}
 use Rattle.std.specs.Int.{bit_at}
 use Rattle.std.specs.Prelude.{bit_and, bit_or, filter, slice_get}
 use Rattle.std.specs.Option.{option_or, unwrap_or}
 use Rattle.std.proofs.lemmas.Bool.{and_parts, cases_eq, false≢true, or_left, or_right}
-use Rattle.std.proofs.lemmas.Nat.Bits.{bit_at-lt, bit_at-zero, bit_at_and}
+use Rattle.std.proofs.lemmas.Nat.Bits.{bit_at-lt, bit_at_and}
 use Rattle.std.proofs.lemmas.Option.{slice_get_within}
-use Rattle.omega_label.specs.Label.{LabelTree, conjunction, propositions, truth}
-use Rattle.omega_satisfying.specs.Satisfiable.{IsSatisfiable, each_once}
+use Rattle.omega_label.specs.Label.{LabelTree, propositions, truth}
+use Rattle.omega_satisfying.specs.Satisfiable.{each_once}
 use Rattle.omega_satisfying.specs.private.Words.{word_among}
 use Rattle.omega_satisfying.proofs.Valuations.{block-lt}
 use Rattle.omega_satisfying.proofs.WordLemmas.{held_in, lane-off, on, on-word_of}
@@ -16,8 +16,8 @@ use Rattle.omega_automaton.specs.declared.edge.Edge.{Edge}
 use Rattle.omega_automaton.specs.declared.state.State.{State}
 use Rattle.omega_edge_labels.specs.Labels.{label_at, valuation_label}
 use Rattle.omega_complement.specs.Complement.{AreExclusiveBelow}
-use Rattle.omega_complement.specs.Labels.{each_by_index, labels_of, state_among, undefined}
-use Rattle.omega_complement.specs.Letters.{AreExclusive, HasClash, IsPair}
+use Rattle.omega_complement.specs.Labels.{labels_of, state_among, undefined}
+use Rattle.omega_complement.specs.Letters.{AreExclusive, IsPair}
 use Rattle.omega_complement.proofs.Rows.{each_at}
 use Rattle.omega_realizability_game.specs.Classes.{input_mentions}
 use Rattle.omega_realizability_game.specs.Exclusive.{AreApartIn, AreMentionedBelow, HasLabelAt, block_word}

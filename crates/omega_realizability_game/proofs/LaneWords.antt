@@ -1,12 +1,12 @@
 -- What a lane of a word says: in it each proposition is as in the lane's letter, so that the lanes of a letter with all
 -- choices of the system's propositions together say whether the label can answer the letter.
-use Rattle.std.proofs.Common.{◌≡◌, ◌↔◌, ℕ, zero, suc, ◌+◌, ◌-◌, ◌*◌, ◌/◌, ◌%◌, ◌^◌, ◌<◌, inl, inr, Bool, true, false, cond, eqb, ltb, ◌||◌, List, [], ◌∷◌, ◌++◌, length, max, sym, ap, ap₂, refl, ◌∙◌, arith, add-zero, append-nil, eq-eqb, lt-ltb, mul_assoc, mul_comm, pow-suc}
+use Rattle.std.proofs.Common.{◌≡◌, ℕ, zero, suc, ◌+◌, ◌-◌, ◌*◌, ◌/◌, ◌%◌, ◌^◌, ◌<◌, inl, inr, Bool, true, false, cond, eqb, ltb, ◌||◌, List, [], ◌∷◌, ◌++◌, length, max, sym, ap, ap₂, refl, ◌∙◌, arith, add-zero, append-nil, eq-eqb, lt-ltb, mul_assoc, mul_comm, pow-suc}
 use Rattle.std.specs.Int.{bit_at}
 use Rattle.std.specs.Prelude.{bit_or, filter}
 use Rattle.std.proofs.lemmas.Bool.{agree_below_at, cases_Bool, cases_lt, cond-false, cond-true, cond_both, eqb-true, false≢true, le-ltb, or_from, or_left, or_parts, or_right}
 use Rattle.std.proofs.lemmas.Nat.Bits.{bit_at-lt, bit_at-suc, bit_at_cat_high, bit_at_cat_low, bit_at_lowest, bit_at_or}
 use Rattle.std.proofs.lemmas.List.Folds.{list_any-append}
-use Rattle.omega_label.specs.Label.{LabelTree, propositions, truth}
+use Rattle.omega_label.specs.Label.{LabelTree, propositions}
 use Rattle.omega_satisfying.specs.Satisfiable.{each_once}
 use Rattle.omega_satisfying.specs.private.Words.{mask, pattern, word_among, word_of, word_of_truth}
 use Rattle.omega_satisfying.proofs.WordLemmas.{held_in, on, on-truth, on-word_of}

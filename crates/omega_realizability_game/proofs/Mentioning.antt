@@ -1,28 +1,17 @@
--- Inputs of labels, of one part and then of another.
-use Rattle.std.proofs.Common.{◌≡◌, ◌==◌, ℕ, ◌+◌, ◌<◌, ◌≤◌, cond, not, List, [], ◌∷◌, ◌++◌, length, take, drop, get_or, sym, ap, refl, ◌∙◌, arith}
-use Rattle.std.specs.Prelude.{filter}
+-- Inputs of labels, of one edge more.
+use Rattle.std.proofs.Common.{◌≡◌, ◌==◌, ℕ, ◌+◌, ◌<◌, ◌≤◌, cond, List, [], ◌∷◌, ◌++◌, length, take, drop, get_or, sym, ap, refl, ◌∙◌, arith}
 use Rattle.std.specs.List.{flat_map, list_any}
 use Rattle.std.proofs.lemmas.Grind.{flat_map-append}
 use Rattle.std.proofs.lemmas.List.{append-nil, take-append-drop, take_more}
-use Rattle.std.proofs.lemmas.List.Elements.{filter-append}
 use Rattle.omega_satisfying.specs.Satisfiable.{each_once}
 use Rattle.omega_satisfying.proofs.Valuations.{length-each_once}
 use Rattle.omega_automaton.specs.Automaton.{Description}
-use Rattle.omega_realizability_game.specs.Answering.{is_controlled}
 use Rattle.omega_realizability_game.specs.Classes.{input_mentions, inputs_of, label_of_number}
 
 pub each_once-append : (seen xs ys : List ℕ) → each_once seen (xs ++ ys) ≡ each_once (each_once seen xs) ys
 each_once-append seen [] ys = refl
 each_once-append seen (x ∷ xs) ys =
     each_once-append (cond (list_any (λ number. number == x) seen) seen (seen ++ x ∷ [])) xs ys
-
--- the inputs of one list of propositions and then of another
-pub inputs_on : (controlled seen xs ys : List ℕ)
-    → each_once seen (filter (λ p. not (is_controlled controlled p)) (xs ++ ys))
-    ≡ each_once (each_once seen (filter (λ p. not (is_controlled controlled p)) xs)) (filter (λ p. not (is_controlled controlled p)) ys)
-inputs_on controlled seen xs ys =
-    ap (each_once seen) (filter-append (λ p. not (is_controlled controlled p)) xs ys)
-    ∙ each_once-append seen (filter (λ p. not (is_controlled controlled p)) xs) (filter (λ p. not (is_controlled controlled p)) ys)
 
 -- the inputs of one edge more
 pub inputs_more : (a : Description) (controlled numbers : List ℕ) (index number : ℕ) → index < length numbers → number ≡ get_or numbers index 0

@@ -1,17 +1,23 @@
 -- A label with constants in place of inputs can be true exactly if the label can be where the inputs are so.
-use Rattle.std.proofs.Common.{◌≡◌, ◌==◌, ◌↔◌, ℕ, suc, ◌+◌, inl, inr, Bool, true, false, cond, not, ◌&&◌, ◌||◌, max, List, [], ◌∷◌, get_or, Contains, Option, Some, None, Result, Ok, Err, sym, ap, ap₂, refl, ◌∙◌, subst, arith}
+use Rattle.std.proofs.Common.{◌≡◌, ◌==◌, ◌↔◌, ℕ, suc, ◌+◌, ◌<◌, ◌≤◌, inl, inr, Bool, true, false, cond, not, ◌&&◌, ◌||◌, max, List, [], ◌∷◌, ◌++◌, map, get_or, Contains, Result, Ok, Err, sym, ap, ap₂, refl, ◌∙◌, subst, arith}
 use Rattle.std.specs.Prelude.{IfErr, IfOk, IsOkUnless, IsTrue}
-use Rattle.std.proofs.lemmas.Bool.{eq-eqb, eqb-true, false≢true, le-ltb, or_cases}
+use Rattle.std.proofs.lemmas.Bool.{eq-eqb, eqb-true, false≢true, or_cases}
+use Rattle.std.proofs.lemmas.List.{map-append}
 use Rattle.std.proofs.lemmas.List.Folds.{list_any_at}
 use Rattle.omega_text.specs.declared.refusal.Refusal.{Refusal}
-use Rattle.omega_text.specs.declared.refusal.Refusal.TheVariants.{Automaton, Game, Io, Memory, Task, Text}
-use Rattle.omega_expression.specs.Limits.{most_depth, most_size}
-use Rattle.omega_label.specs.Label.{LabelTree, conjunction, constant, disjunction, label_depth, label_size, negation, proposition, truth}
-use Rattle.omega_label.specs.Shape.{FitsALabel, IsOversized, fault_of_label}
+use Rattle.omega_text.specs.declared.refusal.Refusal.TheVariants.{Memory}
+use Rattle.omega_expression.specs.Depth.{IsDeeper}
+use Rattle.omega_expression.specs.Limits.{most_depth}
+use Rattle.omega_label.specs.Label.{LabelTree, conjunction, constant, disjunction, label_depth, negation, proposition, truth}
+use Rattle.omega_label.specs.Postfix.{postfix}
+use Rattle.omega_label.specs.declared.label.LabelNode.{LabelNode}
+use Rattle.omega_label.specs.declared.label.LabelNode.TheVariants.{And, Constant, Not, Or, Proposition}
+use Rattle.omega_edge_labels.proofs.Refusals.{not_deeper}
 use Rattle.omega_satisfying.specs.Satisfiable.{IsSatisfiable}
 use Rattle.omega_controllers.specs.Controllers.{AgreeOnInputs}
 use Rattle.omega_realizability_game.specs.Answering.{CanAnswer, is_controlled, restricted}
 use Rattle.omega_realizability_game.specs.Letters.{holds_in}
+use Rattle.omega_realizability_game.specs.private.Restricted.{restricted_node}
 
 -- what is among numbers is contained in them
 pub uncontrolled : (controlled : List ℕ) (p : ℕ) → is_controlled controlled p ≡ false → Contains controlled p → ⊥
@@ -73,14 +79,10 @@ module _ (controlled letter : List ℕ) where
     ),
   )
 
-  -- it is as deep and as large
+  -- it is as deep
   atom_depth : (p : ℕ) (b : Bool) → label_depth (cond b (proposition p) (constant (holds_in letter p))) ≡ 1
   atom_depth p true = refl
   atom_depth p false = refl
-
-  atom_size : (p : ℕ) (b : Bool) → label_size (cond b (proposition p) (constant (holds_in letter p))) ≡ 1
-  atom_size p true = refl
-  atom_size p false = refl
 
   depth_left : (label : LabelTree) → label_depth (restricted controlled letter label) ≡ label_depth label
   depth_left (constant value) = refl
@@ -89,38 +91,34 @@ module _ (controlled letter : List ℕ) where
   depth_left (conjunction left right) = ap₂ (λ m n. max m n + 1) (depth_left left) (depth_left right)
   depth_left (disjunction left right) = ap₂ (λ m n. max m n + 1) (depth_left left) (depth_left right)
 
-  size_left : (label : LabelTree) → label_size (restricted controlled letter label) ≡ label_size label
-  size_left (constant value) = refl
-  size_left (proposition p) = atom_size p (is_controlled controlled p)
-  size_left (negation part) = ap (λ n. n + 1) (size_left part)
-  size_left (conjunction left right) = ap₂ (λ m n. m + n + 1) (size_left left) (size_left right)
-  size_left (disjunction left right) = ap₂ (λ m n. m + n + 1) (size_left left) (size_left right)
-
   -- so memory alone refuses it
-  no_fault : (label : LabelTree) → FitsALabel label → fault_of_label (restricted controlled letter label) ≡ None
-  no_fault label fits =
-      rw (
-        le-ltb most_depth (label_depth (restricted controlled letter label)) (omega (arith, depth_left label, fits.shallow)),
-        le-ltb most_size (label_size (restricted controlled letter label)) (omega (arith, size_left label, fits.small)),
-      ) refl
+  pub memory_only : {X : Type 0} (r : Result X Refusal) (label : LabelTree) → label_depth label ≤ most_depth
+      → IfErr r (IsDeeper (most_depth < label_depth (restricted controlled letter label))) → IsOkUnless r Memory
+  memory_only (Ok x) label shallow refused = tt
+  memory_only (Err refusal) label shallow refused =
+      not_deeper (most_depth < label_depth (restricted controlled letter label)) (λ deep. omega (arith, deep, depth_left label, shallow)) refusal refused
 
-  pub oversized_never : (label : LabelTree) → FitsALabel label → (refusal : Refusal) → IsOversized (restricted controlled letter label) refusal
-      → refusal ≡ Memory
-  oversized_never label fits (Automaton fault) refused = absurd (none (sym (no_fault label fits) ∙ refused))
-    where
-      none : ◌≡◌ {A = Option _} None (Some fault) → ⊥
-      none e = cc
-  oversized_never label fits Memory refused = refl
-  oversized_never label fits (Text fault) refused = absurd refused
-  oversized_never label fits (Game fault) refused = absurd refused
-  oversized_never label fits (Task fault) refused = absurd refused
-  oversized_never label fits Io refused = absurd refused
+  -- its nodes are those of the label with constants in place of inputs
+  atom_nodes : (p : ℕ) (b : Bool) → cond b (Proposition p) (Constant (holds_in letter p)) ∷ []
+      ≡ postfix (cond b (proposition p) (constant (holds_in letter p)))
+  atom_nodes p true = refl
+  atom_nodes p false = refl
 
-  pub memory_only : {X : Type 0} (r : Result X Refusal) (tree label : LabelTree) → FitsALabel label → tree ≡ restricted controlled letter label
-      → IfErr r (IsOversized tree) → IsOkUnless r Memory
-  memory_only (Ok x) tree label fits is refused = tt
-  memory_only (Err refusal) tree label fits is refused =
-      oversized_never label fits refusal (subst (λ (t : LabelTree). IsOversized t refusal) is refused)
+  joined_left : (left right one other : List LabelNode) (operator : LabelNode) → restricted_node controlled letter operator ≡ operator
+      → map (restricted_node controlled letter) left ≡ one → map (restricted_node controlled letter) right ≡ other
+      → map (restricted_node controlled letter) (left ++ (right ++ operator ∷ [])) ≡ one ++ (other ++ operator ∷ [])
+  joined_left left right one other operator stays front back =
+      map-append (restricted_node controlled letter) left (right ++ operator ∷ [])
+      ∙ ap₂ ◌++◌ front (map-append (restricted_node controlled letter) right (operator ∷ [])
+      ∙ ap₂ (λ (nodes : List LabelNode) (last : LabelNode). nodes ++ last ∷ []) back stays)
+
+  pub nodes_left : (label : LabelTree) → map (restricted_node controlled letter) (postfix label) ≡ postfix (restricted controlled letter label)
+  nodes_left (constant value) = refl
+  nodes_left (proposition p) = atom_nodes p (is_controlled controlled p)
+  nodes_left (negation part) =
+      map-append (restricted_node controlled letter) (postfix part) (Not ∷ []) ∙ ap (λ nodes. nodes ++ Not ∷ []) (nodes_left part)
+  nodes_left (conjunction left right) = joined_left (postfix left) (postfix right) _ _ And refl (nodes_left left) (nodes_left right)
+  nodes_left (disjunction left right) = joined_left (postfix left) (postfix right) _ _ Or refl (nodes_left left) (nodes_left right)
 
   -- so what is left is judged in place of the label
   pub judged_left : (r : Result Bool Refusal) (tree label : LabelTree) → tree ≡ restricted controlled letter label

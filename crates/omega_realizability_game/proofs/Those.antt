@@ -1,5 +1,5 @@
 -- Those of a list that have a property: their members, and that they are one list.
-use Rattle.std.proofs.Common.{◌≡◌, ◌↔◌, ℕ, zero, suc, ◌<◌, inl, inr, List, [], ◌∷◌, ◌++◌, length, Contains, sym, ap, refl, ◌∙◌, subst, arith}
+use Rattle.std.proofs.Common.{◌≡◌, ◌↔◌, ℕ, zero, suc, inl, inr, List, [], ◌∷◌, length, Contains, sym, ap, refl, ◌∙◌, subst, arith}
 use Rattle.omega_realizability_game.specs.Those.{AreThoseWith}
 
 -- what a longer list contains

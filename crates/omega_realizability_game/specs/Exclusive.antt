@@ -1,5 +1,5 @@
 -- Labels of the edges of a state, judged together in blocks of letters.
-use Rattle.std.specs.Prelude.{◌≡◌, ℕ, ◌<◌, true, List, [], Some, slice_get}
+use Rattle.std.specs.Prelude.{◌≡◌, ℕ, ◌<◌, true, List, Some, slice_get}
 use Rattle.omega_label.specs.Label.{LabelTree, propositions}
 use Rattle.omega_satisfying.specs.private.Words.{word_among, word_of}
 use Rattle.omega_automaton.specs.declared.edge.Edge.{Edge}

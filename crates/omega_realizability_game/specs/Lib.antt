@@ -1,4 +1,5 @@
--- The rounds of a parity automaton whose propositions are parted, and what winning them means for the automaton.
+-- The rounds of a parity automaton whose propositions are parted, and what winning them means for the automaton; in
+-- `private` what only private contracts cite.
 pub use Rattle.omega_controllers.specs.Controllers
 pub use Rattle.omega_rounds.specs.Rounds
 pub mod Those
@@ -12,3 +13,4 @@ pub mod Firsts
 pub mod Lanes
 pub mod EdgeWords
 pub mod Exclusive
+pub mod private

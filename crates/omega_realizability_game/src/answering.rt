@@ -1,13 +1,13 @@
 //! Whether a label can be true where the environment's letter is given.
 
-ghost use Rattle.std.specs.Prelude.{◌≡◌, ◌↔◌, IfErr, IfOk, IsOkUnless, IsTrue};
-ghost use Rattle.omega_label.specs.Label.{proposition};
-ghost use Rattle.omega_label.specs.Shape.{FitsALabel, label_tree_of_shape};
+ghost use Rattle.std.specs.Prelude.{◌≡◌, ◌↔◌, IfErr, IfOk, IsOkUnless, IsTrue, map};
+ghost use Rattle.omega_label.specs.declared.label.LabelNode.TheVariants.{Proposition};
 ghost use Rattle.omega_satisfying.specs.Undecided.{IsUndecidedLabel};
 ghost use Rattle.omega_realizability_game.specs.Answering.{CanAnswer, is_controlled, restricted};
 ghost use Rattle.omega_realizability_game.specs.Letters.{holds_in};
+ghost use Rattle.omega_realizability_game.specs.private.Restricted.{restricted_node};
 
-use omega_label::{Label, LabelShape};
+use omega_label::{Label, LabelNode, LabelNodes, ROOM};
 use omega_satisfying::is_satisfiable;
 use omega_text::Refusal;
 use std::alloc::Global;
@@ -23,7 +23,6 @@ pub(crate) fn can_answer(
     controlled: &[u32],
     letter: &[u32],
 ) -> Result<bool, Refusal>
-    requires { FitsALabel label.now }
     ensures judged { IfOk result
         (λ possible. IsTrue possible ↔ CanAnswer controlled.now label.now (holds_in letter.now)) }
     ensures refused { IfErr result (IsUndecidedLabel (restricted controlled.now letter.now label.now)) }
@@ -32,61 +31,57 @@ pub(crate) fn can_answer(
     is_satisfiable(alloc, &left)
 }
 
-/// Returns `label` with a constant in place of each input. It is as deep and as large.
+/// Returns `label` with a constant in place of each input. It is as deep and as large. Linear in the label, without
+/// recursion.
 fn label_left(
     alloc: Global,
     label: &Label,
     controlled: &[u32],
     letter: &[u32],
 ) -> Result<Label, Refusal>
-    requires { FitsALabel label.now }
     ensures label { IfOk result (λ left. left ≡ restricted controlled.now letter.now label.now) }
     ensures memory { IsOkUnless result Refusal.Memory }
 {
-    let shape = label.shape(alloc)?;
-    let left = restricted(alloc, &shape, controlled, letter)?;
-    Label::of_shape(alloc, &left)
+    let mut room = ROOM;
+    let nodes = nodes_left(alloc, label.nodes(&mut room), controlled, letter)?;
+    Label::of_postfix(alloc, &nodes)
 }
 
-/// Returns the tree with a constant in place of each input. Recurses as deep as the tree is.
-fn restricted(
+/// Returns `nodes` with a constant in place of each input.
+fn nodes_left(
     alloc: Global,
-    shape: &LabelShape,
+    nodes: &[LabelNode],
     controlled: &[u32],
     letter: &[u32],
-) -> Result<LabelShape, Refusal>
-    ensures tree { IfOk result
-        (λ left. label_tree_of_shape left ≡ restricted controlled.now letter.now (label_tree_of_shape shape.now)) }
+) -> Result<LabelNodes, Refusal>
+    ensures nodes { IfOk result (λ left. left ≡ map (restricted_node controlled.now letter.now) nodes.now) }
     ensures memory { IsOkUnless result Refusal.Memory }
 {
-    match shape {
-        LabelShape::Constant(value) => Ok(LabelShape::Constant(*value)),
-        LabelShape::Proposition(number) => Ok(proposition_left(*number, controlled, letter)),
-        LabelShape::Not(part) => {
-            let part = restricted(alloc, part, controlled, letter)?;
-            Ok(LabelShape::Not(Box::new(alloc, part)?))
-        }
-        LabelShape::And(left, right) => {
-            let left = restricted(alloc, left, controlled, letter)?;
-            let right = restricted(alloc, right, controlled, letter)?;
-            Ok(LabelShape::And(Box::new(alloc, left)?, Box::new(alloc, right)?))
-        }
-        LabelShape::Or(left, right) => {
-            let left = restricted(alloc, left, controlled, letter)?;
-            let right = restricted(alloc, right, controlled, letter)?;
-            Ok(LabelShape::Or(Box::new(alloc, left)?, Box::new(alloc, right)?))
-        }
+    let mut left = LabelNodes::new(alloc);
+    for node in nodes {
+        left.push(node_left(*node, controlled, letter))?;
+    }
+    Ok(left)
+}
+
+/// Returns `node`, with a constant in place of an input.
+fn node_left(node: LabelNode, controlled: &[u32], letter: &[u32]) -> LabelNode
+    ensures { result ≡ restricted_node controlled.now letter.now node }
+{
+    match node {
+        LabelNode::Proposition(number) => proposition_left(number, controlled, letter),
+        other => other,
     }
 }
 
 /// Returns a proposition if it is `controlled`, or else the constant that it is in the `letter`.
-fn proposition_left(number: u32, controlled: &[u32], letter: &[u32]) -> LabelShape
-    ensures { label_tree_of_shape result ≡ restricted controlled.now letter.now (proposition number) }
+fn proposition_left(number: u32, controlled: &[u32], letter: &[u32]) -> LabelNode
+    ensures { result ≡ restricted_node controlled.now letter.now (Proposition number) }
 {
     if is_among(controlled, number) {
-        LabelShape::Proposition(number)
+        LabelNode::Proposition(number)
     } else {
-        LabelShape::Constant(is_among(letter, number))
+        LabelNode::Constant(is_among(letter, number))
     }
 }
 

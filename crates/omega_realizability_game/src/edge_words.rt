@@ -13,7 +13,7 @@ use crate::lanes::{Lanes, answer_word};
 use crate::letters::answers_letter;
 use crate::stack::Stack;
 use omega_automaton::{Automaton, Refusal};
-use omega_edge_labels::{fitting_label, label_at};
+use omega_edge_labels::edge_label;
 use omega_runs::{EdgePlace, edges_are_taken_where_true};
 use std::alloc::Global;
 
@@ -121,15 +121,8 @@ fn quick_word(
     let count = automaton.propositions().len();
     let state = &automaton.defined()[place.state];
     let edge = state.edges.edge(place.index);
-    match (&state.label, edge.label()) {
-        (Some(label), _) => answer_word(alloc, label, lanes, stack),
-        (None, Some(label)) => answer_word(alloc, label, lanes, stack),
-        (None, None) => {
-            let shape = label_at(alloc, count, state, &edge, place.index)?;
-            let label = fitting_label(alloc, &shape)?;
-            answer_word(alloc, &label, lanes, stack)
-        }
-    }
+    let label = edge_label(alloc, count, state, &edge, place.index)?;
+    answer_word(alloc, label.get(), lanes, stack)
 }
 
 /// Returns the word that `edge_word` returns, by judging the label at one letter after another.

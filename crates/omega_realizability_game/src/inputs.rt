@@ -3,7 +3,6 @@
 ghost use Rattle.std.specs.Prelude.{◌≡◌, ◌<◌, ◌≤◌, ◌^◌, All, IfErr, IfOk, IsOkUnless, OnOk, length};
 ghost use Rattle.omega_expression.specs.Limits.{most_mentioned};
 ghost use Rattle.omega_label.specs.Label.{proposition};
-ghost use Rattle.omega_label.specs.Shape.{label_tree_of_shape};
 ghost use Rattle.omega_runs.specs.Places.{ArePlaces, EdgeStandsAt};
 ghost use Rattle.omega_satisfying.specs.Satisfiable.{each_once};
 ghost use Rattle.omega_realizability_game.specs.Classes.{input_mentions, inputs_of, label_of_number};
@@ -12,9 +11,9 @@ ghost use Rattle.omega_realizability_game.specs.Making.{HasManyInputs};
 
 use crate::answering::is_among;
 use omega_automaton::Automaton;
-use omega_edge_labels::label_at;
+use omega_edge_labels::edge_label;
 use omega_expression::MOST_MENTIONED;
-use omega_label::{Label, LabelNode, LabelShape, ROOM};
+use omega_label::{Label, LabelNode, ROOM};
 use omega_runs::EdgePlace;
 use omega_text::{Numbers, Refusal, TaskFault};
 use std::alloc::{AllocError, Global};
@@ -63,17 +62,11 @@ fn add_inputs_at(
     let count = automaton.propositions().len();
     let state = &automaton.defined()[place.state];
     let edge = state.edges.edge(place.index);
-    match (&state.label, edge.label()) {
-        (Some(label), _) => add_inputs_of(alloc, label, controlled, inputs),
-        (None, Some(label)) => add_inputs_of(alloc, label, controlled, inputs),
-        (None, None) => {
-            let shape = label_at(alloc, count, state, &edge, place.index)?;
-            add_inputs(alloc, &shape, controlled, inputs)
-        }
-    }
+    let label = edge_label(alloc, count, state, &edge, place.index)?;
+    add_inputs_of(alloc, label.get(), controlled, inputs)
 }
 
-/// Appends the inputs of `label`, each once.
+/// Appends the inputs of `label`, each once. Linear in its nodes, without recursion.
 pub(crate) fn add_inputs_of(
     alloc: Global,
     label: &Label,
@@ -92,33 +85,6 @@ pub(crate) fn add_inputs_of(
         }
     }
     Ok(())
-}
-
-/// Appends the inputs of a label, each once. Recurses as deep as the tree is.
-#[tactic(auto, using(crate::proofs::Mentioning::inputs_on))]
-fn add_inputs(
-    alloc: Global,
-    shape: &LabelShape,
-    controlled: &[u32],
-    inputs: &mut Numbers,
-) -> Result<(), Refusal>
-    ensures inputs { OnOk result
-        (inputs.new ≡ each_once inputs.old (input_mentions controlled.now (label_tree_of_shape shape.now))) }
-    ensures memory { IsOkUnless result Refusal.Memory }
-{
-    match shape {
-        LabelShape::Constant(_) => Ok(()),
-        LabelShape::Proposition(number) => add_input(alloc, *number, controlled, inputs),
-        LabelShape::Not(part) => add_inputs(alloc, part, controlled, inputs),
-        LabelShape::And(left, right) => {
-            add_inputs(alloc, left, controlled, inputs)?;
-            add_inputs(alloc, right, controlled, inputs)
-        }
-        LabelShape::Or(left, right) => {
-            add_inputs(alloc, left, controlled, inputs)?;
-            add_inputs(alloc, right, controlled, inputs)
-        }
-    }
 }
 
 /// Appends a proposition unless it is `controlled` or there.

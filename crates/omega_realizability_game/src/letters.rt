@@ -8,14 +8,14 @@ ghost use Rattle.omega_realizability_game.specs.Letters.{holds_in};
 
 use crate::answering::can_answer;
 use omega_automaton::{Automaton, Refusal};
-use omega_edge_labels::{fitting_label, label_at};
+use omega_edge_labels::{edge_label, judge_size};
 use omega_runs::{EdgePlace, edges_are_taken_where_true};
 use std::alloc::Global;
 
 /// Whether the edge with this `number`, which is at `place`, answers the environment's `letter`, which lists the
 /// propositions that hold: it can be taken at some letter that agrees on all propositions but the `controlled` ones.
 ///
-/// Fails with [TaskFault::TooLarge] if the label of the edge's valuation would be too deep or too large, and with
+/// Fails with [TaskFault::TooLarge] if the label has over `MOST_SIZE` atoms and operators, and with
 /// [TaskFault::TooManyPropositions] if what is left of the label is not decided.
 pub(crate) fn answers_letter(
     alloc: Global,
@@ -34,7 +34,7 @@ pub(crate) fn answers_letter(
     let count = automaton.propositions().len();
     let state = &automaton.defined()[place.state];
     let edge = state.edges.edge(place.index);
-    let shape = label_at(alloc, count, state, &edge, place.index)?;
-    let label = fitting_label(alloc, &shape)?;
-    can_answer(alloc, &label, controlled, letter)
+    let label = edge_label(alloc, count, state, &edge, place.index)?;
+    judge_size(label.get())?;
+    can_answer(alloc, label.get(), controlled, letter)
 }

@@ -1,4 +1,4 @@
--- the label of the edge's valuation
+-- the label that the edge has is its whole label
 use Rattle.std.proofs.Common.{◌≡◌, List, ℕ, length, get_or, ap, ◌∙◌}
 use Rattle.omega_automaton.specs.declared.edge.Edge.{Edge}
 use Rattle.omega_automaton.specs.declared.state.State.{State}
@@ -7,9 +7,8 @@ use Rattle.omega_realizability_game.proofs.EdgesInLanes.{quick_judged}
 use Rattle.omega_realizability_game.proofs.Whole.{body, edge_is, label_is, state_is}
 use Rattle.omega_realizability_game.proofs.edge_words.quick_word.Goals as goal
 
-pub returns-in_ok-label-in-None-None-clause-word :
-    goal.returns-in_ok-label-in-None-None-clause-word
-returns-in_ok-label-in-None-None-clause-word c =
+pub returns-clause-word : goal.returns-clause-word
+returns-clause-word c =
     let a = c.args.automaton.now in
     let stands = c.requires.place in
     let lanes = c.args.lanes.now in
@@ -21,9 +20,9 @@ returns-in_ok-label-in-None-None-clause-word c =
     let edge_same : edge ≡ stands.edge =
     c.edge-edge.ensures ∙ ap (λ (s : State). get_or s.edges c.args.place.index edge) state_same
     ∙ edge_is a c.args._number c.args.place stands edge in
-    let made : c.in_ok-label-in-None-None.label ≡ label_at (length a.propositions) state c.args.place.index edge =
-    c.in_ok-label-in-None-None.ensures.label ∙ c.in_ok-shape-in-None-None.ensures.label
+    let has : c.get.result.now ≡ label_at (length a.propositions) state c.args.place.index edge =
+    c.get.ensures ∙ c.in_ok-label.ensures.label
     ∙ ap (λ (names : List (List ℕ)). label_at (length names) state c.args.place.index edge) c.propositions-count.ensures in
     quick_judged a lanes.controlled.now lanes.inputs.now lanes.block c.edges_are_taken_where_true.ensures c.args._number (body a c.args._number c.args.place stands) stands.numbered
-    c.in_ok-label-in-None-None.label (label_is a c.args._number c.args.place stands c.in_ok-label-in-None-None.label state edge state_same edge_same made)
-    c.answer_word-in-None-None.result c.answer_word-in-None-None.ensures.word
+    c.get.result.now (label_is a c.args._number c.args.place stands c.get.result.now state edge state_same edge_same has)
+    c.answer_word.result c.answer_word.ensures.word

@@ -1,5 +1,5 @@
 -- one state more
-use Rattle.std.proofs.Common.{◌≡◌, ◌<◌, ℕ, List, true, length, get_or, below_more, sym, subst, arith, rules}
+use Rattle.std.proofs.Common.{◌≡◌, ◌<◌, ℕ, List, true, length, get_or, below_more, subst, arith, rules}
 use Rattle.std.proofs.lemmas.List.{get_or_read}
 use Rattle.omega_automaton.specs.declared.state.State.{State}
 use Rattle.omega_complement.specs.Labels.{labels_of, undefined}

@@ -1,5 +1,5 @@
 -- one block more
-use Rattle.std.proofs.Common.{◌≡◌, ◌<◌, ℕ, true, length, below_more, arith, rules}
+use Rattle.std.proofs.Common.{◌≡◌, true, length, below_more, arith, rules}
 use Rattle.omega_realizability_game.specs.Exclusive.{AreApartIn}
 use Rattle.omega_realizability_game.proofs.ExclusiveStates.{exclusive}
 use Rattle.omega_realizability_game.proofs.exclusive.is_apart.Goals as goal

@@ -1,5 +1,5 @@
 -- one label more
-use Rattle.std.proofs.Common.{◌≡◌, ◌+◌, ◌<◌, ◌∙◌, [], List, ℕ, Some, length, sym, ap, subst, arith}
+use Rattle.std.proofs.Common.{◌≡◌, ◌<◌, ◌∙◌, List, ℕ, Some, length, sym, ap, subst, arith}
 use Rattle.std.proofs.lemmas.Option.{slice_get-get_or}
 use Rattle.omega_realizability_game.specs.Exclusive.{AreApartIn, HasLabelAt}
 use Rattle.omega_realizability_game.proofs.ExclusiveStates.{apart_more, covered_more}

@@ -1,5 +1,5 @@
 -- one number more, of which the lane is set or not
-use Rattle.std.proofs.Common.{◌≡◌, ◌<◌, ℕ, List, length, get_or, sym, refl, ◌∙◌, arith}
+use Rattle.std.proofs.Common.{◌<◌, ℕ, List, length, get_or, sym, refl, ◌∙◌, arith}
 use Rattle.omega_realizability_game.proofs.EdgesInLanes.{lane_not_set, lane_set}
 use Rattle.omega_realizability_game.proofs.in_lane.set_in_lane.Goals as goal
 use Rattle.omega_realizability_game.proofs.in_lane.set_in_lane.Goals.{then-has_lane+in_ok-push, else-has_lane}

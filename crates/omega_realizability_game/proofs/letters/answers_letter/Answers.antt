@@ -18,9 +18,9 @@ returns-clause-judged c =
     let edge_same : edge ≡ stands.edge =
     c.edge-edge.ensures ∙ ap (λ (s : State). get_or s.edges c.args.place.index edge) state_same
     ∙ edge_is a c.args._number c.args.place stands edge in
-    let made : c.in_ok-label.label ≡ label_at (length a.propositions) state c.args.place.index edge =
-    c.in_ok-label.ensures.label ∙ c.in_ok-shape.ensures.label
+    let has : c.get-2.result.now ≡ label_at (length a.propositions) state c.args.place.index edge =
+    c.get-2.ensures ∙ c.in_ok-label.ensures.label
     ∙ ap (λ (names : List (List ℕ)). label_at (length names) state c.args.place.index edge) c.propositions-count.ensures in
     answers_judged a c.args._number c.args.place stands c.edges_are_taken_where_true.ensures c.args.controlled.now c.args.letter.now
-    c.can_answer.result c.in_ok-label.label (label_is a c.args._number c.args.place stands c.in_ok-label.label state edge state_same edge_same made)
+    c.can_answer.result c.get-2.result.now (label_is a c.args._number c.args.place stands c.get-2.result.now state edge state_same edge_same has)
     c.can_answer.ensures.judged

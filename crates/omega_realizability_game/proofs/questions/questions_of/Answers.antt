@@ -1,7 +1,6 @@
 -- the first letter of each class
-use Rattle.std.proofs.Common.{◌≡◌, ◌<◌, ◌≤◌, ◌^◌, ℕ, List, length, get_or, ap, sym, subst, arith}
+use Rattle.std.proofs.Common.{◌≤◌, ◌^◌, length, ap, arith}
 use Rattle.std.proofs.Math.Pow.{pow_mono}
-use Rattle.omega_realizability_game.specs.Making.{AreAnswersByLetter}
 use Rattle.omega_realizability_game.proofs.Asking.{all_below, questions_held}
 use Rattle.omega_realizability_game.proofs.questions.questions_of.Goals as goal
 
