@@ -1,0 +1,3 @@
+-- Lemmas by theme.
+pub mod TurnedGames
+pub mod TurnedPriorities
