@@ -7,3 +7,5 @@ mod reading;
 mod refusing;
 #[cfg(test)]
 mod rows;
+#[cfg(test)]
+mod solutions;
