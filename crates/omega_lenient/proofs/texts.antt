@@ -3,4 +3,5 @@ pub mod Bare
 pub mod OneWay
 pub mod Plain
 pub mod PlainParts
+pub mod StrictBare
 pub mod StrictPlain

@@ -1,5 +1,5 @@
 -- What stands for each part of a text in its plain text: comments, names and other bytes.
-use Rattle.std.specs.Prelude.{◌≡◌, ◌≢◌, ℕ, false, not, ◌==◌, ◌⊎◌, List, [], ◌∷◌, ◌++◌, map}
+use Rattle.std.specs.Prelude.{◌≡◌, ◌≢◌, ℕ, false, not, ◌==◌, ◌⊎◌, List, [], ◌∷◌, ◌++◌, map, slice_index}
 use Rattle.std.specs.List.{AllPass}
 use Rattle.omega_lenient.specs.Plain.{is_closed, plain_from, shown_in_name}
 use Rattle.omega_lenient.specs.declared.context.Context.TheVariants.{Outside}
@@ -44,3 +44,12 @@ NamesAreShown = (name rest : List ℕ) → AllPass (λ byte. not (byte == 34)) n
 abbrev pub OtherBytesStay : Type 0
 OtherBytesStay = (byte : ℕ) (rest : List ℕ) → byte ≢ 34 → byte ≢ 35 → byte ≢ 47
     → plain_from Outside (byte ∷ rest) ≡ byte ∷ plain_from Outside rest
+
+-- a slash that begins no comment stays
+abbrev pub LoneSlashesStay : Type 0
+LoneSlashesStay = (rest : List ℕ) → slice_index rest 0 ≢ 47 → slice_index rest 0 ≢ 42
+    → plain_from Outside (47 ∷ rest) ≡ 47 ∷ plain_from Outside rest
+
+-- from a `/*` that no `*/` ends, each byte stays
+abbrev pub UnclosedCommentsStay : Type 0
+UnclosedCommentsStay = (rest : List ℕ) → is_closed rest ≡ false → plain_from Outside (47 ∷ 42 ∷ rest) ≡ 47 ∷ 42 ∷ rest

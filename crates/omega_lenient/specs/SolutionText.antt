@@ -22,3 +22,9 @@ IsLenientReadSolutionRefusal nodes source refusal = IsReadSolutionRefusal nodes 
 -- a bare text has a byte for each of the text
 abbrev pub BareTextsKeepPlaces : Type 0
 BareTextsKeepPlaces = (source : List ℕ) → length (bare_text source) ≡ length source
+
+-- a solution text describes the same solution as a lenient text
+abbrev pub StrictSolutionsAreLenient : Type 0
+StrictSolutionsAreLenient =
+    (nodes : List Node) (source : List ℕ) (solution : Solution)
+    → IsSolutionText nodes source solution → IsLenientSolutionText nodes source solution

@@ -3,8 +3,8 @@
 ghost use Rattle.omega_text.specs.Syntax.{SyntaxFaultsAreFirst};
 ghost use Rattle.omega_lenient.specs.Grammar.{lenient_syntax};
 ghost use Rattle.omega_lenient.specs.Laws.{LenientGamesAreNotRefused, LenientGamesAreOne, LenientRefusalsAreOne, LenientTextsAreReadOrRefused, PlainTextsKeepPlaces, StrictTextsAreLenient};
-ghost use Rattle.omega_lenient.specs.Parts.{BlockCommentsAreBlank, LineCommentsAreBlank, NamesAreShown, OtherBytesStay};
-ghost use Rattle.omega_lenient.specs.SolutionText.{BareTextsKeepPlaces};
+ghost use Rattle.omega_lenient.specs.Parts.{BlockCommentsAreBlank, LineCommentsAreBlank, LoneSlashesStay, NamesAreShown, OtherBytesStay, UnclosedCommentsStay};
+ghost use Rattle.omega_lenient.specs.SolutionText.{BareTextsKeepPlaces, StrictSolutionsAreLenient};
 ghost use Rattle.omega_lenient.specs.Playing.{CompletionKeepsWinners, LenientGamesKeepWinners};
 
 use crate::kind::LenientKind;
@@ -15,6 +15,7 @@ use omega_parity_game::{
 use omega_text::laws::{
     cuts_are_one, text_faults_are_one, texts_are_read_or_faulty, texts_have_no_fault,
 };
+use omega_text::pg::laws::numbers_are_plain;
 
 /// States that a plain text has a byte for each of the text.
 pub fn plain_texts_keep_places()
@@ -35,6 +36,8 @@ pub fn plain_texts_show_parts()
     ensures block_comments { BlockCommentsAreBlank }
     ensures names { NamesAreShown }
     ensures others { OtherBytesStay }
+    ensures slashes { LoneSlashesStay }
+    ensures unclosed { UnclosedCommentsStay }
 {}
 
 /// States that a text describes at most one game.
@@ -84,6 +87,13 @@ pub fn lenient_syntax_faults_are_first()
 pub fn strict_texts_are_lenient()
     ensures { StrictTextsAreLenient }
 {}
+
+/// States that a solution text describes the same solution as a lenient text.
+pub fn strict_solutions_are_lenient()
+    ensures { StrictSolutionsAreLenient }
+{
+    numbers_are_plain();
+}
 
 /// States that each node of a game with dead ends is won by the same player in the game where these are completed: each
 /// is its only successor, with a priority that loses for its owner.

@@ -1,10 +1,10 @@
 -- What stands for comments, names and other bytes.
-use Rattle.std.proofs.Common.{◌≡◌, ℕ, ◌⊎◌, inl, inr, Bool, true, false, List, [], ◌∷◌, ◌++◌, map, get_or, refl, ap, sym, ◌∙◌, subst, append_assoc}
+use Rattle.std.proofs.Common.{◌≡◌, ℕ, ◌⊎◌, inl, inr, Bool, true, false, List, [], ◌∷◌, ◌++◌, map, get_or, drop, refl, ap, sym, ◌∙◌, subst, append_assoc}
 use Rattle.std.specs.Prelude.{not, ◌==◌, ◌&&◌, ◌||◌, if◌then◌else◌}
 use Rattle.std.specs.List.{AllPass}
 use Rattle.std.proofs.lemmas.Bool.{ne_eqb, or_parts}
 use Rattle.std.proofs.lemmas.List.Elements.{All-head, All-tail}
-use Rattle.omega_lenient.specs.Parts.{BlockCommentsAreBlank, IsInLine, LineCommentsAreBlank, NamesAreShown, OtherBytesStay, blanks}
+use Rattle.omega_lenient.specs.Parts.{BlockCommentsAreBlank, IsInLine, LineCommentsAreBlank, LoneSlashesStay, NamesAreShown, OtherBytesStay, UnclosedCommentsStay, blanks}
 use Rattle.omega_lenient.specs.Plain.{after, after_slash, is_closed, plain_from, shown, shown_in_name}
 use Rattle.omega_lenient.specs.declared.context.Context.{Context}
 use Rattle.omega_lenient.specs.declared.context.Context.TheVariants.{Block, Closing, Line, Name, Opening, Outside, Unclosed}
@@ -101,3 +101,20 @@ others_stay byte rest quote mark slash =
     (ap (λ t. if t then Name else if byte == 35 then Line else if byte == 47 then after_slash rest else Outside) (ne_eqb byte 34 quote)
     ∙ ap (λ t. if t then Line else if byte == 47 then after_slash rest else Outside) (ne_eqb byte 35 mark)
     ∙ ap (λ t. if t then after_slash rest else Outside) (ne_eqb byte 47 slash))
+
+-- a slash alone
+pub slashes_stay : LoneSlashesStay
+slashes_stay rest slash star =
+    plain_after Outside Outside 47 rest
+    (ap (λ t. if t then Line else if get_or rest 0 0 == 42 then (if is_closed (drop 1 rest) then Opening else Unclosed) else Outside) (ne_eqb (get_or rest 0 0) 47 slash)
+    ∙ ap (λ t. if t then (if is_closed (drop 1 rest) then Opening else Unclosed) else Outside) (ne_eqb (get_or rest 0 0) 42 star))
+
+-- the rest of a text after a comment that nothing ends
+rest_stays : (bytes : List ℕ) → plain_from Unclosed bytes ≡ bytes
+rest_stays [] = refl
+rest_stays (byte ∷ bytes) = ap (λ list. byte ∷ list) (rest_stays bytes)
+
+pub unclosed_stay : UnclosedCommentsStay
+unclosed_stay rest open_still =
+    plain_after Outside Unclosed 47 (42 ∷ rest) (ap (λ t. if t then Opening else Unclosed) open_still)
+    ∙ ap (λ list. 47 ∷ 42 ∷ list) (rest_stays rest)
