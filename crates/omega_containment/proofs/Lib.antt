@@ -4,6 +4,9 @@ pub mod Strings
 pub mod Options
 pub mod PairNames
 pub mod Formulas
+pub mod Parts
+pub mod SameNodes
+pub mod FirstParts
 pub mod Marks
 pub mod Fit
 pub mod Made

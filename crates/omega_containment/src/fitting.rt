@@ -1,17 +1,13 @@
 //! Whether an edge of the first factor is one that an edge of a product was made of.
 
-ghost use Rattle.std.specs.Prelude.{◌≡◌, ◌||◌, ◌<◌, [], get_or, length, not, nat_lt, slice_index_or, IfOk, IsOkUnless};
+ghost use Rattle.std.specs.Prelude.{◌≡◌, ◌||◌, ◌<◌, length, not, nat_lt, slice_index_or, IfOk, IsOkUnless};
 ghost use Rattle.std.specs.List.{list_all};
-ghost use Rattle.std.specs.Option.{option_copied};
 ghost use Rattle.omega_formula.specs.Acceptance.{holds as holds_mark};
-ghost use Rattle.omega_label.specs.Shape.{label_tree_of_shape};
-ghost use Rattle.omega_edge_labels.specs.Labels.{label_at as label_of_edge};
-ghost use Rattle.omega_containment.specs.private.Fitting.{are_marks_below as are_below, fits as fits_edge, is_first_part as is_part, leads_between as leads, same_formula as is_same};
+ghost use Rattle.omega_containment.specs.private.Fitting.{are_marks_below as are_below, fits as fits_edge, leads_between as leads};
 
-use omega_automaton::{Automaton, EdgeRef, Label, Refusal, State};
-use omega_edge_labels::label_at;
-use omega_label::LabelShape;
-use omega_text::ByteString;
+use crate::first_part::is_first_part;
+use omega_automaton::{Automaton, EdgeRef, Refusal, State};
+use omega_edge_labels::edge_label;
 use std::alloc::Global;
 
 /// Two states, the one that an edge leaves and the one that it enters.
@@ -49,14 +45,13 @@ pub(crate) fn fits(
     ) {
         return Ok(false);
     }
-    let label = label_at(alloc, one.propositions().len(), state, &edge, at)?;
-    is_first_part(
-        alloc,
+    let label = edge_label(alloc, one.propositions().len(), state, &edge, at)?;
+    Ok(is_first_part(
         one.propositions(),
         both.propositions(),
-        &label,
+        label.get(),
         joint.label(),
-    )
+    ))
 }
 
 /// Whether `edge` leads from `state` between `ends`.
@@ -103,64 +98,4 @@ fn holds(set: u32, marks: &[u32]) -> bool
     ensures { result ≡ holds_mark set marks.now }
 {
     marks.iter().any(|mark| *mark == set)
-}
-
-/// Whether `label`, over `names`, is the first part of `joint`, over `others`.
-fn is_first_part(
-    alloc: Global,
-    names: &[ByteString],
-    others: &[ByteString],
-    label: &LabelShape,
-    joint: Option<&Label>,
-) -> Result<bool, Refusal>
-    ensures part { IfOk result (λ is.
-        is ≡ is_part names.now others.now (label_tree_of_shape label.now) (option_copied joint.entry)) }
-    ensures memory { IsOkUnless result Refusal.Memory }
-{
-    let Some(whole) = joint else {
-        return Ok(false);
-    };
-    let shape = whole.shape(alloc)?;
-    match &shape {
-        LabelShape::And(left, _right) => Ok(same_formula(names, others, label, left)),
-        _ => Ok(false),
-    }
-}
-
-/// Whether two labels, over `names` and over `others`, are one formula over the names of their propositions.
-fn same_formula(
-    names: &[ByteString],
-    others: &[ByteString],
-    one: &LabelShape,
-    other: &LabelShape,
-) -> bool
-    ensures { result ≡
-        is_same names.now others.now (label_tree_of_shape one.now) (label_tree_of_shape other.now) }
-{
-    match (one, other) {
-        (LabelShape::Constant(one), LabelShape::Constant(other)) => {
-            if *one { *other } else { !*other }
-        }
-        (LabelShape::Proposition(one), LabelShape::Proposition(other)) => {
-            name_of(names, *one) == name_of(others, *other)
-        }
-        (LabelShape::Not(one), LabelShape::Not(other)) => same_formula(names, others, one, other),
-        (LabelShape::And(one, more), LabelShape::And(other, rest)) => {
-            same_formula(names, others, one, other) && same_formula(names, others, more, rest)
-        }
-        (LabelShape::Or(one, more), LabelShape::Or(other, rest)) => {
-            same_formula(names, others, one, other) && same_formula(names, others, more, rest)
-        }
-        _ => false,
-    }
-}
-
-/// Returns the name of the proposition `number`, or no bytes if there is no such proposition.
-fn name_of(names: &[ByteString], number: u32) -> &[u8]
-    ensures { result.now ≡ get_or names.now number [] }
-{
-    match names.get(number as usize) {
-        Some(name) => name.as_slice(),
-        None => &[],
-    }
 }

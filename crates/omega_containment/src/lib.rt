@@ -1,7 +1,7 @@
 //! Whether one automaton accepts only words that another accepts, and if not, words that show it.
 //!
 //! A counterexample is a lasso of the product with a complement. The edges of the first factor along it are found again
-//! by the names of the states of the product, by its labels and by its marks (`projecting`, `fitting`).
+//! by the names of the states of the product, by its labels and by its marks (`projecting`, `fitting`, `first_part`).
 //!
 //! docs/formats.md says when each refusal comes.
 #![tactic(auto)]
@@ -9,6 +9,7 @@
 mod containing;
 mod containment;
 mod equality;
+mod first_part;
 mod fitting;
 mod leading;
 mod projecting;
