@@ -1,2 +1,3 @@
 -- Lemmas of the lines that say what is to be mended.
 mod games
+mod solutions

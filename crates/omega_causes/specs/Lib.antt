@@ -1,4 +1,5 @@
 -- The lines that say what is to be mended in a refused text.
 pub mod GameCauses
 pub mod Places
+pub mod SolutionCauses
 pub mod private

@@ -1,3 +1,4 @@
 -- What only private contracts cite.
 pub mod Grammar
 pub mod WrittenGame
+pub mod WrittenSolution

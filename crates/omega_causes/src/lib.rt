@@ -8,7 +8,11 @@ mod game_syntax;
 mod grammar;
 mod lines;
 mod places;
+mod solution_causes;
+mod solution_syntax;
 mod written_game;
+mod written_solution;
 
 pub use game_causes::game_cause;
 pub use places::place_line;
+pub use solution_causes::solution_cause;
