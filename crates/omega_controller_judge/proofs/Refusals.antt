@@ -9,7 +9,7 @@ use Rattle.omega_runs.specs.Judging.{GivesUpOn, HasHardLabel}
 use Rattle.omega_realizability_game.specs.Making.{AllLeave, IsAskingFault, IsUnasked}
 use Rattle.omega_edge_labels.proofs.Refusals.{task_weaker}
 use Rattle.omega_controller_judge.specs.Judging.{IsReached}
-use Rattle.omega_controller_judge.specs.Refusing.{IsJudgeRefusal, IsLetterFault, IsLetterRefusal, branches, hard_label, no_memory, not_all, not_asked}
+use Rattle.omega_controller_judge.specs.Refusing.{IsJudgeRefusal, IsLetterFault, IsLetterRefusal, branches, hard_label, not_all, not_asked}
 use Rattle.omega_controller_judge.specs.private.Searching.{IsFormFault, IsFormRefusal}
 
 -- a label that is given up
@@ -36,7 +36,7 @@ form_refused specification a controlled (Task fault) refused = go fault refused
     go : (f : TaskFault) → IsFormFault a f → IsJudgeRefusal specification a controlled (Task f)
     go f (inl found) = subst (λ (g : TaskFault). IsJudgeRefusal specification a controlled (Task g)) (sym found.0) (branches found.1)
     go f (inr other) = subst (λ (g : TaskFault). IsJudgeRefusal specification a controlled (Task g)) (sym other.0) (not_all other.1 other.2)
-form_refused specification a controlled Memory refused = no_memory
+form_refused specification a controlled Memory refused = absurd refused
 form_refused specification a controlled (Text fault) refused = absurd refused
 form_refused specification a controlled (Game fault) refused = absurd refused
 form_refused specification a controlled (Automaton fault) refused = absurd refused

@@ -42,7 +42,7 @@ pub fn judge(
     ensures given { OnOk result (AreJudged specification.now controller.now) }
     ensures refused { IfErr result (IsJudgeRefusal specification.now controller.now controlled.now) }
 {
-    judge_form(alloc, controller)?;
+    judge_form(controller)?;
     let lack = lack_of(alloc, controller, controlled)?;
     let containment = contained(alloc, controller, specification)?;
     Ok(judgement_of(specification, controller, controlled, lack, containment))

@@ -1,10 +1,9 @@
 -- A search of an automaton for a letter of the environment that a state that is reached does not answer.
 use Rattle.std.specs.Prelude.{◌≡◌, ◌⊎◌, ℕ, ◌<◌, Bool, true, false, List, Contains, Option, None, Some, length}
-use Rattle.omega_text.specs.Cases.{never, or_memory, or_task}
+use Rattle.omega_text.specs.Cases.{never, or_task}
 use Rattle.omega_text.specs.declared.refusal.Refusal.{Refusal}
 use Rattle.omega_text.specs.declared.refusal.task.TaskFault.{TaskFault}
 use Rattle.omega_text.specs.declared.refusal.task.TaskFault.TheVariants.{NotParity, UniversalBranch}
-use Rattle.omega_formula.specs.Acceptance.{AccTree, constant}
 use Rattle.omega_automaton.specs.Automaton.{Description, IsAutomaton}
 use Rattle.omega_automaton.specs.Branching.{has_universal_branching}
 use Rattle.omega_controllers.specs.Controllers.{Answers}
@@ -62,10 +61,6 @@ abbrev pub IsLackOf : Description → List ℕ → Option Lack → Type 0
 IsLackOf a controlled None = ReachedAnswer a controlled
 IsLackOf a controlled (Some lack) = IsLack a controlled lack
 
--- the formula is `t`
-abbrev pub IsTrueFormula : AccTree → Type 0
-IsTrueFormula formula = formula ≡ constant true
-
 -- the fault of an automaton that cannot be read as a controller
 abbrev pub IsFormFault : Description → TaskFault → Type 0
 IsFormFault controller fault =
@@ -74,4 +69,4 @@ IsFormFault controller fault =
 
 -- its refusal
 abbrev pub IsFormRefusal : Description → Refusal → Type 0
-IsFormRefusal controller = or_task (IsFormFault controller) (or_memory never)
+IsFormRefusal controller = or_task (IsFormFault controller) never
