@@ -7,6 +7,13 @@ use Rattle.omega_complement.specs.Complement.{HasComplement, IsComplement}
 use Rattle.omega_complement.specs.Refusing.{IsUncomplemented}
 use Rattle.omega_hoa.specs.Alone.{IsAutomatonRefusal, IsAutomatonText}
 
+-- the canonical text of the complement of a deterministic automaton
+pub record IsComplementText (a : Description) (output : List ℕ) : Type 0 where
+  pub given : HasComplement a
+  pub complement : Description
+  pub right : IsComplement a complement
+  pub written : output ≡ canonical_automaton complement
+
 -- the answer of `complement`: the text is that of a deterministic automaton, and the canonical text of its complement
 -- is written
 pub record IsComplementAnswer (text output : List ℕ) : Type 0 where

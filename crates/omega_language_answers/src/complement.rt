@@ -1,7 +1,7 @@
 ghost use Rattle.std.specs.Prelude.{IfErr, IfOk, OnOk};
 ghost use Rattle.omega_complement.specs.Complement.{HasComplement, IsComplement};
 ghost use Rattle.omega_complement.specs.Refusing.{IsUncomplemented};
-ghost use Rattle.omega_language_answers.specs.Complement.{IsComplementAnswer, IsComplementRefusal};
+ghost use Rattle.omega_language_answers.specs.Complement.{IsComplementAnswer, IsComplementRefusal, IsComplementText};
 ghost use Rattle.omega_text.specs.Cases.{or_memory};
 
 use omega_automaton::Automaton;
@@ -26,6 +26,19 @@ pub fn complement_text(alloc: Global, text: &[u8]) -> Result<Vec<u8>, Refusal>
             Ok(turned) => canonical(alloc, &turned),
             Err(refusal) => Err(refusal),
         },
+        Err(refusal) => Err(refusal),
+    }
+}
+
+/// Returns the canonical text of the complement of `automaton`, as [complement_text] does. Fails with
+/// [TaskFault::UniversalBranch], or else with the first of [TaskFault::TooManyPropositions], [TaskFault::TooLarge] and
+/// [TaskFault::NotDeterministic] that `complement` meets.
+pub fn complement_automaton(alloc: Global, automaton: &Automaton) -> Result<Vec<u8>, Refusal>
+    ensures text { IfOk result (λ output. IsComplementText automaton.now output.items) }
+    ensures refused { IfErr result (IsUncomplemented automaton.now) }
+{
+    match complement(alloc, automaton) {
+        Ok(made) => canonical(alloc, &made),
         Err(refusal) => Err(refusal),
     }
 }

@@ -7,7 +7,7 @@ mod complement;
 mod meet;
 mod verify;
 
-pub use complement::complement_text;
+pub use complement::{complement_automaton, complement_text};
 pub use meet::meet_texts;
 pub use omega_io::Exit;
 pub use verify::verify_lasso;
