@@ -3,10 +3,13 @@ pub mod Canon
 pub mod Check
 pub mod Draw
 pub mod Laws
+pub mod Least
 pub mod Part
 pub mod PlayerText
 pub mod Show
+pub mod ShowJson
 pub mod Verify
+pub mod Winners
 pub mod Observing
 pub mod solve
 pub mod private

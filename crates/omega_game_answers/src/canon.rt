@@ -2,6 +2,7 @@ ghost use Rattle.std.specs.Prelude.{◌≡◌, IfOk, IfErr};
 ghost use Rattle.omega_pg.specs.game.Refusing.{IsReadRefusal};
 ghost use Rattle.omega_game_answers.specs.Canon.{IsCanonAnswer};
 
+pub mod least;
 pub mod part;
 
 use crate::game_text::forward_game_of;

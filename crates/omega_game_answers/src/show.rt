@@ -2,6 +2,8 @@ ghost use Rattle.std.specs.Prelude.{◌≡◌, ◌++◌, IfOk, IfErr, OnOk, IsOk
 ghost use Rattle.omega_pg.specs.game.Refusing.{IsReadRefusal};
 ghost use Rattle.omega_game_answers.specs.Show.{IsShowAnswer, bound_line, description, size_line};
 
+pub mod json;
+
 use crate::game_text::forward_game_of;
 use crate::player_text::append_player;
 use omega_game::{ForwardGame, Player, Refusal, bound};

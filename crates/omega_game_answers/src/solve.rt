@@ -11,7 +11,7 @@ mod answer_text;
 pub mod asked;
 pub mod both;
 mod one;
-mod searched;
+pub(crate) mod searched;
 
 use crate::game_text::forward_game_of;
 use crate::part::part_from;

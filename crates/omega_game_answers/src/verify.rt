@@ -10,6 +10,7 @@ ghost use Rattle.omega_game_answers.specs.private.steps.Solved.{IsSolutionJudged
 ghost use Rattle.omega_game_answers.specs.private.steps.Verdict.{verdict_exit, verdict_text};
 
 pub mod explaining;
+pub mod winners;
 
 use crate::part::part_from;
 use explaining::explained;

@@ -6,3 +6,4 @@ pub mod Solved
 pub mod Verdict
 pub mod Lifts
 pub mod Bounds
+pub mod Winners

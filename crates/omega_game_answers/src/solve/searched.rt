@@ -56,7 +56,7 @@ fn searched_text<L, W: Reporter<L>>(
 
 /// Returns the solution of `game`, by the search or else by lifting. Fails with [TaskFault::TooWide] or
 /// [TaskFault::Budget].
-fn searched_solution<L, W: Reporter<L>>(
+pub fn searched_solution<L, W: Reporter<L>>(
     alloc: Global,
     game: &Game,
     budget: u64,

@@ -1,0 +1,6 @@
+-- Texts that are appended one after the other.
+use Rattle.std.proofs.Common.{◌≡◌, ℕ, List, ◌++◌, ap, ◌∙◌, append_assoc}
+
+-- a text and one after it
+pub following : {before after : List ℕ} (front text more : List ℕ) → before ≡ front ++ text → after ≡ before ++ more → after ≡ front ++ (text ++ more)
+following front text more first second = second ∙ ap (λ list. list ++ more) first ∙ append_assoc front text more
