@@ -3,3 +3,4 @@ pub mod Canon
 pub mod Check
 pub mod Refusing
 pub mod Show
+pub mod ShowJson

@@ -78,7 +78,8 @@ fn append_sizes(automaton: &Automaton, out: &mut Vec<u8>) -> Result<(), Refusal>
     Ok(())
 }
 
-fn append_count(what: &[u8], count: usize, out: &mut Vec<u8>) -> Result<(), Refusal>
+/// Appends the name of `what` is counted and the `count`, or a beginning of this if memory is refused.
+pub(crate) fn append_count(what: &[u8], count: usize, out: &mut Vec<u8>) -> Result<(), Refusal>
     ensures text { OnOk result (out.new.items ≡ out.old.items ++ count_text what.now count) }
     ensures kept { StartsWith out.new.items out.old.items }
     ensures memory { IsOkUnless result Refusal.Memory }
