@@ -84,7 +84,8 @@ abbrev pub IsCauseOf : RawGame → List ℕ → Type 0
 IsCauseOf raw line =
     NamesRepeat raw.specs line
     ⊎ (IsDistinct nat_eq (specified_ids raw.specs) × (NamesUndefined raw.specs line
-    ⊎ ((first_undefined raw.specs ≡ None) × (NamesAbove raw.header raw.specs line ⊎ NamesNothing raw.header raw.specs line))))
+    ⊎ ((first_undefined raw.specs ≡ None)
+    × (NamesAbove raw.header raw.specs line ⊎ NamesNothing raw.header raw.specs line))))
 
 -- the bytes are a text of the grammar, within the limit
 pub record WritesGame (text : List ℕ) : Type 0 where

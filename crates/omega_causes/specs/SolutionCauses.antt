@@ -12,7 +12,8 @@ use Rattle.omega_text.specs.Syntax.{IsTextOf}
 -- the line about a header's number that is not the game's greatest identifier
 abbrev pub greatest_line : ℕ → ℕ → List ℕ
 greatest_line number greatest =
-    codes "omega: the header has " ++ (decimal number ++ (codes ", and the greatest identifier is " ++ (decimal greatest ++ codes "\n")))
+    codes "omega: the header has "
+    ++ (decimal number ++ (codes ", and the greatest identifier is " ++ (decimal greatest ++ codes "\n")))
 
 -- a line about a node, which ends so
 abbrev pub node_line : ℕ → List ℕ → List ℕ
@@ -102,5 +103,6 @@ pub record WritesSolution (text : List ℕ) : Type 0 where
 
 -- the line for a text: what is at fault first in what is written, or no line if the bytes are no text of the grammar
 pub record IsSolutionCause (nodes : List Node) (text line : List ℕ) : Type 0 where
-  pub written : (raw : RawSolution) → length text ≤ most_text → IsTextOf solution_syntax text raw → line ≡ first_of (faults_in nodes raw)
+  pub written : (raw : RawSolution) → length text ≤ most_text → IsTextOf solution_syntax text raw
+      → line ≡ first_of (faults_in nodes raw)
   pub unwritten : (WritesSolution text → ⊥) → line ≡ []

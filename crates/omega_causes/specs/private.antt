@@ -1,4 +1,5 @@
 -- What only private contracts cite.
+pub mod AnyText
 pub mod Grammar
 pub mod WrittenGame
 pub mod WrittenSolution

@@ -7,6 +7,7 @@ ghost use Rattle.omega_causes.specs.private.WrittenGame.{Keeps};
 ghost use Rattle.omega_pg.specs.game.Grammar.{RawGame, game_syntax};
 ghost use Rattle.omega_text.specs.Syntax.{IsTextOf};
 
+use crate::any_syntax::AnySyntax;
 use crate::game_syntax::GameSyntax;
 use crate::grammar::is_in_grammar;
 use crate::lines::{with_number, with_two_numbers};
@@ -14,7 +15,7 @@ use crate::written_game::WrittenGame;
 use indexmap::IndexSet;
 use omega_pg::read_forward_game;
 use omega_text::laws::{cuts_are_one, texts_have_no_fault};
-use omega_text::{PgKind, Refusal, pg_tokens};
+use omega_text::{PgKind, Refusal, read_text};
 use std::alloc::Global;
 
 /// Returns the line that says why a game text makes no game, with its line feed. Refused with [Refusal::Memory].
@@ -22,7 +23,8 @@ use std::alloc::Global;
 /// The line names the first node that comes twice ([GameFault::DuplicateNode]). If there is none, it names the first
 /// successor that is no node ([GameFault::UndefinedSuccessor]), and then the first node above the header's number
 /// ([GameFault::HeaderTooSmall]). Without one of these faults, or if `text` is not in the grammar, there is no line and
-/// the result is empty. The cost is linear in the text.
+/// the result is empty. By the law `laws::causes_are_of_faults` the line is about the fault for which the text is
+/// refused. The cost is linear in the text.
 pub fn game_cause(alloc: Global, text: &[u8]) -> Result<Vec<u8>, Refusal>
     ensures cause { IfOk result (λ line. IsGameCause text.now line.items) }
     ensures memory { IsOkUnless result Refusal.Memory }
@@ -49,15 +51,13 @@ fn is_written(alloc: Global, text: &[u8]) -> Result<bool, Refusal>
 
 /// Reads what may be at fault in a game text.
 fn read_written(alloc: Global, text: &[u8]) -> Result<WrittenGame, Refusal>
+    requires { WritesGame text.now }
     ensures kept { IfOk result (λ game. (raw : RawGame) → IsTextOf game_syntax text.now raw → Keeps raw game) }
     ensures memory { IsOkUnless result Refusal.Memory }
 {
     cuts_are_one::<PgKind>();
-    match pg_tokens(alloc, text) {
-        Ok(tokens) => WrittenGame::read(alloc, &tokens),
-        // A text of the grammar has tokens, so only memory was refused.
-        Err(_) => Err(Refusal::Memory),
-    }
+    texts_have_no_fault::<AnySyntax>();
+    read_text::<PgKind, WrittenGame>(WrittenGame::new(alloc), text)
 }
 
 /// Returns the line for what is written, or no bytes if nothing is at fault.

@@ -3,9 +3,11 @@
 //! docs/formats.md says when each `Refusal` comes.
 #![tactic(auto)]
 
+mod any_syntax;
 mod game_causes;
 mod game_syntax;
 mod grammar;
+pub mod laws;
 mod lines;
 mod places;
 mod solution_causes;

@@ -8,6 +8,7 @@ ghost use Rattle.omega_parity_game.specs.Game.{identifier_at, identifiers};
 ghost use Rattle.omega_pg.specs.solution.Grammar.{RawSolution, solution_syntax};
 ghost use Rattle.omega_text.specs.Syntax.{IsTextOf};
 
+use crate::any_syntax::AnySyntax;
 use crate::game_causes::twice_line;
 use crate::grammar::is_in_grammar;
 use crate::lines::{with_number, with_two_numbers};
@@ -15,7 +16,7 @@ use crate::solution_syntax::SolutionSyntax;
 use crate::written_solution::{Line, WrittenSolution};
 use omega_pg::{ForwardGame, Player, read_solution};
 use omega_text::laws::{cuts_are_one, texts_have_no_fault};
-use omega_text::{PgKind, Refusal, pg_tokens};
+use omega_text::{PgKind, Refusal, read_text};
 use std::alloc::Global;
 
 /// Returns the line that says why `text` is no solution of `game` ([TaskFault::BadSolution]), with its line feed.
@@ -51,15 +52,14 @@ fn is_written(alloc: Global, game: &ForwardGame, text: &[u8]) -> Result<bool, Re
 
 /// Reads what may be at fault in a solution text.
 fn read_written(alloc: Global, text: &[u8]) -> Result<WrittenSolution, Refusal>
-    ensures kept { IfOk result (λ solution. (raw : RawSolution) → IsTextOf solution_syntax text.now raw → Keeps raw solution) }
+    requires { WritesSolution text.now }
+    ensures kept { IfOk result
+        (λ solution. (raw : RawSolution) → IsTextOf solution_syntax text.now raw → Keeps raw solution) }
     ensures memory { IsOkUnless result Refusal.Memory }
 {
     cuts_are_one::<PgKind>();
-    match pg_tokens(alloc, text) {
-        Ok(tokens) => WrittenSolution::read(alloc, &tokens),
-        // A text of the grammar has tokens, so only memory was refused.
-        Err(_) => Err(Refusal::Memory),
-    }
+    texts_have_no_fault::<AnySyntax>();
+    read_text::<PgKind, WrittenSolution>(WrittenSolution::new(alloc), text)
 }
 
 /// Returns the line about what is at fault first, or no bytes.
@@ -82,7 +82,7 @@ fn first_fault(
 }
 
 /// Returns the line about what is at fault first behind the header, or no bytes.
-#[tactic(auto, using(crate::proofs::solutions::Faults::fault_there, crate::proofs::solutions::Faults::none_there, crate::proofs::solutions::Faults::none_left))]
+#[tactic(auto, using(crate::proofs::solutions::Faults::none_there, crate::proofs::solutions::Faults::none_left))]
 fn first_fault_behind(alloc: Global, game: &ForwardGame, lines: &[Line]) -> Result<Vec<u8>, Refusal>
     ensures first { IfOk result (λ line. line.items
         ≡ first_of (line_faults game.now 0 (map as_written lines.now) ++ missing_nodes game.now (length lines.now))) }
@@ -97,7 +97,7 @@ fn first_fault_behind(alloc: Global, game: &ForwardGame, lines: &[Line]) -> Resu
 }
 
 /// Returns the line about the first node behind the last of `count` lines, or no bytes.
-#[tactic(auto, using(crate::proofs::solutions::Faults::first_missing_is, crate::proofs::solutions::Faults::none_missing))]
+#[tactic(auto, using(crate::proofs::solutions::Faults::missing_there, crate::proofs::solutions::Faults::none_missing))]
 fn first_missing(alloc: Global, game: &ForwardGame, count: usize) -> Result<Vec<u8>, Refusal>
     ensures first { IfOk result (λ line. line.items ≡ first_of (missing_nodes game.now count)) }
     ensures memory { IsOkUnless result Refusal.Memory }

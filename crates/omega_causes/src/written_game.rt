@@ -1,11 +1,11 @@
 //! What is read of a game text to find what is at fault in it.
 
-ghost use Rattle.std.specs.Prelude.{◌≡◌, IfOk, IsOkUnless, OnOk, map};
-ghost use Rattle.omega_causes.specs.private.WrittenGame.{after_number, nothing, run, step};
+ghost use Rattle.std.specs.Prelude.{◌≡◌, true, IfOk, IsOkUnless, OnOk};
+ghost use Rattle.omega_causes.specs.private.WrittenGame.{after_number, nothing, step};
 ghost use Rattle.omega_pg.specs.Symbols.{pg_symbol_of};
 ghost use Rattle.omega_text.specs.Lexeme.{lexeme_of};
 
-use omega_text::{PgKind, Refusal, Token};
+use omega_text::{PgKind, Refusal, Token, TokenReader};
 use std::alloc::Global;
 use std::marker::Model;
 
@@ -39,22 +39,10 @@ impl Model for WrittenGame {
 
     ghost Value = { Written };
 
-    ghost view = { λ game. record { next = game.next; header = game.header; ids = game.ids.items; listed = game.listed.items } };
+    ghost view = { λ g. record { next = g.next; header = g.header; ids = g.ids.items; listed = g.listed.items } };
 }
 
 impl WrittenGame {
-    /// Reads the tokens of a game text. The cost is linear.
-    pub(crate) fn read(alloc: Global, tokens: &[Token<'_, PgKind>]) -> Result<Self, Refusal>
-        ensures read { IfOk result (λ game. game ≡ run nothing (map pg_symbol_of (map lexeme_of tokens.now))) }
-        ensures memory { IsOkUnless result Refusal.Memory }
-    {
-        let mut game = WrittenGame::new(alloc);
-        for token in tokens {
-            game.take(token)?;
-        }
-        Ok(game)
-    }
-
     /// Returns the number of the header, if there is one.
     pub(crate) fn header(&self) -> Option<u32>
         ensures { result ≡ self.now.header }
@@ -76,7 +64,8 @@ impl WrittenGame {
         &self.listed
     }
 
-    fn new(alloc: Global) -> Self
+    /// Returns what was read before the first token.
+    pub(crate) fn new(alloc: Global) -> Self
         ensures { result ≡ nothing }
     {
         WrittenGame {
@@ -88,7 +77,7 @@ impl WrittenGame {
     }
 
     /// Takes one more token.
-    fn take(&mut self, token: &Token<'_, PgKind>) -> Result<(), Refusal>
+    fn take_token(&mut self, token: &Token<'_, PgKind>) -> Result<(), Refusal>
         ensures taken { OnOk result (self.new ≡ step self.old (pg_symbol_of (lexeme_of token.now))) }
         ensures memory { IsOkUnless result Refusal.Memory }
     {
@@ -122,5 +111,35 @@ impl WrittenGame {
             Next::Successor { node } => self.listed.push((node, number))?,
         }
         Ok(())
+    }
+}
+
+impl TokenReader<PgKind> for WrittenGame {
+    ghost use Rattle.std.specs.Prelude.{map};
+    ghost use Rattle.omega_causes.specs.private.AnyText.{any_syntax};
+    ghost use Rattle.omega_causes.specs.private.WrittenGame.{run, step};
+    ghost use Rattle.omega_pg.specs.Symbols.{pg_symbol_of};
+    ghost use Rattle.omega_text.specs.Lexeme.{lexeme_of};
+    ghost use Rattle.omega_text.specs.Syntax.{TokensBegin, TokensComplete};
+
+    ghost becomes = { λ old lexemes new. new ≡ run old (map pg_symbol_of lexemes) };
+
+    ghost begins = { TokensBegin any_syntax };
+
+    ghost completes = { TokensComplete any_syntax };
+
+    fn take(&mut self, token: &Token<'_, PgKind>) -> Result<bool, Refusal>
+        ensures stepped { OnOk result (self.new ≡ step self.old (pg_symbol_of (lexeme_of token.now))) }
+        ensures taken { IfOk result (λ taken. taken ≡ true) }
+        ensures memory { IsOkUnless result Refusal.Memory }
+    {
+        self.take_token(token)?;
+        Ok(true)
+    }
+
+    fn is_complete(&self) -> bool
+        ensures { result ≡ true }
+    {
+        true
     }
 }

@@ -1,12 +1,12 @@
 //! What is read of a solution text to find what is at fault in it.
 
-ghost use Rattle.std.specs.Prelude.{◌≡◌, IfOk, IsOkUnless, OnOk, map};
-ghost use Rattle.omega_causes.specs.private.WrittenSolution.{after_number, after_semicolon, as_written, nothing, player_with, run, step, with_line};
+ghost use Rattle.std.specs.Prelude.{◌≡◌, true, map, IfOk, IsOkUnless, OnOk};
+ghost use Rattle.omega_causes.specs.private.WrittenSolution.{after_number, after_semicolon, as_written, nothing, player_with, step, with_line};
 ghost use Rattle.omega_pg.specs.Symbols.{pg_symbol_of};
 ghost use Rattle.omega_text.specs.Lexeme.{lexeme_of};
 
 use omega_pg::Player;
-use omega_text::{PgKind, Refusal, Token};
+use omega_text::{PgKind, Refusal, Token, TokenReader};
 use std::alloc::Global;
 use std::marker::Model;
 
@@ -47,22 +47,10 @@ impl Model for WrittenSolution {
 
     ghost Value = { Written };
 
-    ghost view = { λ solution. record { next = solution.next; greatest = solution.greatest; lines = map as_written solution.lines.items } };
+    ghost view = { λ s. record { next = s.next; greatest = s.greatest; lines = map as_written s.lines.items } };
 }
 
 impl WrittenSolution {
-    /// Reads the tokens of a solution text. The cost is linear.
-    pub(crate) fn read(alloc: Global, tokens: &[Token<'_, PgKind>]) -> Result<Self, Refusal>
-        ensures read { IfOk result (λ solution. solution ≡ run nothing (map pg_symbol_of (map lexeme_of tokens.now))) }
-        ensures memory { IsOkUnless result Refusal.Memory }
-    {
-        let mut solution = WrittenSolution::new(alloc);
-        for token in tokens {
-            solution.take(token)?;
-        }
-        Ok(solution)
-    }
-
     /// Returns the number of the header.
     pub(crate) fn greatest(&self) -> u32
         ensures { result ≡ self.now.greatest }
@@ -77,7 +65,8 @@ impl WrittenSolution {
         &self.lines
     }
 
-    fn new(alloc: Global) -> Self
+    /// Returns what was read before the first token.
+    pub(crate) fn new(alloc: Global) -> Self
         ensures { result ≡ nothing }
     {
         WrittenSolution {
@@ -88,7 +77,7 @@ impl WrittenSolution {
     }
 
     /// Takes one more token.
-    fn take(&mut self, token: &Token<'_, PgKind>) -> Result<(), Refusal>
+    fn take_token(&mut self, token: &Token<'_, PgKind>) -> Result<(), Refusal>
         ensures taken { OnOk result (self.new ≡ step self.old (pg_symbol_of (lexeme_of token.now))) }
         ensures memory { IsOkUnless result Refusal.Memory }
     {
@@ -143,6 +132,36 @@ impl WrittenSolution {
     {
         self.lines.push(Line { id, winner, choice })?;
         Ok(())
+    }
+}
+
+impl TokenReader<PgKind> for WrittenSolution {
+    ghost use Rattle.std.specs.Prelude.{map};
+    ghost use Rattle.omega_causes.specs.private.AnyText.{any_syntax};
+    ghost use Rattle.omega_causes.specs.private.WrittenSolution.{run, step};
+    ghost use Rattle.omega_pg.specs.Symbols.{pg_symbol_of};
+    ghost use Rattle.omega_text.specs.Lexeme.{lexeme_of};
+    ghost use Rattle.omega_text.specs.Syntax.{TokensBegin, TokensComplete};
+
+    ghost becomes = { λ old lexemes new. new ≡ run old (map pg_symbol_of lexemes) };
+
+    ghost begins = { TokensBegin any_syntax };
+
+    ghost completes = { TokensComplete any_syntax };
+
+    fn take(&mut self, token: &Token<'_, PgKind>) -> Result<bool, Refusal>
+        ensures stepped { OnOk result (self.new ≡ step self.old (pg_symbol_of (lexeme_of token.now))) }
+        ensures taken { IfOk result (λ taken. taken ≡ true) }
+        ensures memory { IsOkUnless result Refusal.Memory }
+    {
+        self.take_token(token)?;
+        Ok(true)
+    }
+
+    fn is_complete(&self) -> bool
+        ensures { result ≡ true }
+    {
+        true
     }
 }
 

@@ -1,7 +1,8 @@
 -- What is read of a game text is what its grammar says, and each text is in the grammar or is refused otherwise.
-use Rattle.std.proofs.Common.{◌≡◌, ℕ, inl, inr, true, Result, Ok, Err, IfOk, List, map, refl, ap, ◌∙◌}
+use Rattle.std.proofs.Common.{◌≡◌, ℕ, inl, inr, true, IfOk, List, map, refl, ap, ◌∙◌}
 use Rattle.std.specs.Prelude.{◌↔◌, IsTrue}
 use Rattle.omega_causes.specs.GameCauses.{WritesGame}
+use Rattle.omega_causes.specs.private.AnyText.{any_syntax}
 use Rattle.omega_causes.specs.private.Grammar.{is_in_grammar}
 use Rattle.omega_causes.specs.private.WrittenGame.{Keeps, Written, nothing, run}
 use Rattle.omega_causes.proofs.games.Spelled.{read_is_kept}
@@ -12,7 +13,8 @@ use Rattle.omega_pg.specs.game.Refusing.{IsReadRefusal}
 use Rattle.omega_pg.specs.game.Text.{IsGameText}
 use Rattle.omega_text.specs.Cut.{CutsAreOne, IsCut}
 use Rattle.omega_text.specs.Lexeme.{Lexeme}
-use Rattle.omega_text.specs.Syntax.{IsTextOf, TextsHaveNoFault}
+use Rattle.omega_text.specs.Reading.{IsReadText}
+use Rattle.omega_text.specs.Syntax.{IsTextOf, TextsHaveNoFault, TokensComplete}
 use Rattle.omega_text.specs.pg.Format.{pg_format}
 use Rattle.omega_text.specs.declared.pg.kind.PgKind.{PgKind}
 use Rattle.omega_text.specs.declared.refusal.Refusal.{Refusal}
@@ -25,12 +27,17 @@ text_is_kept source lexemes written raw one cut read text =
     read_is_kept raw written
     (read ∙ ap (λ list. run nothing (map pg_symbol_of list)) (one source lexemes text.lexemes cut text.cut) ∙ ap (run nothing) text.text.spelled)
 
--- the same of a call that reads
-pub call_is_kept : (result : Result Written Refusal) (source : List ℕ) (lexemes : List (Lexeme PgKind)) → CutsAreOne pg_format → IsCut pg_format source lexemes
-    → IfOk result (λ written. written ≡ run nothing (map pg_symbol_of lexemes))
-    → IfOk result (λ written. (raw : RawGame) → IsTextOf game_syntax source raw → Keeps raw written)
-call_is_kept (Ok written) source lexemes one cut read = λ raw text. text_is_kept source lexemes written raw one cut read text
-call_is_kept (Err refusal) source lexemes one cut read = tt
+-- the same of what was read of a text from the beginning on
+pub whole_is_kept : (source : List ℕ) (start written : Written) → CutsAreOne pg_format → start ≡ nothing
+    → IsReadText pg_format (λ lexemes. written ≡ run start (map pg_symbol_of lexemes)) (TokensComplete any_syntax) source
+    → (raw : RawGame) → IsTextOf game_syntax source raw → Keeps raw written
+whole_is_kept source start written one begun whole raw text =
+    text_is_kept source whole.lexemes written raw one whole.cut
+    (whole.all_taken ∙ ap (λ first. run first (map pg_symbol_of whole.lexemes)) begun) text
+
+-- a text of the grammar can be cut into tokens
+pub cut_into_tokens : (source : List ℕ) → WritesGame source → IsTextOf any_syntax source tt
+cut_into_tokens source text = record { lexemes = text.writes.lexemes; cut = text.writes.cut; text = tt }
 
 -- a text of a game is in the grammar
 pub game_tells : (source : List ℕ) (nodes : List Node) → IsGameText source nodes → IsTrue true ↔ WritesGame source

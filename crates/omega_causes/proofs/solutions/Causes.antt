@@ -16,7 +16,7 @@ pub caused : (nodes : List Node) (text line : List ℕ) (written : Written) (gre
     → line ≡ first_of (faults_in nodes (raw_of greatest lines)) → IsSolutionCause nodes text line
 caused nodes text line written greatest lines is kept number same said = record {
   written = λ raw short writes.
-    said ∙ ap (λ n. first_of (faults_in nodes (raw_of n lines))) (number ∙ (kept raw writes).greatest)
-    ∙ ap (λ list. first_of (faults_in nodes (raw_of raw.greatest list))) (same ∙ (kept raw writes).lines);
+      said ∙ ap (λ n. first_of (faults_in nodes (raw_of n lines))) (number ∙ (kept raw writes).greatest)
+      ∙ ap (λ list. first_of (faults_in nodes (raw_of raw.greatest list))) (same ∙ (kept raw writes).lines);
   unwritten = λ none. absurd (none is);
 }

@@ -46,9 +46,9 @@ none_left nodes lines place rest whole past so_far =
     sym (ap (λ list. first_of (line_faults nodes place list ++ rest)) (drop_all place (map as_written lines) beyond)) ∙ so_far
 
 -- the node at a place is the first missing one from there on
-pub first_missing_is : (nodes : List Node) (place : ℕ) → place < length nodes
+pub missing_there : (nodes : List Node) (place : ℕ) → place < length nodes
     → missing_line (identifier_at nodes place) ≡ first_of (missing_nodes nodes place)
-first_missing_is nodes place below =
+missing_there nodes place below =
     let inside : place < length (identifiers nodes) = subst (λ n. place < n) (sym (length-map nodes (λ (node : Node). node.identifier))) below in
     sym (ap (λ list. first_of (map missing_line list))
     (drop_more (identifiers nodes) place 0 inside
@@ -70,6 +70,6 @@ pub missing_is_fault : (nodes : List Node) (place id other : ℕ) → place ≤ 
     → first_of (missing_nodes nodes place) ≡ identifier_fault nodes place id (position (λ node. node == id) (identifiers nodes))
 missing_is_fault nodes place id other behind found =
     let inside : place < length nodes = omega (arith, place_is_inside nodes id other found) in
-    sym (first_missing_is nodes place inside)
+    sym (missing_there nodes place inside)
     ∙ sym (ap (identifier_fault nodes place id) found
     ∙ ap (λ before. if before then twice_line id else missing_line (identifier_at nodes place)) (le-ltb other place behind))

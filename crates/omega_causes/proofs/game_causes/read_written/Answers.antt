@@ -1,13 +1,16 @@
--- `read_written`: what is read of the tokens is what is written.
-use Rattle.std.proofs.Common.{map, sym, subst}
-use Rattle.omega_causes.proofs.games.Texts.{call_is_kept}
-use Rattle.omega_text.specs.Cut.{IsCut}
-use Rattle.omega_text.specs.Lexeme.{lexeme_of}
-use Rattle.omega_text.specs.pg.Format.{pg_format}
+-- `read_written`: what is read of the tokens is what is written, and only memory may be wanting.
+use Rattle.std.proofs.lemmas.Result.{IfOk-weaker}
+use Rattle.omega_causes.proofs.games.Texts.{cut_into_tokens, whole_is_kept}
+use Rattle.omega_causes.proofs.reading.Reading.{only_memory}
 use Rattle.omega_causes.proofs.game_causes.read_written.Goals as goal
 
-pub returns-in-Ok-clause-kept : goal.returns-in-Ok-clause-kept
-returns-in-Ok-clause-kept c =
-    call_is_kept c.read.result c.args.text.now (map lexeme_of c.deref.result.now) c.cuts_are_one.ensures
-    (subst (λ items. IsCut pg_format c.args.text.now (map lexeme_of items)) (sym c.deref.ensures.value) c.in-Ok.ensures.cut)
-    c.read.ensures.read
+pub returns-clause-kept : goal.returns-clause-kept
+returns-clause-kept c =
+    IfOk-weaker c.read_text.result _ _
+    (λ written whole. whole_is_kept c.args.text.now c.new.result written c.cuts_are_one.ensures c.new.ensures whole)
+    c.read_text.ensures.read
+
+pub returns-clause-memory : goal.returns-clause-memory
+returns-clause-memory c =
+    only_memory c.read_text.result c.args.text.now c.texts_have_no_fault.ensures c.requires.short
+    (cut_into_tokens c.args.text.now c.requires) c.read_text.ensures.refused

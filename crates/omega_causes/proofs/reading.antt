@@ -1,0 +1,2 @@
+-- Lemmas of texts that are read token by token.
+pub mod Reading
