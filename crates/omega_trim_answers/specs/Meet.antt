@@ -3,17 +3,15 @@
 use Rattle.std.specs.Prelude.{◌≡◌, ◌⊎◌, List, ℕ}
 use Rattle.omega_text.specs.declared.refusal.Refusal.{Refusal}
 use Rattle.omega_text.specs.declared.refusal.Refusal.TheVariants.{Memory}
-use Rattle.omega_automaton.specs.Automaton.{Description, IsAutomaton}
-use Rattle.omega_canon.specs.Canonical.{canonical_automaton}
+use Rattle.omega_automaton.specs.Automaton.{Description}
 use Rattle.omega_hoa.specs.Alone.{IsAutomatonRefusal, IsAutomatonText}
 use Rattle.omega_language_answers.specs.Meet.{IsProductRefused, IsTextRefused}
-use Rattle.omega_lasso_search.specs.Searching.{IsSearchable}
 use Rattle.omega_product.specs.Limits.{IsWithin}
 use Rattle.omega_product.specs.Product.{IsProduct}
 use Rattle.omega_product.specs.Refusing.{HaveNoBranch}
 use Rattle.omega_product.specs.Written.{IsWritten}
 use Rattle.omega_trim.specs.Refusing.{IsTrimRefusal}
-use Rattle.omega_trim.specs.Trimmed.{IsTrimmed}
+use Rattle.omega_trim_answers.specs.Trim.{IsTrimText}
 
 -- the product of two automata without universal branching, within the limits
 pub record IsMeeting (first second product : Description) : Type 0 where
@@ -21,14 +19,6 @@ pub record IsMeeting (first second product : Description) : Type 0 where
   pub is : IsProduct first second product
   pub written : IsWritten first second product
   pub within : IsWithin product
-
--- the canonical text of an automaton, which has no universal branching, without its useless states
-pub record IsTrimText (a : Description) (output : List ℕ) : Type 0 where
-  pub given : IsSearchable a
-  pub trim : Description
-  pub right : IsTrimmed a trim
-  pub is_automaton : IsAutomaton trim
-  pub written : output ≡ canonical_automaton trim
 
 -- both texts are those of automata, that of the input first, which have this product
 pub record AreMeetingTexts (file input : List ℕ) (product : Description) : Type 0 where

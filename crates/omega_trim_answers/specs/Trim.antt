@@ -9,6 +9,14 @@ use Rattle.omega_lasso_search.specs.Searching.{IsSearchable}
 use Rattle.omega_trim.specs.Refusing.{IsTrimRefusal}
 use Rattle.omega_trim.specs.Trimmed.{IsTrimmed}
 
+-- the canonical text of an automaton, which has no universal branching, without its useless states
+pub record IsTrimText (a : Description) (output : List ℕ) : Type 0 where
+  pub given : IsSearchable a
+  pub trim : Description
+  pub right : IsTrimmed a trim
+  pub is_automaton : IsAutomaton trim
+  pub written : output ≡ canonical_automaton trim
+
 -- the answer of `trim`: the text is that of an automaton without universal branching, and the canonical text of the
 -- automaton without its useless states is written
 pub record IsTrimAnswer (text output : List ℕ) : Type 0 where

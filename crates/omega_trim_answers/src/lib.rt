@@ -7,4 +7,4 @@ mod meet;
 mod trim;
 
 pub use meet::meet_trimmed_texts;
-pub use trim::trim_text;
+pub use trim::{trim_automaton, trim_text};

@@ -2,16 +2,14 @@ ghost use Rattle.std.specs.Prelude.{IfErr, IfOk, OnOk};
 ghost use Rattle.omega_hoa.specs.Alone.{IsAutomatonRefusal};
 ghost use Rattle.omega_io.specs.Refused.{IsAbout};
 ghost use Rattle.omega_language_answers.specs.Meet.{IsTextRefused};
-ghost use Rattle.omega_trim.specs.Refusing.{IsTrimRefusal};
-ghost use Rattle.omega_trim_answers.specs.Meet.{IsMeetTrimmedAnswer, IsOfNoText, IsTrimText};
+ghost use Rattle.omega_trim_answers.specs.Meet.{IsMeetTrimmedAnswer, IsOfNoText};
 ghost use Rattle.omega_trim_answers.specs.private.Met.{IsMetTrimmed, IsUnmet};
 
+use crate::trim::trim_automaton;
 use omega_automaton::{Automaton, Refusal};
-use omega_canon::canonical;
 use omega_hoa::read_one;
 use omega_io::{Refused, Which};
 use omega_product::product;
-use omega_trim::trim;
 use std::alloc::Global;
 
 /// Returns the canonical text of the product of the automaton of `input` and that of `file`, in this order, without the
@@ -45,21 +43,7 @@ fn met(alloc: Global, first: &Automaton, second: &Automaton) -> Result<Vec<u8>, 
     ensures refused { IfErr result (IsUnmet first.now second.now) }
 {
     match product(alloc, first, second) {
-        Ok(meeting) => trimmed_text(alloc, &meeting),
-        Err(refusal) => Err(refusal),
-    }
-}
-
-/// Returns the canonical text of `automaton` without its useless states. Fails as `trim` does.
-fn trimmed_text(alloc: Global, automaton: &Automaton) -> Result<Vec<u8>, Refusal>
-    ensures text { IfOk result (λ output. IsTrimText automaton.now output.items) }
-    ensures refused { IfErr result (IsTrimRefusal automaton.now) }
-{
-    match trim(alloc, automaton) {
-        Ok(trimmed) => {
-            trimmed.keeps_limits();
-            canonical(alloc, &trimmed)
-        }
+        Ok(meeting) => trim_automaton(alloc, &meeting),
         Err(refusal) => Err(refusal),
     }
 }

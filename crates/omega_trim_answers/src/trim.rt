@@ -4,7 +4,7 @@ ghost use Rattle.omega_hoa.specs.Alone.{IsAutomatonRefusal, IsAutomatonText};
 ghost use Rattle.omega_lasso_search.specs.Searching.{IsSearchable};
 ghost use Rattle.omega_trim.specs.Refusing.{IsTrimRefusal};
 ghost use Rattle.omega_trim.specs.Trimmed.{IsTrimmed};
-ghost use Rattle.omega_trim_answers.specs.Trim.{IsTrimAnswer, IsTrimAnswerRefusal};
+ghost use Rattle.omega_trim_answers.specs.Trim.{IsTrimAnswer, IsTrimAnswerRefusal, IsTrimText};
 
 use omega_automaton::Automaton;
 use omega_canon::canonical;
@@ -27,6 +27,21 @@ pub fn trim_text(alloc: Global, text: Vec<u8>) -> Result<Vec<u8>, Refusal>
     let trimmed = trimmed(alloc, automaton)?;
     trimmed.keeps_limits();
     canonical(alloc, &trimmed)
+}
+
+/// Returns the canonical text of `automaton` without its useless states, as [trim_text] does. Fails with the first of
+/// [TaskFault::UniversalBranch], [TaskFault::TooManyPropositions] and [TaskFault::TooLarge] that `trim` meets.
+pub fn trim_automaton(alloc: Global, automaton: &Automaton) -> Result<Vec<u8>, Refusal>
+    ensures text { IfOk result (λ output. IsTrimText automaton.now output.items) }
+    ensures refused { IfErr result (IsTrimRefusal automaton.now) }
+{
+    match trim(alloc, automaton) {
+        Ok(trimmed) => {
+            trimmed.keeps_limits();
+            canonical(alloc, &trimmed)
+        }
+        Err(refusal) => Err(refusal),
+    }
 }
 
 /// Reads the automaton of `text`, which is dropped.

@@ -4,7 +4,8 @@ use Rattle.omega_text.specs.declared.refusal.Refusal.{Refusal}
 use Rattle.omega_automaton.specs.Automaton.{Description}
 use Rattle.omega_product.specs.Refusing.{IsProductRefusal}
 use Rattle.omega_trim.specs.Refusing.{IsTrimRefusal}
-use Rattle.omega_trim_answers.specs.Meet.{IsMeeting, IsTrimText}
+use Rattle.omega_trim_answers.specs.Meet.{IsMeeting}
+use Rattle.omega_trim_answers.specs.Trim.{IsTrimText}
 
 -- the canonical text of the product of two automata without its useless states
 pub record IsMetTrimmed (first second : Description) (output : List ℕ) : Type 0 where

@@ -1,6 +1,6 @@
 -- what is written is the canonical text of the trimmed automaton
 use Rattle.std.proofs.lemmas.Result.{IfErr-weaker, IfOk-weaker}
-use Rattle.omega_trim_answers.proofs.meet.trimmed_text.Goals as goal
+use Rattle.omega_trim_answers.proofs.trim.trim_automaton.Goals as goal
 
 pub returns-in-Ok-clause-text : goal.returns-in-Ok-clause-text
 returns-in-Ok-clause-text c =
