@@ -35,3 +35,5 @@ mod searching;
 mod solve;
 #[cfg(test)]
 mod strategies;
+#[cfg(test)]
+mod turning;
