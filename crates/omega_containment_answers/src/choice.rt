@@ -5,7 +5,7 @@ use omega_io::{Refused, Which};
 use omega_text::{Refusal, TaskFault};
 
 /// Makes [TaskFault::NotDeterministic] a refusal of `text`, and any other one that is about no text.
-pub(crate) fn refused_for(text: Which, refusal: Refusal) -> Refused
+pub fn refused_for(text: Which, refusal: Refusal) -> Refused
     ensures { result ≡ refused_for text refusal }
 {
     match refusal {

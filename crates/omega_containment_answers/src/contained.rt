@@ -38,14 +38,15 @@ pub fn contained_texts(
         Ok(automaton) => automaton,
         Err(refusal) => return Err(Refused::of(Which::Input, refusal)),
     };
-    match verdict_on(alloc, &first, &second, explain) {
+    match contained_automata(alloc, &first, &second, explain) {
         Ok(made) => Ok(made),
         Err(refusal) => Err(refused_for(Which::File, refusal)),
     }
 }
 
-/// Returns the exit and the text for two automata. Fails as `contained` does.
-fn verdict_on(
+/// Decides whether `other`, which is to be deterministic, accepts each word that `one` accepts, as [contained_texts]
+/// does, and returns the exit and the text. Fails as `contained` of `omega_containment` does.
+pub fn contained_automata(
     alloc: Global,
     one: &Automaton,
     other: &Automaton,

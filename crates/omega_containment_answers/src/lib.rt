@@ -9,6 +9,7 @@ mod equal;
 mod example;
 mod reading;
 
-pub use contained::contained_texts;
+pub use choice::refused_for;
+pub use contained::{contained_automata, contained_texts};
 pub use equal::equal_texts;
 pub use omega_io::Exit;

@@ -53,27 +53,12 @@ pub fn search_emptiness(alloc: Global, text: Vec<u8>, word: bool) -> Result<Vec<
     searched(alloc, automaton, word)
 }
 
-/// Returns the output for `automaton` by lifting, and drops it. Fails as `decide_emptiness` does after the text is
-/// read.
-fn decided<L, W: Reporter<L>>(
-    alloc: Global,
-    automaton: Automaton,
-    word: bool,
-    budget: u64,
-    reporter: &W,
-    observer: &mut L,
-) -> Result<Vec<u8>, Refusal>
-    requires { budget ≤ most_lifts }
-    ensures decision { IfOk result (λ output. IsDecision automaton budget word output.items) }
-    ensures refused { IfErr result (IsEmptinessRefusal automaton budget) }
-    ensures reported { IsObserved (LiftsAutomaton automaton) (refusal_in result)
-        (W.tells reporter.now) (W.pace reporter.now) budget observer.old observer.new }
-{
-    decision(alloc, &automaton, word, budget, reporter, observer)
-}
-
-/// Returns the output for `automaton` by lifting. Fails as `decide_emptiness` does after the text is read.
-fn decision<L, W: Reporter<L>>(
+/// Decides by lifting in its emptiness game whether `automaton` is empty. Returns `empty`, or an accepting lasso, with
+/// its word if `word` is set. The run is reported to `observer`.
+///
+/// Fails with the first that applies of [GameFault::TooManyNodes], [TaskFault::NotParity],
+/// [TaskFault::UniversalBranch], [TaskFault::TooManyPropositions], [TaskFault::TooWide] and [TaskFault::Budget].
+pub fn decide_automaton<L, W: Reporter<L>>(
     alloc: Global,
     automaton: &Automaton,
     word: bool,
@@ -91,23 +76,44 @@ fn decision<L, W: Reporter<L>>(
     emptiness_text(alloc, automaton, verdict, word)
 }
 
-/// Returns the output for `automaton` by a search, and drops it. Fails with [TaskFault::UniversalBranch], or else with
-/// [TaskFault::TooManyPropositions].
-fn searched(alloc: Global, automaton: Automaton, word: bool) -> Result<Vec<u8>, Refusal>
-    ensures decision { IfOk result (λ output. IsSearchDecision automaton word output.items) }
-    ensures refused { IfErr result (IsSearchRefusal automaton) }
-{
-    search_decision(alloc, &automaton, word)
-}
-
-/// Returns the output for `automaton` by a search. Fails with [TaskFault::UniversalBranch], or else with
-/// [TaskFault::TooManyPropositions].
-fn search_decision(alloc: Global, automaton: &Automaton, word: bool) -> Result<Vec<u8>, Refusal>
+/// Decides by a search whether `automaton` is empty. Returns `empty`, or an accepting lasso, with its word if `word` is
+/// set. Fails with [TaskFault::UniversalBranch], or else with [TaskFault::TooManyPropositions].
+pub fn search_automaton(
+    alloc: Global,
+    automaton: &Automaton,
+    word: bool,
+) -> Result<Vec<u8>, Refusal>
     ensures decision { IfOk result (λ output. IsSearchDecision automaton.now word output.items) }
     ensures refused { IfErr result (IsSearchRefusal automaton.now) }
 {
     let verdict = lasso(alloc, automaton)?;
     emptiness_text(alloc, automaton, verdict, word)
+}
+
+/// Returns the output for `automaton` by lifting, and drops it. Fails as `decide_automaton` does.
+fn decided<L, W: Reporter<L>>(
+    alloc: Global,
+    automaton: Automaton,
+    word: bool,
+    budget: u64,
+    reporter: &W,
+    observer: &mut L,
+) -> Result<Vec<u8>, Refusal>
+    requires { budget ≤ most_lifts }
+    ensures decision { IfOk result (λ output. IsDecision automaton budget word output.items) }
+    ensures refused { IfErr result (IsEmptinessRefusal automaton budget) }
+    ensures reported { IsObserved (LiftsAutomaton automaton) (refusal_in result)
+        (W.tells reporter.now) (W.pace reporter.now) budget observer.old observer.new }
+{
+    decide_automaton(alloc, &automaton, word, budget, reporter, observer)
+}
+
+/// Returns the output for `automaton` by a search, and drops it. Fails as `search_automaton` does.
+fn searched(alloc: Global, automaton: Automaton, word: bool) -> Result<Vec<u8>, Refusal>
+    ensures decision { IfOk result (λ output. IsSearchDecision automaton word output.items) }
+    ensures refused { IfErr result (IsSearchRefusal automaton) }
+{
+    search_automaton(alloc, &automaton, word)
 }
 
 /// Returns the output for a `verdict` on `automaton`.

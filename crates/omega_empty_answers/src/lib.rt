@@ -1,4 +1,4 @@
-//! What `empty`, `game` and `draw` answer to the text of one automaton.
+//! What `empty`, `game` and `draw` answer to the text of one automaton, and `empty` to an automaton.
 //!
 //! docs/formats.md says when each refusal comes.
 #![tactic(auto)]
@@ -9,5 +9,5 @@ mod empty;
 mod game;
 
 pub use draw::{draw_automaton_text, draw_lasso_text};
-pub use empty::{decide_emptiness, search_emptiness};
+pub use empty::{decide_automaton, decide_emptiness, search_automaton, search_emptiness};
 pub use game::write_emptiness_game;

@@ -47,4 +47,4 @@ returns-clause-refused c =
       },
       choice,
     ))
-    c.in-Err-verdict_on.refusal c.in-Err-verdict_on.ensures.refused c.refused_for.result c.refused_for.ensures
+    c.in-Err-contained_automata.refusal c.in-Err-contained_automata.ensures.refused c.refused_for.result c.refused_for.ensures

@@ -1,10 +1,10 @@
--- `decision`: what is written is the verdict on the automaton, and the run stays made if there is no memory for it.
+-- `decide_automaton`: what is written is the verdict on the automaton, and the run stays made if there is no memory for it.
 use Rattle.std.proofs.Common.{◌≡◌}
 use Rattle.std.proofs.lemmas.Result.{IfErr-weaker, IfOk-weaker}
 use Rattle.omega_text.specs.declared.refusal.Refusal.TheVariants.{Memory}
 use Rattle.omega_empty_answers.proofs.Observing.{automaton_refused}
 use Rattle.omega_budget.proofs.Observed.{observed_alike, observed_after}
-use Rattle.omega_empty_answers.proofs.empty.decision.Goals as goal
+use Rattle.omega_empty_answers.proofs.empty.decide_automaton.Goals as goal
 
 pub returns-clause-decision : goal.returns-clause-decision
 returns-clause-decision g c =

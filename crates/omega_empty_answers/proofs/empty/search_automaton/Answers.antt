@@ -1,6 +1,6 @@
--- `search_decision`: what is written is the verdict on the automaton.
+-- `search_automaton`: what is written is the verdict on the automaton.
 use Rattle.std.proofs.lemmas.Result.{IfErr-weaker, IfOk-weaker}
-use Rattle.omega_empty_answers.proofs.empty.search_decision.Goals as goal
+use Rattle.omega_empty_answers.proofs.empty.search_automaton.Goals as goal
 
 pub returns-clause-decision : goal.returns-clause-decision
 returns-clause-decision c =
