@@ -12,6 +12,8 @@ use Rattle.omega_command.specs.declared.command.Command.{Command}
 use Rattle.omega_command.specs.declared.command.Command.TheVariants as command
 use Rattle.omega_command.specs.declared.command.Format.{Format}
 use Rattle.omega_command.specs.declared.command.Format.TheVariants.{Hoa, Pg}
+use Rattle.omega_command.specs.declared.each.OfEach.{OfEach}
+use Rattle.omega_command.specs.declared.each.OfEach.TheVariants as each
 use Rattle.omega_command.specs.Either.{subcommand_of}
 use Rattle.omega_command.specs.declared.either.OfEither.{OfEither}
 use Rattle.omega_command.specs.declared.either.OfEither.TheVariants as either
@@ -101,6 +103,10 @@ text_of name.Legend options = option_map (λ text. text.now) options.legend
 text_of name.Lasso options = option_map (λ text. text.now) options.lasso
 text_of name.Depth options = option_map (λ text. text.now) options.depth
 text_of name.Progress options = option_map (λ text. text.now) options.progress
+text_of name.Stream options = option_map (λ text. text.now) options.stream
+text_of name.Winners options = option_map (λ text. text.now) options.winners
+text_of name.Min options = option_map (λ text. text.now) options.min
+text_of name.Json options = option_map (λ text. text.now) options.json
 text_of name.Verbose options = option_map (λ text. text.now) options.verbose
 text_of name.File options = option_map (λ text. text.now) options.file
 
@@ -136,20 +142,32 @@ AsksUnlifted subcommand options budget =
     (subcommand ≡ codes "realize") × GivesFlag (text_of name.Lift options) false × (text_of name.Budget options ≡ None)
     × GivesFlag (text_of name.Progress options) false × (budget ≡ most_budget)
 
+-- the subcommand of this name, with these options, asks for this of each automaton of a stream, with this budget
+abbrev pub AsksOfEach : List ℕ → Options → OfEach → ℕ → Type 0
+AsksOfEach subcommand options each.Complement budget = (subcommand ≡ codes "complement") × (budget ≡ most_budget)
+AsksOfEach subcommand options each.Trim budget = (subcommand ≡ codes "trim") × (budget ≡ most_budget)
+
+-- `verify`, with these options, asks whether what the input has is right for the game of this file, or for the part
+-- that the node `from` reaches
+abbrev pub AsksOfGame : Options → (file : List ℕ) → (from : Option ℕ) → (explain : Bool) → Type 0
+AsksOfGame options file from explain =
+    (text_of name.Game options ≡ Some file) × (text_of name.Automaton options ≡ None) × (text_of name.Specification options ≡ None)
+    × Gives (IsNumberText most_number) (text_of name.From options) from × GivesFlag (text_of name.Explain options) explain
+
 -- the subcommand of this name, with these options, asks for what is done with the file of this name beside the input
 abbrev pub AsksBeside : List ℕ → Options → (file : List ℕ) → Beside → Type 0
 AsksBeside subcommand options file (beside.Verify from explain) =
-    (subcommand ≡ codes "verify") × (text_of name.Game options ≡ Some file) × (text_of name.Automaton options ≡ None)
-    × (text_of name.Specification options ≡ None)
-    × Gives (IsNumberText most_number) (text_of name.From options) from × GivesFlag (text_of name.Explain options) explain
+    (subcommand ≡ codes "verify") × AsksOfGame options file from explain × GivesFlag (text_of name.Winners options) false
+AsksBeside subcommand options file (beside.VerifyWinners from explain) =
+    (subcommand ≡ codes "verify") × AsksOfGame options file from explain × GivesFlag (text_of name.Winners options) true
 AsksBeside subcommand options file (beside.VerifyLasso explain) =
     (subcommand ≡ codes "verify") × (text_of name.Automaton options ≡ Some file) × (text_of name.Game options ≡ None)
     × (text_of name.Specification options ≡ None) × (text_of name.From options ≡ None)
-    × GivesFlag (text_of name.Explain options) explain
+    × GivesFlag (text_of name.Winners options) false × GivesFlag (text_of name.Explain options) explain
 AsksBeside subcommand options file (beside.VerifyController explain) =
     (subcommand ≡ codes "verify") × (text_of name.Specification options ≡ Some file) × (text_of name.Game options ≡ None)
     × (text_of name.Automaton options ≡ None) × (text_of name.From options ≡ None)
-    × GivesFlag (text_of name.Explain options) explain
+    × GivesFlag (text_of name.Winners options) false × GivesFlag (text_of name.Explain options) explain
 AsksBeside subcommand options file (beside.Accepts explain) = ⊥
 AsksBeside subcommand options file (beside.Meet trim) =
     (subcommand ≡ codes "meet") × (text_of name.With options ≡ Some file) × GivesFlag (text_of name.Trim options) trim
@@ -172,15 +190,24 @@ AsksGiven subcommand options text other = ⊥
 -- the subcommand of this name, with these options, asks for the task
 abbrev pub AsksFor : List ℕ → Options → Task → Type 0
 AsksFor subcommand options (task.Run (command.Show format) budget) =
-    (subcommand ≡ codes "show") × Gives IsFormatText (text_of name.Format options) (Some format) × (budget ≡ most_budget)
+    (subcommand ≡ codes "show") × Gives IsFormatText (text_of name.Format options) (Some format)
+    × GivesFlag (text_of name.Json options) false × (budget ≡ most_budget)
+AsksFor subcommand options (task.Run (command.ShowJson format) budget) =
+    (subcommand ≡ codes "show") × Gives IsFormatText (text_of name.Format options) (Some format)
+    × GivesFlag (text_of name.Json options) true × (budget ≡ most_budget)
 AsksFor subcommand options (task.Run (command.Check format) budget) =
     (subcommand ≡ codes "check") × Gives IsFormatText (text_of name.Format options) (Some format) × (budget ≡ most_budget)
 AsksFor subcommand options (task.Run (command.Canon format) budget) =
     (subcommand ≡ codes "canon") × Gives IsFormatText (text_of name.Format options) (Some format)
-    × (text_of name.From options ≡ None) × (budget ≡ most_budget)
+    × (text_of name.From options ≡ None) × GivesFlag (text_of name.Min options) false × (budget ≡ most_budget)
 AsksFor subcommand options (task.Run (command.CanonPart from) budget) =
     (subcommand ≡ codes "canon") × Gives IsFormatText (text_of name.Format options) (Some Pg)
-    × Gives (IsNumberText most_number) (text_of name.From options) (Some from) × (budget ≡ most_budget)
+    × Gives (IsNumberText most_number) (text_of name.From options) (Some from)
+    × GivesFlag (text_of name.Min options) false × (budget ≡ most_budget)
+AsksFor subcommand options (task.Run (command.CanonLeast from) budget) =
+    (subcommand ≡ codes "canon") × Gives IsFormatText (text_of name.Format options) (Some Pg)
+    × Gives (IsNumberText most_number) (text_of name.From options) from
+    × GivesFlag (text_of name.Min options) true × (budget ≡ most_budget)
 AsksFor subcommand options (task.Run (command.Solve player from) budget) =
     AsksToLift subcommand options (command.Solve player from) budget × GivesFlag (text_of name.Progress options) false
 AsksFor subcommand options (task.Run (command.Search from) budget) =
@@ -199,9 +226,13 @@ AsksFor subcommand options (task.Run (command.Realize controller) budget) =
 AsksFor subcommand options (task.Run command.RealizabilityGame budget) =
     AsksUnlifted subcommand options budget × GivesFlag (text_of name.AsGame options) true
     × GivesFlag (text_of name.Controller options) false
+AsksFor subcommand options (task.Run (command.Each asked) budget) =
+    AsksOfEach subcommand options asked budget × GivesFlag (text_of name.Stream options) true
 AsksFor subcommand options (task.Run command.Game budget) = (subcommand ≡ codes "game") × (budget ≡ most_budget)
-AsksFor subcommand options (task.Run command.Complement budget) = (subcommand ≡ codes "complement") × (budget ≡ most_budget)
-AsksFor subcommand options (task.Run command.Trim budget) = (subcommand ≡ codes "trim") × (budget ≡ most_budget)
+AsksFor subcommand options (task.Run command.Complement budget) =
+    (subcommand ≡ codes "complement") × GivesFlag (text_of name.Stream options) false × (budget ≡ most_budget)
+AsksFor subcommand options (task.Run command.Trim budget) =
+    (subcommand ≡ codes "trim") × GivesFlag (text_of name.Stream options) false × (budget ≡ most_budget)
 AsksFor subcommand options (task.Run (command.Draw format) budget) =
     (subcommand ≡ codes "draw") × Gives IsFormatText (text_of name.Format options) (Some format)
     × (text_of name.Solution options ≡ None) × GivesFlag (text_of name.Legend options) false × GivesPart options None None
@@ -219,11 +250,12 @@ AsksFor subcommand options (task.Observed command budget) =
 AsksFor subcommand options (task.Beside file asked) = AsksBeside subcommand options (string_bytes file) asked
 AsksFor subcommand options (task.Given text asked) = AsksGiven subcommand options (string_bytes text) asked
 
--- no option is given that goes with one format alone
+-- the flags are those of this command, and no option is given that goes with one format alone
 abbrev pub GoesWithEither : OfEither → Options → Type 0
-GoesWithEither either.Show options = Unit {0}
+GoesWithEither either.Show options = GivesFlag (text_of name.Json options) false
+GoesWithEither either.ShowJson options = GivesFlag (text_of name.Json options) true
 GoesWithEither either.Check options = Unit {0}
-GoesWithEither either.Canon options = text_of name.From options ≡ None
+GoesWithEither either.Canon options = (text_of name.From options ≡ None) × GivesFlag (text_of name.Min options) false
 GoesWithEither either.Draw options =
     (text_of name.From options ≡ None) × (text_of name.Depth options ≡ None) × (text_of name.Solution options ≡ None)
     × GivesFlag (text_of name.Legend options) false × GivesFlag (text_of name.Lasso options) false
@@ -287,6 +319,10 @@ HasOption subcommand name.Lasso = subcommand ≡ codes "draw"
 HasOption subcommand name.Depth = subcommand ≡ codes "draw"
 HasOption subcommand name.Progress =
     (subcommand ≡ codes "solve") ⊎ (subcommand ≡ codes "empty") ⊎ (subcommand ≡ codes "realize")
+HasOption subcommand name.Stream = (subcommand ≡ codes "complement") ⊎ (subcommand ≡ codes "trim")
+HasOption subcommand name.Winners = subcommand ≡ codes "verify"
+HasOption subcommand name.Min = subcommand ≡ codes "canon"
+HasOption subcommand name.Json = subcommand ≡ codes "show"
 HasOption subcommand name.Verbose = Unit {0}
 HasOption subcommand name.File = Unit {0}
 
@@ -316,6 +352,10 @@ IsRequired name.Legend options = ⊥
 IsRequired name.Lasso options = ⊥
 IsRequired name.Depth options = ⊥
 IsRequired name.Progress options = ⊥
+IsRequired name.Stream options = ⊥
+IsRequired name.Winners options = ⊥
+IsRequired name.Min options = ⊥
+IsRequired name.Json options = ⊥
 IsRequired name.Verbose options = ⊥
 IsRequired name.File options = ⊥
 
@@ -345,6 +385,10 @@ StandsForNothing name.Legend text = (flag : Bool) → IsTruthText text flag → 
 StandsForNothing name.Lasso text = (flag : Bool) → IsTruthText text flag → ⊥
 StandsForNothing name.Depth text = (number : ℕ) → IsNumberText most_number text number → ⊥
 StandsForNothing name.Progress text = (flag : Bool) → IsTruthText text flag → ⊥
+StandsForNothing name.Stream text = (flag : Bool) → IsTruthText text flag → ⊥
+StandsForNothing name.Winners text = (flag : Bool) → IsTruthText text flag → ⊥
+StandsForNothing name.Min text = (flag : Bool) → IsTruthText text flag → ⊥
+StandsForNothing name.Json text = (flag : Bool) → IsTruthText text flag → ⊥
 StandsForNothing name.Verbose text = (flag : Bool) → IsTruthText text flag → ⊥
 StandsForNothing name.File text = ⊥
 
@@ -403,19 +447,24 @@ IsUsed name.Legend options = GivesFlag (text_of name.Legend options) true
 IsUsed name.Lasso options = GivesFlag (text_of name.Lasso options) true
 IsUsed name.Depth options = text_of name.Depth options ≢ None
 IsUsed name.Progress options = GivesFlag (text_of name.Progress options) true
+IsUsed name.Stream options = GivesFlag (text_of name.Stream options) true
+IsUsed name.Winners options = GivesFlag (text_of name.Winners options) true
+IsUsed name.Min options = GivesFlag (text_of name.Min options) true
+IsUsed name.Json options = GivesFlag (text_of name.Json options) true
 IsUsed name.Verbose options = GivesFlag (text_of name.Verbose options) true
 IsUsed name.File options = text_of name.File options ≢ None
 
 -- the option of the subcommand that conflicts with this one. The search of `solve` is for both players, and that of
--- `empty` makes no lifts. `verify` judges one thing, and `--from` names a part of a game alone. The game of `realize`
--- is written without being solved
+-- `empty` makes no lifts. `verify` judges one thing, and only a game has parts and winners. The game of `realize` is
+-- written without being solved
 abbrev pub IsApartFrom : OptionName → List ℕ → OptionName → Type 0
 IsApartFrom name.Search subcommand option =
     ((subcommand ≡ codes "solve") × (option ≡ name.Player))
     ⊎ ((subcommand ≡ codes "empty") × ((option ≡ name.Budget) ⊎ (option ≡ name.Progress)))
-IsApartFrom name.Automaton subcommand option = (subcommand ≡ codes "verify") × ((option ≡ name.Game) ⊎ (option ≡ name.From))
+IsApartFrom name.Automaton subcommand option =
+    (subcommand ≡ codes "verify") × ((option ≡ name.Game) ⊎ (option ≡ name.From) ⊎ (option ≡ name.Winners))
 IsApartFrom name.Specification subcommand option =
-    (subcommand ≡ codes "verify") × ((option ≡ name.Automaton) ⊎ (option ≡ name.Game) ⊎ (option ≡ name.From))
+    (subcommand ≡ codes "verify") × ((option ≡ name.Automaton) ⊎ (option ≡ name.Game) ⊎ (option ≡ name.From) ⊎ (option ≡ name.Winners))
 IsApartFrom name.Controller subcommand option = (subcommand ≡ codes "realize") × (option ≡ name.AsGame)
 IsApartFrom name.Lift subcommand option = (subcommand ≡ codes "realize") × (option ≡ name.AsGame)
 IsApartFrom one subcommand option = ⊥
@@ -445,7 +494,7 @@ pub record IsWanting (subcommand : List ℕ) (options : Options) (option : Optio
 -- the option of the subcommand goes with this format only
 abbrev pub IsForFormat : List ℕ → OptionName → Format → Type 0
 IsForFormat subcommand option Pg =
-    ((subcommand ≡ codes "canon") × (option ≡ name.From))
+    ((subcommand ≡ codes "canon") × ((option ≡ name.From) ⊎ (option ≡ name.Min)))
     ⊎ ((subcommand ≡ codes "draw") × ((option ≡ name.Solution) ⊎ (option ≡ name.Legend) ⊎ (option ≡ name.From) ⊎ (option ≡ name.Depth)))
 IsForFormat subcommand option Hoa = (subcommand ≡ codes "draw") × (option ≡ name.Lasso)
 

@@ -8,6 +8,7 @@ ghost use Rattle.omega_command.specs.declared.options.OptionName.TheVariants as 
 
 use crate::beside::Beside;
 use crate::command::{Command, Format};
+use crate::each::OfEach;
 use crate::either::OfEither;
 use crate::limits::MOST_BUDGET;
 use crate::line::{Line, Source, Task};
@@ -16,6 +17,7 @@ use crate::options::{OptionName, Options};
 use crate::source::source_in;
 use crate::subcommand::{Subcommand, subcommand_named};
 use crate::values::{budget_in, depth_in, format_in, identifier_in, is_set, other_in, player_in};
+use crate::verifying::verifying_for;
 use std::alloc::Global;
 
 /// Returns the line that `subcommand` requests with `options`, or what is wrong with them. Options that the subcommand
@@ -71,7 +73,7 @@ fn task_for<'a>(alloc: Global, subcommand: &str, options: &Options<'a>) -> Resul
         return Err(Mistake::Unknown);
     };
     match known {
-        Subcommand::Show => Ok(Task::Run(Command::Show(format_in(options)?), MOST_BUDGET)),
+        Subcommand::Show => showing_for(options),
         Subcommand::Check => Ok(Task::Run(Command::Check(format_in(options)?), MOST_BUDGET)),
         Subcommand::Canon => canonical_for(options),
         Subcommand::Solve => solving_for(options),
@@ -83,8 +85,8 @@ fn task_for<'a>(alloc: Global, subcommand: &str, options: &Options<'a>) -> Resul
         Subcommand::Accepts => accepted_for(alloc, options),
         Subcommand::Contained => contained_for(alloc, options),
         Subcommand::Equal => equal_for(alloc, options),
-        Subcommand::Complement => Ok(Task::Run(Command::Complement, MOST_BUDGET)),
-        Subcommand::Trim => Ok(Task::Run(Command::Trim, MOST_BUDGET)),
+        Subcommand::Complement => complement_for(options),
+        Subcommand::Trim => trimming_for(options),
         Subcommand::Realize => realizing_for(options),
         Subcommand::Draw => drawing_for(alloc, options),
     }
@@ -122,22 +124,37 @@ fn either_for<'a>(subcommand: &str, options: &Options<'a>) -> Result<Option<OfEi
         return Ok(None);
     }
     if subcommand == "show" {
+        if is_set(OptionName::Json, options.json)? {
+            return Ok(Some(OfEither::ShowJson));
+        }
         return Ok(Some(OfEither::Show));
     }
     if subcommand == "check" {
         return Ok(Some(OfEither::Check));
     }
     if subcommand == "canon" {
-        return Ok(if options.from.is_none() {
-            Some(OfEither::Canon)
-        } else {
-            None
-        });
+        return canonical_of_either(options);
     }
     if subcommand == "draw" {
         return drawing_of_either(options);
     }
     Ok(None)
+}
+
+/// Returns the command `canon` for either format, if `options` have none that goes with one format alone.
+fn canonical_of_either<'a>(options: &Options<'a>) -> Result<Option<OfEither>, Mistake<'a>>
+    ensures some { IfOk result (λ found. IfSome found (λ asked.
+        (asked ≡ either.Canon) × GoesWithEither either.Canon options.now)) }
+    ensures none { IfOk result (λ found. IfNone found (GoesWithEither either.Canon options.now → ⊥)) }
+    ensures mistaken { IfErr result (IsMistake (codes "canon") options.now) }
+{
+    if is_set(OptionName::Min, options.min)? {
+        return Ok(None);
+    }
+    if options.from.is_some() {
+        return Ok(None);
+    }
+    Ok(Some(OfEither::Canon))
 }
 
 /// Returns the command `draw` for either format, if `options` have none that goes with one format alone.
@@ -159,87 +176,60 @@ fn drawing_of_either<'a>(options: &Options<'a>) -> Result<Option<OfEither>, Mist
     Ok(Some(OfEither::Draw))
 }
 
+/// Returns the task that `show` requests with `options`, or what is wrong with them.
+fn showing_for<'a>(options: &Options<'a>) -> Result<Task, Mistake<'a>>
+    requires { LeavesNoFormat (codes "show") options.now }
+    ensures asked { IfOk result (AsksFor (codes "show") options.now) }
+    ensures mistaken { IfErr result (IsMistake (codes "show") options.now) }
+{
+    let format = format_in(options)?;
+    if is_set(OptionName::Json, options.json)? {
+        return Ok(Task::Run(Command::ShowJson(format), MOST_BUDGET));
+    }
+    Ok(Task::Run(Command::Show(format), MOST_BUDGET))
+}
+
 /// Returns the task that `canon` requests with `options`, or what is wrong with them.
 fn canonical_for<'a>(options: &Options<'a>) -> Result<Task, Mistake<'a>>
     requires { LeavesNoFormat (codes "canon") options.now }
     ensures asked { IfOk result (AsksFor (codes "canon") options.now) }
     ensures mistaken { IfErr result (IsMistake (codes "canon") options.now) }
 {
-    let format = format_in(options)?;
-    let Some(from) = identifier_in(options)? else {
-        return Ok(Task::Run(Command::Canon(format), MOST_BUDGET));
-    };
-    match format {
-        Format::Pg => Ok(Task::Run(Command::CanonPart { from }, MOST_BUDGET)),
-        Format::Hoa => Err(Mistake::OnlyWith(OptionName::From, Format::Pg)),
+    match format_in(options)? {
+        Format::Pg => canonical_game_for(options),
+        Format::Hoa => canonical_stream_for(options),
     }
 }
 
-/// Returns the task that `verify` requests with `options`, or what is wrong with them.
-fn verifying_for<'a>(alloc: Global, options: &Options<'a>) -> Result<Task, Mistake<'a>>
-    ensures asked { IfOk result (AsksFor (codes "verify") options.now) }
-    ensures mistaken { IfErr result (IsMistake (codes "verify") options.now) }
+/// Returns the task that `canon` requests for a game, or what is wrong with `options`.
+fn canonical_game_for<'a>(options: &Options<'a>) -> Result<Task, Mistake<'a>>
+    requires { Gives IsFormatText (text_of name.Format options.now) (Some Pg) }
+    ensures asked { IfOk result (AsksFor (codes "canon") options.now) }
+    ensures mistaken { IfErr result (IsMistake (codes "canon") options.now) }
 {
-    let explain = is_set(OptionName::Explain, options.explain)?;
-    if let Some(specification) = options.specification {
-        return controller_verifying_for(alloc, options, specification, explain);
-    }
-    if let Some(name) = options.automaton {
-        if options.game.is_some() {
-            return Err(Mistake::Conflict(OptionName::Automaton, OptionName::Game));
-        }
-        if options.from.is_some() {
-            return Err(Mistake::Conflict(OptionName::Automaton, OptionName::From));
-        }
-        return match String::from_str(alloc, name) {
-            Ok(file) => Ok(Task::Beside {
-                file,
-                asked: Beside::VerifyLasso { explain },
-            }),
-            Err(_) => Err(Mistake::Memory),
-        };
-    }
-    let Some(name) = options.game else {
-        return Err(Mistake::Missing(OptionName::Game));
-    };
     let from = identifier_in(options)?;
-    match String::from_str(alloc, name) {
-        Ok(file) => Ok(Task::Beside {
-            file,
-            asked: Beside::Verify { from, explain },
-        }),
-        Err(_) => Err(Mistake::Memory),
+    if is_set(OptionName::Min, options.min)? {
+        return Ok(Task::Run(Command::CanonLeast { from }, MOST_BUDGET));
     }
+    Ok(match from {
+        None => Task::Run(Command::Canon(Format::Pg), MOST_BUDGET),
+        Some(from) => Task::Run(Command::CanonPart { from }, MOST_BUDGET),
+    })
 }
 
-/// Returns the task that `verify` requests with `options` that name a specification, or what is wrong with them.
-fn controller_verifying_for<'a>(
-    alloc: Global,
-    options: &Options<'a>,
-    specification: &'a str,
-    explain: bool,
-) -> Result<Task, Mistake<'a>>
-    requires specification { text_of name.Specification options.now ≡ Some specification.now }
-    requires explain { GivesFlag (text_of name.Explain options.now) explain }
-    ensures asked { IfOk result (AsksFor (codes "verify") options.now) }
-    ensures mistaken { IfErr result (IsMistake (codes "verify") options.now) }
+/// Returns the task that `canon` requests for a stream of automata, or what is wrong with `options`.
+fn canonical_stream_for<'a>(options: &Options<'a>) -> Result<Task, Mistake<'a>>
+    requires { Gives IsFormatText (text_of name.Format options.now) (Some Hoa) }
+    ensures asked { IfOk result (AsksFor (codes "canon") options.now) }
+    ensures mistaken { IfErr result (IsMistake (codes "canon") options.now) }
 {
-    if options.automaton.is_some() {
-        return Err(Mistake::Conflict(OptionName::Specification, OptionName::Automaton));
-    }
-    if options.game.is_some() {
-        return Err(Mistake::Conflict(OptionName::Specification, OptionName::Game));
-    }
     if options.from.is_some() {
-        return Err(Mistake::Conflict(OptionName::Specification, OptionName::From));
+        return Err(Mistake::OnlyWith(OptionName::From, Format::Pg));
     }
-    match String::from_str(alloc, specification) {
-        Ok(file) => Ok(Task::Beside {
-            file,
-            asked: Beside::VerifyController { explain },
-        }),
-        Err(_) => Err(Mistake::Memory),
+    if is_set(OptionName::Min, options.min)? {
+        return Err(Mistake::OnlyWith(OptionName::Min, Format::Pg));
     }
+    Ok(Task::Run(Command::Canon(Format::Hoa), MOST_BUDGET))
 }
 
 /// Returns the task that `solve` requests with `options`, or what is wrong with them.
@@ -380,6 +370,28 @@ fn equal_for<'a>(alloc: Global, options: &Options<'a>) -> Result<Task, Mistake<'
         }),
         Err(_) => Err(Mistake::Memory),
     }
+}
+
+/// Returns the task that `complement` requests with `options`, or what is wrong with them.
+fn complement_for<'a>(options: &Options<'a>) -> Result<Task, Mistake<'a>>
+    ensures asked { IfOk result (AsksFor (codes "complement") options.now) }
+    ensures mistaken { IfErr result (IsMistake (codes "complement") options.now) }
+{
+    if is_set(OptionName::Stream, options.stream)? {
+        return Ok(Task::Run(Command::Each(OfEach::Complement), MOST_BUDGET));
+    }
+    Ok(Task::Run(Command::Complement, MOST_BUDGET))
+}
+
+/// Returns the task that `trim` requests with `options`, or what is wrong with them.
+fn trimming_for<'a>(options: &Options<'a>) -> Result<Task, Mistake<'a>>
+    ensures asked { IfOk result (AsksFor (codes "trim") options.now) }
+    ensures mistaken { IfErr result (IsMistake (codes "trim") options.now) }
+{
+    if is_set(OptionName::Stream, options.stream)? {
+        return Ok(Task::Run(Command::Each(OfEach::Trim), MOST_BUDGET));
+    }
+    Ok(Task::Run(Command::Trim, MOST_BUDGET))
 }
 
 /// Returns the task that `realize` requests with `options`, or what is wrong with them.

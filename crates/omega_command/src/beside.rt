@@ -8,6 +8,13 @@ pub enum Beside {
         /// Whether a `no` is explained.
         explain: bool,
     },
+    /// Checks the winners in the solution that the input has; its choices are passed over.
+    VerifyWinners {
+        /// The identifier of the node whose part is meant.
+        from: Option<u32>,
+        /// Whether a `no` is explained.
+        explain: bool,
+    },
     /// Checks whether the lasso that the input has is an accepting one of the automaton of the file.
     VerifyLasso {
         /// Whether a `no` is explained.

@@ -1,3 +1,4 @@
+use crate::each::OfEach;
 use omega_parity_game::Player;
 use std::fmt;
 
@@ -6,6 +7,8 @@ use std::fmt;
 pub enum Command {
     /// Describes the value of the text: its size, and for a game the bounds on lifts.
     Show(Format),
+    /// The same as a value of JSON.
+    ShowJson(Format),
     /// Says that the text is accepted.
     Check(Format),
     /// Writes the text in the one form that its value has.
@@ -14,6 +17,12 @@ pub enum Command {
     CanonPart {
         /// The identifier of the node.
         from: u32,
+    },
+    /// Reads a game in which the least priority decides, and writes in the same form one in which the greatest does and
+    /// the same players win; whole, or the part that one node reaches.
+    CanonLeast {
+        /// The identifier of the node whose part is written.
+        from: Option<u32>,
     },
     /// Solves a game: for both players, or for one alone; whole, or the part that one node reaches.
     Solve {
@@ -40,6 +49,8 @@ pub enum Command {
         /// Whether the exit says which of the two is written.
         status: bool,
     },
+    /// Writes an automaton for each automaton of a stream, one after the other.
+    Each(OfEach),
     /// Writes the emptiness game of an automaton.
     Game,
     /// Writes an automaton that accepts the words that a deterministic one does not.

@@ -7,6 +7,7 @@ use crate::command::{Command, Format};
 #[derive(Clone, Copy, Debug)]
 pub enum OfEither {
     Show,
+    ShowJson,
     Check,
     Canon,
     Draw,
@@ -19,6 +20,7 @@ impl OfEither {
     {
         match self {
             OfEither::Show => Command::Show(format),
+            OfEither::ShowJson => Command::ShowJson(format),
             OfEither::Check => Command::Check(format),
             OfEither::Canon => Command::Canon(format),
             OfEither::Draw => Command::Draw(format),

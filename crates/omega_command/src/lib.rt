@@ -4,6 +4,7 @@
 mod asking;
 mod beside;
 mod command;
+mod each;
 mod either;
 mod limits;
 mod line;
@@ -13,10 +14,12 @@ mod options;
 mod source;
 mod subcommand;
 mod values;
+mod verifying;
 
 pub use asking::line_for;
 pub use beside::Beside;
 pub use command::{Command, Format};
+pub use each::OfEach;
 pub use either::OfEither;
 pub use limits::{MOST_BUDGET, budget_limit_is_stated};
 pub use line::{Line, Source, Task};

@@ -29,6 +29,10 @@ pub enum OptionName {
     Lasso,
     Depth,
     Progress,
+    Stream,
+    Winners,
+    Min,
+    Json,
     Verbose,
     /// The operand, which names the file of the input.
     File,
@@ -61,6 +65,10 @@ impl fmt::Display for OptionName {
             OptionName::Lasso => "--lasso",
             OptionName::Depth => "--depth <N>",
             OptionName::Progress => "--progress",
+            OptionName::Stream => "--stream",
+            OptionName::Winners => "--winners",
+            OptionName::Min => "--min",
+            OptionName::Json => "--json",
             OptionName::Verbose => "--verbose",
             OptionName::File => "[FILE]",
         })
@@ -118,6 +126,14 @@ pub struct Options<'a> {
     pub depth: Option<&'a str>,
     /// As `search`.
     pub progress: Option<&'a str>,
+    /// As `search`.
+    pub stream: Option<&'a str>,
+    /// As `search`.
+    pub winners: Option<&'a str>,
+    /// As `search`.
+    pub min: Option<&'a str>,
+    /// As `search`.
+    pub json: Option<&'a str>,
     /// As `search`.
     pub verbose: Option<&'a str>,
     /// The operand: the name of the file of the input.
