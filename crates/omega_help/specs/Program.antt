@@ -43,13 +43,15 @@ abbrev pub verbose : Rule
 verbose = lettered 118 (codes "verbose")
 
 abbrev pub show : Shape
-show = with_options (codes "show") (optional (codes "format") ∷ verbose ∷ operand (codes "file") ∷ [])
+show = with_options (codes "show") (optional (codes "format") ∷ flag (codes "json") ∷ verbose ∷ operand (codes "file") ∷ [])
 
 abbrev pub check : Shape
 check = with_options (codes "check") (optional (codes "format") ∷ verbose ∷ operand (codes "file") ∷ [])
 
 abbrev pub canon : Shape
-canon = with_options (codes "canon") (optional (codes "format") ∷ optional (codes "from") ∷ verbose ∷ operand (codes "file") ∷ [])
+canon =
+    with_options (codes "canon")
+    (optional (codes "format") ∷ optional (codes "from") ∷ flag (codes "min") ∷ verbose ∷ operand (codes "file") ∷ [])
 
 abbrev pub solve : Shape
 solve =
@@ -59,7 +61,8 @@ solve =
 abbrev pub verify : Shape
 verify =
     with_options (codes "verify")
-    (optional (codes "game") ∷ optional (codes "automaton") ∷ optional (codes "specification") ∷ optional (codes "from") ∷ flag (codes "explain") ∷ verbose ∷ operand (codes "file") ∷ [])
+    (optional (codes "game") ∷ optional (codes "automaton") ∷ optional (codes "specification") ∷ flag (codes "winners") ∷ optional (codes "from") ∷ flag (codes "explain")
+    ∷ verbose ∷ operand (codes "file") ∷ [])
 
 abbrev pub empty : Shape
 empty =
@@ -87,10 +90,10 @@ abbrev pub join : Shape
 join = with_options (codes "join") (required (codes "with") ∷ verbose ∷ operand (codes "file") ∷ [])
 
 abbrev pub complement : Shape
-complement = with_options (codes "complement") (verbose ∷ operand (codes "file") ∷ [])
+complement = with_options (codes "complement") (flag (codes "stream") ∷ verbose ∷ operand (codes "file") ∷ [])
 
 abbrev pub trim : Shape
-trim = with_options (codes "trim") (verbose ∷ operand (codes "file") ∷ [])
+trim = with_options (codes "trim") (flag (codes "stream") ∷ verbose ∷ operand (codes "file") ∷ [])
 
 abbrev pub realize : Shape
 realize =

@@ -30,6 +30,19 @@ solves. If no node has the identifier, the refusal is 54 UnknownNode. It goes wi
   0 0 0 1;
   1 1 1 1;
 
+--min reads a game in which the least priority decides: player 0 wins if the least one that comes again
+and again is even, player 1 if it is odd. It writes one in which the greatest decides, as in each game
+that the other commands read. Nodes, owners, successors and names stay, and each play is won by the same
+player, so that solutions stay too. An even priority becomes twice the number of different priorities in
+the game that are greater, and an odd one becomes one more than that. With --from ID the part alone is
+written. It goes with --format pg only.
+
+  $ echo '0 1 0 1; 1 4 1 0; 2 7 0 0;' | omega canon --format pg --min
+  parity 2;
+  0 5 0 1;
+  1 2 1 0;
+  2 1 0 0;
+
 --format hoa writes automata, one after the other: the header of each in a fixed order, then its
 states and edges in the order given, with aliases replaced, only the parentheses that are needed, and
 sets in rising order. What is stopped by --ABORT-- is left out. If there is no automaton, nothing is
@@ -47,7 +60,7 @@ written.
   --END--
 
 If --format is left out, the first token of FILE says what is read: automata begin with `HOA:`, and all
-else is read as a game. Without a FILE, or with --from, --format has to be given.
+else is read as a game. Without a FILE, or with --from or --min, --format has to be given.
 
 If a text is refused, nothing is written on standard output, and a line on standard error says why.
 `omega check --help` lists the refusals of both formats.
@@ -61,6 +74,11 @@ const OPTIONS: &[OptionHelp] = &[
         name: "from",
         value: Value::Optional("ID"),
         help: "Write only the part of a game that the node with this identifier reaches",
+    },
+    OptionHelp {
+        name: "min",
+        value: Value::None,
+        help: "Read a game in which the least priority decides, and write one in which the greatest does",
     },
     VERBOSE,
     FILE,

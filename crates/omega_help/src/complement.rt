@@ -2,7 +2,7 @@ ghost use Rattle.std.specs.Prelude.{◌≡◌, IfOk};
 ghost use Rattle.omega_help.specs.Program.{complement};
 ghost use Rattle.clap.specs.Words.{shape_of};
 
-use crate::options::{FILE, OptionHelp, VERBOSE};
+use crate::options::{FILE, OptionHelp, STREAM, VERBOSE};
 use crate::subcommand::subcommand;
 use clap::Command;
 use std::alloc::{AllocError, Global};
@@ -47,17 +47,27 @@ start. That an automaton accepts the same words as a deterministic one is not en
     --BODY-- State: 0 [0] 0 [t] 1 State: 1 [t] 1 --END--' | omega complement
   omega: 56 NotDeterministic at 0
 
+--stream reads automata, one after the other, and writes the complement of each in turn. What is stopped
+by --ABORT-- is left out. If there is no automaton, nothing is written. If one of them is refused,
+nothing is written but the line of the refusal.
+
+  $ echo 'HOA: v1 Acceptance: 0 f --BODY-- --END-- HOA: v1 --ABORT--
+    HOA: v1 Start: 0 Acceptance: 0 t --BODY-- State: 0 [t] 0 --END--' |
+    omega complement --stream | omega show --format hoa
+  0 automaton states 1 edges 1 propositions 0 sets 1 acceptance t|Inf(0)
+  1 automaton states 1 edges 1 propositions 0 sets 0 acceptance f
+
 Faults of the text come first; `omega check --help` lists them. A text with --ABORT--, with no automaton
-or with several is not one automaton, and is refused as 3 Syntax. Then, if a start or an edge lists
-several states joined by &, the refusal is 41 UniversalBranch. 55 TooLarge comes if the complement could
-have over 1048576 states or 8388608 edges, or would be over another limit of automata.
+or with several is not one automaton, and is refused as 3 Syntax, but not with --stream. Then, if a start
+or an edge lists several states joined by &, the refusal is 41 UniversalBranch. 55 TooLarge comes if the
+complement could have over 1048576 states or 8388608 edges, or would be over another limit of automata.
 42 TooManyPropositions comes only where labels of one state mention over 12 propositions, and 4194304
 steps do not decide whether they can hold.
 
 Exit status: 0 done, 1 the text or the task is refused, 2 the command line is wrong, 4 out of memory, 5
 a read or a write failed.";
 
-const OPTIONS: &[OptionHelp] = &[VERBOSE, FILE];
+const OPTIONS: &[OptionHelp] = &[STREAM, VERBOSE, FILE];
 
 /// Returns the subcommand that writes the complement of a deterministic automaton.
 pub fn complement_command<'a>(alloc: Global) -> Result<Command<'a>, AllocError>

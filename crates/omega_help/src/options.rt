@@ -145,6 +145,13 @@ pub const LASSO: OptionHelp = OptionHelp {
     help: "Draw an accepting lasso of the automaton too",
 };
 
+/// The flag that asks for an automaton for each automaton of a stream.
+pub const STREAM: OptionHelp = OptionHelp {
+    name: "stream",
+    value: Value::None,
+    help: "Write one for each automaton of a stream, one after the other",
+};
+
 /// The flag that asks for progress to be reported.
 pub const PROGRESS: OptionHelp = OptionHelp {
     name: "progress",

@@ -2,7 +2,7 @@ ghost use Rattle.std.specs.Prelude.{◌≡◌, IfOk};
 ghost use Rattle.omega_help.specs.Program.{show};
 ghost use Rattle.clap.specs.Words.{shape_of};
 
-use crate::options::{FILE, FORMAT, OptionHelp, VERBOSE};
+use crate::options::{FILE, FORMAT, OptionHelp, VERBOSE, Value};
 use crate::subcommand::subcommand;
 use clap::Command;
 use std::alloc::{AllocError, Global};
@@ -35,6 +35,17 @@ states, edges, propositions and sets it has, and its acceptance formula. An auto
   0 aborted
   1 automaton states 1 edges 1 propositions 0 sets 1 acceptance Inf(0)
 
+--json writes the same as JSON, one value on a line: a line for the game, or one for each automaton. Of a
+game it says besides how many nodes have each priority, the greatest first, and how many nodes are their
+own successors. A bound of 2^128 or more is null.
+
+  $ omega show --format pg --json game.pg
+  {\"nodes\":2,\"edges\":2,\"greatest\":1,\"priorities\":[[2,1],[1,1]],\"self_loops\":0,\"bounds\":[4,4]}
+  $ echo 'HOA: v1 --ABORT-- HOA: v1 Acceptance: 1 Inf(0)
+    --BODY-- State: 0 [t] 0 {0} --END--' | omega show --format hoa --json
+  {\"automaton\":0,\"aborted\":true}
+  {\"automaton\":1,\"states\":1,\"edges\":1,\"propositions\":0,\"sets\":1,\"acceptance\":\"Inf(0)\"}
+
 If --format is left out, the first token of FILE says what is read: automata begin with `HOA:`, and all
 else is read as a game. Without a FILE, --format has to be given.
 
@@ -44,7 +55,16 @@ If a text is refused, nothing is written on standard output, and a line on stand
 Exit status: 0 done, 1 the text is refused, 2 the command line is wrong, 4 out of memory, 5 a read or
 a write failed.";
 
-const OPTIONS: &[OptionHelp] = &[FORMAT, VERBOSE, FILE];
+const OPTIONS: &[OptionHelp] = &[
+    FORMAT,
+    OptionHelp {
+        name: "json",
+        value: Value::None,
+        help: "Write a value of JSON on each line",
+    },
+    VERBOSE,
+    FILE,
+];
 
 /// Returns the subcommand that describes a text.
 pub fn show_command<'a>(alloc: Global) -> Result<Command<'a>, AllocError>

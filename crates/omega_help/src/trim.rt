@@ -2,7 +2,7 @@ ghost use Rattle.std.specs.Prelude.{◌≡◌, IfOk};
 ghost use Rattle.omega_help.specs.Program.{trim};
 ghost use Rattle.clap.specs.Words.{shape_of};
 
-use crate::options::{FILE, OptionHelp, VERBOSE};
+use crate::options::{FILE, OptionHelp, STREAM, VERBOSE};
 use crate::subcommand::subcommand;
 use clap::Command;
 use std::alloc::{AllocError, Global};
@@ -36,17 +36,27 @@ as they are, also for sets that no edge is in any more. What `tool:` and `proper
 it may no longer hold, and so are headers that the format leaves open. If no state is useful, the answer
 has no states and no starts.
 
+--stream reads automata, one after the other, and writes each without its useless states, in turn. What
+is stopped by --ABORT-- is left out. If there is no automaton, nothing is written. If one of them is
+refused, nothing is written but the line of the refusal.
+
+  $ echo 'HOA: v1 Acceptance: 0 f --BODY-- --END-- HOA: v1 --ABORT--
+    HOA: v1 Start: 0 Acceptance: 0 t --BODY-- State: 0 [t] 0 --END--' |
+    omega trim --stream | omega show --format hoa
+  0 automaton states 0 edges 0 propositions 0 sets 0 acceptance f
+  1 automaton states 1 edges 1 propositions 0 sets 0 acceptance t
+
 Faults of the text come first; `omega check --help` lists them. A text with --ABORT--, with no automaton
-or with several is not one automaton, and is refused as 3 Syntax. Then, if a start or an edge lists
-several states joined by &, the refusal is 41 UniversalBranch. 42 TooManyPropositions comes only where a
-label mentions over 12 propositions, and 4194304 steps do not decide whether it can hold. 55 TooLarge
-comes last, if what stays would be over a limit of automata with the labels that are added, or with the
-parentheses that its labels and its formula need.
+or with several is not one automaton, and is refused as 3 Syntax, but not with --stream. Then, if a start
+or an edge lists several states joined by &, the refusal is 41 UniversalBranch. 42 TooManyPropositions
+comes only where a label mentions over 12 propositions, and 4194304 steps do not decide whether it can
+hold. 55 TooLarge comes last, if what stays would be over a limit of automata with the labels that are
+added, or with the parentheses that its labels and its formula need.
 
 Exit status: 0 done, 1 the text or the task is refused, 2 the command line is wrong, 4 out of memory, 5
 a read or a write failed.";
 
-const OPTIONS: &[OptionHelp] = &[VERBOSE, FILE];
+const OPTIONS: &[OptionHelp] = &[STREAM, VERBOSE, FILE];
 
 /// Returns the subcommand that writes an automaton without its useless states.
 pub fn trim_command<'a>(alloc: Global) -> Result<Command<'a>, AllocError>

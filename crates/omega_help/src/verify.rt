@@ -44,6 +44,22 @@ the refusal is 54 UnknownNode. It goes with --game only.
   $ omega solve --from 0 game.pg | omega verify --game game.pg --from 0
   yes
 
+--winners judges the winners alone: the solution is right if each node is won by the player to whom it
+gives the node. Its choices are passed over, whatever they are. For this the game is solved, as
+`omega solve --search` solves it: if the search finds nothing and lifting does not solve the game, the
+refusal is 50 TooWide, or after 1099511627776 lifts 51 Budget. After `no` comes the first node whose
+winner is wrong, with the player who wins it, and with --explain a solution of the game, or of the part.
+It goes with --game only.
+
+  $ echo '0 0 0 1,2; 1 1 1 0; 2 2 1 0;' > game.pg
+  $ echo 'paritysol 2; 0 1; 1 1 0; 2 1 0;' | omega verify --winners --game game.pg --explain
+  no
+  node 0 player 0
+  paritysol 2;
+  0 0 2;
+  1 0;
+  2 0;
+
 A solution text is what `omega solve` writes: a header with the greatest identifier of the game, or of
 the part, then a line for each node in rising order of identifiers, with the player who wins from it
 and, exactly where that player owns the node, one of its successors. Any other text of this kind is
@@ -101,8 +117,8 @@ If both texts are at fault, the fault of the game, the automaton or the specific
 A file that can't be read is refused as 61 Io, and with --verbose a second line has its name. Files are
 read before standard input.
 
-Exit status: 0 yes, 1 a text or the task is refused, 2 the command line is wrong, 4 out of memory, 5 a
-read or a write failed, 6 no.";
+Exit status: 0 yes, 1 a text or the task is refused, 2 the command line is wrong, 3 the greatest budget
+is used up, 4 out of memory, 5 a read or a write failed, 6 no.";
 
 const OPTIONS: &[OptionHelp] = &[
     GAME,
@@ -111,6 +127,11 @@ const OPTIONS: &[OptionHelp] = &[
         name: "specification",
         value: Value::Optional("FILE"),
         help: "Judge a controller for the specification in this file",
+    },
+    OptionHelp {
+        name: "winners",
+        value: Value::None,
+        help: "Judge the winners of a solution, and not its choices",
     },
     OptionHelp {
         name: "from",
