@@ -36,6 +36,10 @@ pub fn options_in<'a>(found: &ArgMatches<'a>) -> Options<'a>
         lasso: found.get_str("lasso"),
         depth: found.get_str("depth"),
         progress: found.get_str("progress"),
+        stream: found.get_str("stream"),
+        winners: found.get_str("winners"),
+        min: found.get_str("min"),
+        json: found.get_str("json"),
         verbose: found.get_str("verbose"),
         file: found.get_str("file"),
     }

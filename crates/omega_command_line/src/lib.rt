@@ -5,7 +5,7 @@ mod found;
 mod words;
 
 pub use omega_command::{
-    Beside, Command, Format, Line, Mistake, OfEither, OptionName, Options, Player, Reason, Refusal,
-    Source, Task, line_for,
+    Beside, Command, Format, Line, Mistake, OfEach, OfEither, OptionName, Options, Player, Reason,
+    Refusal, Source, Task, line_for,
 };
 pub use words::read_words;

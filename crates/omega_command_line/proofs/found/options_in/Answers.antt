@@ -3,7 +3,7 @@ use Rattle.std.proofs.Common.{◌∙◌}
 use Rattle.clap.proofs.WalkLemmas.{first_value-rows}
 use Rattle.clap.specs.Words.{found_of}
 use Rattle.omega_command_line.specs.Found.{id_of}
-use Rattle.omega_command.specs.declared.options.OptionName.TheVariants.{AsGame, Automaton, Budget, Controller, Depth, Explain, File, Format, From, Game, In, Lasso, Legend, Lift, Player, Progress, Search, Solution, Specification, Status, To, Trim, Verbose, With, Word, WordText}
+use Rattle.omega_command.specs.declared.options.OptionName.TheVariants.{AsGame, Automaton, Budget, Controller, Depth, Explain, File, Format, From, Game, In, Json, Lasso, Legend, Lift, Min, Player, Progress, Search, Solution, Specification, Status, Stream, To, Trim, Verbose, Winners, With, Word, WordText}
 use Rattle.omega_command_line.proofs.found.options_in.Goals as goal
 
 pub returns : goal.returns
@@ -31,5 +31,9 @@ returns c Legend = c.get_str-21.ensures ∙ first_value-rows (found_of c.args.fo
 returns c Lasso = c.get_str-22.ensures ∙ first_value-rows (found_of c.args.found.now) (id_of Lasso)
 returns c Depth = c.get_str-23.ensures ∙ first_value-rows (found_of c.args.found.now) (id_of Depth)
 returns c Progress = c.get_str-24.ensures ∙ first_value-rows (found_of c.args.found.now) (id_of Progress)
-returns c Verbose = c.get_str-25.ensures ∙ first_value-rows (found_of c.args.found.now) (id_of Verbose)
-returns c File = c.get_str-26.ensures ∙ first_value-rows (found_of c.args.found.now) (id_of File)
+returns c Stream = c.get_str-25.ensures ∙ first_value-rows (found_of c.args.found.now) (id_of Stream)
+returns c Winners = c.get_str-26.ensures ∙ first_value-rows (found_of c.args.found.now) (id_of Winners)
+returns c Min = c.get_str-27.ensures ∙ first_value-rows (found_of c.args.found.now) (id_of Min)
+returns c Json = c.get_str-28.ensures ∙ first_value-rows (found_of c.args.found.now) (id_of Json)
+returns c Verbose = c.get_str-29.ensures ∙ first_value-rows (found_of c.args.found.now) (id_of Verbose)
+returns c File = c.get_str-30.ensures ∙ first_value-rows (found_of c.args.found.now) (id_of File)
