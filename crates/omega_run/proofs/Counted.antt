@@ -8,7 +8,8 @@ use Rattle.omega_game_answers.specs.declared.solve.asked.Asked.TheVariants as wa
 use Rattle.omega_io.specs.declared.exit.Exit.{Exit}
 use Rattle.omega_io.specs.Reading.{IsRead}
 use Rattle.omega_command.specs.declared.command.Command.{Command}
-use Rattle.omega_command.specs.declared.command.Command.TheVariants.{Canon, CanonPart, Check, Complement, Draw, DrawLasso, DrawPart, Empty, EmptySearch, Game, RealizabilityGame, Realize, RealizeByLifting, Search, Show, Solve, Trim}
+use Rattle.omega_command.specs.declared.each.OfEach.{OfEach}
+use Rattle.omega_command.specs.declared.command.Command.TheVariants.{Canon, CanonLeast, CanonPart, Check, Complement, Draw, DrawLasso, DrawPart, Each, Empty, EmptySearch, Game, RealizabilityGame, Realize, RealizeByLifting, Search, Show, ShowJson, Solve, Trim}
 use Rattle.omega_budget.specs.Observing.{IsObserved, ReportsRun, refusal_in}
 use Rattle.omega_budget.specs.declared.observing.Progress.{Progress}
 use Rattle.omega_budget.proofs.Observed.{one_made}
@@ -32,6 +33,7 @@ of_all (Err refusal) Holds all = tt
 streams_count_none : {L : Type 0} (tells : Progress → L → L → Type 0) (every budget : ℕ) (one : OfStream) (unread_before unread_after : Option (List ℕ))
     (output : List ℕ) (before after : L) → CountsReportedOfInput tells every (of_stream one) unread_before unread_after budget output before after
 streams_count_none tells every budget stream.Show unread_before unread_after output before after = tt
+streams_count_none tells every budget stream.ShowJson unread_before unread_after output before after = tt
 streams_count_none tells every budget stream.Check unread_before unread_after output before after = tt
 streams_count_none tells every budget stream.Canon unread_before unread_after output before after = tt
 
@@ -47,6 +49,9 @@ module _ {L : Type 0} (tells : Progress → L → L → Type 0) (every budget : 
     (before after : L) (sort : Kind) (command : Command) (same : of_kind sort ≡ command) where
   pub stream_counted : (one : OfStream) → sort ≡ kind.Stream one → CountsReportedOfInput tells every command unread_before unread_after budget output before after
   stream_counted one is = rw (sym same, is) (streams_count_none tells every budget one unread_before unread_after output before after)
+
+  pub each_counted : (asked : OfEach) → sort ≡ kind.Each asked → CountsReportedOfInput tells every command unread_before unread_after budget output before after
+  each_counted asked is = rw (sym same, is) tt
 
   pub question_counted : (one : OfQuestion) → sort ≡ kind.Question one → CountsReportedOfInput tells every command unread_before unread_after budget output before after
   question_counted one is = rw (sym same, is) (questions_count_none tells every budget one unread_before unread_after output before after)
@@ -105,9 +110,12 @@ module _ {L : Type 0} (held : L → Option (List ℕ)) (failed : L → ℕ) (eve
   counted_lines (Search from) observed counted = uncounted_lines (Search from) (λ lines. tt) observed
   counted_lines (Empty word status) observed counted = uncounted_lines (Empty word status) (λ lines. tt) observed
   counted_lines (Show format) observed counted = uncounted_lines (Show format) (λ lines. tt) observed
+  counted_lines (ShowJson format) observed counted = uncounted_lines (ShowJson format) (λ lines. tt) observed
   counted_lines (Check format) observed counted = uncounted_lines (Check format) (λ lines. tt) observed
   counted_lines (Canon format) observed counted = uncounted_lines (Canon format) (λ lines. tt) observed
   counted_lines (CanonPart from) observed counted = uncounted_lines (CanonPart from) (λ lines. tt) observed
+  counted_lines (CanonLeast from) observed counted = uncounted_lines (CanonLeast from) (λ lines. tt) observed
+  counted_lines (Each asked) observed counted = uncounted_lines (Each asked) (λ lines. tt) observed
   counted_lines (EmptySearch word status) observed counted = uncounted_lines (EmptySearch word status) (λ lines. tt) observed
   counted_lines Complement observed counted = uncounted_lines Complement (λ lines. tt) observed
   counted_lines Trim observed counted = uncounted_lines Trim (λ lines. tt) observed

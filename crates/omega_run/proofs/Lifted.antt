@@ -6,7 +6,8 @@ use Rattle.omega_text.specs.declared.refusal.task.TaskFault.TheVariants.{Budget}
 use Rattle.omega_parity_game.specs.Game.{Node}
 use Rattle.omega_parity_game.specs.declared.player.Player.{Player}
 use Rattle.omega_command.specs.declared.command.Command.{Command}
-use Rattle.omega_command.specs.declared.command.Command.TheVariants.{Canon, CanonPart, Check, Complement, Draw, DrawLasso, DrawPart, Empty, EmptySearch, Game, RealizabilityGame, Realize, RealizeByLifting, Search, Show, Solve, Trim}
+use Rattle.omega_command.specs.declared.each.OfEach.{OfEach}
+use Rattle.omega_command.specs.declared.command.Command.TheVariants.{Canon, CanonLeast, CanonPart, Check, Complement, Draw, DrawLasso, DrawPart, Each, Empty, EmptySearch, Game, RealizabilityGame, Realize, RealizeByLifting, Search, Show, ShowJson, Solve, Trim}
 use Rattle.omega_budget.proofs.Observed.{made_refused}
 use Rattle.omega_budget.specs.Observing.{IsObserved}
 use Rattle.omega_budget.specs.declared.observing.Progress.{Progress}
@@ -72,9 +73,12 @@ input_refused (Empty word status) unread_before unread_after refusal other nodes
   holds = text_refused lifted.text refusal other nodes players lifted.holds;
 }
 input_refused (Show format) unread_before unread_after refusal other nodes players lifted = lifted
+input_refused (ShowJson format) unread_before unread_after refusal other nodes players lifted = lifted
 input_refused (Check format) unread_before unread_after refusal other nodes players lifted = lifted
 input_refused (Canon format) unread_before unread_after refusal other nodes players lifted = lifted
 input_refused (CanonPart from) unread_before unread_after refusal other nodes players lifted = lifted
+input_refused (CanonLeast from) unread_before unread_after refusal other nodes players lifted = lifted
+input_refused (Each asked) unread_before unread_after refusal other nodes players lifted = lifted
 input_refused (EmptySearch word status) unread_before unread_after refusal other nodes players lifted = lifted
 input_refused Complement unread_before unread_after refusal other nodes players lifted = lifted
 input_refused Trim unread_before unread_after refusal other nodes players lifted = lifted
@@ -104,6 +108,7 @@ nothing_lifted Runs refusal tells every budget before runs = record {
 streams_lift_none : (one : OfStream) (unread_before unread_after : Option (List ℕ)) (refusal : Option Refusal)
     → LiftsInput (of_stream one) unread_before unread_after refusal [] []
 streams_lift_none stream.Show unread_before unread_after refusal = refl
+streams_lift_none stream.ShowJson unread_before unread_after refusal = refl
 streams_lift_none stream.Check unread_before unread_after refusal = refl
 streams_lift_none stream.Canon unread_before unread_after refusal = refl
 
@@ -113,6 +118,13 @@ pub stream_observed : {L : Type 0} (one : OfStream) (sort : Kind) (command : Com
     → IsObserved (LiftsInput command unread_before unread_after) refusal tells every budget before before
 stream_observed one sort command unread_before unread_after refusal tells every budget before same is =
     rw (sym same, is) (nothing_lifted _ _ _ _ _ _ (streams_lift_none one unread_before unread_after refusal))
+
+-- nor does one of each automaton of a stream
+pub each_observed : {L : Type 0} (asked : OfEach) (sort : Kind) (command : Command) (unread_before unread_after : Option (List ℕ)) (refusal : Option Refusal)
+    (tells : Progress → L → L → Type 0) (every budget : ℕ) (before : L) → of_kind sort ≡ command → sort ≡ kind.Each asked
+    → IsObserved (LiftsInput command unread_before unread_after) refusal tells every budget before before
+each_observed asked sort command unread_before unread_after refusal tells every budget before same is =
+    rw (sym same, is) (nothing_lifted _ _ _ _ _ _ refl)
 
 -- what a question about one text reports is what its command reports
 pub question_observed : {L : Type 0} (one : OfQuestion) (sort : Kind) (command : Command) (unread_before unread_after : Option (List ℕ)) (refusal : Option Refusal)

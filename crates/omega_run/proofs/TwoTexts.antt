@@ -4,7 +4,7 @@ use Rattle.omega_text.specs.Cases.{or_io, or_memory}
 use Rattle.omega_text.specs.declared.refusal.Refusal.{Refusal}
 use Rattle.omega_text.specs.declared.refusal.Refusal.TheVariants.{Automaton, Game, Io, Memory, Task, Text}
 use Rattle.omega_command.specs.declared.beside.Beside.{Beside}
-use Rattle.omega_command.specs.declared.beside.Beside.TheVariants.{Accepts, Contained, DrawSolution, Equal, Join, Meet, Verify, VerifyController, VerifyLasso}
+use Rattle.omega_command.specs.declared.beside.Beside.TheVariants.{Accepts, Contained, DrawSolution, Equal, Join, Meet, Verify, VerifyController, VerifyLasso, VerifyWinners}
 use Rattle.omega_io.specs.Failures.{IsTransferRefusal, failures_in, failures_of}
 use Rattle.omega_io.specs.Reading.{IsRead, ReadsText}
 use Rattle.omega_accepts.proofs.Refused.{membership_io}
@@ -15,6 +15,7 @@ use Rattle.omega_containment_answers.specs.Equal as equal
 use Rattle.omega_controller_answers.specs.Verify as controller
 use Rattle.omega_controller_judge.specs.Refusing as judge
 use Rattle.omega_automaton.specs.Automaton.{Description}
+use Rattle.omega_game_answers.specs.Winners.{IsWinnersGameRefusal}
 use Rattle.omega_hoa.specs.Alone.{IsAutomatonRefusal}
 use Rattle.omega_io.specs.Refused.{IsAbout, IsRefusedOf}
 use Rattle.omega_io.specs.declared.refused.Refused.{Refused}
@@ -68,6 +69,7 @@ module _ (file : List ℕ) (before after : Option (List ℕ)) where
   file_refuses : (asked : Beside) (refusal : Refusal) → ReadsText before after (λ input. RefusesFile asked file input refusal)
       → RefusesText (AnswersBeside asked file) before after refusal
   file_refuses (Verify from explain) refusal h = record { text = h.text; read = h.read; holds = inl h.holds }
+  file_refuses (VerifyWinners from explain) refusal h = record { text = h.text; read = h.read; holds = inl h.holds }
   file_refuses (VerifyLasso explain) refusal h = record { text = h.text; read = h.read; holds = inl h.holds }
   file_refuses (VerifyController explain) refusal h = record { text = h.text; read = h.read; holds = inl h.holds }
   file_refuses (Accepts explain) refusal h = record { text = h.text; read = h.read; holds = inl h.holds }
@@ -82,6 +84,7 @@ module _ (file : List ℕ) (before after : Option (List ℕ)) where
   input_refuses : (asked : Beside) (refusal : Refusal) → ReadsText before after (λ input. RefusesInput asked file input refusal)
       → RefusesText (AnswersBeside asked file) before after refusal
   input_refuses (Verify from explain) refusal h = record { text = h.text; read = h.read; holds = inr h.holds }
+  input_refuses (VerifyWinners from explain) refusal h = record { text = h.text; read = h.read; holds = inr h.holds }
   input_refuses (VerifyLasso explain) refusal h = record { text = h.text; read = h.read; holds = inr h.holds }
   input_refuses (VerifyController explain) refusal h = record { text = h.text; read = h.read; holds = inr (inl h.holds) }
   input_refuses (Accepts explain) refusal h = record { text = h.text; read = h.read; holds = accepts_input file h.text refusal h.holds }
@@ -96,6 +99,7 @@ module _ (file : List ℕ) (before after : Option (List ℕ)) where
   both_refuse : (asked : Beside) (refusal : Refusal) → ReadsText before after (λ input. RefusesBoth asked file input refusal)
       → RefusesText (AnswersBeside asked file) before after refusal
   both_refuse (Verify from explain) refusal h = absurd h.holds
+  both_refuse (VerifyWinners from explain) refusal h = absurd h.holds
   both_refuse (VerifyLasso explain) refusal h = absurd h.holds
   both_refuse (VerifyController explain) refusal h = record { text = h.text; read = h.read; holds = inr (inr h.holds) }
   both_refuse (Accepts explain) refusal h = record { text = h.text; read = h.read; holds = inr (inr h.holds.0) }
@@ -165,6 +169,12 @@ pair_io outer inner pair = containment_io pair.one pair.other pair.refused
 choice_io : contained.IsChoice Io → ⊥
 choice_io (state, is) = cc
 
+-- nor is a game whose winners are judged
+winners_game_io : (file : List ℕ) (from : Option ℕ) (input : List ℕ) → IsWinnersGameRefusal file from input Io → ⊥
+winners_game_io file None input (inl game) = game
+winners_game_io file (Some identifier) input (inl game) = game
+winners_game_io file from input (inr unsolved) = unsolved
+
 -- nor is membership
 member_io : (word input : List ℕ) → accepts.IsPairRefused word input Io → ⊥
 member_io word input pair = membership_io pair.symbolic pair.automaton pair.refused
@@ -185,6 +195,7 @@ io_about : (asked : Beside) (file input : List ℕ) (which : Option Which)
     → IsRefusedBeside asked file input which Io → ⊥
 io_about asked file input None (inl h) = absurd (cc h)
 io_about (Verify from explain) file input None (inr h) = h
+io_about (VerifyWinners from explain) file input None (inr h) = h
 io_about (VerifyLasso explain) file input None (inr h) = h
 io_about (VerifyController explain) file input None (inr h) = judged_io file input None h
 io_about (Accepts explain) file input None (inr h) = member_io file input h.0
@@ -198,6 +209,7 @@ io_about (Equal explain) file input None (inr (inr pair, other)) = pair_io input
 io_about (DrawSolution from depth legend) file input None (inr h) = h
 io_about (Verify None explain) file input (Some File) h = h
 io_about (Verify (Some identifier) explain) file input (Some File) h = h
+io_about (VerifyWinners from explain) file input (Some File) h = winners_game_io file from input h
 io_about (VerifyLasso explain) file input (Some File) (inl (inl h)) = automaton_io file h
 io_about (VerifyLasso explain) file input (Some File) (inl (inr h)) = cc h.refused
 io_about (VerifyLasso explain) file input (Some File) (inr h) = h.refused
@@ -212,6 +224,7 @@ io_about (Equal explain) file input (Some File) (inl text) = automaton_io file t
 io_about (Equal explain) file input (Some File) (inr (pair, choice)) = pair_io file input pair
 io_about (DrawSolution from depth legend) file input (Some File) h = h.refused
 io_about (Verify from explain) file input (Some Input) h = h.refused
+io_about (VerifyWinners from explain) file input (Some Input) h = h.refused
 io_about (VerifyLasso explain) file input (Some Input) h = h.refused
 io_about (VerifyController explain) file input (Some Input) (inl text) = automaton_io input text.refused
 io_about (VerifyController explain) file input (Some Input) (inr pair) = judged_io file input (Some Input) pair

@@ -3,8 +3,9 @@
 use Rattle.std.specs.Prelude.{◌≡◌, ◌⊎◌, Bool, true, false, List, Option, None, Some, Result, Err, ℕ, IfErr, codes}
 use Rattle.omega_text.specs.declared.refusal.Refusal.{Refusal}
 use Rattle.omega_game_answers.specs.Verify.{IsJudgedGameRefusal, RefusesSolution}
+use Rattle.omega_game_answers.specs.Winners.{IsWinnersGameRefusal, RefusesWinners}
 use Rattle.omega_command.specs.declared.beside.Beside.{Beside}
-use Rattle.omega_command.specs.declared.beside.Beside.TheVariants.{Accepts, Contained, DrawSolution, Equal, Join, Meet, Verify, VerifyController, VerifyLasso}
+use Rattle.omega_command.specs.declared.beside.Beside.TheVariants.{Accepts, Contained, DrawSolution, Equal, Join, Meet, Verify, VerifyController, VerifyLasso, VerifyWinners}
 use Rattle.omega_accepts_answers.specs.Accepts as accepts
 use Rattle.omega_containment_answers.specs.Contained as contained
 use Rattle.omega_containment_answers.specs.Equal as equal
@@ -32,6 +33,8 @@ use Rattle.omega_run.specs.World.{Streams, World}
 abbrev pub name_of : Beside → Which → List ℕ
 name_of (Verify from explain) File = codes "game"
 name_of (Verify from explain) Input = codes "solution"
+name_of (VerifyWinners from explain) File = codes "game"
+name_of (VerifyWinners from explain) Input = codes "solution"
 name_of (VerifyLasso explain) File = codes "automaton"
 name_of (VerifyLasso explain) Input = codes "lasso"
 name_of (VerifyController explain) File = codes "specification"
@@ -52,6 +55,7 @@ name_of (DrawSolution from depth legend) Input = codes "game"
 -- why the text of the file is refused
 abbrev pub RefusesFile : Beside → (file input : List ℕ) → Refusal → Type 0
 RefusesFile (Verify from explain) file input refusal = IsJudgedGameRefusal file from refusal
+RefusesFile (VerifyWinners from explain) file input refusal = IsWinnersGameRefusal file from input refusal
 RefusesFile (VerifyLasso explain) file input refusal = RefusesAutomaton file input refusal
 RefusesFile (VerifyController explain) file input refusal = controller.IsFileRefusal file input refusal
 RefusesFile (Accepts explain) file input refusal = IsWordRefusal file refusal
@@ -64,6 +68,7 @@ RefusesFile (DrawSolution from depth legend) file input refusal = RefusesSolutio
 -- why the text of the input is
 abbrev pub RefusesInput : Beside → (file input : List ℕ) → Refusal → Type 0
 RefusesInput (Verify from explain) file input refusal = RefusesSolution file from input refusal
+RefusesInput (VerifyWinners from explain) file input refusal = RefusesWinners file from input refusal
 RefusesInput (VerifyLasso explain) file input refusal = RefusesLasso file input refusal
 RefusesInput (VerifyController explain) file input refusal = controller.IsInputRefusal file input refusal
 RefusesInput (Accepts explain) file input refusal = accepts.IsInputRefusal file input refusal
@@ -76,6 +81,7 @@ RefusesInput (DrawSolution from depth legend) file input refusal = IsJudgedGameR
 -- why the two texts are refused together, though each is good by itself
 abbrev pub RefusesBoth : Beside → (file input : List ℕ) → Refusal → Type 0
 RefusesBoth (Verify from explain) file input refusal = ⊥
+RefusesBoth (VerifyWinners from explain) file input refusal = ⊥
 RefusesBoth (VerifyLasso explain) file input refusal = ⊥
 RefusesBoth (VerifyController explain) file input refusal = controller.IsPairRefused file input None refusal
 RefusesBoth (Accepts explain) file input refusal = accepts.IsPairRefused file input refusal × ¬ contained.IsChoice refusal

@@ -5,10 +5,12 @@ use Rattle.omega_text.specs.declared.refusal.Refusal.{Refusal}
 use Rattle.omega_pg.specs.game.Refusing.{IsRefusal}
 use Rattle.omega_parity_game.specs.declared.player.Player.{Player}
 use Rattle.omega_command.specs.declared.beside.Beside.{Beside}
-use Rattle.omega_command.specs.declared.beside.Beside.TheVariants.{Accepts, Contained, DrawSolution, Equal, Join, Meet, Verify, VerifyController, VerifyLasso}
+use Rattle.omega_command.specs.declared.beside.Beside.TheVariants.{Accepts, Contained, DrawSolution, Equal, Join, Meet, Verify, VerifyController, VerifyLasso, VerifyWinners}
 use Rattle.omega_command.specs.declared.command.Command.{Command}
-use Rattle.omega_command.specs.declared.command.Command.TheVariants.{Canon, CanonPart, Check, Complement, Draw, DrawLasso, DrawPart, Empty, EmptySearch, Game, RealizabilityGame, Realize, RealizeByLifting, Search, Show, Solve, Trim}
+use Rattle.omega_command.specs.declared.command.Command.TheVariants.{Canon, CanonLeast, CanonPart, Check, Complement, Draw, DrawLasso, DrawPart, Each, Empty, EmptySearch, Game, RealizabilityGame, Realize, RealizeByLifting, Search, Show, ShowJson, Solve, Trim}
 use Rattle.omega_command.specs.declared.command.Format.TheVariants.{Hoa, Pg}
+use Rattle.omega_command.specs.declared.each.OfEach.{OfEach}
+use Rattle.omega_command.specs.declared.each.OfEach.TheVariants as each
 use Rattle.omega_io.specs.declared.exit.Exit.{Exit}
 use Rattle.omega_io.specs.declared.exit.Exit.TheVariants.{Done, No}
 use Rattle.omega_accepts_answers.specs.Accepts as accepts
@@ -18,7 +20,9 @@ use Rattle.omega_containment_answers.specs.Equal.{IsEqualAnswer}
 use Rattle.omega_controller_answers.specs.Verify as controller
 use Rattle.omega_empty_answers.specs.Game.{IsEmptinessGameAnswer, IsEmptinessGameRefusal}
 use Rattle.omega_game_answers.specs.Part.{IsPartTextRefusal}
-use Rattle.omega_game_answers.specs.Verify.{IsVerifyAnswer, IsVerifyRefusal}
+use Rattle.omega_game_answers.specs.Least.{IsCanonLeastAnswer}
+use Rattle.omega_game_answers.specs.Verify.{IsJudgedGameRefusal, IsVerifyAnswer, IsVerifyRefusal}
+use Rattle.omega_game_answers.specs.Winners.{IsWinnersAnswer, IsWinnersGameRefusal, RefusesWinners}
 use Rattle.omega_stream_answers.specs.Canon.{IsStreamCanonAnswer}
 use Rattle.omega_game_answers.specs.Canon.{IsCanonAnswer, IsCanonPartAnswer}
 use Rattle.omega_stream_answers.specs.Check.{IsStreamCheckAnswer}
@@ -27,7 +31,9 @@ use Rattle.omega_empty_answers.specs.Draw.{IsAutomatonDrawingAnswer, IsLassoDraw
 use Rattle.omega_game_answers.specs.Draw.{IsGameDrawingAnswer, IsSolutionDrawingAnswer}
 use Rattle.omega_empty_answers.specs.empty.Answer.{IsEmptyAnswer, IsEmptyRefusal, IsEmptySearchAnswer, IsEmptySearchRefusal}
 use Rattle.omega_stream_answers.specs.Show.{IsStreamShowAnswer}
+use Rattle.omega_stream_answers.specs.ShowJson.{IsStreamShowJsonAnswer}
 use Rattle.omega_game_answers.specs.Show.{IsShowAnswer}
+use Rattle.omega_game_answers.specs.ShowJson.{IsShowJsonAnswer}
 use Rattle.omega_game_answers.specs.declared.solve.asked.Asked.{Asked}
 use Rattle.omega_game_answers.specs.declared.solve.asked.Asked.TheVariants as way
 use Rattle.omega_game_answers.specs.solve.Refusing.{IsSolveRefusal}
@@ -38,6 +44,8 @@ use Rattle.omega_realize_answers.specs.Game.{IsGameAnswer, IsGameRefusal}
 use Rattle.omega_realize_answers.specs.Refusing.{IsRealizeRefusal}
 use Rattle.omega_realize_answers.specs.Winner.{IsWinnerAnswer}
 use Rattle.omega_solve.specs.Limits.{most_lifts}
+use Rattle.omega_stream_questions.specs.Complement.{AreComplementAnswers, IsComplementStreamRefusal}
+use Rattle.omega_stream_questions.specs.Trim.{AreTrimAnswers, IsTrimStreamRefusal}
 use Rattle.omega_hoa.specs.Alone.{IsAutomatonRefusal}
 use Rattle.omega_runs.specs.declared.verdict.Verdict.{Verdict}
 use Rattle.omega_runs.specs.declared.verdict.Verdict.TheVariants as verdict
@@ -85,20 +93,33 @@ abbrev pub IsRealizeAnswer : (controller : Bool) → List ℕ → Exit → List 
 IsRealizeAnswer false text = IsDecisionAnswer text
 IsRealizeAnswer true text = IsWinnerAnswer text
 
+-- the answers to the automata of a stream are written; none of them is `no`
+abbrev pub WritesEach : (List ℕ → (no : Bool) → Type 0) → List ℕ → Type 0
+WritesEach AreAnswers output = (no : Bool) × AreAnswers output no
+
+-- what the command makes of each automaton of the stream that the text is
+abbrev pub AnswersEach : OfEach → List ℕ → Result (Exit × List ℕ) Refusal → Type 0
+AnswersEach each.Complement text = Replies (WritesEach (AreComplementAnswers text)) (IsComplementStreamRefusal text)
+AnswersEach each.Trim text = Replies (WritesEach (AreTrimAnswers text)) (IsTrimStreamRefusal text)
+
 -- what the command makes of the text, with this budget: how it ends and its output, or the refusal
 abbrev pub Answers : Command → ℕ → List ℕ → Result (Exit × List ℕ) Refusal → Type 0
 Answers (Show Pg) budget text = Replies (IsShowAnswer text) (IsRefusal text)
 Answers (Show Hoa) budget text = Replies (IsStreamShowAnswer text) (IsStreamRefusal text)
+Answers (ShowJson Pg) budget text = Replies (IsShowJsonAnswer text) (IsRefusal text)
+Answers (ShowJson Hoa) budget text = Replies (IsStreamShowJsonAnswer text) (IsStreamRefusal text)
 Answers (Check Pg) budget text = Replies (IsCheckAnswer text) (IsRefusal text)
 Answers (Check Hoa) budget text = Replies (IsStreamCheckAnswer text) (IsStreamRefusal text)
 Answers (Canon Pg) budget text = Replies (IsCanonAnswer text) (IsRefusal text)
 Answers (Canon Hoa) budget text = Replies (IsStreamCanonAnswer text) (IsStreamRefusal text)
 Answers (CanonPart from) budget text = Replies (IsCanonPartAnswer text from) (IsPartTextRefusal text from)
+Answers (CanonLeast from) budget text = Replies (IsCanonLeastAnswer text from) (IsJudgedGameRefusal text from)
 Answers (Solve player from) budget text =
     Replies (IsSolveAnswer text (asked_for player) from budget) (IsSolveRefusal text (asked_for player) from budget)
 Answers (Search from) budget text = Replies (IsSolveAnswer text way.Search from budget) (IsSolveRefusal text way.Search from budget)
 Answers (Empty word status) budget text = Concludes (EndsEmpty text budget word status) (IsEmptyRefusal text budget)
 Answers (EmptySearch word status) budget text = Concludes (EndsEmptySearch text word status) (IsEmptySearchRefusal text)
+Answers (Each asked) budget text = AnswersEach asked text
 Answers Complement budget text = Replies (IsComplementAnswer text) (IsComplementRefusal text)
 Answers Trim budget text = Replies (IsTrimAnswer text) (IsTrimAnswerRefusal text)
 Answers Game budget text = Replies (IsEmptinessGameAnswer text) (IsEmptinessGameRefusal text)
@@ -129,9 +150,14 @@ abbrev pub IsControllerRefusal : (file input : List ℕ) → Refusal → Type 0
 IsControllerRefusal file input refusal =
     controller.IsFileRefusal file input refusal ⊎ (controller.IsInputRefusal file input refusal ⊎ controller.IsPairRefused file input None refusal)
 
+-- the refusal of `verify --winners`: that of the game, or of the solution's text
+abbrev pub IsJudgingRefusal : List ℕ → Option ℕ → List ℕ → Refusal → Type 0
+IsJudgingRefusal file from input refusal = IsWinnersGameRefusal file from input refusal ⊎ RefusesWinners file from input refusal
+
 -- the same of the text of a file, or of the command line, and that of the input: the budget bounds none of these
 abbrev pub AnswersBeside : Beside → (file input : List ℕ) → Result (Exit × List ℕ) Refusal → Type 0
 AnswersBeside (Verify from explain) file input = Concludes (IsVerifyAnswer file from input explain) (IsVerifyRefusal file from input)
+AnswersBeside (VerifyWinners from explain) file input = Concludes (IsWinnersAnswer file from input explain) (IsJudgingRefusal file from input)
 AnswersBeside (VerifyLasso explain) file input = Concludes (IsLassoAnswer file input explain) (IsLassoAnswerRefusal file input)
 AnswersBeside (VerifyController explain) file input =
     Concludes (controller.IsControllerAnswer file input explain) (IsControllerRefusal file input)

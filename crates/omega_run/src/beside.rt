@@ -16,7 +16,7 @@ use omega_accepts_answers::accepts_text;
 use omega_command::Beside;
 use omega_containment_answers::{contained_texts, equal_texts};
 use omega_controller_answers::verify_controller;
-use omega_game_answers::{draw_solution_text, verify_solution};
+use omega_game_answers::{draw_solution_text, verify_solution, verify_winners};
 use omega_io::{Exit, Input, InputFiles, Output, Refused, read_all, write_text};
 use omega_language_answers::{meet_texts, verify_lasso};
 use omega_trim_answers::meet_trimmed_texts;
@@ -135,6 +135,9 @@ fn answer_texts(
 {
     match asked {
         Beside::Verify { from, explain } => verify_solution(alloc, file, from, input, explain),
+        Beside::VerifyWinners { from, explain } => {
+            verify_winners(alloc, file, from, input, explain)
+        }
         Beside::VerifyLasso { explain } => verify_lasso(alloc, file, input, explain),
         Beside::VerifyController { explain } => verify_controller(alloc, file, input, explain),
         Beside::Accepts { explain } => accepts_text(alloc, file, input, explain),

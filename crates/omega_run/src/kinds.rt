@@ -1,7 +1,7 @@
 ghost use Rattle.std.specs.Prelude.{◌≡◌};
 ghost use Rattle.omega_run.specs.private.steps.Kinds.{of_kind};
 
-use omega_command::{Command, Format};
+use omega_command::{Command, Format, OfEach};
 use omega_parity_game::Player;
 
 /// A command, by what it reads.
@@ -9,6 +9,8 @@ use omega_parity_game::Player;
 pub(crate) enum Kind {
     /// Of a stream of automata, which is answered while it is read.
     Stream(OfStream),
+    /// Of each automaton of a stream, with one exit.
+    Each(OfEach),
     /// Of one text, with one exit.
     Text(OfText),
     /// Of one text, with the exit that its answer has.
@@ -19,6 +21,7 @@ pub(crate) enum Kind {
 #[derive(Clone, Copy)]
 pub(crate) enum OfStream {
     Show,
+    ShowJson,
     Check,
     Canon,
 }
@@ -27,10 +30,14 @@ pub(crate) enum OfStream {
 #[derive(Clone, Copy)]
 pub(crate) enum OfText {
     Show,
+    ShowJson,
     Check,
     Canon,
     CanonPart {
         from: u32,
+    },
+    CanonLeast {
+        from: Option<u32>,
     },
     Solve {
         player: Option<Player>,
@@ -67,12 +74,16 @@ pub(crate) fn kind_of(command: Command) -> Kind
 {
     match command {
         Command::Show(Format::Hoa) => Kind::Stream(OfStream::Show),
+        Command::ShowJson(Format::Hoa) => Kind::Stream(OfStream::ShowJson),
         Command::Check(Format::Hoa) => Kind::Stream(OfStream::Check),
         Command::Canon(Format::Hoa) => Kind::Stream(OfStream::Canon),
         Command::Show(Format::Pg) => Kind::Text(OfText::Show),
+        Command::ShowJson(Format::Pg) => Kind::Text(OfText::ShowJson),
         Command::Check(Format::Pg) => Kind::Text(OfText::Check),
         Command::Canon(Format::Pg) => Kind::Text(OfText::Canon),
         Command::CanonPart { from } => Kind::Text(OfText::CanonPart { from }),
+        Command::CanonLeast { from } => Kind::Text(OfText::CanonLeast { from }),
+        Command::Each(asked) => Kind::Each(asked),
         Command::Solve { player, from } => Kind::Text(OfText::Solve { player, from }),
         Command::Search { from } => Kind::Text(OfText::Search { from }),
         Command::Empty { word, status } => Kind::Question(OfQuestion::Empty { word, status }),

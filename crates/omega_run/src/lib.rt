@@ -4,6 +4,7 @@
 #![tactic(auto)]
 
 mod beside;
+mod each;
 mod emptiness;
 mod format;
 mod held_text;
@@ -22,7 +23,7 @@ pub use laws::budgets_are_of_solvers;
 pub use obeying::obey;
 pub use observing::run_observed;
 pub use omega_budget::{NoObserver, Progress, Reporter};
-pub use omega_command::{Beside, Command, Format, Line, OfEither, Player, Source, Task};
+pub use omega_command::{Beside, Command, Format, Line, OfEach, OfEither, Player, Source, Task};
 pub use omega_io::{
     Exit, FromRead, HostFiles, Input, InputFiles, Output, Refusal, ToWrite, exit_code, refusal_line,
 };

@@ -129,7 +129,7 @@ fn name_of(asked: Beside, which: Which) -> &'static str
     ensures { result.now ≡ name_of asked which }
 {
     match asked {
-        Beside::Verify { .. } => match which {
+        Beside::Verify { .. } | Beside::VerifyWinners { .. } => match which {
             Which::File => "game",
             Which::Input => "solution",
         },

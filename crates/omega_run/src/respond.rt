@@ -11,19 +11,21 @@ ghost use Rattle.omega_io.specs.Failures.{failures_of};
 ghost use Rattle.omega_io.specs.Reading.{IsRead};
 ghost use Rattle.omega_io.specs.declared.exit.Exit.TheVariants.{Done};
 
+use crate::each::answer_each;
 use crate::kinds::{Kind, OfStream, OfText, kind_of};
 use crate::questions::answer_question;
 use omega_budget::Reporter;
 use omega_command::Command;
 use omega_empty_answers::{draw_automaton_text, draw_lasso_text, write_emptiness_game};
 use omega_game_answers::{
-    Asked, canon_game, canon_part, check_game, draw_game_text, show_game, solve_game,
+    Asked, canon_game, canon_least, canon_part, check_game, draw_game_text, show_game, show_json,
+    solve_game,
 };
 use omega_io::{Exit, Input, Refusal, read_all};
 use omega_language_answers::complement_text;
 use omega_parity_game::Player;
 use omega_realize_answers::write_realizability_game;
-use omega_stream_answers::{canon_stream, check_stream, show_stream};
+use omega_stream_answers::{canon_stream, check_stream, show_stream, show_stream_json};
 use omega_trim_answers::trim_text;
 use std::alloc::Global;
 
@@ -52,8 +54,10 @@ pub(crate) fn answer<R: Input, L, T: Reporter<L>>(
 {
     match kind_of(command) {
         Kind::Stream(OfStream::Show) => Ok((Exit::Done, show_stream(alloc, input)?)),
+        Kind::Stream(OfStream::ShowJson) => Ok((Exit::Done, show_stream_json(alloc, input)?)),
         Kind::Stream(OfStream::Check) => Ok((Exit::Done, check_stream(alloc, input)?)),
         Kind::Stream(OfStream::Canon) => Ok((Exit::Done, canon_stream(alloc, input)?)),
+        Kind::Each(asked) => Ok((Exit::Done, answer_each(alloc, asked, input)?)),
         Kind::Text(command) => {
             let text = read_all(alloc, input)?;
             let made = answer_text(alloc, command, text, budget, reporter, observer)?;
@@ -90,9 +94,11 @@ fn answer_text<L, T: Reporter<L>>(
 {
     match command {
         OfText::Show => show_game(alloc, text),
+        OfText::ShowJson => show_json(alloc, text),
         OfText::Check => check_game(alloc, text),
         OfText::Canon => canon_game(alloc, text),
         OfText::CanonPart { from } => canon_part(alloc, text, from),
+        OfText::CanonLeast { from } => canon_least(alloc, text, from),
         OfText::Solve { player, from } => {
             let asked = asked_for(player);
             solve_game(alloc, text, asked, from, budget, reporter, observer)

@@ -1,15 +1,21 @@
 -- `answer`: if nothing is lifted nothing is reported, and else what the answer to the text that was read reports.
 use Rattle.omega_io.specs.Failures.{IsTransferRefusal}
 use Rattle.omega_budget.proofs.Observed.{none_observed, spares, observed_alike}
-use Rattle.omega_run.proofs.Counted.{of_all, question_counted, stream_counted, text_counted}
-use Rattle.omega_run.proofs.Lifted.{question_observed, stream_observed, text_observed}
+use Rattle.omega_run.proofs.Counted.{of_all, each_counted, question_counted, stream_counted, text_counted}
+use Rattle.omega_run.proofs.Lifted.{each_observed, question_observed, stream_observed, text_observed}
 use Rattle.omega_run.proofs.respond.answer.Goals as goal
 
 pub returns-in_err-show_stream-in-Stream-Show-clause-reported : goal.returns-in_err-show_stream-in-Stream-Show-clause-reported
 returns-in_err-show_stream-in-Stream-Show-clause-reported g c = stream_observed _ _ _ _ _ _ _ _ _ _ c.kind_of.ensures c.in-Stream-Show.is
 
+pub returns-in_err-show_stream_json-in-Stream-ShowJson-clause-reported : goal.returns-in_err-show_stream_json-in-Stream-ShowJson-clause-reported
+returns-in_err-show_stream_json-in-Stream-ShowJson-clause-reported g c = stream_observed _ _ _ _ _ _ _ _ _ _ c.kind_of.ensures c.in-Stream-ShowJson.is
+
 pub returns-in_ok-show_stream-in-Stream-Show-clause-reported : goal.returns-in_ok-show_stream-in-Stream-Show-clause-reported
 returns-in_ok-show_stream-in-Stream-Show-clause-reported g c = stream_observed _ _ _ _ _ _ _ _ _ _ c.kind_of.ensures c.in-Stream-Show.is
+
+pub returns-in_ok-show_stream_json-in-Stream-ShowJson-clause-reported : goal.returns-in_ok-show_stream_json-in-Stream-ShowJson-clause-reported
+returns-in_ok-show_stream_json-in-Stream-ShowJson-clause-reported g c = stream_observed _ _ _ _ _ _ _ _ _ _ c.kind_of.ensures c.in-Stream-ShowJson.is
 
 pub returns-in_err-check_stream-in-Stream-Check-clause-reported : goal.returns-in_err-check_stream-in-Stream-Check-clause-reported
 returns-in_err-check_stream-in-Stream-Check-clause-reported g c = stream_observed _ _ _ _ _ _ _ _ _ _ c.kind_of.ensures c.in-Stream-Check.is
@@ -22,6 +28,15 @@ returns-in_err-canon_stream-in-Stream-Canon-clause-reported g c = stream_observe
 
 pub returns-in_ok-canon_stream-in-Stream-Canon-clause-reported : goal.returns-in_ok-canon_stream-in-Stream-Canon-clause-reported
 returns-in_ok-canon_stream-in-Stream-Canon-clause-reported g c = stream_observed _ _ _ _ _ _ _ _ _ _ c.kind_of.ensures c.in-Stream-Canon.is
+
+pub returns-in_err-answer_each-in-Each-clause-reported : goal.returns-in_err-answer_each-in-Each-clause-reported
+returns-in_err-answer_each-in-Each-clause-reported g c = each_observed _ _ _ _ _ _ _ _ _ _ c.kind_of.ensures c.in-Each.is
+
+pub returns-in_ok-answer_each-in-Each-clause-reported : goal.returns-in_ok-answer_each-in-Each-clause-reported
+returns-in_ok-answer_each-in-Each-clause-reported g c = each_observed _ _ _ _ _ _ _ _ _ _ c.kind_of.ensures c.in-Each.is
+
+pub returns-in_ok-answer_each-in-Each-clause-printed : goal.returns-in_ok-answer_each-in-Each-clause-printed
+returns-in_ok-answer_each-in-Each-clause-printed g c = each_counted _ _ _ _ _ _ _ _ _ _ c.kind_of.ensures _ c.in-Each.is
 
 pub returns-in_err-text-in-Text-clause-reported : goal.returns-in_err-text-in-Text-clause-reported
 returns-in_err-text-in-Text-clause-reported g c =
@@ -41,6 +56,9 @@ returns-in_ok-made-in-Text-clause-reported g c =
 
 pub returns-in_ok-show_stream-in-Stream-Show-clause-printed : goal.returns-in_ok-show_stream-in-Stream-Show-clause-printed
 returns-in_ok-show_stream-in-Stream-Show-clause-printed g c = stream_counted _ _ _ _ _ _ _ _ _ _ c.kind_of.ensures _ c.in-Stream-Show.is
+
+pub returns-in_ok-show_stream_json-in-Stream-ShowJson-clause-printed : goal.returns-in_ok-show_stream_json-in-Stream-ShowJson-clause-printed
+returns-in_ok-show_stream_json-in-Stream-ShowJson-clause-printed g c = stream_counted _ _ _ _ _ _ _ _ _ _ c.kind_of.ensures _ c.in-Stream-ShowJson.is
 
 pub returns-in_ok-check_stream-in-Stream-Check-clause-printed : goal.returns-in_ok-check_stream-in-Stream-Check-clause-printed
 returns-in_ok-check_stream-in-Stream-Check-clause-printed g c = stream_counted _ _ _ _ _ _ _ _ _ _ c.kind_of.ensures _ c.in-Stream-Check.is

@@ -10,6 +10,9 @@ use Rattle.omega_run.proofs.respond.answer_text.Goals as goal
 pub returns-in-Show-clause-reported : goal.returns-in-Show-clause-reported
 returns-in-Show-clause-reported g c = rw c.in-Show.is (λ before after read. nothing_lifted _ _ _ _ _ _ refl)
 
+pub returns-in-ShowJson-clause-reported : goal.returns-in-ShowJson-clause-reported
+returns-in-ShowJson-clause-reported g c = rw c.in-ShowJson.is (λ before after read. nothing_lifted _ _ _ _ _ _ refl)
+
 pub returns-in-Check-clause-reported : goal.returns-in-Check-clause-reported
 returns-in-Check-clause-reported g c = rw c.in-Check.is (λ before after read. nothing_lifted _ _ _ _ _ _ refl)
 
@@ -18,6 +21,9 @@ returns-in-Canon-clause-reported g c = rw c.in-Canon.is (λ before after read. n
 
 pub returns-in-CanonPart-clause-reported : goal.returns-in-CanonPart-clause-reported
 returns-in-CanonPart-clause-reported g c = rw c.in-CanonPart.is (λ before after read. nothing_lifted _ _ _ _ _ _ refl)
+
+pub returns-in-CanonLeast-clause-reported : goal.returns-in-CanonLeast-clause-reported
+returns-in-CanonLeast-clause-reported g c = rw c.in-CanonLeast.is (λ before after read. nothing_lifted _ _ _ _ _ _ refl)
 
 pub returns-in-Complement-clause-reported : goal.returns-in-Complement-clause-reported
 returns-in-Complement-clause-reported g c = rw c.in-Complement.is (λ before after read. nothing_lifted _ _ _ _ _ _ refl)
@@ -53,6 +59,9 @@ returns-in-Search-clause-reported g c =
 pub returns-in-Show-clause-printed : goal.returns-in-Show-clause-printed
 returns-in-Show-clause-printed g c = rw c.in-Show.is (λ before after read. of_all c.show_game.result _ (λ output. tt))
 
+pub returns-in-ShowJson-clause-printed : goal.returns-in-ShowJson-clause-printed
+returns-in-ShowJson-clause-printed g c = rw c.in-ShowJson.is (λ before after read. of_all c.show_json.result _ (λ output. tt))
+
 pub returns-in-Check-clause-printed : goal.returns-in-Check-clause-printed
 returns-in-Check-clause-printed g c = rw c.in-Check.is (λ before after read. of_all c.check_game.result _ (λ output. tt))
 
@@ -61,6 +70,9 @@ returns-in-Canon-clause-printed g c = rw c.in-Canon.is (λ before after read. of
 
 pub returns-in-CanonPart-clause-printed : goal.returns-in-CanonPart-clause-printed
 returns-in-CanonPart-clause-printed g c = rw c.in-CanonPart.is (λ before after read. of_all c.canon_part.result _ (λ output. tt))
+
+pub returns-in-CanonLeast-clause-printed : goal.returns-in-CanonLeast-clause-printed
+returns-in-CanonLeast-clause-printed g c = rw c.in-CanonLeast.is (λ before after read. of_all c.canon_least.result _ (λ output. tt))
 
 pub returns-in-Search-clause-printed : goal.returns-in-Search-clause-printed
 returns-in-Search-clause-printed g c = rw c.in-Search.is (λ before after read. of_all c.solve_game-in-Search.result _ (λ output. tt))

@@ -14,15 +14,18 @@ use Rattle.omega_run.specs.declared.kinds.OfText.TheVariants as text
 -- the command of a stream of automata
 abbrev pub of_stream : OfStream → Command
 of_stream stream.Show = command.Show Hoa
+of_stream stream.ShowJson = command.ShowJson Hoa
 of_stream stream.Check = command.Check Hoa
 of_stream stream.Canon = command.Canon Hoa
 
 -- the command of one text
 abbrev pub of_text : OfText → Command
 of_text text.Show = command.Show Pg
+of_text text.ShowJson = command.ShowJson Pg
 of_text text.Check = command.Check Pg
 of_text text.Canon = command.Canon Pg
 of_text (text.CanonPart from) = command.CanonPart from
+of_text (text.CanonLeast from) = command.CanonLeast from
 of_text (text.Solve player from) = command.Solve player from
 of_text (text.Search from) = command.Search from
 of_text text.Complement = command.Complement
@@ -44,5 +47,6 @@ of_question (question.RealizeByLifting controller) = command.RealizeByLifting co
 -- the command of one of the kinds
 abbrev pub of_kind : Kind → Command
 of_kind (kind.Stream one) = of_stream one
+of_kind (kind.Each asked) = command.Each asked
 of_kind (kind.Text one) = of_text one
 of_kind (kind.Question one) = of_question one
