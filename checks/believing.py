@@ -20,8 +20,10 @@ from program import ROOT, Cases
 
 PAGE = os.path.join("docs", "believe.md")
 RESPOND = "omega_run.specs.Respond"
-# What one text is answered, and what the texts of a file and of the input are.
-TABLES = ("Answers", "AnswersBeside")
+# What one text is answered, each automaton of a stream, and the texts of a file and of the input; and the row of the
+# first that hands on to the second.
+TABLES = ("Answers", "AnswersEach", "AnswersBeside")
+HANDED_ON = ("Each",)
 HEADLINE = ("omega_solve.specs.Headline", "Headline")
 # The row of the headline, and what stands beside it.
 HEADLINE_ROW = "the headline, `Headline` of `omega_solve`"
@@ -50,14 +52,18 @@ CALLS = {
 COMMANDS = {
     "check --format pg": ("Check Pg",),
     "canon --format pg": ("Canon Pg", "CanonPart"),
+    "canon --format pg --min": ("CanonLeast",),
     "show --format pg": ("Show Pg",),
+    "show --format pg --json": ("ShowJson Pg",),
     "solve": ("Solve",),
     "solve --search": ("Search",),
     "verify": ("Verify",),
+    "verify --winners": ("VerifyWinners",),
     "draw --format pg": ("Draw Pg", "DrawPart", "DrawSolution"),
     "check --format hoa": ("Check Hoa",),
     "canon --format hoa": ("Canon Hoa",),
     "show --format hoa": ("Show Hoa",),
+    "show --format hoa --json": ("ShowJson Hoa",),
     "empty": ("Empty",),
     "empty --search": ("EmptySearch",),
     "verify --automaton": ("VerifyLasso",),
@@ -69,7 +75,9 @@ COMMANDS = {
     "meet --trim": ("Meet true",),
     "join": ("Join",),
     "complement": ("Complement",),
+    "complement --stream": ("each.Complement",),
     "trim": ("Trim",),
+    "trim --stream": ("each.Trim",),
     "realize": ("Realize",),
     "realize --lift": ("RealizeByLifting",),
     "realize --game": ("RealizabilityGame",),
@@ -339,7 +347,7 @@ class Sources:
         return [one for one in found.values()]
 
     def rows_cite(self, arguments: Rows) -> list[Believed]:
-        """What the rows of the two tables cite for these commands."""
+        """What the rows of the tables cite for these commands."""
         cited = [one for table in TABLES for one in self.cited(self.held[RESPOND, table], arguments)]
         if not cited:
             raise ValueError(f"{RESPOND} has no row for {arguments}")
@@ -428,7 +436,7 @@ def clause_words(path: str, function: str) -> Definition:
 
 def check_rows(answers: Definition) -> None:
     """Each row of a table is one of a promise."""
-    known = tuple(one for arguments in COMMANDS.values() for one in arguments)
+    known = (*HANDED_ON, *(one for arguments in COMMANDS.values() for one in arguments))
     for index in range(len(answers.lines)):
         row = answers.row_at(index)
         if row and not begins_with_one(row[0], known):

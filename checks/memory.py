@@ -52,6 +52,11 @@ RUNS: list[Run] = [
     *((words, text, None) for text in (BUCHI, TWO_SETS, WRITTEN)
       for words in (["game"], ["empty"], ["empty", "--search"], ["empty", "--budget", "1"], ["empty", "--word"],
                     ["empty", "--search", "--word"], ["complement"], ["trim"])),
+    *(([name, "--stream"], BUCHI + ABORTED, None) for name in ("complement", "trim")),
+    *((["show", "--json", "--format", name], text, None) for name, text in (("pg", GAPS), ("hoa", ABORTED))),
+    (["canon", "--format", "pg", "--min"], GAPS, None),
+    *((["verify", "--winners", *more, "--game"], text, CHOICE) for more in (NONE, ["--explain"])
+      for text in (b"paritysol 2; 0 0; 1 0; 2 0;", b"paritysol 2; 0 1; 1 1; 2 1;")),
     (["trim"], PRUNED + b" --END--", None),
     (["trim"], PRUNED + b"&2 --END--", None),
     (["check", "--format", "hoa"], b"HOA: v1 --BODY-- --END--", None),

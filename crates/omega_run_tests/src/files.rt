@@ -78,7 +78,7 @@ State: 0
 ";
 
 /// A command line, the text of the file, the text of the input, and the status, the output and the lines of the run.
-static RUNS: [(&str, &str, &str, u8, &str, &str); 33] = [
+static RUNS: [(&str, &str, &str, u8, &str, &str); 36] = [
     (
         "omega verify --game g",
         THREE,
@@ -102,6 +102,31 @@ static RUNS: [(&str, &str, &str, u8, &str, &str); 33] = [
         1,
         "",
         "omega: 53 BadSolution\n",
+    ),
+    // The winners are right, and one of the choices is not.
+    (
+        "omega verify --game g --winners",
+        THREE,
+        "paritysol 2; 0 0 1; 1 0; 2 0;",
+        0,
+        "yes\n",
+        "",
+    ),
+    (
+        "omega verify --winners --explain --game g",
+        THREE,
+        "paritysol 2; 0 0; 1 1; 2 0;",
+        6,
+        "no\nnode 1 player 0\nparitysol 2;\n0 0 2;\n1 0;\n2 0;\n",
+        "",
+    ),
+    (
+        "omega verify --winners -v --game g",
+        THREE,
+        "paritysol 1; 0 0; 1 0;",
+        1,
+        "",
+        "omega: 53 BadSolution\nomega: in the solution\n",
     ),
     // What is wrong with the game comes first.
     (

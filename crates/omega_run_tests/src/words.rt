@@ -5,7 +5,7 @@ use std::alloc::Global;
 use std::test::Fail;
 
 /// Command lines, and what each asks for, as it shows itself to a programmer. A budget that is not given is 2^40.
-static ASKED: [(&str, &str); 39] = [
+static ASKED: [(&str, &str); 46] = [
     (
         "omega check --format=hoa",
         "Do { task: Run(Check(Hoa), 1099511627776), source: Input, verbose: false }",
@@ -159,13 +159,41 @@ static ASKED: [(&str, &str); 39] = [
         "Do { task: Run(Show(Pg), 1099511627776), source: Input, verbose: false }",
     ),
     (
+        "omega show --json --format hoa",
+        "Do { task: Run(ShowJson(Hoa), 1099511627776), source: Input, verbose: false }",
+    ),
+    (
+        "omega show --json g",
+        "ByText { asked: ShowJson, file: \"g\", verbose: false }",
+    ),
+    (
+        "omega canon --format pg --min",
+        "Do { task: Run(CanonLeast { from: None }, 1099511627776), source: Input, verbose: false }",
+    ),
+    (
+        "omega canon --min --from 4 --format pg g",
+        "Do { task: Run(CanonLeast { from: Some(4) }, 1099511627776), source: File(\"g\"), verbose: false }",
+    ),
+    (
+        "omega verify --winners --explain --game g --from 7",
+        "Do { task: Beside { file: \"g\", asked: VerifyWinners { from: Some(7), explain: true } }, source: Input, verbose: false }",
+    ),
+    (
+        "omega complement --stream",
+        "Do { task: Run(Each(Complement), 1099511627776), source: Input, verbose: false }",
+    ),
+    (
+        "omega trim --stream g",
+        "Do { task: Run(Each(Trim), 1099511627776), source: File(\"g\"), verbose: false }",
+    ),
+    (
         "./o game",
         "Do { task: Run(Game, 1099511627776), source: Input, verbose: false }",
     ),
 ];
 
 /// Command lines that are at fault, and what is said of each.
-static FAULTS: [(&str, &str); 11] = [
+static FAULTS: [(&str, &str); 14] = [
     ("omega", "requires a subcommand"),
     (
         "omega show --format xyz",
@@ -192,6 +220,18 @@ static FAULTS: [(&str, &str); 11] = [
     ("omega show", "were not provided:\\n  --format <FORMAT>"),
     (
         "omega draw --lasso g",
+        "were not provided:\\n  --format <FORMAT>",
+    ),
+    (
+        "omega verify --winners --automaton a",
+        "the argument '--automaton <FILE>' cannot be used with '--winners'",
+    ),
+    (
+        "omega canon --min --format hoa",
+        "the argument '--min' can only be used with '--format pg'",
+    ),
+    (
+        "omega canon --min g",
         "were not provided:\\n  --format <FORMAT>",
     ),
     (

@@ -4,7 +4,7 @@ use std::alloc::Global;
 use std::test::Fail;
 
 /// A command line, a game and the whole output of a run that is done.
-static GAMES: [(&str, &str, &str); 8] = [
+static GAMES: [(&str, &str, &str); 11] = [
     (
         "omega solve",
         "0 1 0 1; 1 2 1 0;",
@@ -45,10 +45,26 @@ static GAMES: [(&str, &str, &str); 8] = [
         "0 0 0 0; 1 0 0 1;",
         "parity 1;\n1 0 0 1;\n",
     ),
+    (
+        "omega show --json --format pg",
+        "0 0 0 1,2; 1 1 1 0; 2 2 1 0;",
+        "{\"nodes\":3,\"edges\":4,\"greatest\":2,\"priorities\":[[2,1],[1,1],[0,1]],\"self_loops\":0,\"bounds\":[6,12]}\n",
+    ),
+    // 7 stays odd, 4 has one greater priority, and 1 has two.
+    (
+        "omega canon --format pg --min",
+        "0 1 0 1; 1 4 1 0; 2 7 0 0;",
+        "parity 2;\n0 5 0 1;\n1 2 1 0;\n2 1 0 0;\n",
+    ),
+    (
+        "omega canon --format pg --min --from 1",
+        "0 9 0 0; 1 0 0 1;",
+        "parity 1;\n1 0 0 1;\n",
+    ),
 ];
 
 /// The same of automata.
-static AUTOMATA: [(&str, &str, &str); 6] = [
+static AUTOMATA: [(&str, &str, &str); 9] = [
     (
         "omega empty",
         "HOA: v1 States: 1 Start: 0 AP: 1 \"a\" acc-name: Buchi Acceptance: 1 Inf(0) --BODY-- State: 0 [0] 0 {0} --END--",
@@ -79,7 +95,26 @@ static AUTOMATA: [(&str, &str, &str); 6] = [
         "HOA: v1 States: 1 Start: 0 AP: 1 \"a\" Alias: @b 0|t Acceptance: 1 Inf(0) acc-name: Buchi --BODY-- State: 0 [!@b&0] 0 {0 0} --END--",
         "HOA: v1\nStates: 1\nStart: 0\nAP: 1 \"a\"\nacc-name: Buchi\nAcceptance: 1 Inf(0)\n--BODY--\nState: 0\n[!(0|t)&0] 0 {0}\n--END--\n",
     ),
+    (
+        "omega show --json --format hoa",
+        "HOA: --ABORT-- HOA: v1 Acceptance: 1 Inf(0) --BODY-- --END--",
+        "{\"automaton\":0,\"aborted\":true}\n{\"automaton\":1,\"states\":0,\"edges\":0,\"propositions\":0,\"sets\":1,\"acceptance\":\"Inf(0)\"}\n",
+    ),
+    (
+        "omega trim --stream",
+        EACH,
+        "HOA: v1\nStates: 0\nAP: 0\nacc-name: none\nAcceptance: 0 f\n--BODY--\n--END--\nHOA: v1\nStates: 1\nStart: 0\nAP: 0\nacc-name: all\nAcceptance: 0 t\n--BODY--\nState: 0\n[t] 0\n--END--\n",
+    ),
+    (
+        "omega complement --stream",
+        EACH,
+        "HOA: v1\nStates: 1\nStart: 0\nAP: 0\nAcceptance: 1 t|Inf(0)\n--BODY--\nState: 0\n[t] 0 {0}\n--END--\nHOA: v1\nStates: 1\nStart: 0\nAP: 0\nAcceptance: 0 f\n--BODY--\nState: 0\n[t] 0\n--END--\n",
+    ),
 ];
+
+/// An automaton that accepts nothing, one that is aborted, and one that accepts by its only edge.
+const EACH: &str =
+    "HOA: v1 acc-name: none Acceptance: 0 f --BODY-- --END-- HOA: --ABORT-- HOA: v1 States: 1 Start: 0 acc-name: all Acceptance: 0 t --BODY-- State: 0 [t] 0 --END--";
 
 /// A grant answers each request at once: the system, which controls `g`, grants always or not.
 const ARBITER: &str =
@@ -152,7 +187,7 @@ static QUESTIONS: [(&str, &str, u8, &str); 12] = [
 ];
 
 /// A command line, an input, and the status and the line of a run that is refused, after the program's name.
-static REFUSALS: [(&str, &str, u8, &str); 9] = [
+static REFUSALS: [(&str, &str, u8, &str); 10] = [
     (
         "omega solve --budget 3",
         "0 1 0 1; 1 2 1 0;",
@@ -206,6 +241,13 @@ static REFUSALS: [(&str, &str, u8, &str); 9] = [
         "HOA: v1 States: 1 Start: 0 AP: 1 \"r\" controllable-AP: 1 Acceptance: 0 t --BODY-- State: 0 --END--",
         1,
         "omega: 58 Controllable\n",
+    ),
+    // The text of the stream comes before what its first automaton is refused for.
+    (
+        "omega trim --stream",
+        "HOA: v1 States: 2 Start: 0&1 Acceptance: 0 t --BODY-- --END-- HOA: v1",
+        1,
+        "omega: 3 Syntax at 69\n",
     ),
 ];
 
