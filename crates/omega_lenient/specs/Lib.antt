@@ -9,6 +9,7 @@ pub mod Playing
 pub mod Refusing
 pub mod SolutionLines
 pub mod SolutionText
+pub mod StrictText
 pub mod Symbols
 pub mod Text
 pub mod private

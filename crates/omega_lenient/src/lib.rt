@@ -15,10 +15,12 @@ mod reader;
 mod reading;
 mod solution;
 mod stage;
+mod strict_text;
 mod syntax;
 mod token;
 
 pub use omega_parity_game::{ForwardGame, Game, Refusal, Solution};
 pub use plain::plain_text;
 pub use reading::{read_lenient_forward_game, read_lenient_game};
-pub use solution::read_lenient_solution;
+pub use solution::{bare_text, read_lenient_solution};
+pub use strict_text::strict_game_text;

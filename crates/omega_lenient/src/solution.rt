@@ -34,8 +34,9 @@ pub fn read_lenient_solution(
     read_solution(alloc, game, bare.as_slice())
 }
 
-/// Returns the bare text of `source`: its plain text with spaces for what is passed over in lines.
-fn bare_text(alloc: Global, source: &[u8]) -> Result<Vec<u8>, Refusal>
+/// Returns the bare text of a solution text: its plain text with spaces for what is passed over in lines. It has a byte
+/// for each of `source`. `read_lenient_solution` reads it in place of `source`. The cost is linear.
+pub fn bare_text(alloc: Global, source: &[u8]) -> Result<Vec<u8>, Refusal>
     ensures text { IfOk result (λ text. text.items ≡ bare_text source.now) }
     ensures memory { IsOkUnless result Refusal.Memory }
 {
