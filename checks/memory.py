@@ -22,6 +22,8 @@ CHOICE = b"0 0 0 1,2; 1 1 1 0; 2 2 1 0;"
 # Five successors a node.
 DENSE = b"0 0 0 0,0,0,0,1; 1 1 1 1,1,1,1,0;"
 PARTED = b"0 0 0 1; 1 1 1 1; 2 2 0 0;"
+# With a dead end, a comment and a name that is not kept.
+LENIENT = b'start 0; 0 1 0 1 "n\xc3\xa4"; // two\n1 2 1'
 
 BUCHI = b'HOA: v1 States: 1 Start: 0 AP: 1 "a" acc-name: Buchi Acceptance: 1 Inf(0) --BODY-- State: 0 [0] 0 {0} --END--'
 ABORTED = b"HOA: ( & 7 nonsense --ABORT-- /*a/*b*/c*/ HOA: v1 Acceptance: 0 t --BODY-- --END--"
@@ -57,6 +59,8 @@ RUNS: list[Run] = [
     (["canon", "--format", "pg", "--min"], GAPS, None),
     *((["verify", "--winners", *more, "--game"], text, CHOICE) for more in (NONE, ["--explain"])
       for text in (b"paritysol 2; 0 0; 1 0; 2 0;", b"paritysol 2; 0 1; 1 1; 2 1;")),
+    *(([name, "--lenient"], LENIENT, None) for name in ("show", "check", "canon", "solve", "draw")),
+    (["verify", "--lenient", "--game"], b"paritysol 1; # both\n0 0 1; 1 0 -1;", LENIENT),
     (["trim"], PRUNED + b" --END--", None),
     (["trim"], PRUNED + b"&2 --END--", None),
     (["check", "--format", "hoa"], b"HOA: v1 --BODY-- --END--", None),

@@ -107,6 +107,7 @@ text_of name.Stream options = option_map (λ text. text.now) options.stream
 text_of name.Winners options = option_map (λ text. text.now) options.winners
 text_of name.Min options = option_map (λ text. text.now) options.min
 text_of name.Json options = option_map (λ text. text.now) options.json
+text_of name.Lenient options = option_map (λ text. text.now) options.lenient
 text_of name.Verbose options = option_map (λ text. text.now) options.verbose
 text_of name.File options = option_map (λ text. text.now) options.file
 
@@ -276,13 +277,50 @@ pub record LeavesFormat (subcommand : List ℕ) (options : Options) (asked : OfE
 abbrev pub LeavesNoFormat : List ℕ → Options → Type 0
 LeavesNoFormat subcommand options = (asked : OfEither) (file : List ℕ) → LeavesFormat subcommand options asked file → ⊥
 
--- the subcommand of this name, with these options, requests the line: a task with the input that the operand names, and
--- whether a refusal is written with what it is about
+-- ---- games that are read as other tools write them
+
+-- the subcommand reads a game, or texts of either format, or may read a game
+abbrev pub HasGames : List ℕ → Type 0
+HasGames subcommand =
+    (subcommand ≡ codes "show") ⊎ (subcommand ≡ codes "check") ⊎ (subcommand ≡ codes "canon") ⊎ (subcommand ≡ codes "draw")
+    ⊎ (subcommand ≡ codes "solve") ⊎ (subcommand ≡ codes "verify")
+
+-- whether such a subcommand is given `--lenient`
+abbrev pub GivesLeniency : List ℕ → Options → Bool → Type 0
+GivesLeniency subcommand options true = HasGames subcommand × GivesFlag (text_of name.Lenient options) true
+GivesLeniency subcommand options false = HasGames subcommand → GivesFlag (text_of name.Lenient options) false
+
+-- the options ask for nothing but games: a format that is given is theirs, and `verify` judges what is of a game
+pub record IsForGames (subcommand : List ℕ) (options : Options) : Type 0 where
+  pub format : subcommand ≢ codes "solve" → subcommand ≢ codes "verify"
+      → (text_of name.Format options ≡ None) ⊎ (text_of name.Format options ≡ Some (codes "pg"))
+  pub no_automaton : subcommand ≡ codes "verify" → text_of name.Automaton options ≡ None
+  pub unspecified : subcommand ≡ codes "verify" → text_of name.Specification options ≡ None
+
+-- the text that an option has with `--lenient`: the format is that of games, also if it is left out
+abbrev pub text_for_games : OptionName → Options → Option (List ℕ)
+text_for_games name.Format options = Some (codes "pg")
+text_for_games name options = text_of name options
+
+-- what the options mean with `--lenient`
+abbrev pub MeansForGames : Options → Options → Type 0
+MeansForGames options meant = (name : OptionName) → text_of name meant ≡ text_for_games name options
+
+-- the subcommand of this name, with these options, asks for the task, whose games are read leniently or not
+abbrev pub AsksReading : (lenient : Bool) → List ℕ → Options → Task → Type 0
+AsksReading false subcommand options task = AsksFor subcommand options task
+AsksReading true subcommand options task =
+    IsForGames subcommand options × ((meant : Options) × MeansForGames options meant × AsksFor subcommand meant task)
+
+-- the subcommand of this name, with these options, requests the line: a task with the input that the operand names,
+-- whether games are read leniently, and whether a refusal is written with what it is about
 abbrev pub Asks : List ℕ → Options → Line → Type 0
-Asks subcommand options (line.Do task source verbose) =
-    AsksFor subcommand options task × GivesSource (text_of name.File options) source × GivesFlag (text_of name.Verbose options) verbose
+Asks subcommand options (line.Do task source lenient verbose) =
+    AsksReading lenient subcommand options task × GivesSource (text_of name.File options) source
+    × GivesLeniency subcommand options lenient × GivesFlag (text_of name.Verbose options) verbose
 Asks subcommand options (line.ByText asked file verbose) =
-    LeavesFormat subcommand options asked (string_bytes file) × GivesFlag (text_of name.Verbose options) verbose
+    LeavesFormat subcommand options asked (string_bytes file) × GivesLeniency subcommand options false
+    × GivesFlag (text_of name.Verbose options) verbose
 Asks subcommand options (line.Help text) = ⊥
 Asks subcommand options (line.Fault text) = ⊥
 
@@ -323,6 +361,7 @@ HasOption subcommand name.Stream = (subcommand ≡ codes "complement") ⊎ (subc
 HasOption subcommand name.Winners = subcommand ≡ codes "verify"
 HasOption subcommand name.Min = subcommand ≡ codes "canon"
 HasOption subcommand name.Json = subcommand ≡ codes "show"
+HasOption subcommand name.Lenient = HasGames subcommand
 HasOption subcommand name.Verbose = Unit {0}
 HasOption subcommand name.File = Unit {0}
 
@@ -356,6 +395,7 @@ IsRequired name.Stream options = ⊥
 IsRequired name.Winners options = ⊥
 IsRequired name.Min options = ⊥
 IsRequired name.Json options = ⊥
+IsRequired name.Lenient options = ⊥
 IsRequired name.Verbose options = ⊥
 IsRequired name.File options = ⊥
 
@@ -389,6 +429,7 @@ StandsForNothing name.Stream text = (flag : Bool) → IsTruthText text flag → 
 StandsForNothing name.Winners text = (flag : Bool) → IsTruthText text flag → ⊥
 StandsForNothing name.Min text = (flag : Bool) → IsTruthText text flag → ⊥
 StandsForNothing name.Json text = (flag : Bool) → IsTruthText text flag → ⊥
+StandsForNothing name.Lenient text = (flag : Bool) → IsTruthText text flag → ⊥
 StandsForNothing name.Verbose text = (flag : Bool) → IsTruthText text flag → ⊥
 StandsForNothing name.File text = ⊥
 
@@ -451,6 +492,7 @@ IsUsed name.Stream options = GivesFlag (text_of name.Stream options) true
 IsUsed name.Winners options = GivesFlag (text_of name.Winners options) true
 IsUsed name.Min options = GivesFlag (text_of name.Min options) true
 IsUsed name.Json options = GivesFlag (text_of name.Json options) true
+IsUsed name.Lenient options = GivesFlag (text_of name.Lenient options) true
 IsUsed name.Verbose options = GivesFlag (text_of name.Verbose options) true
 IsUsed name.File options = text_of name.File options ≢ None
 
@@ -462,9 +504,10 @@ IsApartFrom name.Search subcommand option =
     ((subcommand ≡ codes "solve") × (option ≡ name.Player))
     ⊎ ((subcommand ≡ codes "empty") × ((option ≡ name.Budget) ⊎ (option ≡ name.Progress)))
 IsApartFrom name.Automaton subcommand option =
-    (subcommand ≡ codes "verify") × ((option ≡ name.Game) ⊎ (option ≡ name.From) ⊎ (option ≡ name.Winners))
+    (subcommand ≡ codes "verify") × ((option ≡ name.Game) ⊎ (option ≡ name.From) ⊎ (option ≡ name.Winners) ⊎ (option ≡ name.Lenient))
 IsApartFrom name.Specification subcommand option =
-    (subcommand ≡ codes "verify") × ((option ≡ name.Automaton) ⊎ (option ≡ name.Game) ⊎ (option ≡ name.From) ⊎ (option ≡ name.Winners))
+    (subcommand ≡ codes "verify")
+    × ((option ≡ name.Automaton) ⊎ (option ≡ name.Game) ⊎ (option ≡ name.From) ⊎ (option ≡ name.Winners) ⊎ (option ≡ name.Lenient))
 IsApartFrom name.Controller subcommand option = (subcommand ≡ codes "realize") × (option ≡ name.AsGame)
 IsApartFrom name.Lift subcommand option = (subcommand ≡ codes "realize") × (option ≡ name.AsGame)
 IsApartFrom one subcommand option = ⊥
@@ -496,6 +539,7 @@ abbrev pub IsForFormat : List ℕ → OptionName → Format → Type 0
 IsForFormat subcommand option Pg =
     ((subcommand ≡ codes "canon") × ((option ≡ name.From) ⊎ (option ≡ name.Min)))
     ⊎ ((subcommand ≡ codes "draw") × ((option ≡ name.Solution) ⊎ (option ≡ name.Legend) ⊎ (option ≡ name.From) ⊎ (option ≡ name.Depth)))
+    ⊎ (HasOption subcommand name.Format × (option ≡ name.Lenient))
 IsForFormat subcommand option Hoa = (subcommand ≡ codes "draw") × (option ≡ name.Lasso)
 
 -- the option goes with this format only, and is given with another
@@ -520,3 +564,10 @@ IsMistake subcommand options (mistake.Missing option) =
     ⊎ IsWanting subcommand options option
 IsMistake subcommand options (mistake.Value option text reason) =
     HasOption subcommand option × IsFaulty option options (mistake.Value option text reason)
+
+-- what is wrong with the options of a line: with them as they are, but with `--lenient` no format is missing; or, with
+-- `--lenient`, with what they mean
+abbrev pub IsWrong : List ℕ → Options → Mistake → Type 0
+IsWrong subcommand options found =
+    (IsMistake subcommand options found × (GivesLeniency subcommand options true → found ≢ mistake.Missing name.Format))
+    ⊎ (GivesLeniency subcommand options true × ((meant : Options) × MeansForGames options meant × IsMistake subcommand meant found))

@@ -15,14 +15,14 @@ IsRunnableTask (task.Given text asked) = Unit {0}
 
 -- what the line asks for can be done
 abbrev pub IsRunnable : Line → Type 0
-IsRunnable (line.Do task source verbose) = IsRunnableTask task
+IsRunnable (line.Do task source lenient verbose) = IsRunnableTask task
 IsRunnable (line.ByText asked file verbose) = Unit {0}
 IsRunnable (line.Help text) = Unit {0}
 IsRunnable (line.Fault text) = Unit {0}
 
 -- the line says what is wrong with the command line
 abbrev pub IsFaultLine : Line → Type 0
-IsFaultLine (line.Do task source verbose) = ⊥
+IsFaultLine (line.Do task source lenient verbose) = ⊥
 IsFaultLine (line.ByText asked file verbose) = ⊥
 IsFaultLine (line.Help text) = ⊥
 IsFaultLine (line.Fault text) = Unit {0}

@@ -72,5 +72,6 @@ IsReason name.Stream text why = why ≡ reason.NoTruth
 IsReason name.Winners text why = why ≡ reason.NoTruth
 IsReason name.Min text why = why ≡ reason.NoTruth
 IsReason name.Json text why = why ≡ reason.NoTruth
+IsReason name.Lenient text why = why ≡ reason.NoTruth
 IsReason name.Verbose text why = why ≡ reason.NoTruth
 IsReason name.File text why = ⊥

@@ -1,6 +1,7 @@
-ghost use Rattle.std.specs.Prelude.{◌≡◌, IfErr, IfNone, IfOk, IfSome, Some, codes, string_bytes};
+ghost use Rattle.std.specs.Prelude.{◌≡◌, IfErr, IfNone, IfOk, IfSome, Some, codes, false, string_bytes, true};
 ghost use Rattle.omega_command.specs.CommandLine.{Asks, AsksFor, Gives, GivesFlag, GoesWithEither, IsFormatText};
-ghost use Rattle.omega_command.specs.CommandLine.{IsMistake, IsOfEither, LeavesFormat, LeavesNoFormat, text_of};
+ghost use Rattle.omega_command.specs.CommandLine.{AsksReading, GivesLeniency, IsMistake, IsOfEither, IsWrong};
+ghost use Rattle.omega_command.specs.CommandLine.{LeavesFormat, LeavesNoFormat, text_of};
 ghost use Rattle.omega_command.specs.declared.command.Format.TheVariants.{Hoa, Pg};
 ghost use Rattle.omega_command.specs.declared.either.OfEither.{OfEither};
 ghost use Rattle.omega_command.specs.declared.either.OfEither.TheVariants as either;
@@ -10,6 +11,7 @@ use crate::beside::Beside;
 use crate::command::{Command, Format};
 use crate::each::OfEach;
 use crate::either::OfEither;
+use crate::leniency::{demand_games, leniency_in, meant_for_games};
 use crate::limits::MOST_BUDGET;
 use crate::line::{Line, Source, Task};
 use crate::mistake::Mistake;
@@ -28,9 +30,28 @@ pub fn line_for<'a>(
     options: &Options<'a>,
 ) -> Result<Line, Mistake<'a>>
     ensures asked { IfOk result (Asks subcommand.now options.now) }
-    ensures mistaken { IfErr result (IsMistake subcommand.now options.now) }
+    ensures mistaken { IfErr result (IsWrong subcommand.now options.now) }
 {
     let verbose = is_set(OptionName::Verbose, options.verbose)?;
+    if leniency_in(subcommand, options)? {
+        lenient_line_for(alloc, subcommand, options, verbose)
+    } else {
+        strict_line_for(alloc, subcommand, options, verbose)
+    }
+}
+
+/// Returns the line that `subcommand` requests with `options` without `--lenient`, or what is wrong with them.
+fn strict_line_for<'a>(
+    alloc: Global,
+    subcommand: &str,
+    options: &Options<'a>,
+    verbose: bool,
+) -> Result<Line, Mistake<'a>>
+    requires strict { GivesLeniency subcommand.now options.now false }
+    requires verbose { GivesFlag (text_of name.Verbose options.now) verbose }
+    ensures asked { IfOk result (Asks subcommand.now options.now) }
+    ensures mistaken { IfErr result (IsMistake subcommand.now options.now) }
+{
     match by_text(alloc, subcommand, options)? {
         Some((asked, file)) => Ok(Line::ByText {
             asked,
@@ -50,6 +71,7 @@ fn told_line_for<'a>(
     verbose: bool,
 ) -> Result<Line, Mistake<'a>>
     requires told { LeavesNoFormat subcommand.now options.now }
+    requires strict { GivesLeniency subcommand.now options.now false }
     requires verbose { GivesFlag (text_of name.Verbose options.now) verbose }
     ensures asked { IfOk result (Asks subcommand.now options.now) }
     ensures mistaken { IfErr result (IsMistake subcommand.now options.now) }
@@ -59,8 +81,46 @@ fn told_line_for<'a>(
     Ok(Line::Do {
         task,
         source,
+        lenient: false,
         verbose,
     })
+}
+
+/// Returns the line that `subcommand` requests with `options`, one of which is `--lenient`, or what is wrong with them.
+fn lenient_line_for<'a>(
+    alloc: Global,
+    subcommand: &str,
+    options: &Options<'a>,
+    verbose: bool,
+) -> Result<Line, Mistake<'a>>
+    requires lenient { GivesLeniency subcommand.now options.now true }
+    requires verbose { GivesFlag (text_of name.Verbose options.now) verbose }
+    ensures asked { IfOk result (Asks subcommand.now options.now) }
+    ensures mistaken { IfErr result (IsWrong subcommand.now options.now) }
+{
+    let task = lenient_task_for(alloc, subcommand, options)?;
+    let source = source_in(alloc, options)?;
+    Ok(Line::Do {
+        task,
+        source,
+        lenient: true,
+        verbose,
+    })
+}
+
+/// Returns the task that `subcommand` requests with `options`, one of which is `--lenient`, or what is wrong with them.
+fn lenient_task_for<'a>(
+    alloc: Global,
+    subcommand: &str,
+    options: &Options<'a>,
+) -> Result<Task, Mistake<'a>>
+    requires { GivesLeniency subcommand.now options.now true }
+    ensures asked { IfOk result (AsksReading true subcommand.now options.now) }
+    ensures mistaken { IfErr result (IsWrong subcommand.now options.now) }
+{
+    demand_games(subcommand, options)?;
+    let meant = meant_for_games(options);
+    task_for(alloc, subcommand, &meant)
 }
 
 /// Returns the task that `subcommand` requests with `options`, or what is wrong with them.

@@ -6,6 +6,7 @@ mod beside;
 mod command;
 mod each;
 mod either;
+mod leniency;
 mod limits;
 mod line;
 mod mistake;

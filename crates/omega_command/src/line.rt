@@ -10,6 +10,8 @@ pub enum Line {
         task: Task,
         /// The source of its input.
         source: Source,
+        /// Whether games, and solutions of them, are read as other tools write them.
+        lenient: bool,
         /// Whether a refusal is written with the text or the file that it is about.
         verbose: bool,
     },

@@ -33,6 +33,7 @@ pub enum OptionName {
     Winners,
     Min,
     Json,
+    Lenient,
     Verbose,
     /// The operand, which names the file of the input.
     File,
@@ -69,6 +70,7 @@ impl fmt::Display for OptionName {
             OptionName::Winners => "--winners",
             OptionName::Min => "--min",
             OptionName::Json => "--json",
+            OptionName::Lenient => "--lenient",
             OptionName::Verbose => "--verbose",
             OptionName::File => "[FILE]",
         })
@@ -134,6 +136,8 @@ pub struct Options<'a> {
     pub min: Option<&'a str>,
     /// As `search`.
     pub json: Option<&'a str>,
+    /// As `search`.
+    pub lenient: Option<&'a str>,
     /// As `search`.
     pub verbose: Option<&'a str>,
     /// The operand: the name of the file of the input.

@@ -3,7 +3,7 @@ use Rattle.std.specs.Prelude.{◌≡◌, ◌≢◌, ◌⊎◌, List, Option, Som
 use Rattle.clap.specs.Words.{Row, first_of}
 use Rattle.clap.specs.declared.error.kind.ErrorKind.{ErrorKind}
 use Rattle.clap.specs.declared.error.kind.ErrorKind.TheVariants.{DisplayHelp, DisplayVersion}
-use Rattle.omega_command.specs.CommandLine.{Asks, IsMistake, text_of}
+use Rattle.omega_command.specs.CommandLine.{Asks, IsWrong, text_of}
 use Rattle.omega_command.specs.Line.{IsFaultLine}
 use Rattle.omega_command.specs.declared.line.Line.{Line}
 use Rattle.omega_command.specs.declared.line.Line.TheVariants as line
@@ -43,6 +43,7 @@ id_of name.Stream = codes "stream"
 id_of name.Winners = codes "winners"
 id_of name.Min = codes "min"
 id_of name.Json = codes "json"
+id_of name.Lenient = codes "lenient"
 id_of name.Verbose = codes "verbose"
 id_of name.File = codes "file"
 
@@ -53,7 +54,7 @@ IsFaultLineOf found line = IsFaultLine line × (found ≢ mistake.Memory)
 -- the line for the subcommand of this name with these options: what it requests, or a fault that says what is wrong
 abbrev pub IsLineOf : List ℕ → Options → Line → Type 0
 IsLineOf subcommand options line =
-    Asks subcommand options line ⊎ ((found : Mistake) × IsMistake subcommand options found × IsFaultLineOf found line)
+    Asks subcommand options line ⊎ ((found : Mistake) × IsWrong subcommand options found × IsFaultLineOf found line)
 
 -- the line for the subcommand of this name, with the options that `clap` found after it
 abbrev pub IsLineFor : List ℕ → List Row → Line → Type 0
@@ -69,5 +70,5 @@ IsLineFound (Some (subcommand, rows)) line = IsLineFor subcommand rows line
 abbrev pub IsPrinted : ErrorKind → Line → Type 0
 IsPrinted kind (line.Help text) = (kind ≡ DisplayHelp) ⊎ (kind ≡ DisplayVersion)
 IsPrinted kind (line.Fault text) = (kind ≢ DisplayHelp) × (kind ≢ DisplayVersion)
-IsPrinted kind (line.Do task source verbose) = ⊥
+IsPrinted kind (line.Do task source lenient verbose) = ⊥
 IsPrinted kind (line.ByText asked file verbose) = ⊥

@@ -40,6 +40,7 @@ pub fn options_in<'a>(found: &ArgMatches<'a>) -> Options<'a>
         winners: found.get_str("winners"),
         min: found.get_str("min"),
         json: found.get_str("json"),
+        lenient: found.get_str("lenient"),
         verbose: found.get_str("verbose"),
         file: found.get_str("file"),
     }

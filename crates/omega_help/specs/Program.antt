@@ -43,26 +43,29 @@ abbrev pub verbose : Rule
 verbose = lettered 118 (codes "verbose")
 
 abbrev pub show : Shape
-show = with_options (codes "show") (optional (codes "format") ∷ flag (codes "json") ∷ verbose ∷ operand (codes "file") ∷ [])
+show =
+    with_options (codes "show")
+    (optional (codes "format") ∷ flag (codes "json") ∷ flag (codes "lenient") ∷ verbose ∷ operand (codes "file") ∷ [])
 
 abbrev pub check : Shape
-check = with_options (codes "check") (optional (codes "format") ∷ verbose ∷ operand (codes "file") ∷ [])
+check = with_options (codes "check") (optional (codes "format") ∷ flag (codes "lenient") ∷ verbose ∷ operand (codes "file") ∷ [])
 
 abbrev pub canon : Shape
 canon =
     with_options (codes "canon")
-    (optional (codes "format") ∷ optional (codes "from") ∷ flag (codes "min") ∷ verbose ∷ operand (codes "file") ∷ [])
+    (optional (codes "format") ∷ optional (codes "from") ∷ flag (codes "min") ∷ flag (codes "lenient") ∷ verbose ∷ operand (codes "file") ∷ [])
 
 abbrev pub solve : Shape
 solve =
     with_options (codes "solve")
-    (optional (codes "player") ∷ optional (codes "from") ∷ flag (codes "search") ∷ optional (codes "budget") ∷ flag (codes "progress") ∷ verbose ∷ operand (codes "file") ∷ [])
+    (optional (codes "player") ∷ optional (codes "from") ∷ flag (codes "search") ∷ optional (codes "budget") ∷ flag (codes "progress")
+    ∷ flag (codes "lenient") ∷ verbose ∷ operand (codes "file") ∷ [])
 
 abbrev pub verify : Shape
 verify =
     with_options (codes "verify")
     (optional (codes "game") ∷ optional (codes "automaton") ∷ optional (codes "specification") ∷ flag (codes "winners") ∷ optional (codes "from") ∷ flag (codes "explain")
-    ∷ verbose ∷ operand (codes "file") ∷ [])
+    ∷ flag (codes "lenient") ∷ verbose ∷ operand (codes "file") ∷ [])
 
 abbrev pub empty : Shape
 empty =
@@ -105,7 +108,7 @@ abbrev pub draw : Shape
 draw =
     with_options (codes "draw")
     (optional (codes "format") ∷ optional (codes "from") ∷ optional (codes "depth") ∷ optional (codes "solution") ∷ flag (codes "legend")
-    ∷ flag (codes "lasso") ∷ verbose ∷ operand (codes "file") ∷ [])
+    ∷ flag (codes "lasso") ∷ flag (codes "lenient") ∷ verbose ∷ operand (codes "file") ∷ [])
 
 -- ---- the program
 

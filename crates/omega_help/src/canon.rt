@@ -2,7 +2,7 @@ ghost use Rattle.std.specs.Prelude.{◌≡◌, IfOk};
 ghost use Rattle.omega_help.specs.Program.{canon};
 ghost use Rattle.clap.specs.Words.{shape_of};
 
-use crate::options::{FILE, FORMAT, OptionHelp, VERBOSE, Value};
+use crate::options::{FILE, FORMAT, LENIENT, OptionHelp, VERBOSE, Value};
 use crate::subcommand::subcommand;
 use clap::Command;
 use std::alloc::{AllocError, Global};
@@ -59,6 +59,11 @@ written.
   [(0|t)&0] 0
   --END--
 
+--lenient reads a game as other tools write it. Comments, from `//` or `#` to the end of the line or
+between `/*` and `*/`, and `start N;` are passed over, the last `;` may be missing, and names may have any
+bytes. A node without successors loses for its owner. docs/formats.md, *The lenient game text*, has the
+rules. --lenient goes with --format pg only, which may then be left out.
+
 If --format is left out, the first token of FILE says what is read: automata begin with `HOA:`, and all
 else is read as a game. Without a FILE, or with --from or --min, --format has to be given.
 
@@ -80,6 +85,7 @@ const OPTIONS: &[OptionHelp] = &[
         value: Value::None,
         help: "Read a game in which the least priority decides, and write one in which the greatest does",
     },
+    LENIENT,
     VERBOSE,
     FILE,
 ];

@@ -2,7 +2,7 @@ ghost use Rattle.std.specs.Prelude.{◌≡◌, IfOk};
 ghost use Rattle.omega_help.specs.Program.{check};
 ghost use Rattle.clap.specs.Words.{shape_of};
 
-use crate::options::{FILE, FORMAT, OptionHelp, VERBOSE};
+use crate::options::{FILE, FORMAT, LENIENT, OptionHelp, VERBOSE};
 use crate::subcommand::subcommand;
 use clap::Command;
 use std::alloc::{AllocError, Global};
@@ -22,6 +22,11 @@ also has the place of the byte, counted from 0.
   accepted
   $ echo 'HOA: v1 Acceptance: 0 t --BODY-- State: 0' | omega check --format hoa
   omega: 3 Syntax at 42
+
+--lenient reads a game as other tools write it. Comments, from `//` or `#` to the end of the line or
+between `/*` and `*/`, and `start N;` are passed over, the last `;` may be missing, and names may have any
+bytes. A node without successors loses for its owner. docs/formats.md, *The lenient game text*, has the
+rules. --lenient goes with --format pg only, which may then be left out.
 
 If --format is left out, the first token of FILE says what is read: automata begin with `HOA:`, and all
 else is read as a game. Without a FILE, --format has to be given.
@@ -68,7 +73,7 @@ fault between two automata if it comes before that. But 4 comes before all else.
 Exit status: 0 accepted, 1 the text is refused, 2 the command line is wrong, 4 out of memory, 5 a read
 or a write failed.";
 
-const OPTIONS: &[OptionHelp] = &[FORMAT, VERBOSE, FILE];
+const OPTIONS: &[OptionHelp] = &[FORMAT, LENIENT, VERBOSE, FILE];
 
 /// Returns the subcommand that judges a text.
 pub fn check_command<'a>(alloc: Global) -> Result<Command<'a>, AllocError>

@@ -2,7 +2,7 @@ ghost use Rattle.std.specs.Prelude.{◌≡◌, IfOk};
 ghost use Rattle.omega_help.specs.Program.{draw};
 ghost use Rattle.clap.specs.Words.{shape_of};
 
-use crate::options::{FILE, FORMAT, LASSO, LEGEND, OptionHelp, SOLUTION, VERBOSE, Value};
+use crate::options::{FILE, FORMAT, LASSO, LEGEND, LENIENT, OptionHelp, SOLUTION, VERBOSE, Value};
 use crate::subcommand::subcommand;
 use clap::Command;
 use std::alloc::{AllocError, Global};
@@ -50,6 +50,12 @@ is the same as without --lasso.
     --BODY-- State: 0 [t] 0 {0} [t] 1 State: 1 [t] 1 --END--' > automaton.hoa
   $ omega draw --format hoa --lasso automaton.hoa | dot -Tsvg > automaton.svg
 
+--lenient reads a game, and a solution of it, as other tools write them. Comments, from `//` or `#` to the
+end of the line or between `/*` and `*/`, and `start N;` are passed over, the last `;` may be missing, and
+names may have any bytes. A node without successors loses for its owner: it is drawn as its own successor.
+In docs/formats.md, *The lenient game text* and *The lenient solution text* have the rules. --lenient goes
+with --format pg only, which may then be left out.
+
 --solution, --legend, --from and --depth go with --format pg only, --legend with --solution only, --depth
 with --from only, and --lasso with --format hoa only.
 
@@ -82,6 +88,7 @@ const OPTIONS: &[OptionHelp] = &[
     SOLUTION,
     LEGEND,
     LASSO,
+    LENIENT,
     VERBOSE,
     FILE,
 ];

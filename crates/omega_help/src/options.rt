@@ -152,6 +152,13 @@ pub const STREAM: OptionHelp = OptionHelp {
     help: "Write one for each automaton of a stream, one after the other",
 };
 
+/// The flag that asks for games to be read as other tools write them.
+pub const LENIENT: OptionHelp = OptionHelp {
+    name: "lenient",
+    value: Value::None,
+    help: "Read a game with comments, `start N;`, dead ends, names of any bytes, or no last `;`",
+};
+
 /// The flag that asks for progress to be reported.
 pub const PROGRESS: OptionHelp = OptionHelp {
     name: "progress",

@@ -2,7 +2,7 @@ ghost use Rattle.std.specs.Prelude.{◌≡◌, IfOk};
 ghost use Rattle.omega_help.specs.Program.{solve};
 ghost use Rattle.clap.specs.Words.{shape_of};
 
-use crate::options::{BUDGET, FILE, OptionHelp, PLAYER, PROGRESS, VERBOSE, Value};
+use crate::options::{BUDGET, FILE, LENIENT, OptionHelp, PLAYER, PROGRESS, VERBOSE, Value};
 use crate::subcommand::subcommand;
 use clap::Command;
 use std::alloc::{AllocError, Global};
@@ -60,6 +60,11 @@ lines for those nodes alone. Who wins them depends on nothing else in the game. 
 identifier, the refusal is 54 UnknownNode. `omega canon --format pg --from ID` writes the part as a game
 of its own, and `omega verify --from ID` checks a solution of it.
 
+--lenient reads a game as other tools write it. Comments, from `//` or `#` to the end of the line or
+between `/*` and `*/`, and `start N;` are passed over, the last `;` may be missing, and names may have any
+bytes. A node without successors loses for its owner: the solution has it as its own successor.
+docs/formats.md, *The lenient game text*, has the rules.
+
 Lifting refuses a game as 50 TooWide if the number of its nodes times the number of its priorities in use
 that lose for a player is over 67108864.
 
@@ -80,6 +85,7 @@ const OPTIONS: &[OptionHelp] = &[
     },
     BUDGET,
     PROGRESS,
+    LENIENT,
     VERBOSE,
     FILE,
 ];

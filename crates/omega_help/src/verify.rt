@@ -2,7 +2,7 @@ ghost use Rattle.std.specs.Prelude.{◌≡◌, IfOk};
 ghost use Rattle.omega_help.specs.Program.{verify};
 ghost use Rattle.clap.specs.Words.{shape_of};
 
-use crate::options::{AUTOMATON, EXPLAIN, FILE, GAME, OptionHelp, VERBOSE, Value};
+use crate::options::{AUTOMATON, EXPLAIN, FILE, GAME, LENIENT, OptionHelp, VERBOSE, Value};
 use crate::subcommand::subcommand;
 use clap::Command;
 use std::alloc::{AllocError, Global};
@@ -59,6 +59,12 @@ It goes with --game only.
   0 0 2;
   1 0;
   2 0;
+
+--lenient reads the game and the solution as other tools write them. Of a game, comments and `start N;`
+are passed over, the last `;` may be missing, names may have any bytes, and a node without successors
+loses for its owner. Of a solution, comments, names and -1 in place of a successor are passed over. In
+docs/formats.md, *The lenient game text* and *The lenient solution text* have the rules. It goes with
+--game only.
 
 A solution text is what `omega solve` writes: a header with the greatest identifier of the game, or of
 the part, then a line for each node in rising order of identifiers, with the player who wins from it
@@ -139,6 +145,7 @@ const OPTIONS: &[OptionHelp] = &[
         help: "Judge a solution of only the part that the node with this identifier reaches",
     },
     EXPLAIN,
+    LENIENT,
     VERBOSE,
     FILE,
 ];

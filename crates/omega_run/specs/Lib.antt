@@ -10,6 +10,7 @@ pub use Rattle.omega_io.specs.Lines
 pub use Rattle.omega_io.specs.Refused
 pub mod Beside
 pub mod Formats
+pub mod Lenient
 pub mod Obey
 pub mod Perform
 pub mod Progress

@@ -74,7 +74,7 @@ pub(crate) fn run_given<R: Input, W: Output, E: Output>(
 }
 
 /// Reads the input, makes the whole answer to its text and that of the file in memory, and then writes it.
-fn write_beside<R: Input, W: Output>(
+pub(crate) fn write_beside<R: Input, W: Output>(
     alloc: Global,
     asked: Beside,
     file: Vec<u8>,

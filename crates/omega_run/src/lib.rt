@@ -10,6 +10,7 @@ mod format;
 mod held_text;
 mod kinds;
 mod laws;
+mod leniently;
 mod obeying;
 mod observing;
 mod progress;

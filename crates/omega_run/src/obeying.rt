@@ -5,6 +5,7 @@ ghost use Rattle.omega_run.specs.World.{streams, streams_of, world_of};
 
 use crate::format::format_of;
 use crate::held_text::HeldText;
+use crate::leniently::run_reading;
 use crate::reporting::{report, report_file};
 use crate::task::run;
 use omega_command::{Line, MOST_BUDGET, OfEither, Source, Task};
@@ -41,9 +42,12 @@ pub fn obey<F: InputFiles, R: Input, W: Output, E: Output>(
             Line::Do {
                 task,
                 source,
+                lenient,
                 verbose,
             },
-        ) => with_input(alloc, task, source, verbose, files, input, output, errors),
+        ) => with_input(
+            alloc, task, source, lenient, verbose, files, input, output, errors,
+        ),
         Ok(
             Line::ByText {
                 asked,
@@ -68,6 +72,7 @@ fn with_input<F: InputFiles, R: Input, W: Output, E: Output>(
     alloc: Global,
     task: Task,
     source: Source,
+    lenient: bool,
     verbose: bool,
     files: &F,
     input: &mut R,
@@ -78,15 +83,22 @@ fn with_input<F: InputFiles, R: Input, W: Output, E: Output>(
     requires reads { R.failed input.old < 2 ^ 64 - 1 }
     requires writes { W.failed output.old < 2 ^ 64 - 1 }
     requires tells { E.failed errors.old < 2 ^ 64 - 1 }
-    ensures { IsDone verbose task source result
+    ensures { IsDone lenient verbose task source result
         (world_of F.InputFiles E.Output files.now errors.old errors.new
         (streams_of R.Input W.Output input.old output.old) (streams_of R.Input W.Output input.new output.new)) }
 {
     match source {
-        Source::Input => run(alloc, task, verbose, files, input, output, errors),
-        Source::File(name) => {
-            with_file(alloc, task, name.as_str(), verbose, files, output, errors)
-        }
+        Source::Input => run_reading(alloc, task, lenient, verbose, files, input, output, errors),
+        Source::File(name) => with_file(
+            alloc,
+            task,
+            name.as_str(),
+            lenient,
+            verbose,
+            files,
+            output,
+            errors,
+        ),
     }
 }
 
@@ -95,6 +107,7 @@ fn with_file<F: InputFiles, W: Output, E: Output>(
     alloc: Global,
     task: Task,
     name: &str,
+    lenient: bool,
     verbose: bool,
     files: &F,
     output: &mut W,
@@ -103,7 +116,7 @@ fn with_file<F: InputFiles, W: Output, E: Output>(
     requires runnable { IsRunnableTask task }
     requires writes { W.failed output.old < 2 ^ 64 - 1 }
     requires tells { E.failed errors.old < 2 ^ 64 - 1 }
-    ensures { (unread : Option (List ℕ)) → (failed_reads : ℕ) → IsDoneWithFile verbose task name.now result
+    ensures { (unread : Option (List ℕ)) → (failed_reads : ℕ) → IsDoneWithFile lenient verbose task name.now result
         (world_of F.InputFiles E.Output files.now errors.old errors.new
         (streams unread failed_reads (W.contents output.old) (W.failed output.old))
         (streams unread failed_reads (W.contents output.new) (W.failed output.new))) }
@@ -111,7 +124,9 @@ fn with_file<F: InputFiles, W: Output, E: Output>(
     match files.read_file(alloc, name) {
         Ok(text) => {
             let mut input = HeldText::new(text.as_slice());
-            run(alloc, task, verbose, files, &mut input, output, errors)
+            run_reading(
+                alloc, task, lenient, verbose, files, &mut input, output, errors,
+            )
         }
         Err(refusal) => report_file(alloc, name, refusal, verbose, errors),
     }

@@ -7,6 +7,8 @@ mod files;
 #[cfg(test)]
 mod host;
 #[cfg(test)]
+mod lenient;
+#[cfg(test)]
 mod portions;
 #[cfg(test)]
 mod progress;

@@ -3,7 +3,7 @@ use Rattle.std.proofs.Common.{◌∙◌}
 use Rattle.clap.proofs.WalkLemmas.{first_value-rows}
 use Rattle.clap.specs.Words.{found_of}
 use Rattle.omega_command_line.specs.Found.{id_of}
-use Rattle.omega_command.specs.declared.options.OptionName.TheVariants.{AsGame, Automaton, Budget, Controller, Depth, Explain, File, Format, From, Game, In, Json, Lasso, Legend, Lift, Min, Player, Progress, Search, Solution, Specification, Status, Stream, To, Trim, Verbose, Winners, With, Word, WordText}
+use Rattle.omega_command.specs.declared.options.OptionName.TheVariants.{AsGame, Automaton, Budget, Controller, Depth, Explain, File, Format, From, Game, In, Json, Lasso, Legend, Lenient, Lift, Min, Player, Progress, Search, Solution, Specification, Status, Stream, To, Trim, Verbose, Winners, With, Word, WordText}
 use Rattle.omega_command_line.proofs.found.options_in.Goals as goal
 
 pub returns : goal.returns
@@ -35,5 +35,6 @@ returns c Stream = c.get_str-25.ensures ∙ first_value-rows (found_of c.args.fo
 returns c Winners = c.get_str-26.ensures ∙ first_value-rows (found_of c.args.found.now) (id_of Winners)
 returns c Min = c.get_str-27.ensures ∙ first_value-rows (found_of c.args.found.now) (id_of Min)
 returns c Json = c.get_str-28.ensures ∙ first_value-rows (found_of c.args.found.now) (id_of Json)
-returns c Verbose = c.get_str-29.ensures ∙ first_value-rows (found_of c.args.found.now) (id_of Verbose)
-returns c File = c.get_str-30.ensures ∙ first_value-rows (found_of c.args.found.now) (id_of File)
+returns c Lenient = c.get_str-29.ensures ∙ first_value-rows (found_of c.args.found.now) (id_of Lenient)
+returns c Verbose = c.get_str-30.ensures ∙ first_value-rows (found_of c.args.found.now) (id_of Verbose)
+returns c File = c.get_str-31.ensures ∙ first_value-rows (found_of c.args.found.now) (id_of File)
