@@ -62,8 +62,8 @@ of its own, and `omega verify --from ID` checks a solution of it.
 
 --lenient reads a game as other tools write it. Comments, from `//` or `#` to the end of the line or
 between `/*` and `*/`, and `start N;` are passed over, the last `;` may be missing, and names may have any
-bytes. A node without successors loses for its owner: the solution has it as its own successor.
-docs/formats.md, *The lenient game text*, has the rules.
+bytes. A node without successors loses for its owner. docs/formats.md, *The lenient game text*, has the
+rules.
 
 Lifting refuses a game as 50 TooWide if the number of its nodes times the number of its priorities in use
 that lose for a player is over 67108864.
