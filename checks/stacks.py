@@ -8,18 +8,22 @@ from functools import partial
 
 from program import SECONDS, Cases, Fault
 
-# How many KiB the header says that a call needs: for texts as deep as they may be, and for texts of this depth.
-DEEPEST, MOST = 250, 256
-SHALLOW, FEWER = 50, 64
+# How many KiB the header says that a call needs, whatever the text is; and a depth that labels and formulas may have.
+KIBIBYTES, DEEPEST = 64, 250
+# More propositions than the valuations of a label are tried for, one after another.
+MANY = 16
 GAME = "".join(f"{v} {v % 7} {v % 2} {(v + 1) % 20000},{v};" for v in range(20000))
-AUTOMATON = ('HOA: v1 States: 2 Start: 0 AP: 2 "a" "b" %sAcceptance: %s '
+NAMES = " ".join(f'"p{p}"' for p in range(MANY))
+AUTOMATON = (f"HOA: v1 States: 2 Start: 0 AP: {MANY} {NAMES} %sAcceptance: %s "
              "--BODY-- State: 0 [%s] 1 {0} State: 1 [t] 0 --END--")
 CONTROL = "controllable-AP: 0 "
 CALLS = ("empty", "complement", "meet", "contained", "equal", "realize")
 RUNS = ("canon --format hoa", "check --format hoa", "show --format hoa", "draw --format hoa",
         "draw --format hoa --lasso", "empty --search --word", "empty --word", "complement", "meet --with f",
-        "join --with f", "contained --in f", "equal --to f", "realize", "realize --controller", "game",
-        "verify --automaton f")
+        "meet --trim --with f", "join --with f", "trim", "contained --in f", "contained --explain --in f",
+        "equal --to f", "equal --explain --to f", "realize", "realize --controller", "realize --game", "realize --lift",
+        "game", "verify --automaton f", "verify --specification f", "verify --specification f --explain",
+        "accepts --word cycle{1}", "accepts --explain --word cycle{p0}")
 
 
 def nested(depth: int, left: str, right: str, innermost: str) -> str:
@@ -34,6 +38,9 @@ def labels(depth: int) -> Iterator[tuple[str, str]]:
     yield "conjunctions on the left", nested(depth // 2, "(", ") & 0", "1")
     yield "conjunctions and disjunctions", nested(depth // 4, "0 & (1 | (", "))", "1")
     yield "a chain", " & ".join(["0"] * depth)
+    yield "many propositions", " & ".join(f"({p % MANY} | !{(p + 1) % MANY})" for p in range(depth // 2))
+    yield "many propositions inside one another", "".join(f"{p % MANY} | !(" for p in range(depth // 3)) + "0" + (
+        ")" * (depth // 3))
 
 
 def texts(depth: int) -> Iterator[tuple[str, str]]:
@@ -77,11 +84,10 @@ def stack_fault(program: str, kibibytes: int, words: list[str], text: str) -> Fa
 
 
 def stack_checks(program: str) -> Cases:
-    for depth, kibibytes in ((DEEPEST, MOST), (SHALLOW, FEWER)):
-        for name, text in texts(depth):
-            for words in calls():
-                label = f"{kibibytes} KiB of stack for {' '.join(words)} on {name}, {depth} deep"
-                yield label, partial(stack_fault, program, kibibytes, words, text)
+    for name, text in texts(DEEPEST):
+        for words in calls():
+            label = f"{KIBIBYTES} KiB of stack for {' '.join(words)} on {name}, {DEEPEST} deep"
+            yield label, partial(stack_fault, program, KIBIBYTES, words, text)
     for command in ("solve --search", "solve --budget 100000", "canon --format pg", "check --format pg",
                     "show --format pg", "draw --format pg"):
-        yield f"the stack of {command}", partial(stack_fault, program, FEWER, ["run", *command.split()], GAME)
+        yield f"the stack of {command}", partial(stack_fault, program, KIBIBYTES, ["run", *command.split()], GAME)
