@@ -11,8 +11,7 @@
  * Nothing else writes, while a call runs, to what it reads: entries are judged first, and then read again with no test.
  * malloc, realloc and free are those of one allocator. No call keeps a pointer.
  *
- * How much stack a call needs: 256 KiB is enough for each, and 64 KiB where no label and no formula is over 50 deep.
- * Games need 32 KiB.
+ * How much stack a call needs: 64 KiB is enough for each, whatever the text is. Games need 32 KiB.
  *
  * What every call gives: an outcome whose number is 0, or that of a refusal, and then nothing was written.
  */
