@@ -129,7 +129,7 @@ AsksToLift subcommand options (command.Search from) budget =
     (subcommand ≡ codes "solve") × GivesFlag (text_of name.Search options) true × (text_of name.Player options ≡ None)
     × Gives (IsNumberText most_number) (text_of name.From options) from × GivesBudget (text_of name.Budget options) budget
 AsksToLift subcommand options (command.Empty word status) budget =
-    (subcommand ≡ codes "empty") × GivesFlag (text_of name.Search options) false
+    (subcommand ≡ codes "empty") × GivesFlag (text_of name.Stream options) false × GivesFlag (text_of name.Search options) false
     × GivesFlag (text_of name.Word options) word × GivesFlag (text_of name.Status options) status × GivesBudget (text_of name.Budget options) budget
 AsksToLift subcommand options (command.RealizeByLifting controller) budget =
     (subcommand ≡ codes "realize") × GivesFlag (text_of name.Lift options) true × GivesFlag (text_of name.AsGame options) false
@@ -145,6 +145,14 @@ AsksUnlifted subcommand options budget =
 
 -- the subcommand of this name, with these options, asks for this of each automaton of a stream, with this budget
 abbrev pub AsksOfEach : List ℕ → Options → OfEach → ℕ → Type 0
+AsksOfEach subcommand options (each.Empty word status) budget =
+    (subcommand ≡ codes "empty") × GivesFlag (text_of name.Search options) false × GivesFlag (text_of name.Word options) word
+    × GivesFlag (text_of name.Status options) status × GivesFlag (text_of name.Progress options) false
+    × GivesBudget (text_of name.Budget options) budget
+AsksOfEach subcommand options (each.EmptySearch word status) budget =
+    (subcommand ≡ codes "empty") × GivesFlag (text_of name.Search options) true × GivesFlag (text_of name.Word options) word
+    × GivesFlag (text_of name.Status options) status × GivesFlag (text_of name.Progress options) false
+    × (text_of name.Budget options ≡ None) × (budget ≡ most_budget)
 AsksOfEach subcommand options each.Complement budget = (subcommand ≡ codes "complement") × (budget ≡ most_budget)
 AsksOfEach subcommand options each.Trim budget = (subcommand ≡ codes "trim") × (budget ≡ most_budget)
 
@@ -175,6 +183,10 @@ AsksBeside subcommand options file (beside.Meet trim) =
 AsksBeside subcommand options file beside.Join = (subcommand ≡ codes "join") × (text_of name.With options ≡ Some file)
 AsksBeside subcommand options file (beside.Contained explain) =
     (subcommand ≡ codes "contained") × (text_of name.In options ≡ Some file) × GivesFlag (text_of name.Explain options) explain
+    × GivesFlag (text_of name.Stream options) false
+AsksBeside subcommand options file (beside.ContainedStream explain) =
+    (subcommand ≡ codes "contained") × (text_of name.In options ≡ Some file) × GivesFlag (text_of name.Explain options) explain
+    × GivesFlag (text_of name.Stream options) true
 AsksBeside subcommand options file (beside.Equal explain) =
     (subcommand ≡ codes "equal") × (text_of name.To options ≡ Some file) × GivesFlag (text_of name.Explain options) explain
 AsksBeside subcommand options file (beside.DrawSolution from depth legend) =
@@ -216,8 +228,8 @@ AsksFor subcommand options (task.Run (command.Search from) budget) =
 AsksFor subcommand options (task.Run (command.Empty word status) budget) =
     AsksToLift subcommand options (command.Empty word status) budget × GivesFlag (text_of name.Progress options) false
 AsksFor subcommand options (task.Run (command.EmptySearch word status) budget) =
-    (subcommand ≡ codes "empty") × GivesFlag (text_of name.Search options) true × GivesFlag (text_of name.Word options) word
-    × GivesFlag (text_of name.Status options) status
+    (subcommand ≡ codes "empty") × GivesFlag (text_of name.Stream options) false × GivesFlag (text_of name.Search options) true
+    × GivesFlag (text_of name.Word options) word × GivesFlag (text_of name.Status options) status
     × (text_of name.Budget options ≡ None) × GivesFlag (text_of name.Progress options) false × (budget ≡ most_budget)
 AsksFor subcommand options (task.Run (command.RealizeByLifting controller) budget) =
     AsksToLift subcommand options (command.RealizeByLifting controller) budget × GivesFlag (text_of name.Progress options) false
@@ -357,7 +369,8 @@ HasOption subcommand name.Lasso = subcommand ≡ codes "draw"
 HasOption subcommand name.Depth = subcommand ≡ codes "draw"
 HasOption subcommand name.Progress =
     (subcommand ≡ codes "solve") ⊎ (subcommand ≡ codes "empty") ⊎ (subcommand ≡ codes "realize")
-HasOption subcommand name.Stream = (subcommand ≡ codes "complement") ⊎ (subcommand ≡ codes "trim")
+HasOption subcommand name.Stream =
+    (subcommand ≡ codes "empty") ⊎ (subcommand ≡ codes "contained") ⊎ (subcommand ≡ codes "complement") ⊎ (subcommand ≡ codes "trim")
 HasOption subcommand name.Winners = subcommand ≡ codes "verify"
 HasOption subcommand name.Min = subcommand ≡ codes "canon"
 HasOption subcommand name.Json = subcommand ≡ codes "show"
@@ -497,12 +510,13 @@ IsUsed name.Verbose options = GivesFlag (text_of name.Verbose options) true
 IsUsed name.File options = text_of name.File options ≢ None
 
 -- the option of the subcommand that conflicts with this one. The search of `solve` is for both players, and that of
--- `empty` makes no lifts. `verify` judges one thing, and only a game has parts and winners. The game of `realize` is
--- written without being solved
+-- `empty` makes no lifts. The progress of a stream is not reported. `verify` judges one thing, and only a game has
+-- parts and winners. The game of `realize` is written without being solved
 abbrev pub IsApartFrom : OptionName → List ℕ → OptionName → Type 0
 IsApartFrom name.Search subcommand option =
     ((subcommand ≡ codes "solve") × (option ≡ name.Player))
     ⊎ ((subcommand ≡ codes "empty") × ((option ≡ name.Budget) ⊎ (option ≡ name.Progress)))
+IsApartFrom name.Stream subcommand option = (subcommand ≡ codes "empty") × (option ≡ name.Progress)
 IsApartFrom name.Automaton subcommand option =
     (subcommand ≡ codes "verify") × ((option ≡ name.Game) ⊎ (option ≡ name.From) ⊎ (option ≡ name.Winners) ⊎ (option ≡ name.Lenient))
 IsApartFrom name.Specification subcommand option =

@@ -11,6 +11,7 @@ use crate::beside::Beside;
 use crate::command::{Command, Format};
 use crate::each::OfEach;
 use crate::either::OfEither;
+use crate::emptiness::emptiness_for;
 use crate::leniency::{demand_games, leniency_in, meant_for_games};
 use crate::limits::MOST_BUDGET;
 use crate::line::{Line, Source, Task};
@@ -320,33 +321,6 @@ fn solving_for<'a>(options: &Options<'a>) -> Result<Task, Mistake<'a>>
     })
 }
 
-/// Returns the task that `empty` requests with `options`, or what is wrong with them.
-fn emptiness_for<'a>(options: &Options<'a>) -> Result<Task, Mistake<'a>>
-    ensures asked { IfOk result (AsksFor (codes "empty") options.now) }
-    ensures mistaken { IfErr result (IsMistake (codes "empty") options.now) }
-{
-    let word = is_set(OptionName::Word, options.word)?;
-    let status = is_set(OptionName::Status, options.status)?;
-    let budget = budget_in(options)?;
-    let observed = is_set(OptionName::Progress, options.progress)?;
-    if !is_set(OptionName::Search, options.search)? {
-        let command = Command::Empty { word, status };
-        return Ok(if observed {
-            Task::Observed(command, budget)
-        } else {
-            Task::Run(command, budget)
-        });
-    }
-    if options.budget.is_some() {
-        return Err(Mistake::Conflict(OptionName::Search, OptionName::Budget));
-    }
-    if observed {
-        return Err(Mistake::Conflict(OptionName::Search, OptionName::Progress));
-    }
-    let command = Command::EmptySearch { word, status };
-    Ok(Task::Run(command, MOST_BUDGET))
-}
-
 /// Returns the task that `meet` requests with `options`, or what is wrong with them.
 fn meeting_for<'a>(alloc: Global, options: &Options<'a>) -> Result<Task, Mistake<'a>>
     ensures asked { IfOk result (AsksFor (codes "meet") options.now) }
@@ -402,16 +376,23 @@ fn contained_for<'a>(alloc: Global, options: &Options<'a>) -> Result<Task, Mista
     ensures mistaken { IfErr result (IsMistake (codes "contained") options.now) }
 {
     let explain = is_set(OptionName::Explain, options.explain)?;
+    let stream = is_set(OptionName::Stream, options.stream)?;
     let Some(name) = options.within else {
         return Err(Mistake::Missing(OptionName::In));
     };
-    match String::from_str(alloc, name) {
-        Ok(file) => Ok(Task::Beside {
+    let Ok(file) = String::from_str(alloc, name) else {
+        return Err(Mistake::Memory);
+    };
+    if stream {
+        return Ok(Task::Beside {
             file,
-            asked: Beside::Contained { explain },
-        }),
-        Err(_) => Err(Mistake::Memory),
+            asked: Beside::ContainedStream { explain },
+        });
     }
+    Ok(Task::Beside {
+        file,
+        asked: Beside::Contained { explain },
+    })
 }
 
 /// Returns the task that `equal` requests with `options`, or what is wrong with them.

@@ -42,6 +42,11 @@ pub enum Beside {
         /// Whether a `no` is explained.
         explain: bool,
     },
+    /// Says for each automaton of the stream that the input has whether that of the file accepts each of its words.
+    ContainedStream {
+        /// Whether a `no` is explained.
+        explain: bool,
+    },
     /// Says whether the automata of the file and of the input accept the same words.
     Equal {
         /// Whether a `no` is explained.

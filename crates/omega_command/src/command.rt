@@ -49,7 +49,7 @@ pub enum Command {
         /// Whether the exit says which of the two is written.
         status: bool,
     },
-    /// Writes an automaton for each automaton of a stream, one after the other.
+    /// Answers for each automaton of a stream, one after the other.
     Each(OfEach),
     /// Writes the emptiness game of an automaton.
     Game,

@@ -6,6 +6,7 @@ mod beside;
 mod command;
 mod each;
 mod either;
+mod emptiness;
 mod leniency;
 mod limits;
 mod line;
