@@ -70,7 +70,7 @@ verify =
 abbrev pub empty : Shape
 empty =
     with_options (codes "empty")
-    (flag (codes "search") ∷ flag (codes "word") ∷ flag (codes "status") ∷ optional (codes "budget") ∷ flag (codes "progress") ∷ verbose ∷ operand (codes "file") ∷ [])
+    (flag (codes "search") ∷ flag (codes "word") ∷ flag (codes "status") ∷ flag (codes "stream") ∷ optional (codes "budget") ∷ flag (codes "progress") ∷ verbose ∷ operand (codes "file") ∷ [])
 
 abbrev pub game : Shape
 game = with_options (codes "game") (verbose ∷ operand (codes "file") ∷ [])
@@ -81,7 +81,9 @@ accepts =
     (required_as (codes "word") (codes "word-text") ∷ flag (codes "explain") ∷ verbose ∷ operand (codes "file") ∷ [])
 
 abbrev pub contained : Shape
-contained = with_options (codes "contained") (required (codes "in") ∷ flag (codes "explain") ∷ verbose ∷ operand (codes "file") ∷ [])
+contained =
+    with_options (codes "contained")
+    (required (codes "in") ∷ flag (codes "explain") ∷ flag (codes "stream") ∷ verbose ∷ operand (codes "file") ∷ [])
 
 abbrev pub equal : Shape
 equal = with_options (codes "equal") (required (codes "to") ∷ flag (codes "explain") ∷ verbose ∷ operand (codes "file") ∷ [])

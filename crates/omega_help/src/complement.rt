@@ -53,9 +53,10 @@ nothing is written but the line of the refusal.
 
   $ echo 'HOA: v1 Acceptance: 0 f --BODY-- --END-- HOA: v1 --ABORT--
     HOA: v1 Start: 0 Acceptance: 0 t --BODY-- State: 0 [t] 0 --END--' |
-    omega complement --stream | omega show --format hoa
-  0 automaton states 1 edges 1 propositions 0 sets 1 acceptance t|Inf(0)
-  1 automaton states 1 edges 1 propositions 0 sets 0 acceptance f
+    omega complement --stream | omega empty --search --stream
+  stem
+  cycle 0
+  empty
 
 Faults of the text come first; `omega check --help` lists them. A text with --ABORT--, with no automaton
 or with several is not one automaton, and is refused as 3 Syntax, but not with --stream. Then, if a start

@@ -2,7 +2,7 @@ ghost use Rattle.std.specs.Prelude.{◌≡◌, IfOk};
 ghost use Rattle.omega_help.specs.Program.{contained};
 ghost use Rattle.clap.specs.Words.{shape_of};
 
-use crate::options::{FILE, OptionHelp, VERBOSE, Value};
+use crate::options::{FILE, OptionHelp, STREAM, VERBOSE, Value};
 use crate::subcommand::subcommand;
 use clap::Command;
 use std::alloc::{AllocError, Global};
@@ -30,20 +30,32 @@ With --explain three lines follow `no`: a lasso of the automaton in FILE, which 
 judges, and a word along it, as `omega empty --word` writes both. Each letter of the word demands what
 its edge does, and more: the automaton in FILE accepts each word that fits, and the other accepts none.
 
+--stream reads automata from FILE, one after the other, and writes the answer for each in turn, each with
+the same other automaton. For an automaton that is stopped by --ABORT-- it writes the line `aborted`. If
+there is no automaton, nothing is written. The exit status is 6 if one of the answers is `no`. If one of
+the automata is refused, nothing is written but the line of the refusal.
+
+  $ echo 'HOA: v1 --ABORT-- HOA: v1 Start: 0 AP: 1 \"grant\" Acceptance: 0 t
+    --BODY-- State: 0 [0] 0 --END--' | cat - system.hoa | omega contained --in often.hoa --stream
+  aborted
+  yes
+  no
+
 Propositions are joined by name. A proposition that only one of the two automata has is free in the
 other, so a misspelt name makes no fault. `omega complement`, `omega meet` and `omega empty` answer the
 same question in three steps, whose texts have a limit of length; this command has none between.
 
 Faults of the other automaton's text come first, then those of the text in FILE; `omega check --help`
 lists them. A text with --ABORT--, with no automaton or with several is not one automaton, and is refused
-as 3 Syntax. Then, if a start or an edge of one of them lists several states joined by &, the refusal is
-41 UniversalBranch, and 42 TooManyPropositions, 55 TooLarge and 56 NotDeterministic come as from
-`omega complement` and `omega meet`. With --verbose a second line says which of the two is refused,
-`omega: in the other automaton` or `omega: in the automaton`. A file that can't be read is refused as
-61 Io, and with --verbose a second line has its name. Files are read before standard input.
+as 3 Syntax; with --stream that in FILE is not. Then, if a start or an edge of one of them lists several
+states joined by &, the refusal is 41 UniversalBranch, and 42 TooManyPropositions, 55 TooLarge and 56
+NotDeterministic come as from `omega complement` and `omega meet`. With --verbose a second line says
+which of the two is refused, `omega: in the other automaton` or `omega: in the automaton`. A file that
+can't be read is refused as 61 Io, and with --verbose a second line has its name. Files are read before
+standard input.
 
 Exit status: 0 yes, 1 a text or the task is refused, 2 the command line is wrong, 4 out of memory, 5 a
-read or a write failed, 6 no.";
+read or a write failed, 6 no, or with --stream, one `no`.";
 
 const OPTIONS: &[OptionHelp] = &[
     OptionHelp {
@@ -56,6 +68,7 @@ const OPTIONS: &[OptionHelp] = &[
         value: Value::None,
         help: "Write after `no` a word that only the automaton in FILE accepts",
     },
+    STREAM,
     VERBOSE,
     FILE,
 ];

@@ -2,7 +2,7 @@ ghost use Rattle.std.specs.Prelude.{◌≡◌, IfOk};
 ghost use Rattle.omega_help.specs.Program.{empty};
 ghost use Rattle.clap.specs.Words.{shape_of};
 
-use crate::options::{BUDGET, FILE, OptionHelp, PROGRESS, VERBOSE, Value, WORD};
+use crate::options::{BUDGET, FILE, OptionHelp, PROGRESS, STREAM, VERBOSE, Value, WORD};
 use crate::subcommand::subcommand;
 use clap::Command;
 use std::alloc::{AllocError, Global};
@@ -48,6 +48,19 @@ From then on b holds, with or without a. Every word that fits the letters is acc
 With --status the exit status says which of the two is written: 0 after a lasso, and 6 after `empty`, so
 that a script needs no text. Without it the exit status is 0 after both.
 
+--stream reads automata, one after the other, and writes the answer for each in turn. For an automaton
+that is stopped by --ABORT-- it writes the line `aborted`. If there is no automaton, nothing is written.
+--budget N bounds the lifts for each automaton by itself. With --status the exit status is 6 if one of
+the automata accepts nothing, and else 0. If one of them is refused, nothing is written but the line of
+the refusal. --stream does not go with --progress.
+
+  $ echo 'HOA: v1 Acceptance: 0 f --BODY-- --END-- HOA: v1 --ABORT--
+    HOA: v1 Start: 0 Acceptance: 0 t --BODY-- State: 0 [t] 0 --END--' | omega empty --search --stream
+  empty
+  aborted
+  stem
+  cycle 0
+
 Without --search, emptiness is decided if `acc-name:` has one of these names, and the formula is the one
 that the Hanoi format gives to it: all, none, Buchi, co-Buchi, parity max even K, parity max odd K,
 parity min even K, parity min odd K, and generalized-Buchi K with K from 1 to 16. Every other name, no
@@ -77,11 +90,12 @@ steps do not decide it. The search makes no lifts. So it goes neither with --bud
 and is never refused as 50 TooWide or 51 Budget.
 
 Faults of the text come first; `omega check --help` lists them. A text with --ABORT--, with no automaton
-or with several is not one automaton, and is refused as 3 Syntax. Then 13, 40, 41 and 42 come in this
-order, then 50, and then 51; with --search 41, and then 42.
+or with several is not one automaton, and is refused as 3 Syntax, but not with --stream. Then 13, 40, 41
+and 42 come in this order, then 50, and then 51; with --search 41, and then 42.
 
 Exit status: 0 done, 1 the text or the task is refused, 2 the command line is wrong, 3 the budget is
-used up, 4 out of memory, 5 a read or a write failed, 6 with --status, nothing is accepted.";
+used up, 4 out of memory, 5 a read or a write failed, 6 with --status, nothing is accepted, or with
+--stream too, an automaton accepts nothing.";
 
 const OPTIONS: &[OptionHelp] = &[
     OptionHelp {
@@ -95,6 +109,7 @@ const OPTIONS: &[OptionHelp] = &[
         value: Value::None,
         help: "End with status 0 if something is accepted, and with 6 if not",
     },
+    STREAM,
     BUDGET,
     PROGRESS,
     VERBOSE,

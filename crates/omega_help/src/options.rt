@@ -145,11 +145,11 @@ pub const LASSO: OptionHelp = OptionHelp {
     help: "Draw an accepting lasso of the automaton too",
 };
 
-/// The flag that asks for an automaton for each automaton of a stream.
+/// The flag that asks for an answer for each automaton of a stream.
 pub const STREAM: OptionHelp = OptionHelp {
     name: "stream",
     value: Value::None,
-    help: "Write one for each automaton of a stream, one after the other",
+    help: "Answer for each automaton of a stream, one after the other",
 };
 
 /// The flag that asks for games to be read as other tools write them.
