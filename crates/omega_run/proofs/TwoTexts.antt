@@ -1,10 +1,10 @@
 -- Runs over two texts: what one of the texts is refused for refuses the run.
-use Rattle.std.proofs.Common.{◌≡◌, ◌⊎◌, List, ℕ, Option, None, Some, true, false, Result, Ok, Err, IfErr, inl, inr, refl}
+use Rattle.std.proofs.Common.{◌≡◌, ◌⊎◌, Bool, List, ℕ, Option, None, Some, true, false, Result, Ok, Err, IfErr, inl, inr, refl}
 use Rattle.omega_text.specs.Cases.{or_io, or_memory}
 use Rattle.omega_text.specs.declared.refusal.Refusal.{Refusal}
 use Rattle.omega_text.specs.declared.refusal.Refusal.TheVariants.{Automaton, Game, Io, Memory, Task, Text}
 use Rattle.omega_command.specs.declared.beside.Beside.{Beside}
-use Rattle.omega_command.specs.declared.beside.Beside.TheVariants.{Accepts, Contained, DrawSolution, Equal, Join, Meet, Verify, VerifyController, VerifyLasso, VerifyWinners}
+use Rattle.omega_command.specs.declared.beside.Beside.TheVariants.{Accepts, Contained, ContainedStream, DrawSolution, Equal, Join, Meet, Verify, VerifyController, VerifyLasso, VerifyWinners}
 use Rattle.omega_io.specs.Failures.{IsTransferRefusal, failures_in, failures_of}
 use Rattle.omega_io.specs.Reading.{IsRead, ReadsText}
 use Rattle.omega_accepts.proofs.Refused.{membership_io}
@@ -17,12 +17,14 @@ use Rattle.omega_controller_judge.specs.Refusing as judge
 use Rattle.omega_automaton.specs.Automaton.{Description}
 use Rattle.omega_game_answers.specs.Winners.{IsWinnersGameRefusal}
 use Rattle.omega_hoa.specs.Alone.{IsAutomatonRefusal}
+use Rattle.omega_hoa.specs.Stream.{IsStreamRefusal}
 use Rattle.omega_io.specs.Refused.{IsAbout, IsRefusedOf}
 use Rattle.omega_io.specs.declared.refused.Refused.{Refused}
 use Rattle.omega_io.specs.declared.refused.Which.{Which}
 use Rattle.omega_io.specs.declared.refused.Which.TheVariants.{File, Input}
+use Rattle.omega_stream_questions.specs.Contained as stream
 use Rattle.omega_run.specs.Beside.{IsRefusalAbout, RefusesBoth, RefusesFile, RefusesInput}
-use Rattle.omega_run.specs.Respond.{AnswersBeside, IsAcceptsRefusal, IsContainedRefusal, IsEqualRefusal, IsRunRefusal, RefusesText}
+use Rattle.omega_run.specs.Respond.{AnswersBeside, IsAcceptsRefusal, IsContainedRefusal, IsContainedStreamRefusal, IsEqualRefusal, IsRunRefusal, RefusesText}
 use Rattle.omega_run.specs.private.steps.Beside.{plain}
 
 -- what holds of a refusal, or want of memory, or a failed read or write
@@ -52,6 +54,10 @@ contained_file : (file input : List ℕ) (refusal : Refusal) → contained.IsFil
 contained_file file input refusal (inl text) = inl text
 contained_file file input refusal (inr (pair, choice)) = inr (inr pair)
 
+stream_file : (file input : List ℕ) (explain : Bool) (refusal : Refusal) → RefusesFile (ContainedStream explain) file input refusal → IsContainedStreamRefusal file input explain refusal
+stream_file file input explain refusal (inl text) = inl text
+stream_file file input explain refusal (inr (pair, choice)) = inr (inr pair)
+
 equal_file : (file input : List ℕ) (refusal : Refusal) → equal.IsFileRefusal file input refusal → IsEqualRefusal file input refusal
 equal_file file input refusal (inl text) = inl (inl text)
 equal_file file input refusal (inr (pair, choice)) = inl (inr (inr pair))
@@ -77,6 +83,7 @@ module _ (file : List ℕ) (before after : Option (List ℕ)) where
   file_refuses (Meet true) refusal h = record { text = h.text; read = h.read; holds = inl (inl h.holds) }
   file_refuses Join refusal h = record { text = h.text; read = h.read; holds = inl (inl h.holds) }
   file_refuses (Contained explain) refusal h = record { text = h.text; read = h.read; holds = contained_file file h.text refusal h.holds }
+  file_refuses (ContainedStream explain) refusal h = record { text = h.text; read = h.read; holds = stream_file file h.text explain refusal h.holds }
   file_refuses (Equal explain) refusal h = record { text = h.text; read = h.read; holds = equal_file file h.text refusal h.holds }
   file_refuses (DrawSolution from depth legend) refusal h = record { text = h.text; read = h.read; holds = inr h.holds }
 
@@ -92,6 +99,7 @@ module _ (file : List ℕ) (before after : Option (List ℕ)) where
   input_refuses (Meet true) refusal h = record { text = h.text; read = h.read; holds = inl (inr h.holds) }
   input_refuses Join refusal h = record { text = h.text; read = h.read; holds = inl (inr h.holds) }
   input_refuses (Contained explain) refusal h = record { text = h.text; read = h.read; holds = inr (inl h.holds) }
+  input_refuses (ContainedStream explain) refusal h = record { text = h.text; read = h.read; holds = inr (inl h.holds) }
   input_refuses (Equal explain) refusal h = record { text = h.text; read = h.read; holds = equal_input file h.text refusal h.holds }
   input_refuses (DrawSolution from depth legend) refusal h = record { text = h.text; read = h.read; holds = inl h.holds }
 
@@ -107,6 +115,7 @@ module _ (file : List ℕ) (before after : Option (List ℕ)) where
   both_refuse (Meet true) refusal h = record { text = h.text; read = h.read; holds = inr h.holds }
   both_refuse Join refusal h = record { text = h.text; read = h.read; holds = inr h.holds }
   both_refuse (Contained explain) refusal h = record { text = h.text; read = h.read; holds = inr (inr h.holds.0) }
+  both_refuse (ContainedStream explain) refusal h = record { text = h.text; read = h.read; holds = inr (inr h.holds.0) }
   both_refuse (Equal explain) refusal h = record { text = h.text; read = h.read; holds = equal_both file h.text refusal h.holds }
   both_refuse (DrawSolution from depth legend) refusal h = absurd h.holds
 
@@ -175,6 +184,20 @@ winners_game_io file None input (inl game) = game
 winners_game_io file (Some identifier) input (inl game) = game
 winners_game_io file from input (inr unsolved) = unsolved
 
+-- nor is the text of a stream, nor an automaton of it
+stream_io : (text : List ℕ) → IsStreamRefusal text Io → ⊥
+stream_io text (inl (is, long)) = cc
+stream_io text (inr (short, (items, fault))) = elim fault.refused [
+  | inl outside ↦ outside.1
+  | inr others ↦ elim others [
+    | inl inside ↦ inside.1
+    | inr segment ↦ segment.1
+  ]
+]
+
+item_io : (file input : List ℕ) (explain : Bool) → stream.IsPairRefused file input explain Io → ⊥
+item_io file input explain pair = pair.refused.refused.not_io refl
+
 -- nor is membership
 member_io : (word input : List ℕ) → accepts.IsPairRefused word input Io → ⊥
 member_io word input pair = membership_io pair.symbolic pair.automaton pair.refused
@@ -204,6 +227,7 @@ io_about (Meet true) file input None (inr (inl h)) = h.refused
 io_about (Meet true) file input None (inr (inr h)) = h.refused
 io_about Join file input None (inr h) = h.refused
 io_about (Contained explain) file input None (inr h) = pair_io file input h.0
+io_about (ContainedStream explain) file input None (inr h) = item_io file input explain h.0
 io_about (Equal explain) file input None (inr (inl pair, other)) = pair_io file input pair
 io_about (Equal explain) file input None (inr (inr pair, other)) = pair_io input file pair
 io_about (DrawSolution from depth legend) file input None (inr h) = h
@@ -220,6 +244,8 @@ io_about (Meet trim) file input (Some File) h = automaton_io file h
 io_about Join file input (Some File) h = automaton_io file h
 io_about (Contained explain) file input (Some File) (inl text) = automaton_io file text
 io_about (Contained explain) file input (Some File) (inr (pair, choice)) = pair_io file input pair
+io_about (ContainedStream explain) file input (Some File) (inl text) = automaton_io file text
+io_about (ContainedStream explain) file input (Some File) (inr (pair, choice)) = item_io file input explain pair
 io_about (Equal explain) file input (Some File) (inl text) = automaton_io file text
 io_about (Equal explain) file input (Some File) (inr (pair, choice)) = pair_io file input pair
 io_about (DrawSolution from depth legend) file input (Some File) h = h.refused
@@ -233,6 +259,7 @@ io_about (Accepts explain) file input (Some Input) (inr (pair, choice)) = member
 io_about (Meet trim) file input (Some Input) h = automaton_io input h.refused
 io_about Join file input (Some Input) h = automaton_io input h.refused
 io_about (Contained explain) file input (Some Input) h = automaton_io input h.refused
+io_about (ContainedStream explain) file input (Some Input) h = stream_io input h.refused
 io_about (Equal explain) file input (Some Input) (inl text) = automaton_io input text.refused
 io_about (Equal explain) file input (Some Input) (inr (pair, choice)) = pair_io input file pair
 io_about (DrawSolution None depth legend) file input (Some Input) h = h

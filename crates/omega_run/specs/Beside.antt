@@ -5,7 +5,7 @@ use Rattle.omega_text.specs.declared.refusal.Refusal.{Refusal}
 use Rattle.omega_game_answers.specs.Verify.{IsJudgedGameRefusal, RefusesSolution}
 use Rattle.omega_game_answers.specs.Winners.{IsWinnersGameRefusal, RefusesWinners}
 use Rattle.omega_command.specs.declared.beside.Beside.{Beside}
-use Rattle.omega_command.specs.declared.beside.Beside.TheVariants.{Accepts, Contained, DrawSolution, Equal, Join, Meet, Verify, VerifyController, VerifyLasso, VerifyWinners}
+use Rattle.omega_command.specs.declared.beside.Beside.TheVariants.{Accepts, Contained, ContainedStream, DrawSolution, Equal, Join, Meet, Verify, VerifyController, VerifyLasso, VerifyWinners}
 use Rattle.omega_accepts_answers.specs.Accepts as accepts
 use Rattle.omega_containment_answers.specs.Contained as contained
 use Rattle.omega_containment_answers.specs.Equal as equal
@@ -14,6 +14,7 @@ use Rattle.omega_hoa.specs.Alone.{IsAutomatonRefusal}
 use Rattle.omega_io.specs.declared.exit.Exit.{Exit}
 use Rattle.omega_language_answers.specs.Verify.{RefusesAutomaton, RefusesLasso}
 use Rattle.omega_language_answers.specs.Meet.{IsProductRefused, IsTextRefused}
+use Rattle.omega_stream_questions.specs.Contained as stream
 use Rattle.omega_trim_answers.specs.Meet.{IsTrimRefused}
 use Rattle.omega_union_answers.specs.Join.{IsUnionRefused}
 use Rattle.omega_io.specs.declared.refused.Which.{Which}
@@ -47,6 +48,8 @@ name_of Join File = codes "other automaton"
 name_of Join Input = codes "automaton"
 name_of (Contained explain) File = codes "other automaton"
 name_of (Contained explain) Input = codes "automaton"
+name_of (ContainedStream explain) File = codes "other automaton"
+name_of (ContainedStream explain) Input = codes "automaton"
 name_of (Equal explain) File = codes "other automaton"
 name_of (Equal explain) Input = codes "automaton"
 name_of (DrawSolution from depth legend) File = codes "solution"
@@ -62,6 +65,8 @@ RefusesFile (Accepts explain) file input refusal = IsWordRefusal file refusal
 RefusesFile (Meet trim) file input refusal = IsAutomatonRefusal file refusal
 RefusesFile Join file input refusal = IsAutomatonRefusal file refusal
 RefusesFile (Contained explain) file input refusal = contained.IsFileRefusal file input refusal
+RefusesFile (ContainedStream explain) file input refusal =
+    IsAutomatonRefusal file refusal ⊎ (stream.IsPairRefused file input explain refusal × contained.IsChoice refusal)
 RefusesFile (Equal explain) file input refusal = equal.IsFileRefusal file input refusal
 RefusesFile (DrawSolution from depth legend) file input refusal = RefusesSolution input from file refusal
 
@@ -75,6 +80,7 @@ RefusesInput (Accepts explain) file input refusal = accepts.IsInputRefusal file 
 RefusesInput (Meet trim) file input refusal = IsTextRefused file input refusal
 RefusesInput Join file input refusal = IsTextRefused file input refusal
 RefusesInput (Contained explain) file input refusal = IsTextRefused file input refusal
+RefusesInput (ContainedStream explain) file input refusal = stream.IsStreamRefused file input refusal
 RefusesInput (Equal explain) file input refusal = equal.IsInputRefusal file input refusal
 RefusesInput (DrawSolution from depth legend) file input refusal = IsJudgedGameRefusal input from refusal
 
@@ -89,6 +95,7 @@ RefusesBoth (Meet false) file input refusal = IsProductRefused file input refusa
 RefusesBoth (Meet true) file input refusal = IsProductRefused file input refusal ⊎ IsTrimRefused file input refusal
 RefusesBoth Join file input refusal = IsUnionRefused file input refusal
 RefusesBoth (Contained explain) file input refusal = contained.IsPairRefused file input refusal × ¬ contained.IsChoice refusal
+RefusesBoth (ContainedStream explain) file input refusal = stream.IsPairRefused file input explain refusal × ¬ contained.IsChoice refusal
 RefusesBoth (Equal explain) file input refusal =
     (contained.IsPairRefused file input refusal ⊎ contained.IsPairRefused input file refusal) × ¬ contained.IsChoice refusal
 RefusesBoth (DrawSolution from depth legend) file input refusal = ⊥

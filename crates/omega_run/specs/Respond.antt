@@ -1,11 +1,11 @@
 -- The answers to one text and to two, the refusals, and what was read for an answer.
-use Rattle.std.specs.Prelude.{◌≡◌, ◌⊎◌, Bool, false, true, List, Option, Some, None, Result, Ok, Err, ℕ}
+use Rattle.std.specs.Prelude.{◌≡◌, ◌⊎◌, ◌&&◌, Bool, false, true, List, Option, Some, None, Result, Ok, Err, ℕ}
 use Rattle.omega_text.specs.Cases.{or_io, or_memory}
 use Rattle.omega_text.specs.declared.refusal.Refusal.{Refusal}
 use Rattle.omega_pg.specs.game.Refusing.{IsRefusal}
 use Rattle.omega_parity_game.specs.declared.player.Player.{Player}
 use Rattle.omega_command.specs.declared.beside.Beside.{Beside}
-use Rattle.omega_command.specs.declared.beside.Beside.TheVariants.{Accepts, Contained, DrawSolution, Equal, Join, Meet, Verify, VerifyController, VerifyLasso, VerifyWinners}
+use Rattle.omega_command.specs.declared.beside.Beside.TheVariants.{Accepts, Contained, ContainedStream, DrawSolution, Equal, Join, Meet, Verify, VerifyController, VerifyLasso, VerifyWinners}
 use Rattle.omega_command.specs.declared.command.Command.{Command}
 use Rattle.omega_command.specs.declared.command.Command.TheVariants.{Canon, CanonLeast, CanonPart, Check, Complement, Draw, DrawLasso, DrawPart, Each, Empty, EmptySearch, Game, RealizabilityGame, Realize, RealizeByLifting, Search, Show, ShowJson, Solve, Trim}
 use Rattle.omega_command.specs.declared.command.Format.TheVariants.{Hoa, Pg}
@@ -45,6 +45,8 @@ use Rattle.omega_realize_answers.specs.Refusing.{IsRealizeRefusal}
 use Rattle.omega_realize_answers.specs.Winner.{IsWinnerAnswer}
 use Rattle.omega_solve.specs.Limits.{most_lifts}
 use Rattle.omega_stream_questions.specs.Complement.{AreComplementAnswers, IsComplementStreamRefusal}
+use Rattle.omega_stream_questions.specs.Contained as stream
+use Rattle.omega_stream_questions.specs.Empty.{AreLiftingAnswers, AreSearchAnswers, IsLiftingStreamRefusal, IsSearchStreamRefusal}
 use Rattle.omega_stream_questions.specs.Trim.{AreTrimAnswers, IsTrimStreamRefusal}
 use Rattle.omega_hoa.specs.Alone.{IsAutomatonRefusal}
 use Rattle.omega_runs.specs.declared.verdict.Verdict.{Verdict}
@@ -93,14 +95,16 @@ abbrev pub IsRealizeAnswer : (controller : Bool) → List ℕ → Exit → List 
 IsRealizeAnswer false text = IsDecisionAnswer text
 IsRealizeAnswer true text = IsWinnerAnswer text
 
--- the answers to the automata of a stream are written; none of them is `no`
-abbrev pub WritesEach : (List ℕ → (no : Bool) → Type 0) → List ℕ → Type 0
-WritesEach AreAnswers output = (no : Bool) × AreAnswers output no
+-- the answers to the automata of a stream, and how they end: if that is to tell, as `No` if one of them is `no`
+abbrev pub EndsEach : (tells : Bool) → (List ℕ → (no : Bool) → Type 0) → Exit → List ℕ → Type 0
+EndsEach tells AreAnswers exit output = (no : Bool) × AreAnswers output no × (exit ≡ stream.exit_for (tells && no))
 
--- what the command makes of each automaton of the stream that the text is
-abbrev pub AnswersEach : OfEach → List ℕ → Result (Exit × List ℕ) Refusal → Type 0
-AnswersEach each.Complement text = Replies (WritesEach (AreComplementAnswers text)) (IsComplementStreamRefusal text)
-AnswersEach each.Trim text = Replies (WritesEach (AreTrimAnswers text)) (IsTrimStreamRefusal text)
+-- what the command makes of each automaton of the stream that the text is, with this budget
+abbrev pub AnswersEach : OfEach → ℕ → List ℕ → Result (Exit × List ℕ) Refusal → Type 0
+AnswersEach (each.Empty word status) budget text = Concludes (EndsEach status (AreLiftingAnswers text budget word)) (IsLiftingStreamRefusal text budget word)
+AnswersEach (each.EmptySearch word status) budget text = Concludes (EndsEach status (AreSearchAnswers text word)) (IsSearchStreamRefusal text word)
+AnswersEach each.Complement budget text = Concludes (EndsEach false (AreComplementAnswers text)) (IsComplementStreamRefusal text)
+AnswersEach each.Trim budget text = Concludes (EndsEach false (AreTrimAnswers text)) (IsTrimStreamRefusal text)
 
 -- what the command makes of the text, with this budget: how it ends and its output, or the refusal
 abbrev pub Answers : Command → ℕ → List ℕ → Result (Exit × List ℕ) Refusal → Type 0
@@ -119,7 +123,7 @@ Answers (Solve player from) budget text =
 Answers (Search from) budget text = Replies (IsSolveAnswer text way.Search from budget) (IsSolveRefusal text way.Search from budget)
 Answers (Empty word status) budget text = Concludes (EndsEmpty text budget word status) (IsEmptyRefusal text budget)
 Answers (EmptySearch word status) budget text = Concludes (EndsEmptySearch text word status) (IsEmptySearchRefusal text)
-Answers (Each asked) budget text = AnswersEach asked text
+Answers (Each asked) budget text = AnswersEach asked budget text
 Answers Complement budget text = Replies (IsComplementAnswer text) (IsComplementRefusal text)
 Answers Trim budget text = Replies (IsTrimAnswer text) (IsTrimAnswerRefusal text)
 Answers Game budget text = Replies (IsEmptinessGameAnswer text) (IsEmptinessGameRefusal text)
@@ -141,7 +145,12 @@ abbrev pub IsContainedRefusal : (file input : List ℕ) → Refusal → Type 0
 IsContainedRefusal file input refusal =
     IsAutomatonRefusal file refusal ⊎ (IsTextRefused file input refusal ⊎ IsPairRefused file input refusal)
 
--- the refusal of `equal`: the same, or that of containment the other way round
+-- the refusal of `contained --stream`: that of the other automaton's text, or of the stream, or of containment
+abbrev pub IsContainedStreamRefusal : (file input : List ℕ) → (explain : Bool) → Refusal → Type 0
+IsContainedStreamRefusal file input explain refusal =
+    IsAutomatonRefusal file refusal ⊎ (stream.IsStreamRefused file input refusal ⊎ stream.IsPairRefused file input explain refusal)
+
+-- the refusal of `equal`: that of `contained`, or that of containment the other way round
 abbrev pub IsEqualRefusal : (file input : List ℕ) → Refusal → Type 0
 IsEqualRefusal file input refusal = IsContainedRefusal file input refusal ⊎ IsPairRefused input file refusal
 
@@ -166,6 +175,8 @@ AnswersBeside (Meet false) file input = Replies (IsMeetAnswer file input) (IsMee
 AnswersBeside (Meet true) file input = Replies (IsMeetTrimmedAnswer file input) (IsMeetTrimmedRefusal file input)
 AnswersBeside Join file input = Replies (IsJoinAnswer file input) (IsJoinRefusal file input)
 AnswersBeside (Contained explain) file input = Concludes (IsContainedAnswer file input explain) (IsContainedRefusal file input)
+AnswersBeside (ContainedStream explain) file input =
+    Concludes (EndsEach true (stream.AreContainedAnswers file input explain)) (IsContainedStreamRefusal file input explain)
 AnswersBeside (Equal explain) file input = Concludes (IsEqualAnswer file input explain) (IsEqualRefusal file input)
 AnswersBeside (DrawSolution from depth legend) file input =
     Replies (IsSolutionDrawingAnswer input file from depth legend) (IsVerifyRefusal input from file)

@@ -11,6 +11,7 @@ ghost use Rattle.omega_run.specs.Respond.{AnswersBeside, Responds};
 ghost use Rattle.omega_run.specs.World.{streams_of, tells_of, world_of};
 ghost use Rattle.omega_run.specs.private.steps.Beside.{plain, text_in};
 
+use crate::each::contained_each;
 use crate::reporting::{report_about, report_file};
 use omega_accepts_answers::accepts_text;
 use omega_command::Beside;
@@ -126,6 +127,7 @@ fn answer_texts(
     file: Vec<u8>,
     input: Vec<u8>,
 ) -> Result<(Exit, Vec<u8>), Refused>
+    requires { length input.items ≤ most_text + 1 }
     ensures answered { IfOk result (λ made. AnswersBeside asked file.items input.items (Ok (made.0, made.1.items))) }
     ensures limit { OnOk result (length input.items ≤ most_text) }
     ensures refused { IfErr result (λ refused. IsAbout
@@ -158,6 +160,7 @@ fn answer_texts(
             Err(refused) => Err(refused),
         },
         Beside::Contained { explain } => contained_texts(alloc, file, input, explain),
+        Beside::ContainedStream { explain } => contained_each(alloc, file, input, explain),
         Beside::Equal { explain } => equal_texts(alloc, file, input, explain),
         Beside::DrawSolution {
             from,

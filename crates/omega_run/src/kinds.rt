@@ -9,7 +9,7 @@ use omega_parity_game::Player;
 pub(crate) enum Kind {
     /// Of a stream of automata, which is answered while it is read.
     Stream(OfStream),
-    /// Of each automaton of a stream, with one exit.
+    /// Of each automaton of a stream, with the exit that the answers have.
     Each(OfEach),
     /// Of one text, with one exit.
     Text(OfText),

@@ -145,12 +145,14 @@ fn name_of(asked: Beside, which: Which) -> &'static str
             Which::File => "word",
             Which::Input => "automaton",
         },
-        Beside::Meet { .. } | Beside::Join | Beside::Contained { .. } | Beside::Equal { .. } => {
-            match which {
-                Which::File => "other automaton",
-                Which::Input => "automaton",
-            }
-        }
+        Beside::Meet { .. }
+        | Beside::Join
+        | Beside::Contained { .. }
+        | Beside::ContainedStream { .. }
+        | Beside::Equal { .. } => match which {
+            Which::File => "other automaton",
+            Which::Input => "automaton",
+        },
         Beside::DrawSolution { .. } => match which {
             Which::File => "solution",
             Which::Input => "game",

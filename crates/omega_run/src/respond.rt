@@ -57,7 +57,7 @@ pub(crate) fn answer<R: Input, L, T: Reporter<L>>(
         Kind::Stream(OfStream::ShowJson) => Ok((Exit::Done, show_stream_json(alloc, input)?)),
         Kind::Stream(OfStream::Check) => Ok((Exit::Done, check_stream(alloc, input)?)),
         Kind::Stream(OfStream::Canon) => Ok((Exit::Done, canon_stream(alloc, input)?)),
-        Kind::Each(asked) => Ok((Exit::Done, answer_each(alloc, asked, input)?)),
+        Kind::Each(asked) => answer_each(alloc, asked, input, budget),
         Kind::Text(command) => {
             let text = read_all(alloc, input)?;
             let made = answer_text(alloc, command, text, budget, reporter, observer)?;

@@ -29,14 +29,12 @@ returns-in_err-canon_stream-in-Stream-Canon-clause-reported g c = stream_observe
 pub returns-in_ok-canon_stream-in-Stream-Canon-clause-reported : goal.returns-in_ok-canon_stream-in-Stream-Canon-clause-reported
 returns-in_ok-canon_stream-in-Stream-Canon-clause-reported g c = stream_observed _ _ _ _ _ _ _ _ _ _ c.kind_of.ensures c.in-Stream-Canon.is
 
-pub returns-in_err-answer_each-in-Each-clause-reported : goal.returns-in_err-answer_each-in-Each-clause-reported
-returns-in_err-answer_each-in-Each-clause-reported g c = each_observed _ _ _ _ _ _ _ _ _ _ c.kind_of.ensures c.in-Each.is
+pub returns-in-Each-clause-reported : goal.returns-in-Each-clause-reported
+returns-in-Each-clause-reported g c = each_observed _ _ _ _ _ _ _ _ _ _ c.kind_of.ensures c.in-Each.is
 
-pub returns-in_ok-answer_each-in-Each-clause-reported : goal.returns-in_ok-answer_each-in-Each-clause-reported
-returns-in_ok-answer_each-in-Each-clause-reported g c = each_observed _ _ _ _ _ _ _ _ _ _ c.kind_of.ensures c.in-Each.is
-
-pub returns-in_ok-answer_each-in-Each-clause-printed : goal.returns-in_ok-answer_each-in-Each-clause-printed
-returns-in_ok-answer_each-in-Each-clause-printed g c = each_counted _ _ _ _ _ _ _ _ _ _ c.kind_of.ensures _ c.in-Each.is
+pub returns-in-Each-clause-printed : goal.returns-in-Each-clause-printed
+returns-in-Each-clause-printed g c =
+    of_all c.answer_each.result _ (λ made. each_counted _ _ _ _ _ _ _ _ _ _ c.kind_of.ensures _ c.in-Each.is)
 
 pub returns-in_err-text-in-Text-clause-reported : goal.returns-in_err-text-in-Text-clause-reported
 returns-in_err-text-in-Text-clause-reported g c =

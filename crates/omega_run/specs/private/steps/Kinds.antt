@@ -1,4 +1,4 @@
--- The kind of a command: it reads a stream, or one text, and may ask a question about the text.
+-- The kind of a command: it reads a stream, or one text, and may ask a question about each automaton, or the text.
 use Rattle.omega_command.specs.declared.command.Command.{Command}
 use Rattle.omega_command.specs.declared.command.Command.TheVariants as command
 use Rattle.omega_command.specs.declared.command.Format.TheVariants.{Hoa, Pg}
