@@ -54,7 +54,9 @@ RUNS: list[Run] = [
     *((words, text, None) for text in (BUCHI, TWO_SETS, WRITTEN)
       for words in (["game"], ["empty"], ["empty", "--search"], ["empty", "--budget", "1"], ["empty", "--word"],
                     ["empty", "--search", "--word"], ["complement"], ["trim"])),
-    *(([name, "--stream"], BUCHI + ABORTED, None) for name in ("complement", "trim")),
+    *(([*words, "--stream"], BUCHI + ABORTED, None)
+      for words in (["empty"], ["empty", "--search", "--word"], ["complement"], ["trim"])),
+    *((["contained", *more, "--stream", "--in"], BUCHI + ABORTED, OFTEN) for more in (NONE, ["--explain"])),
     *((["show", "--json", "--format", name], text, None) for name, text in (("pg", GAPS), ("hoa", ABORTED))),
     (["canon", "--format", "pg", "--min"], GAPS, None),
     *((["verify", "--winners", *more, "--game"], text, CHOICE) for more in (NONE, ["--explain"])

@@ -35,6 +35,10 @@ const TURNS: &str =
 const ALWAYS: &str =
     "HOA: v1 States: 1 Start: 0 AP: 1 \"a\" Acceptance: 0 t --BODY-- State: 0 [0] 0 --END--";
 
+/// Always a, then what is not kept, and then any words.
+const IN_TURN: &str =
+    "HOA: v1 States: 1 Start: 0 AP: 1 \"a\" Acceptance: 0 t --BODY-- State: 0 [0] 0 --END-- HOA: --ABORT-- HOA: v1 States: 1 Start: 0 Acceptance: 0 t --BODY-- State: 0 [t] 0 --END--";
+
 /// The product of the two.
 const TURNS_ALWAYS: &str = "\
 HOA: v1
@@ -78,7 +82,7 @@ State: 0
 ";
 
 /// A command line, the text of the file, the text of the input, and the status, the output and the lines of the run.
-static RUNS: [(&str, &str, &str, u8, &str, &str); 36] = [
+static RUNS: [(&str, &str, &str, u8, &str, &str); 38] = [
     (
         "omega verify --game g",
         THREE,
@@ -127,6 +131,22 @@ static RUNS: [(&str, &str, &str, u8, &str, &str); 36] = [
         1,
         "",
         "omega: 53 BadSolution\nomega: in the solution\n",
+    ),
+    (
+        "omega contained --in g --stream",
+        OFTEN,
+        IN_TURN,
+        6,
+        "yes\naborted\nno\n",
+        "",
+    ),
+    (
+        "omega contained --in g --stream -v",
+        "HOA: v1 States: 1 Start: 0 Acceptance: 0 t --BODY-- State: 0 [t] 0 [t] 0 --END--",
+        IN_TURN,
+        1,
+        "",
+        "omega: 56 NotDeterministic at 0\nomega: in the other automaton\n",
     ),
     // What is wrong with the game comes first.
     (

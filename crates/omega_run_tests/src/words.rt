@@ -5,7 +5,7 @@ use std::alloc::Global;
 use std::test::Fail;
 
 /// Command lines, and what each asks for, as it shows itself to a programmer. A budget that is not given is 2^40.
-static ASKED: [(&str, &str); 50] = [
+static ASKED: [(&str, &str); 53] = [
     (
         "omega check --format=hoa",
         "Do { task: Run(Check(Hoa), 1099511627776), source: Input, lenient: false, verbose: false }",
@@ -179,6 +179,14 @@ static ASKED: [(&str, &str); 50] = [
         "Do { task: Beside { file: \"g\", asked: VerifyWinners { from: Some(7), explain: true } }, source: Input, lenient: false, verbose: false }",
     ),
     (
+        "omega empty --stream --budget 7 --word",
+        "Do { task: Run(Each(Empty { word: true, status: false }), 7), source: Input, lenient: false, verbose: false }",
+    ),
+    (
+        "omega empty --stream --search --status",
+        "Do { task: Run(Each(EmptySearch { word: false, status: true }), 1099511627776), source: Input, lenient: false, verbose: false }",
+    ),
+    (
         "omega complement --stream",
         "Do { task: Run(Each(Complement), 1099511627776), source: Input, lenient: false, verbose: false }",
     ),
@@ -203,13 +211,17 @@ static ASKED: [(&str, &str); 50] = [
         "Do { task: Beside { file: \"s\", asked: DrawSolution { from: None, depth: None, legend: false } }, source: Input, lenient: true, verbose: false }",
     ),
     (
+        "omega contained --stream --in g -v",
+        "Do { task: Beside { file: \"g\", asked: ContainedStream { explain: false } }, source: Input, lenient: false, verbose: true }",
+    ),
+    (
         "./o game",
         "Do { task: Run(Game, 1099511627776), source: Input, lenient: false, verbose: false }",
     ),
 ];
 
 /// Command lines that are at fault, and what is said of each.
-static FAULTS: [(&str, &str); 18] = [
+static FAULTS: [(&str, &str); 19] = [
     ("omega", "requires a subcommand"),
     (
         "omega show --format xyz",
@@ -237,6 +249,10 @@ static FAULTS: [(&str, &str); 18] = [
     (
         "omega draw --lasso g",
         "were not provided:\\n  --format <FORMAT>",
+    ),
+    (
+        "omega empty --stream --progress",
+        "the argument '--stream' cannot be used with '--progress'",
     ),
     (
         "omega verify --winners --automaton a",

@@ -64,7 +64,7 @@ static GAMES: [(&str, &str, &str); 11] = [
 ];
 
 /// The same of automata.
-static AUTOMATA: [(&str, &str, &str); 9] = [
+static AUTOMATA: [(&str, &str, &str); 11] = [
     (
         "omega empty",
         "HOA: v1 States: 1 Start: 0 AP: 1 \"a\" acc-name: Buchi Acceptance: 1 Inf(0) --BODY-- State: 0 [0] 0 {0} --END--",
@@ -99,6 +99,16 @@ static AUTOMATA: [(&str, &str, &str); 9] = [
         "omega show --json --format hoa",
         "HOA: --ABORT-- HOA: v1 Acceptance: 1 Inf(0) --BODY-- --END--",
         "{\"automaton\":0,\"aborted\":true}\n{\"automaton\":1,\"states\":0,\"edges\":0,\"propositions\":0,\"sets\":1,\"acceptance\":\"Inf(0)\"}\n",
+    ),
+    (
+        "omega empty --stream",
+        EACH,
+        "empty\naborted\nstem\ncycle 0\n",
+    ),
+    (
+        "omega empty --stream --search --word",
+        EACH,
+        "empty\naborted\nstem\ncycle 0\nword cycle{1}\n",
     ),
     (
         "omega trim --stream",
@@ -140,7 +150,7 @@ const NO_LOOP: &str =
     "HOA: v1 States: 1 Start: 0 AP: 1 \"a\" acc-name: Buchi Acceptance: 1 Inf(0) --BODY-- State: 0 [0] 0 --END--";
 
 /// A command line, an automaton, and the status and the output of a run that answers a question about it.
-static QUESTIONS: [(&str, &str, u8, &str); 12] = [
+static QUESTIONS: [(&str, &str, u8, &str); 14] = [
     ("omega realize", ARBITER, 0, "realizable\n"),
     ("omega empty --status", LOOP, 0, "stem\ncycle 0\n"),
     (
@@ -157,6 +167,18 @@ static QUESTIONS: [(&str, &str, u8, &str); 12] = [
         "empty\n",
     ),
     ("omega empty --search", NO_LOOP, 0, "empty\n"),
+    (
+        "omega empty --stream --status",
+        EACH,
+        6,
+        "empty\naborted\nstem\ncycle 0\n",
+    ),
+    (
+        "omega empty --stream --status --search --word",
+        LOOP,
+        0,
+        "stem\ncycle 0\nword cycle{a}\n",
+    ),
     ("omega realize --lift", UNCONTROLLED, 6, "unrealizable\n"),
     (
         "omega realize --lift --controller",
@@ -187,7 +209,7 @@ static QUESTIONS: [(&str, &str, u8, &str); 12] = [
 ];
 
 /// A command line, an input, and the status and the line of a run that is refused, after the program's name.
-static REFUSALS: [(&str, &str, u8, &str); 10] = [
+static REFUSALS: [(&str, &str, u8, &str); 11] = [
     (
         "omega solve --budget 3",
         "0 1 0 1; 1 2 1 0;",
@@ -248,6 +270,12 @@ static REFUSALS: [(&str, &str, u8, &str); 10] = [
         "HOA: v1 States: 2 Start: 0&1 Acceptance: 0 t --BODY-- --END-- HOA: v1",
         1,
         "omega: 3 Syntax at 69\n",
+    ),
+    (
+        "omega empty --stream --budget 1",
+        LOOP,
+        3,
+        "omega: 51 Budget\n",
     ),
 ];
 
