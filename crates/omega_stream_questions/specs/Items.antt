@@ -1,5 +1,5 @@
 -- What is answered for an item of a stream: the answer to its automaton, or what an aborted segment is answered.
-use Rattle.std.specs.Prelude.{◌≡◌, ℕ, false, []}
+use Rattle.std.specs.Prelude.{◌≡◌, ℕ, false, [], codes}
 use Rattle.omega_text.specs.declared.refusal.Refusal.{Refusal}
 use Rattle.omega_automaton.specs.Automaton.{Description}
 use Rattle.omega_hoa.specs.declared.item.Item.{Item}
@@ -15,6 +15,10 @@ AnswersItem Answers aborted number Aborted answer = answer ≡ aborted
 abbrev pub RefusesAutomaton : (Description → Refusal → Type 0) → Item → Refusal → Type 0
 RefusesAutomaton Refuses (Automaton automaton) refusal = Refuses automaton refusal
 RefusesAutomaton Refuses Aborted refusal = ⊥
+
+-- the line `aborted`
+abbrev pub aborted_line : Answer
+aborted_line = record { text = codes "aborted\n"; no = false }
 
 -- no text
 abbrev pub no_answer : Answer

@@ -1,0 +1,15 @@
+-- Whether the text of an answer is `empty`.
+use Rattle.std.proofs.Common.{◌≡◌, ℕ, Bool, false, true, List, codes, refl}
+use Rattle.std.specs.Str.{bytes_eq}
+use Rattle.omega_automaton.specs.Automaton.{Description}
+use Rattle.omega_empty_answers.specs.empty.Answer.{emptiness_text}
+use Rattle.omega_runs.specs.declared.verdict.Verdict.{Verdict}
+use Rattle.omega_runs.specs.declared.verdict.Verdict.TheVariants as verdict
+use Rattle.omega_stream_questions.specs.Empty.{is_empty}
+
+-- the text says which verdict it is: that of a lasso begins otherwise than `empty`
+pub says_empty : (automaton : Description) (word : Bool) (found : Verdict) (text : List ℕ) → text ≡ emptiness_text automaton word found
+    → bytes_eq text (codes "empty\n") ≡ is_empty found
+says_empty automaton word verdict.Empty text is = rw is refl
+says_empty automaton false (verdict.Lasso stem cycle) text is = rw is refl
+says_empty automaton true (verdict.Lasso stem cycle) text is = rw is refl

@@ -1,0 +1,47 @@
+-- The answers of `empty` for a stream of automata: for each of them an accepting lasso, or `empty` only if no lasso
+-- accepts; and the refusals. An answer is `no` if it is `empty`.
+use Rattle.std.specs.Prelude.{◌≡◌, ℕ, Bool, false, true, List}
+use Rattle.omega_text.specs.declared.refusal.Refusal.{Refusal}
+use Rattle.omega_automaton.specs.Automaton.{Description}
+use Rattle.omega_empty.specs.Deciding.{IsEmptinessRefusal}
+use Rattle.omega_empty_answers.specs.empty.Answer.{IsDecision, IsSearchDecision}
+use Rattle.omega_lasso_search.specs.Searching.{IsSearchRefusal}
+use Rattle.omega_runs.specs.declared.verdict.Verdict.{Verdict}
+use Rattle.omega_runs.specs.declared.verdict.Verdict.TheVariants as verdict
+use Rattle.omega_stream_reading.specs.Answer.{Answer}
+use Rattle.omega_stream_reading.specs.Asking.{IsAnswered, IsAskingRefusal}
+use Rattle.omega_stream_questions.specs.Items.{AnswersItem, RefusesAutomaton, aborted_line}
+
+-- whether no lasso accepts
+abbrev pub is_empty : Verdict → Bool
+is_empty verdict.Empty = true
+is_empty (verdict.Lasso stem cycle) = false
+
+-- the answer of `empty --search` for an automaton
+abbrev pub IsSearchAnswer : (word : Bool) → Description → Answer → Type 0
+IsSearchAnswer word automaton answer =
+    (decided : IsSearchDecision automaton word answer.text) × (answer.no ≡ is_empty decided.verdict)
+
+-- the answer of `empty` for an automaton, which is decided within the budget
+abbrev pub IsLiftingAnswer : (budget : ℕ) (word : Bool) → Description → Answer → Type 0
+IsLiftingAnswer budget word automaton answer =
+    (decided : IsDecision automaton budget word answer.text) × (answer.no ≡ is_empty decided.verdict)
+
+-- the answers of `empty --search --stream`, one after the other
+abbrev pub AreSearchAnswers : List ℕ → (word : Bool) → List ℕ → Bool → Type 0
+AreSearchAnswers text word = IsAnswered (AnswersItem (IsSearchAnswer word) aborted_line) text
+
+-- the refusal of `empty --search --stream`: that of the text, or else that of the first automaton that is refused
+abbrev pub IsSearchStreamRefusal : List ℕ → (word : Bool) → Refusal → Type 0
+IsSearchStreamRefusal text word =
+    IsAskingRefusal (AnswersItem (IsSearchAnswer word) aborted_line) (RefusesAutomaton IsSearchRefusal) text
+
+-- the answers of `empty --stream` with a budget for each automaton, one after the other
+abbrev pub AreLiftingAnswers : List ℕ → (budget : ℕ) (word : Bool) → List ℕ → Bool → Type 0
+AreLiftingAnswers text budget word = IsAnswered (AnswersItem (IsLiftingAnswer budget word) aborted_line) text
+
+-- the refusal of `empty --stream`: that of the text, or else that of the first automaton that is refused
+abbrev pub IsLiftingStreamRefusal : List ℕ → (budget : ℕ) (word : Bool) → Refusal → Type 0
+IsLiftingStreamRefusal text budget word =
+    IsAskingRefusal (AnswersItem (IsLiftingAnswer budget word) aborted_line)
+    (RefusesAutomaton (λ automaton. IsEmptinessRefusal automaton budget)) text
