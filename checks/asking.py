@@ -1,21 +1,36 @@
-"""Questions asked of streams: what `trim` and `complement` with `--stream` write of 300 random streams is what they
-write of each of its automata alone, in turn, and the refusal is that of the text, else that of the first automaton that
-is refused. Aborted items are left out, as `canon` leaves them out.
+"""Questions asked of streams: what `empty`, `trim`, `complement` and `contained` with `--stream` answer to 300 random
+streams is what they answer to each of its automata alone, in turn, and the refusal is that of the text, else that of
+the first automaton that is refused. `empty` and `contained` write `aborted` for what is aborted, and `trim` and
+`complement` leave it out, as `canon` does.
 
 What the program says of one automaton is judged by other families.
 """
 import random
+import tempfile
 from functools import partial
 
 from automaton_texts import Maker
 from program import Cases, Fault, Left, fault_of, output_of, run_of
 
 ABORTED = b"HOA: v1 States: 3 --ABORT--\n"
-QUESTIONS = (["trim"], ["complement"])
+QUESTIONS = (["empty", "--search"], ["empty", "--search", "--word"], ["empty", "--search", "--status"], ["empty"],
+             ["empty", "--budget", "3"], ["trim"], ["complement"])
+# What is contained in it: all words, those with a again and again, none.
+OTHERS = (
+    b'HOA: v1 States: 1 Start: 0 AP: 0 acc-name: all Acceptance: 0 t --BODY-- State: 0 [t] 0 --END--',
+    b'HOA: v1 States: 1 Start: 0 AP: 1 "p0" acc-name: Buchi Acceptance: 1 Inf(0) '
+    b'--BODY-- State: 0 [0] 0 {0} [!0] 0 --END--',
+    b'HOA: v1 Acceptance: 0 t --BODY-- --END--',
+)
 
 
 def canon(text: bytes) -> bytes:
     return output_of(["canon", "--format", "hoa"], text)
+
+
+def is_told(words: list[str]) -> bool:
+    """Whether the line `aborted` is written for an aborted item."""
+    return words[0] in ("empty", "contained")
 
 
 def answered(words: list[str], items: list[bytes]) -> Left:
@@ -23,7 +38,7 @@ def answered(words: list[str], items: list[bytes]) -> Left:
     output, status = b"", 0
     for item in items:
         if item == ABORTED:
-            output += canon(ABORTED)
+            output += b"aborted\n" if is_told(words) else canon(ABORTED)
             continue
         ran = run_of(words, item)
         if ran.returncode not in (0, 6):
@@ -48,6 +63,15 @@ def is_accepted(text: bytes) -> bool:
     return run_of(["check", "--format", "hoa"], text).returncode == 0
 
 
+def contained_fault(items: list[bytes], other: bytes, more: list[str]) -> Fault:
+    """What is wrong with what is said of containment of each item in another automaton, or nothing."""
+    with tempfile.NamedTemporaryFile() as file:
+        file.write(other)
+        file.flush()
+        wanted = answered(["contained", *more, "--in", file.name], items)
+        return fault_of(["contained", "--stream", *more, "--in", file.name], b"".join(items), *wanted)
+
+
 def asking_checks() -> Cases:
     maker, drawn = Maker(2026), random.Random(1127)
     accepted: list[bytes] = []
@@ -68,3 +92,9 @@ def asking_checks() -> Cases:
         broken = text[:place] + drawn.choice([b"", b"9", b"(", b"$"]) + text[place + 1:]
         if not is_accepted(broken):
             yield f"{label}, broken at {place}", partial(stopped_fault, words, broken)
+    for number in range(120):
+        items = [ABORTED if drawn.randrange(6) == 0 else drawn.choice(accepted) for _ in range(drawn.randint(1, 4))]
+        other = drawn.choice(OTHERS)
+        yield f"contained of the random stream {number}", partial(contained_fault, items, other, [])
+        yield f"contained --explain of the random stream {number}", partial(
+            contained_fault, items, other, ["--explain"])
