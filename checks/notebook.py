@@ -43,7 +43,7 @@ def cell_fault(cell: str, names: dict[str, Any]) -> Fault:
     picture = value._repr_svg_() if hasattr(value, "_repr_svg_") else None
     if picture is None:
         return None
-    if "<svg" not in picture:
+    if not picture.startswith("<svg"):
         return f"{picture[:80]!r} is no picture"
     drawn = MISSING not in picture
     return None if drawn == bool(shutil.which("dot")) else f"there is {'a' if drawn else 'no'} picture"

@@ -46,8 +46,10 @@ def written(words: Sequence[str], input: bytes, file: bytes = b"") -> bytes:
 
 
 def picture(drawing: bytes) -> str:
-    """The picture that Graphviz makes of a drawing, as SVG; where it is not installed, a picture that says so."""
+    """The picture that Graphviz makes of a drawing, as an SVG element without a declaration before it, which does not
+    go into a page; where it is not installed, a picture that says so."""
     dot = shutil.which("dot")
     if not dot:
         return NO_DOT
-    return subprocess.run([dot, "-Tsvg"], input=drawing, capture_output=True, check=True).stdout.decode()
+    made = subprocess.run([dot, "-Tsvg"], input=drawing, capture_output=True, check=True).stdout.decode()
+    return made[made.index("<svg"):]
