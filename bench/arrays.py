@@ -6,7 +6,8 @@ run.
     bench/arrays.py --rounds 1
 
 Of each step the least of some rounds, in seconds of wall time and of processor time; the program reads and writes
-texts, the library neither. The games are made by fixed seeds. Winners of both have to be the same.
+texts, the library neither. Of `omega.solve` it is told too how much of its time is that of the call of the library
+itself; the rest is the package's. The games are made by fixed seeds. Winners of both have to be the same.
 """
 import argparse
 import array
@@ -23,6 +24,7 @@ from typing import Any
 ROOT = os.path.dirname(os.path.dirname(os.path.abspath(__file__)))
 sys.path.insert(0, os.path.join(ROOT, "python"))
 import omega  # noqa: E402
+from omega.library import LIBRARY  # noqa: E402
 
 OMEGA = os.environ.get("OMEGA", os.path.join(ROOT, "crates", "omega_tool", "out", "omega_tool"))
 
@@ -79,11 +81,30 @@ def from_text(rounds: int, game: FlatGame) -> list[int]:
             return [int(line.split()[1].rstrip(b";")) for line in answer.read().splitlines()[1:]]
 
 
+class Counted:
+    """A call of the library, with the seconds that it took."""
+
+    def __init__(self, call: Callable[..., Any]) -> None:
+        self.call, self.seconds = call, list[float]()
+
+    def __call__(self, *given: Any) -> Any:
+        begun = time.perf_counter()
+        try:
+            return self.call(*given)
+        finally:
+            self.seconds.append(time.perf_counter() - begun)
+
+
 def from_arrays(rounds: int, game: FlatGame) -> list[int]:
     """What the library takes for the same, and the winners that it finds."""
     priorities, owners, starts, successors = game
+    library: Any = LIBRARY
+    inside = Counted(library.omega_solve)
+    library.omega_solve = inside
     solved = timed(rounds, lambda: omega.solve(priorities, owners, (starts, successors)))
+    library.omega_solve = inside.call
     tell("arrays: solve", solved)
+    print(f"  {'of it in the library':26} {min(inside.seconds):7.2f} s", flush=True)
     answer = solved[2]
     choice = array.array("I", (omega.NO_CHOICE if it is None else it for it in answer.choice))
     judged = timed(rounds, lambda: omega.verify(priorities, owners, (starts, successors), bytes(answer.winner), choice))
