@@ -48,8 +48,8 @@ same question in three steps, whose texts have a limit of length; this command h
 Faults of the other automaton's text come first, then those of the text in FILE; `omega check --help`
 lists them. A text with --ABORT--, with no automaton or with several is not one automaton, and is refused
 as 3 Syntax; with --stream that in FILE is not. Then, if a start or an edge of one of them lists several
-states joined by &, the refusal is 41 UniversalBranch, and 42 TooManyPropositions, 55 TooLarge and 56
-NotDeterministic come as from `omega complement` and `omega meet`. With --verbose a second line says
+states joined by &, the refusal is 41 UniversalBranch, and 42 TooManyPropositions, 55 TooLarge and
+56 NotDeterministic come as from `omega complement` and `omega meet`. With --verbose a second line says
 which of the two is refused, `omega: in the other automaton` or `omega: in the automaton`. A file that
 can't be read is refused as 61 Io, and with --verbose a second line has its name. Files are read before
 standard input.

@@ -1,4 +1,5 @@
--- `decide_automaton`: what is written is the verdict on the automaton, and the run stays made if there is no memory for it.
+-- `decide_automaton`: what is written is the verdict on the automaton, and the run stays made if there is no memory for
+-- it.
 use Rattle.std.proofs.Common.{◌≡◌}
 use Rattle.std.proofs.lemmas.Result.{IfErr-weaker, IfOk-weaker}
 use Rattle.omega_text.specs.declared.refusal.Refusal.TheVariants.{Memory}
