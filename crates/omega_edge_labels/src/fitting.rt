@@ -3,11 +3,11 @@
 ghost use Rattle.std.specs.Prelude.{◌≡◌, IfErr, IfOk, OnOk};
 ghost use Rattle.omega_label.specs.Label.{LabelTree, conjunction};
 ghost use Rattle.omega_label.specs.Postfix.{IsInPostfix, postfix};
-ghost use Rattle.omega_label.specs.Shape.{FitsALabel, label_tree_of_shape};
+ghost use Rattle.omega_label.specs.Shape.{FitsALabel};
 ghost use Rattle.omega_edge_labels.specs.Fitting.{IsUnfit};
 
 use omega_expression::MOST_SIZE;
-use omega_label::{Label, LabelNodes, LabelShape};
+use omega_label::{Label, LabelNodes};
 use omega_text::{Refusal, TaskFault};
 use std::alloc::Global;
 
@@ -26,7 +26,11 @@ pub fn judge_size(label: &Label) -> Result<(), Refusal>
 
 /// Returns the conjunction of two labels. Fails with [TaskFault::TooLarge] if it is deeper than `MOST_DEPTH` or has
 /// over `MOST_SIZE` atoms and operators. Linear in both.
-pub fn fitting_conjunction(alloc: Global, one: &Label, other: &Label) -> Result<Label, Refusal>
+pub(crate) fn fitting_conjunction(
+    alloc: Global,
+    one: &Label,
+    other: &Label,
+) -> Result<Label, Refusal>
     ensures label { IfOk result (λ both. both ≡ conjunction one.now other.now) }
     ensures fits { OnOk result (FitsALabel (conjunction one.now other.now)) }
     ensures err { IfErr result (IsUnfit (conjunction one.now other.now)) }
@@ -61,18 +65,4 @@ fn of_size(label: Label) -> Result<Label, Refusal>
 {
     judge_size(&label)?;
     Ok(label)
-}
-
-/// Returns the label of a tree. Fails with [TaskFault::TooLarge] if it is deeper than `MOST_DEPTH` or has over
-/// `MOST_SIZE` atoms and operators. Linear in the tree.
-pub fn fitting_label(alloc: Global, shape: &LabelShape) -> Result<Label, Refusal>
-    ensures label { IfOk result (λ label. label ≡ label_tree_of_shape shape.now) }
-    ensures fits { OnOk result (FitsALabel (label_tree_of_shape shape.now)) }
-    ensures err { IfErr result (IsUnfit (label_tree_of_shape shape.now)) }
-{
-    match Label::of_shape(alloc, shape) {
-        Ok(label) => Ok(label),
-        Err(Refusal::Automaton(_)) => Err(Refusal::Task(TaskFault::TooLarge)),
-        Err(refusal) => Err(refusal),
-    }
 }

@@ -14,11 +14,11 @@ mod lending;
 mod limits;
 mod names;
 
-pub use edge_labels::{has_bit, label_at};
-pub use fitting::{fitting_conjunction, fitting_label, fitting_nodes, judge_size};
+pub use edge_labels::has_bit;
+pub use fitting::{fitting_nodes, judge_size};
 pub use formula_writing::{conjoined_formula, disjoined_formula, written_formula};
 pub use judging::{can_hold, can_hold_together, table_of};
-pub use label_writing::{written_conjunction, written_form, written_label};
+pub use label_writing::written_form;
 pub use lending::{EdgeLabel, edge_label};
 pub use limits::{MOST_EDGES, MOST_STATES, written_limits_are_stated};
 pub use names::is_identifier;

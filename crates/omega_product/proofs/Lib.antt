@@ -2,6 +2,7 @@ pub mod Membership
 pub mod Refused
 pub mod Recurring
 pub mod Accepted
+pub mod Conjoined
 pub mod Holding
 pub mod Rows
 pub mod Reaching
@@ -10,3 +11,7 @@ pub mod Meaning
 pub mod Formulas
 pub mod Unmet
 pub mod Counting
+pub mod Joints
+pub mod Crossing
+pub mod Finding
+pub mod Labelled

@@ -1,14 +1,15 @@
 -- The search breadth first: what is found while it is under way.
-use Rattle.std.proofs.Common.{◌≡◌, ℕ, ◌+◌, ◌<◌, ◌≤◌, ◌⊎◌, inl, inr, Bool, true, false, if◌then◌else◌, List, [], ◌∷◌, ◌++◌, length, take, get_or, refl, sym, ap, subst, ◌∙◌, arith, append_assoc}
-use Rattle.std.specs.List.{flat_map, list_any}
+use Rattle.std.proofs.Common.{◌≡◌, ℕ, ◌+◌, ◌<◌, ◌≤◌, ◌⊎◌, inl, inr, Bool, true, false, not, cond, ◌&&◌, ◌||◌, if◌then◌else◌, List, [], ◌∷◌, ◌++◌, length, take, get_or, Contains, refl, sym, ap, ap₂, subst, ◌∙◌, arith, append_assoc, eq-eqb, true≢false}
+use Rattle.std.specs.List.{flat_map, list_any, position_or_len}
 use Rattle.std.proofs.lemmas.Grind.{flat_map-append}
 use Rattle.std.proofs.lemmas.List.{length-append, take-append-le, take_all, take_more}
 use Rattle.indexmap.specs.IndexSet.{insert_all, insert_key}
 use Rattle.omega_automaton.specs.Automaton.{Description}
 use Rattle.omega_edge_labels.specs.Limits.{most_states}
-use Rattle.omega_product.specs.Pairs.{AreFound, AreReached, Pair, found_after, same_pair, start_pairs, targets_of}
+use Rattle.omega_product.specs.Pairs.{AreFound, AreReached, Pair, found_after, pair_number, same_pair, start_pairs, targets_of}
+use Rattle.omega_product.proofs.Membership.{Contains-cases, Contains-nothing}
 
-append_nil : {X : Type 0} (xs : List X) → xs ++ [] ≡ xs
+pub append_nil : {X : Type 0} (xs : List X) → xs ++ [] ≡ xs
 append_nil [] = refl
 append_nil {X = X} (x ∷ xs) = ap (λ (rest : List X). x ∷ rest) (append_nil xs)
 
@@ -18,7 +19,7 @@ insert_both ks [] ys = refl
 insert_both ks (x ∷ xs) ys = insert_both (insert_key same_pair ks x) xs ys
 
 -- what is there stays in front
-record Extended (ks more : List Pair) : Type 0 where
+pub record Extended (ks more : List Pair) : Type 0 where
   pub extra : List Pair
   pub is : more ≡ ks ++ extra
 
@@ -29,7 +30,7 @@ key_extends ks k = go (list_any (same_pair k) ks)
     go true = record { extra = []; is = sym (append_nil ks) }
     go false = record { extra = k ∷ []; is = refl }
 
-all_extends : (xs ks : List Pair) → Extended ks (insert_all same_pair ks xs)
+pub all_extends : (xs ks : List Pair) → Extended ks (insert_all same_pair ks xs)
 all_extends [] ks = record { extra = []; is = sym (append_nil ks) }
 all_extends (x ∷ xs) ks =
     let one = key_extends ks x in
@@ -38,6 +39,65 @@ all_extends (x ∷ xs) ks =
       extra = one.extra ++ rest.extra;
       is = rest.is ∙ ap (λ (front : List Pair). front ++ rest.extra) one.is ∙ append_assoc ks one.extra rest.extra;
     }
+
+pub extends_by : (ks more xs : List Pair) → more ≡ insert_all same_pair ks xs → Extended ks more
+extends_by ks more xs is = let whole = all_extends xs ks in record { extra = whole.extra; is = is ∙ whole.is }
+
+-- and has its number
+found_before : (test : Pair → Bool) (ks more : List Pair) → list_any test ks ≡ true → position_or_len test (ks ++ more) ≡ position_or_len test ks
+found_before test [] more some = absurd (true≢false (sym some))
+found_before test (k ∷ ks) more some = go (test k) refl (λ rest. found_before test ks more rest)
+  where
+    go : (b : Bool) → test k ≡ b → (list_any test ks ≡ true → position_or_len test (ks ++ more) ≡ position_or_len test ks)
+        → cond (not (test k)) (1 + position_or_len test (ks ++ more)) 0 ≡ cond (not (test k)) (1 + position_or_len test ks) 0
+    go true e others = ap (λ b. cond (not b) (1 + position_or_len test (ks ++ more)) 0) e ∙ sym (ap (λ b. cond (not b) (1 + position_or_len test ks) 0) e)
+    go false e others =
+        let rest : list_any test ks ≡ true = sym (ap (λ b. b || list_any test ks) e) ∙ some in
+        ap (λ (n : ℕ). cond (not (test k)) (1 + n) 0) (others rest)
+
+put_last : (test : Pair → Bool) (ks more : List Pair) (k : Pair) → list_any test ks ≡ false → test k ≡ true → position_or_len test ((ks ++ k ∷ []) ++ more) ≡ position_or_len test ks
+put_last test [] more k none is = ap (λ b. cond (not b) (1 + position_or_len test more) 0) is
+put_last test (x ∷ ks) more k none is = go (test x) refl (λ rest. put_last test ks more k rest is)
+  where
+    go : (b : Bool) → test x ≡ b → (list_any test ks ≡ false → position_or_len test ((ks ++ k ∷ []) ++ more) ≡ position_or_len test ks)
+        → cond (not (test x)) (1 + position_or_len test ((ks ++ k ∷ []) ++ more)) 0 ≡ cond (not (test x)) (1 + position_or_len test ks) 0
+    go true e others = absurd (true≢false (sym (ap (λ b. b || list_any test ks) e) ∙ none))
+    go false e others =
+        let rest : list_any test ks ≡ false = sym (ap (λ b. b || list_any test ks) e) ∙ none in
+        ap (λ (n : ℕ). cond (not (test x)) (1 + n) 0) (others rest)
+
+same_as_itself : (pair : Pair) → same_pair pair pair ≡ true
+same_as_itself pair = ap₂ ◌&&◌ (eq-eqb pair.0 pair.0 refl) (eq-eqb pair.1 pair.1 refl)
+
+-- the number of a pair that is inserted is its place, whatever is found later
+pub inserted_number : (ks later : List Pair) (pair : Pair) → pair_number (insert_key same_pair ks pair ++ later) pair ≡ position_or_len (same_pair pair) ks
+inserted_number ks later pair = go (list_any (same_pair pair) ks) refl
+  where
+    go : (b : Bool) → list_any (same_pair pair) ks ≡ b → position_or_len (same_pair pair) ((if list_any (same_pair pair) ks then ks else ks ++ pair ∷ []) ++ later) ≡ position_or_len (same_pair pair) ks
+    go true e =
+        ap (λ b. position_or_len (same_pair pair) ((if b then ks else ks ++ pair ∷ []) ++ later)) e ∙ found_before (same_pair pair) ks later e
+    go false e =
+        ap (λ b. position_or_len (same_pair pair) ((if b then ks else ks ++ pair ∷ []) ++ later)) e ∙ put_last (same_pair pair) ks later pair e (same_as_itself pair)
+
+-- so is that of a pair that was found
+listed_found : (ks : List Pair) (pair : Pair) → Contains ks pair → list_any (same_pair pair) ks ≡ true
+listed_found [] pair listed = absurd (Contains-nothing pair listed)
+listed_found (k ∷ ks) pair listed = elim (Contains-cases k pair ks listed) [
+  | inl e ↦ ap (λ b. b || list_any (same_pair pair) ks) (ap (same_pair pair) e ∙ same_as_itself pair)
+  | inr later ↦ go (same_pair pair k) (listed_found ks pair later)
+]
+  where
+    go : (b : Bool) → list_any (same_pair pair) ks ≡ true → (b || list_any (same_pair pair) ks) ≡ true
+    go true rest = refl
+    go false rest = rest
+
+pub found_number : (ks more : List Pair) (pair : Pair) → Contains ks pair → pair_number (ks ++ more) pair ≡ pair_number ks pair
+found_number ks more pair listed = found_before (same_pair pair) ks more (listed_found ks pair listed)
+
+pub extended_number : (ks more later : List Pair) (pair : Pair) → Extended ks more → Contains ks pair → pair_number (more ++ later) pair ≡ pair_number ks pair
+extended_number ks more later pair extended listed =
+    let same : more ++ later ≡ ks ++ (extended.extra ++ later) = ap (λ (s : List Pair). s ++ later) extended.is ∙ append_assoc ks extended.extra later in
+    ap (λ (all : List Pair). pair_number all pair) same ∙ found_number ks (extended.extra ++ later) pair listed
 
 -- the search after `done` pairs were expanded
 pub record IsUnderWay (one other : Description) (pairs : List Pair) (at : ℕ) : Type 0 where
@@ -53,6 +113,14 @@ begun one other pairs is = record {
   within = omega arith;
   few = omega arith;
 }
+
+-- the pairs that were expanded, one more
+pub taken_more : (pairs more : List Pair) (at : ℕ) (pair : Pair) → Extended pairs more → at < length pairs → pair ≡ get_or pairs at pair → take (at + 1) more ≡ take at pairs ++ pair ∷ []
+taken_more pairs more at pair extended below here =
+    ap (take (at + 1)) extended.is ∙ take-append-le (at + 1) pairs extended.extra (omega arith) ∙ take_more pairs at pair below ∙ ap (λ (p : Pair). take at pairs ++ p ∷ []) (sym here)
+
+pub taken_before : (pairs more : List Pair) (k : ℕ) → Extended pairs more → k ≤ length pairs → take k more ≡ take k pairs
+taken_before pairs more k extended least = ap (take k) extended.is ∙ take-append-le k pairs extended.extra least
 
 pub gone_on : (one other : Description) (pairs more : List Pair) (at : ℕ) (pair : Pair) → IsUnderWay one other pairs at → at < length pairs → pair ≡ get_or pairs at pair
     → length pairs ≤ most_states → more ≡ insert_all same_pair pairs (targets_of one other pair) → IsUnderWay one other more (at + 1)

@@ -1,6 +1,7 @@
 -- Acceptances in which each set has to recur: their names, and how deep their formulas are.
 use Rattle.std.proofs.Common.{◌≡◌, ℕ, zero, suc, ◌≤◌, [], ◌∷◌, codes, refl, arith}
 use Rattle.omega_formula.specs.Writing.{acc_written}
+use Rattle.omega_formula.specs.Acceptance.{acc_depth}
 use Rattle.omega_formula.specs.Kind.{buchi_formula}
 use Rattle.omega_formula.specs.Raw.{raw_acc_depth}
 use Rattle.omega_formula.specs.declared.name.Parameter.TheVariants.{Number}
@@ -17,3 +18,8 @@ pub buchi_depth : (n : ℕ) → raw_acc_depth (acc_written (buchi_formula (suc n
 buchi_depth zero = omega arith
 buchi_depth (suc zero) = omega arith
 buchi_depth (suc (suc k)) = let less = buchi_depth (suc k) in omega (arith, less)
+
+pub formula_depth : (n : ℕ) → acc_depth (buchi_formula (suc n)) ≤ suc n
+formula_depth zero = omega arith
+formula_depth (suc zero) = omega arith
+formula_depth (suc (suc k)) = let less = formula_depth (suc k) in omega (arith, less)

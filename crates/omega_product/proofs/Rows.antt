@@ -1,12 +1,15 @@
 -- The edges of a state, one more at a time, and the table of those of all states.
-use Rattle.std.proofs.Common.{◌≡◌, ◌==◌, ℕ, zero, suc, ◌+◌, ◌<◌, ◌≤◌, ◌⊎◌, inl, inr, Bool, true, false, not, cond, nat_eq, nat_lt, if◌then◌else◌, List, [], ◌∷◌, ◌++◌, length, map, take, get_or, Some, None, position, Contains, refl, sym, ap, subst, ◌∙◌, arith, eqb-true, eq-eqb, true≢false}
+use Rattle.std.proofs.Common.{◌≡◌, ◌==◌, ℕ, zero, suc, ◌+◌, ◌<◌, ◌≤◌, ◌⊎◌, inl, inr, Bool, true, false, not, cond, nat_eq, nat_lt, if◌then◌else◌, List, [], ◌∷◌, ◌++◌, length, map, take, get_or, Option, Some, None, position, Contains, refl, sym, ap, subst, ◌∙◌, arith, eqb-true, eq-eqb, ltb-true, true≢false}
 use Rattle.std.specs.List.{position_or_len}
 use Rattle.std.proofs.lemmas.Bool.{cases_lt, lt-ltb}
 use Rattle.std.proofs.lemmas.List.{length-map, length-take, take_more}
+use Rattle.std.proofs.lemmas.List.Sums.{sum_by-cons, sum_by_push}
 use Rattle.omega_automaton.specs.declared.edge.Edge.{Edge}
 use Rattle.omega_automaton.specs.declared.state.State.{State}
+use Rattle.omega_product.specs.PairGraph.{edges_before}
+use Rattle.omega_product.specs.Pairs.{name_at}
 use Rattle.omega_product.specs.Transitions.{View, transition_of, transitions_at, transitions_from}
-use Rattle.omega_product.specs.private.Tables.{AreRows, row_of}
+use Rattle.omega_product.specs.private.Tables.{AreRows, edges_in, firsts_from, row_of}
 use Rattle.omega_product.specs.declared.transition.Transition.{Transition}
 use Rattle.omega_product.proofs.Membership.{Contains-here, Contains-there}
 
@@ -38,32 +41,32 @@ turned m n false e = go (n == m) refl
     go true same = absurd (true≢false (sym (eq-eqb m n (sym (eqb-true n m same))) ∙ e))
     go false same = refl
 
-at_row : (view : View) (states : List State) (number : ℕ)
-    → transitions_at view states number ≡ get_or (map (row_of view) states) (position_or_len (nat_eq number) (map (λ (state : State). state.number) states)) []
-at_row view [] number = refl
-at_row view (state ∷ states) number = go (state.number == number) refl (at_row view states number)
-  where
-    rows : List (List Transition)
-    rows = map (row_of view) states
+-- what the first state with a number has, or nothing
+module _ {X : Type 0} (has : State → X) (nothing : X) where
+  abbrev pub first_with : List State → ℕ → X
+  first_with [] number = nothing
+  first_with (state ∷ states) number = if state.number == number then has state else first_with states number
 
-    place : ℕ
-    place = position_or_len (nat_eq number) (map (λ (state : State). state.number) states)
-
-    go : (b : Bool) → (state.number == number) ≡ b
-        → transitions_at view states number ≡ get_or (map (row_of view) states) (position_or_len (nat_eq number) (map (λ (state : State). state.number) states)) []
-        → (if state.number == number then row_of view state else transitions_at view states number)
-        ≡ get_or (row_of view state ∷ map (row_of view) states)
-        (cond (not (nat_eq number state.number)) (1 + position_or_len (nat_eq number) (map (λ (state : State). state.number) states)) 0) []
-    go true e rest =
-        ap (λ b. if b then row_of view state else transitions_at view states number) e
-        ∙ ap (λ b. get_or (row_of view state ∷ map (row_of view) states)
-        (cond (not b) (1 + position_or_len (nat_eq number) (map (λ (state : State). state.number) states)) 0) []) (sym (turned state.number number true e))
-    go false e rest =
-        let k : ℕ = position_or_len (nat_eq number) (map (λ (state : State). state.number) states) in
-        let more : suc k ≡ 1 + k = omega arith in
-        ap (λ b. if b then row_of view state else transitions_at view states number) e ∙ rest
-        ∙ ap (λ i. get_or (row_of view state ∷ map (row_of view) states) i []) more
-        ∙ ap (λ b. get_or (row_of view state ∷ map (row_of view) states) (cond (not b) (1 + k) 0) []) (sym (turned state.number number false e))
+  at_place : (states : List State) (number : ℕ)
+      → first_with states number ≡ get_or (map has states) (position_or_len (nat_eq number) (map (λ (state : State). state.number) states)) nothing
+  at_place [] number = refl
+  at_place (state ∷ states) number = go (state.number == number) refl (at_place states number)
+    where
+      go : (b : Bool) → (state.number == number) ≡ b
+          → first_with states number ≡ get_or (map has states) (position_or_len (nat_eq number) (map (λ (state : State). state.number) states)) nothing
+          → (if state.number == number then has state else first_with states number)
+          ≡ get_or (has state ∷ map has states)
+          (cond (not (nat_eq number state.number)) (1 + position_or_len (nat_eq number) (map (λ (state : State). state.number) states)) 0) nothing
+      go true e rest =
+          ap (λ b. if b then has state else first_with states number) e
+          ∙ ap (λ b. get_or (has state ∷ map has states)
+          (cond (not b) (1 + position_or_len (nat_eq number) (map (λ (state : State). state.number) states)) 0) nothing) (sym (turned state.number number true e))
+      go false e rest =
+          let k : ℕ = position_or_len (nat_eq number) (map (λ (state : State). state.number) states) in
+          let more : suc k ≡ 1 + k = omega arith in
+          ap (λ b. if b then has state else first_with states number) e ∙ rest
+          ∙ ap (λ i. get_or (has state ∷ map has states) i nothing) more
+          ∙ ap (λ b. get_or (has state ∷ map has states) (cond (not b) (1 + k) 0) nothing) (sym (turned state.number number false e))
 
 some_place : (b : Bool) (p place : ℕ) → cond b (Some p) None ≡ Some place → p ≡ place
 some_place true p place e = cc
@@ -84,41 +87,132 @@ past_end [] i d past = refl
 past_end (x ∷ xs) zero d past = absurd (omega arith)
 past_end (x ∷ xs) (suc i) d past = past_end xs i d (omega arith)
 
+-- it is found by the place of the number
+module _ {X : Type 0} (has : State → X) (nothing : X) (states : List State) (numbers : List ℕ) (number : ℕ) (are : numbers ≡ map (λ (state : State). state.number) states) where
+  pub found_first : (place : ℕ) → position (nat_eq number) numbers ≡ Some place → first_with has nothing states number ≡ get_or (map has states) place nothing
+  found_first place found =
+      let p : position_or_len (nat_eq number) numbers ≡ place = some_place (nat_lt (position_or_len (nat_eq number) numbers) (length numbers)) (position_or_len (nat_eq number) numbers) place found in
+      at_place has nothing states number
+      ∙ ap (λ ns. get_or (map has states) (position_or_len (nat_eq number) ns) nothing) (sym are) ∙ ap (λ i. get_or (map has states) i nothing) p
+
+  pub missing_first : position (nat_eq number) numbers ≡ None → first_with has nothing states number ≡ nothing
+  missing_first missing = go (cases_lt (position_or_len (nat_eq number) numbers) (length numbers))
+    where
+      long : length (map has states) ≡ length numbers
+      long = length-map states has ∙ sym (length-map states (λ (state : State). state.number)) ∙ sym (ap length are)
+
+      go : (position_or_len (nat_eq number) numbers < length numbers) ⊎ (length numbers ≤ position_or_len (nat_eq number) numbers) → first_with has nothing states number ≡ nothing
+      go (inl below) =
+          absurd (true≢false (sym (lt-ltb (position_or_len (nat_eq number) numbers) (length numbers) below)
+          ∙ none_place (nat_lt (position_or_len (nat_eq number) numbers) (length numbers)) (position_or_len (nat_eq number) numbers) missing))
+      go (inr past) =
+          at_place has nothing states number
+          ∙ ap (λ ns. get_or (map has states) (position_or_len (nat_eq number) ns) nothing) (sym are)
+          ∙ past_end (map has states) (position_or_len (nat_eq number) numbers) nothing (omega (arith, past, long))
+
 -- what the table says
-pub row_found : (view : View) (states : List State) (numbers : List ℕ) (rows : List (List Transition)) (number place : ℕ) → AreRows view states numbers rows
+row_first : (view : View) (states : List State) (number : ℕ) → transitions_at view states number ≡ first_with (row_of view) [] states number
+row_first view [] number = refl
+row_first view (state ∷ states) number = ap (λ (rest : List Transition). if state.number == number then row_of view state else rest) (row_first view states number)
+
+pub row_found : (view : View) (states : List State) (numbers : List ℕ) (rows : List (List Transition)) (firsts : List ℕ) (number place : ℕ) → AreRows view states numbers rows firsts
     → position (nat_eq number) numbers ≡ Some place → transitions_at view states number ≡ get_or rows place []
-row_found view states numbers rows number place are found =
-    let p : position_or_len (nat_eq number) numbers ≡ place = some_place (nat_lt (position_or_len (nat_eq number) numbers) (length numbers)) (position_or_len (nat_eq number) numbers) place found in
-    at_row view states number
-    ∙ ap (λ rs. get_or rs (position_or_len (nat_eq number) (map (λ (state : State). state.number) states)) []) (sym are.rows_are)
-    ∙ ap (λ ns. get_or rows (position_or_len (nat_eq number) ns) []) (sym are.numbers_are) ∙ ap (λ i. get_or rows i []) p
+row_found view states numbers rows firsts number place are found =
+    row_first view states number ∙ found_first (row_of view) [] states numbers number are.numbers_are place found
+    ∙ ap (λ (rs : List (List Transition)). get_or rs place []) (sym are.rows_are)
 
-pub row_missing : (view : View) (states : List State) (numbers : List ℕ) (rows : List (List Transition)) (number : ℕ) → AreRows view states numbers rows
+pub row_missing : (view : View) (states : List State) (numbers : List ℕ) (rows : List (List Transition)) (firsts : List ℕ) (number : ℕ) → AreRows view states numbers rows firsts
     → position (nat_eq number) numbers ≡ None → transitions_at view states number ≡ []
-row_missing view states numbers rows number are missing = go (cases_lt (position_or_len (nat_eq number) numbers) (length numbers))
-  where
-    long : length rows ≡ length numbers
-    long =
-        ap length are.rows_are ∙ length-map states (row_of view) ∙ sym (length-map states (λ (state : State). state.number)) ∙ sym (ap length are.numbers_are)
+row_missing view states numbers rows firsts number are missing =
+    row_first view states number ∙ missing_first (row_of view) [] states numbers number are.numbers_are missing
 
-    go : (position_or_len (nat_eq number) numbers < length numbers) ⊎ (length numbers ≤ position_or_len (nat_eq number) numbers) → transitions_at view states number ≡ []
-    go (inl below) =
-        absurd (true≢false (sym (lt-ltb (position_or_len (nat_eq number) numbers) (length numbers) below)
-        ∙ none_place (nat_lt (position_or_len (nat_eq number) numbers) (length numbers)) (position_or_len (nat_eq number) numbers) missing))
-    go (inr past) =
-        at_row view states number
-        ∙ ap (λ rs. get_or rs (position_or_len (nat_eq number) (map (λ (state : State). state.number) states)) []) (sym are.rows_are)
-        ∙ ap (λ ns. get_or rows (position_or_len (nat_eq number) ns) []) (sym are.numbers_are)
-        ∙ past_end rows (position_or_len (nat_eq number) numbers) [] (omega (arith, past, long))
+-- the name of a state is at its place
+name_first : (states : List State) (number : ℕ) → name_at states number ≡ first_with (λ (state : State). state.name) None states number
+name_first [] number = refl
+name_first (state ∷ states) number = ap (λ (rest : Option (List ℕ)). if state.number == number then state.name else rest) (name_first states number)
+
+module _ (states : List State) (numbers : List ℕ) (number : ℕ) (are : numbers ≡ map (λ (state : State). state.number) states) where
+  pub name_found : (place : ℕ) → position (nat_eq number) numbers ≡ Some place → name_at states number ≡ get_or (map (λ (state : State). state.name) states) place None
+  name_found place found = name_first states number ∙ found_first (λ (state : State). state.name) None states numbers number are place found
+
+  pub name_missing : position (nat_eq number) numbers ≡ None → name_at states number ≡ None
+  name_missing missing = name_first states number ∙ missing_first (λ (state : State). state.name) None states numbers number are missing
+
+-- the number of the first edge of a state is at its place
+some_below : (b : Bool) (p place : ℕ) → cond b (Some p) None ≡ Some place → b ≡ true
+some_below true p place e = refl
+some_below false p place e = absurd (none e)
+  where
+    none : None ≡ Some place → ⊥
+    none e = cc
+
+at_first : (states : List State) (number count : ℕ) → position_or_len (nat_eq number) (map (λ (state : State). state.number) states) < length states
+    → get_or (firsts_from count states) (position_or_len (nat_eq number) (map (λ (state : State). state.number) states)) 0 ≡ count + edges_before states number
+at_first [] number count below = absurd (omega (arith, below))
+at_first (state ∷ states) number count below = go (state.number == number) refl (λ inside. at_first states number (count + length state.edges) inside)
+  where
+    place : ℕ
+    place = position_or_len (nat_eq number) (map (λ (state : State). state.number) states)
+
+    firsts : List ℕ
+    firsts = count ∷ firsts_from (count + length state.edges) states
+
+    go : (b : Bool) → (state.number == number) ≡ b
+        → (place < length states → get_or (firsts_from (count + length state.edges) states) place 0 ≡ (count + length state.edges) + edges_before states number)
+        → get_or firsts (cond (not (nat_eq number state.number)) (1 + place) 0) 0
+        ≡ count + (if state.number == number then 0 else length state.edges + edges_before states number)
+    go true e rest =
+        let sum : count ≡ count + 0 = omega arith in
+        ap (λ b. get_or firsts (cond (not b) (1 + place) 0) 0) (turned state.number number true e)
+        ∙ sum ∙ ap (λ b. count + (if b then 0 else length state.edges + edges_before states number)) (sym e)
+    go false e rest =
+        let more : 1 + place ≡ suc place = omega arith in
+        let here : cond (not (nat_eq number state.number)) (1 + place) 0 ≡ 1 + place = ap (λ b. cond (not b) (1 + place) 0) (turned state.number number false e) in
+        let sum : (count + length state.edges) + edges_before states number ≡ count + (length state.edges + edges_before states number) = omega arith in
+        ap (λ n. get_or firsts n 0) (here ∙ more)
+        ∙ rest (omega (arith, below, here))
+        ∙ sum ∙ ap (λ b. count + (if b then 0 else length state.edges + edges_before states number)) (sym e)
+
+pub first_found : (view : View) (states : List State) (numbers : List ℕ) (rows : List (List Transition)) (firsts : List ℕ) (number place : ℕ) → AreRows view states numbers rows firsts
+    → position (nat_eq number) numbers ≡ Some place → get_or firsts place 0 ≡ edges_before states number
+first_found view states numbers rows firsts number place are found =
+    let p : position_or_len (nat_eq number) numbers ≡ place = some_place (nat_lt (position_or_len (nat_eq number) numbers) (length numbers)) (position_or_len (nat_eq number) numbers) place found in
+    let below : position_or_len (nat_eq number) numbers < length numbers =
+    ltb-true (position_or_len (nat_eq number) numbers) (length numbers) (some_below (nat_lt (position_or_len (nat_eq number) numbers) (length numbers)) (position_or_len (nat_eq number) numbers) place found) in
+    let same : position_or_len (nat_eq number) numbers ≡ position_or_len (nat_eq number) (map (λ (state : State). state.number) states) =
+    ap (position_or_len (nat_eq number)) are.numbers_are in
+    let long : length numbers ≡ length states = ap length are.numbers_are ∙ length-map states (λ (state : State). state.number) in
+    let none : 0 + edges_before states number ≡ edges_before states number = omega arith in
+    ap (λ n. get_or firsts n 0) (sym p ∙ same)
+    ∙ ap (λ (fs : List ℕ). get_or fs (position_or_len (nat_eq number) (map (λ (state : State). state.number) states)) 0) are.firsts_are
+    ∙ at_first states number 0 (omega (arith, below, same, long)) ∙ none
 
 -- one state more
-pub rows_more : (view : View) (states : List State) (at : ℕ) (state : State) (numbers : List ℕ) (rows : List (List Transition)) → at < length states → state ≡ get_or states at state
-    → AreRows view (take at states) numbers rows → AreRows view (take (at + 1) states) (numbers ++ state.number ∷ []) (rows ++ row_of view state ∷ [])
-rows_more view states at state numbers rows below here are =
+firsts_more : (count : ℕ) (states : List State) (state : State) → firsts_from count (states ++ state ∷ []) ≡ firsts_from count states ++ (count + edges_in states) ∷ []
+firsts_more count [] state = let e : count ≡ count + 0 = omega arith in ap (λ n. n ∷ []) e
+firsts_more count (x ∷ states) state =
+    let sum : (count + length x.edges) + edges_in states ≡ count + edges_in (x ∷ states) = omega (arith, sum_by-cons (λ (s : State). length s.edges) x states) in
+    ap (λ (rest : List ℕ). count ∷ rest)
+    (firsts_more (count + length x.edges) states state
+    ∙ ap (λ n. firsts_from (count + length x.edges) states ++ n ∷ []) sum)
+
+pub edges_more : (states : List State) (at : ℕ) (state : State) → at < length states → state ≡ get_or states at state
+    → edges_in (take (at + 1) states) ≡ edges_in (take at states) + length state.edges
+edges_more states at state below here =
+    ap edges_in (take_more states at state below ∙ ap (λ (s : State). take at states ++ s ∷ []) (sym here))
+    ∙ sum_by_push (λ (s : State). length s.edges) (take at states) state
+
+pub rows_more : (view : View) (states : List State) (at : ℕ) (state : State) (numbers : List ℕ) (rows : List (List Transition)) (firsts : List ℕ) (first : ℕ)
+    → at < length states → state ≡ get_or states at state → AreRows view (take at states) numbers rows firsts → first ≡ edges_in (take at states)
+    → AreRows view (take (at + 1) states) (numbers ++ state.number ∷ []) (rows ++ row_of view state ∷ []) (firsts ++ first ∷ [])
+rows_more view states at state numbers rows firsts first below here are counted =
     let more : take (at + 1) states ≡ take at states ++ state ∷ [] = take_more states at state below ∙ ap (λ (s : State). take at states ++ s ∷ []) (sym here) in
+    let next : first ≡ 0 + edges_in (take at states) = omega (arith, counted) in
     record {
       numbers_are = ap (λ (ns : List ℕ). ns ++ state.number ∷ []) are.numbers_are ∙ sym (map_push (λ (s : State). s.number) (take at states) state) ∙ ap (map (λ (s : State). s.number)) (sym more);
       rows_are = ap (λ (rs : List (List Transition)). rs ++ row_of view state ∷ []) are.rows_are ∙ sym (map_push (row_of view) (take at states) state) ∙ ap (map (row_of view)) (sym more);
+      firsts_are = ap (λ (fs : List ℕ). fs ++ first ∷ []) are.firsts_are ∙ ap (λ n. firsts_from 0 (take at states) ++ n ∷ []) next
+          ∙ sym (firsts_more 0 (take at states) state) ∙ ap (firsts_from 0) (sym more);
     }
   where
     map_push : {X Y : Type 0} (f : X → Y) (xs : List X) (x : X) → map f (xs ++ x ∷ []) ≡ map f xs ++ f x ∷ []

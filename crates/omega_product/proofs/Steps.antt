@@ -8,7 +8,7 @@ use Rattle.indexmap.specs.IndexSet.{insert_all, insert_key}
 use Rattle.omega_product.specs.Pairs.{Pair, same_pair}
 use Rattle.omega_product.proofs.Reaching.{insert_both}
 
-append_nil : {X : Type 0} (xs : List X) → xs ++ [] ≡ xs
+pub append_nil : {X : Type 0} (xs : List X) → xs ++ [] ≡ xs
 append_nil [] = refl
 append_nil {X = X} (x ∷ xs) = ap (λ (rest : List X). x ∷ rest) (append_nil xs)
 
@@ -59,3 +59,7 @@ module _ {X : Type 0} (xs : List X) (i : ℕ) (x : X) (below : i < length xs) (h
   pub insert_dropped : (p : X → Bool) (f : X → Pair) → p x ≡ false → keys ≡ insert_all same_pair ks (map f (filter p (take i xs)))
       → keys ≡ insert_all same_pair ks (map f (filter p (take (i + 1) xs)))
   insert_dropped p f fails so_far = so_far ∙ ap (λ (s : List X). insert_all same_pair ks (map f s)) (sym (filter_dropped xs i x below here p fails))
+
+-- two facts together
+pub both_of : {A B : Type 0} → A → B → A × B
+both_of a b = (a, b)

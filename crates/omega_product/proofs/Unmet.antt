@@ -8,8 +8,7 @@ use Rattle.omega_label.specs.Label.{LabelTree, conjunction}
 use Rattle.omega_label.specs.Shape.{FitsALabel}
 use Rattle.omega_satisfying.specs.Undecided.{IsHardLabel}
 use Rattle.omega_automaton.specs.Automaton.{Description}
-use Rattle.omega_edge_labels.specs.Fitting.{FitsAText, IsUnjudged}
-use Rattle.omega_edge_labels.proofs.Depths.{unfit_text}
+use Rattle.omega_edge_labels.specs.Fitting.{IsUnjudged}
 use Rattle.omega_product.specs.Pairs.{AreFound, Pair, first_leaving, second_leaving}
 use Rattle.omega_product.specs.Refusing.{AreMet, IsJoinFault, unfit_meeting}
 use Rattle.omega_product.specs.private.Meeting.{HasUnmet, HasUnmetPartner, IsUnmet}
@@ -69,5 +68,5 @@ unjudged_unmet transition other label is refusal h =
     go : (fault : TaskFault) → ((fault ≡ TooLarge) × (FitsALabel label → ⊥)) ⊎ ((fault ≡ TooManyPropositions) × IsHardLabel label)
         → IsUnmet transition other fault
     go fault (inl large) =
-        subst (IsUnmet transition other) (sym large.0) (subst (λ (l : LabelTree). FitsAText l → ⊥) is (unfit_text label large.1))
+        subst (IsUnmet transition other) (sym large.0) (subst (λ (l : LabelTree). FitsALabel l → ⊥) is large.1)
     go fault (inr hard) = subst (IsUnmet transition other) (sym hard.0) (subst IsHardLabel is hard.1)

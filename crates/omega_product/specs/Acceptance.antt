@@ -1,6 +1,6 @@
 -- The acceptance of a product: that of both, with the sets of the second numbered after those of the first (HOA v1,
 -- acceptance names).
-use Rattle.std.specs.Prelude.{◌≡◌, ◌≤◌, ◌⊎◌, ℕ, zero, suc, ◌+◌, [], ◌∷◌, Option, Some, None, codes}
+use Rattle.std.specs.Prelude.{◌≡◌, ◌≤◌, ◌⊎◌, ℕ, zero, suc, ◌+◌, Bool, false, if◌then◌else◌, [], ◌∷◌, Option, Some, None, codes}
 use Rattle.omega_expression.specs.Limits.{most_buchi_sets}
 use Rattle.omega_formula.specs.Acceptance.{AccTree}
 use Rattle.omega_formula.specs.Acceptance as acc
@@ -10,9 +10,22 @@ use Rattle.omega_formula.specs.declared.name.AccName.{AccName}
 use Rattle.omega_formula.specs.declared.name.Parameter.TheVariants.{Number}
 use Rattle.omega_automaton.specs.Automaton.{Description}
 
+-- whether a formula is `t`
+abbrev pub is_true : AccTree → Bool
+is_true (acc.constant value) = value
+is_true (acc.inf negated set) = false
+is_true (acc.fin negated set) = false
+is_true (acc.conjunction left right) = false
+is_true (acc.disjunction left right) = false
+
+-- the conjunction of two formulas; if one of them is `t`, the other one alone
+abbrev pub both_formulas : AccTree → AccTree → AccTree
+both_formulas formula other =
+    if is_true formula then other else if is_true other then formula else acc.conjunction formula other
+
 -- the conjunction of the formulas of both automata, with the sets of the second numbered after those of the first
 abbrev pub conjoined_acceptance : Description → Description → AccTree
-conjoined_acceptance one other = acc.conjunction one.acceptance (moved_after one.sets other.acceptance)
+conjoined_acceptance one other = both_formulas one.acceptance (moved_after one.sets other.acceptance)
 
 -- Each set of an automaton has to recur. So it is Büchi or generalized Büchi, or has no sets and accepts by each run,
 -- whatever it is named.
@@ -47,3 +60,7 @@ pub record IsConjoined (one other : Description) (name : Option AccName) (formul
 -- the acceptance of a product by its name and its formula
 abbrev pub IsJointAcceptance : Description → Description → Option AccName → AccTree → Type 0
 IsJointAcceptance one other name formula = IsBuchiOfBoth one other name formula ⊎ IsConjoined one other name formula
+
+-- the acceptance formula of a product, whatever its name
+abbrev pub IsJointFormula : Description → Description → AccTree → Type 0
+IsJointFormula one other formula = (name : Option AccName) × IsJointAcceptance one other name formula

@@ -8,5 +8,7 @@ pub mod Acceptance
 pub mod Product
 pub mod Limits
 pub mod Written
+pub mod JointEdges
+pub mod PairGraph
 pub mod Refusing
 pub mod private

@@ -1,9 +1,10 @@
 -- Pairs of states, and the reachable ones, which are the states of a product, in the order of a breadth-first search.
-use Rattle.std.specs.Prelude.{◌≡◌, ℕ, ◌<◌, Bool, ◌&&◌, ◌==◌, List, [], ◌++◌, length, map, take, filter, slice_index_or, codes, decimal}
+use Rattle.std.specs.Prelude.{◌≡◌, ℕ, ◌<◌, Bool, ◌&&◌, ◌==◌, if◌then◌else◌, List, [], ◌∷◌, ◌++◌, Option, None, Some, length, map, take, filter, slice_index_or, codes, decimal}
 use Rattle.std.specs.List.{flat_map, position_or_len}
 use Rattle.indexmap.specs.IndexSet.{insert_all}
 use Rattle.omega_label.specs.Label.{conjunction}
 use Rattle.omega_automaton.specs.Automaton.{Description}
+use Rattle.omega_automaton.specs.declared.state.State.{State}
 use Rattle.omega_product.specs.Joining.{joined_names, places_among}
 use Rattle.omega_product.specs.Transitions.{View, can_hold, transitions_at}
 use Rattle.omega_product.specs.declared.transition.Transition.{Transition}
@@ -100,6 +101,22 @@ pub record AreReached (one other : Description) (pairs : List Pair) : Type 0 whe
 abbrev pub pair_number : List Pair → Pair → ℕ
 pair_number pairs pair = position_or_len (same_pair pair) pairs
 
+-- the name of the first state with a number, if there is such a state and it has a name
+abbrev pub name_at : List State → ℕ → Option (List ℕ)
+name_at [] number = None
+name_at (state ∷ states) number = if state.number == number then state.name else name_at states number
+
+-- two texts with a comma between them
+abbrev pub with_comma : List ℕ → List ℕ → List ℕ
+with_comma text other = text ++ (codes "," ++ other)
+
+-- the name of a pair by the names of both states: both with a comma between them if both have one, and otherwise the
+-- numbers of both states
+abbrev pub name_of_both : Option (List ℕ) → Option (List ℕ) → Pair → List ℕ
+name_of_both None other pair = with_comma (decimal pair.0) (decimal pair.1)
+name_of_both (Some name) None pair = with_comma (decimal pair.0) (decimal pair.1)
+name_of_both (Some name) (Some other) pair = with_comma name other
+
 -- the name of a pair
-abbrev pub pair_name : Pair → List ℕ
-pair_name pair = decimal pair.0 ++ (codes "," ++ decimal pair.1)
+abbrev pub pair_name : Description → Description → Pair → List ℕ
+pair_name one other pair = name_of_both (name_at one.defined pair.0) (name_at other.defined pair.1) pair

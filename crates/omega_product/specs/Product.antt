@@ -1,7 +1,7 @@
 -- The product of two automata, which accepts the words that both accept.
 use Rattle.std.specs.Prelude.{◌≡◌, ◌+◌, List, [], ◌∷◌, ◌++◌, length, map, Some, None}
 use Rattle.std.specs.List.{AllZip, flat_map}
-use Rattle.omega_label.specs.Label.{conjunction}
+use Rattle.omega_conjuncts.specs.Conjuncts.{joined}
 use Rattle.omega_automaton.specs.Automaton.{Description}
 use Rattle.omega_automaton.specs.Meaning.{AreMarksOf}
 use Rattle.omega_automaton.specs.declared.edge.Edge.{Edge}
@@ -11,10 +11,10 @@ use Rattle.omega_product.specs.Joining.{joined_names}
 use Rattle.omega_product.specs.Pairs.{AreReached, Pair, first_leaving, pair_name, pair_number, partners, second_leaving, start_pairs}
 use Rattle.omega_product.specs.declared.transition.Transition.{Transition}
 
--- the joint edge of an edge of the first and one of the second
+-- the joint edge of an edge of the first and one of the second: its label has the conjuncts of both, each once
 abbrev pub taken_together : List Pair → Transition → Transition → Transition
 taken_together pairs transition other = record {
-  label = conjunction transition.label other.label;
+  label = joined transition.label other.label;
   target = pair_number pairs (transition.target, other.target);
   marks = transition.marks ++ other.marks;
 }
@@ -42,7 +42,7 @@ pub record IsJointEdge (transition : Transition) (edge : Edge) : Type 0 where
 pub record IsPairState (one other : Description) (pairs : List Pair) (pair : Pair) (state : State) : Type 0 where
   pub label : state.label ≡ None
   pub number : state.number ≡ pair_number pairs pair
-  pub name : state.name ≡ Some (pair_name pair)
+  pub name : state.name ≡ Some (pair_name one other pair)
   pub marks : state.marks ≡ []
   pub edges : AllZip IsJointEdge (joint_edges_of one other pairs pair) state.edges
 

@@ -1,6 +1,6 @@
 -- The refusal of a product: `UniversalBranch`, or `TooManyPropositions` if it is undecided whether two labels can hold
 -- together, or `TooLarge` if it would pass a limit, or want of memory.
-use Rattle.std.specs.Prelude.{◌≡◌, ◌<◌, ℕ, ◌+◌, ◌||◌, true, false, List, length, Contains, Some, sum_by}
+use Rattle.std.specs.Prelude.{◌≡◌, ◌<◌, ℕ, ◌+◌, ◌||◌, true, false, List, length, take, Contains, Some, sum_by}
 use Rattle.omega_text.specs.Cases.{never, or_memory, or_task}
 use Rattle.omega_text.specs.Limits.{most_number}
 use Rattle.omega_text.specs.declared.refusal.Refusal.{Refusal}
@@ -11,6 +11,9 @@ use Rattle.omega_expression.specs.Limits.{most_depth}
 use Rattle.omega_formula.specs.Writing.{acc_written}
 use Rattle.omega_formula.specs.Raw.{raw_acc_depth}
 use Rattle.omega_label.specs.Label.{conjunction}
+use Rattle.omega_label.specs.Raw.{raw_depth}
+use Rattle.omega_label.specs.Writing.{label_written}
+use Rattle.omega_conjuncts.specs.Conjuncts.{joined}
 use Rattle.omega_satisfying.specs.Undecided.{IsHardLabel}
 use Rattle.omega_label.specs.Shape.{FitsALabel}
 use Rattle.omega_automaton.specs.Automaton.{Description}
@@ -20,12 +23,11 @@ use Rattle.omega_automaton.specs.Limits.{most_propositions}
 use Rattle.omega_automaton.specs.declared.state.State.{State}
 use Rattle.omega_product.specs.Acceptance.{conjoined_acceptance}
 use Rattle.omega_product.specs.Joining.{joined_names}
-use Rattle.omega_product.specs.Pairs.{AreFound, AreReached, Pair, first_leaving, first_view, second_leaving, second_view, targets_of}
+use Rattle.omega_product.specs.Pairs.{AreFound, Pair, can_meet, first_leaving, first_view, second_leaving, second_view, targets_of}
 use Rattle.omega_product.specs.Transitions.{View, transitions_from}
 use Rattle.omega_product.specs.Written.{IsWrittenProduct}
 use Rattle.omega_product.specs.declared.transition.Transition.{Transition}
 use Rattle.omega_raw.specs.declared.raw_automaton.RawAutomaton.{RawAutomaton}
-use Rattle.omega_edge_labels.specs.Fitting.{FitsAText}
 use Rattle.omega_edge_labels.specs.Limits.{most_edges, most_states}
 
 -- there is no universal branching: each start and each edge of both lists one state
@@ -49,12 +51,24 @@ pub record HasUndecidedMeeting (one other : Description) : Type 0 where
   pub met : AreMet one other transition partner
   pub hard : IsHardLabel (conjunction transition.label partner.label)
 
--- the joint label of two such edges is too deep or too large for a text
+-- the labels of two such edges are together too deep or too large to be judged
 pub record HasUnfitMeeting (one other : Description) : Type 0 where
   pub transition : Transition
   pub partner : Transition
   pub met : AreMet one other transition partner
-  pub unfit : FitsAText (conjunction transition.label partner.label) → ⊥
+  pub unfit : FitsALabel (conjunction transition.label partner.label) → ⊥
+
+-- two edges can be taken together, and their joint label, as it is written, is too deep
+pub record AreDeepTogether (transition partner : Transition) : Type 0 where
+  pub meet : can_meet transition partner ≡ true
+  pub deep : most_depth < raw_depth (label_written (joined transition.label partner.label))
+
+-- two such edges can be taken together, and their joint label is too deep
+pub record HasDeepMeeting (one other : Description) : Type 0 where
+  pub transition : Transition
+  pub partner : Transition
+  pub met : AreMet one other transition partner
+  pub deep : AreDeepTogether transition partner
 
 -- some edge, as a product sees it, has a label that is too deep or too large
 pub record HasUnfitEdge (transitions : List Transition) : Type 0 where
@@ -87,11 +101,12 @@ pub record HasManyPairs (one other : Description) : Type 0 where
   pub found : AreFound one other done pairs
   pub many : most_states < length pairs
 
--- more edges leave the reachable pairs than a product may have
+-- more edges leave the pairs that were expanded than a product may have
 pub record HasManyEdges (one other : Description) : Type 0 where
   pub pairs : List Pair
-  pub reached : AreReached one other pairs
-  pub many : most_edges < sum_by (λ pair. length (targets_of one other pair)) pairs
+  pub done : ℕ
+  pub found : AreFound one other done pairs
+  pub many : most_edges < sum_by (λ pair. length (targets_of one other pair)) (take done pairs)
 
 -- the product, as it is written, breaks a limit of automata
 pub record BreaksLimit (one other : Description) : Type 0 where
@@ -109,6 +124,7 @@ pub data IsProductTooLarge (one other : Description) : Type 0 where
   unfit_first : HasUnfitFirst one other → IsProductTooLarge one other
   unfit_second : HasUnfitSecond one other → IsProductTooLarge one other
   unfit_meeting : HasUnfitMeeting one other → IsProductTooLarge one other
+  deep_meeting : HasDeepMeeting one other → IsProductTooLarge one other
   many_pairs : HasManyPairs one other → IsProductTooLarge one other
   many_edges : HasManyEdges one other → IsProductTooLarge one other
   broken_limit : BreaksLimit one other → IsProductTooLarge one other

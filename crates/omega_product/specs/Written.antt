@@ -27,19 +27,15 @@ raw_edge transition = record {
   marks = Some transition.marks;
 }
 
--- a state with such edges
-abbrev pub raw_state : List Pair → Pair → List Transition → RawState
-raw_state pairs pair transitions = record {
-  label = None;
-  number = pair_number pairs pair;
-  name = Some (pair_name pair);
-  marks = None;
-  edges = map raw_edge transitions;
-}
-
 -- the state of a pair
 abbrev pub raw_state_of : Description → Description → List Pair → Pair → RawState
-raw_state_of one other pairs pair = raw_state pairs pair (joint_edges_of one other pairs pair)
+raw_state_of one other pairs pair = record {
+  label = None;
+  number = pair_number pairs pair;
+  name = Some (pair_name one other pair);
+  marks = None;
+  edges = map raw_edge (joint_edges_of one other pairs pair);
+}
 
 -- the states of all pairs
 abbrev pub raw_states : Description → Description → List Pair → List RawState

@@ -1,4 +1,7 @@
 -- What private contracts alone cite.
+pub mod Adding
+pub mod Explored
+pub mod Labelling
 pub mod Meeting
 pub mod Operands
 pub mod Starts

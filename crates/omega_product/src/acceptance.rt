@@ -1,10 +1,11 @@
 //! The acceptance of a product, as a text writes it.
 
-ghost use Rattle.std.specs.Prelude.{◌≡◌, ◌+◌, ◌≤◌, IfErr, IfOk, IsOkUnless, None};
+ghost use Rattle.std.specs.Prelude.{◌≡◌, ◌+◌, ◌<◌, ◌≤◌, IfErr, IfOk, IsOkUnless, None};
 ghost use Rattle.omega_expression.specs.Limits.{most_depth};
+ghost use Rattle.omega_formula.specs.Acceptance.{acc_depth};
 ghost use Rattle.omega_formula.specs.Writing.{acc_written};
 ghost use Rattle.omega_formula.specs.Kind.{buchi_formula};
-ghost use Rattle.omega_product.specs.Acceptance.{AreBuchi, buchi_name as name_of_buchi, conjoined_acceptance};
+ghost use Rattle.omega_product.specs.Acceptance.{AreBuchi, both_formulas as formula_of_both, buchi_name as name_of_buchi, conjoined_acceptance, is_true as is_always};
 ghost use Rattle.omega_edge_labels.specs.Fitting.{IsLarge};
 ghost use Rattle.omega_product.specs.Refusing.{HasDeepAcceptance};
 ghost use Rattle.omega_product.specs.Written.{IsAcceptanceWritten};
@@ -12,7 +13,7 @@ ghost use Rattle.omega_product.specs.Written.{IsAcceptanceWritten};
 use crate::buchi::are_buchi;
 use omega_automaton::Automaton;
 use omega_edge_labels::{conjoined_formula, written_formula};
-use omega_formula::{Acc, AccName, Parameter, RawAcc};
+use omega_formula::{Acc, AccName, Parameter, RawAcc, is_buchi};
 use omega_text::{ByteString, Refusal, Seq};
 use std::alloc::Global;
 
@@ -25,8 +26,8 @@ pub(crate) struct WrittenAcceptance {
 
 /// Returns the acceptance of the product. If each set of `one` and of `other` has to recur, and they are at most
 /// `MOST_BUCHI_SETS` together, each set of the product has to, and the acceptance has a name. Otherwise it is the
-/// conjunction of the two, with the sets of `other` numbered after those of `one`. Fails with [TaskFault::TooLarge] if
-/// the formula is too deep.
+/// conjunction of the two, with the sets of `other` numbered after those of `one`, or one of them alone if the other is
+/// `t`. Fails with [TaskFault::TooLarge] if the formula is too deep.
 pub(crate) fn joint_acceptance(
     alloc: Global,
     one: &Automaton,
@@ -135,12 +136,35 @@ fn conjoined(
     })
 }
 
-/// Returns the conjunction of both formulas. Fails with [TaskFault::TooLarge] if it is too deep.
-fn conjunction(alloc: Global, one: &Automaton, other: &Automaton) -> Result<Acc, Refusal>
+/// Returns the conjunction of both formulas, or the other one alone if one of them is `t`. Fails with
+/// [TaskFault::TooLarge] if it is too deep.
+pub(crate) fn conjunction(alloc: Global, one: &Automaton, other: &Automaton) -> Result<Acc, Refusal>
     ensures formula { IfOk result (λ formula. formula ≡ conjoined_acceptance one.now other.now) }
     ensures err { IfErr result (IsLarge (HasDeepAcceptance one.now other.now)) }
 {
     let first = one.acceptance().copied(alloc)?;
     let second = other.acceptance().moved_after(alloc, one.set_count())?;
-    conjoined_formula(first, second)
+    both_formulas(first, second)
+}
+
+/// Returns the conjunction of two formulas, or the other one alone if one of them is `t`. Fails with
+/// [TaskFault::TooLarge] if it is deeper than `MOST_DEPTH`.
+fn both_formulas(one: Acc, other: Acc) -> Result<Acc, Refusal>
+    ensures ok { IfOk result (λ formula. formula ≡ formula_of_both one other) }
+    ensures err { IfErr result (IsLarge (most_depth < acc_depth (formula_of_both one other))) }
+{
+    if is_true(&one) {
+        return Ok(other);
+    }
+    if is_true(&other) {
+        return Ok(one);
+    }
+    conjoined_formula(one, other)
+}
+
+/// Whether a formula is `t`.
+fn is_true(formula: &Acc) -> bool
+    ensures { result ≡ is_always formula.now }
+{
+    is_buchi(0, formula)
 }

@@ -30,9 +30,11 @@ use std::alloc::Global;
 /// exactly if each accepts its part of the word (HOA v1; Vardi and Wolper 1994).
 ///
 /// Propositions are joined by name, with those of `first` in front. The states are the reachable pairs of states. They
-/// are numbered breadth first from the starts, in order, and each is named by its two numbers. Each two edges whose
-/// labels can hold together make one edge. Labels and marks of states move to edges. The sets of `second` are numbered
-/// after those of `first`. The acceptance is the conjunction, and has a name if both are Büchi or generalized Büchi.
+/// are numbered breadth first from the starts, in order. Each is named by the names of both states with a comma between
+/// them, or by their numbers if one of them has no name. Each two edges whose labels can hold together make one edge,
+/// whose label has the conjuncts of both, each once. Labels and marks of states move to edges. The sets of `second` are
+/// numbered after those of `first`. The acceptance is the conjunction without `t`, and has a name if both are Büchi or
+/// generalized Büchi.
 ///
 /// Refusals, with `UniversalBranch` before the others:
 ///
@@ -43,7 +45,7 @@ use std::alloc::Global;
 ///   labels and of the acceptance.
 ///
 /// Takes time proportional to the number of pairs of edges, summed over the reachable pairs of states. Each two edges
-/// are judged twice, when pairs are found and when joint edges are made.
+/// are judged once, and labels are made only for those that can be taken together.
 pub fn product(alloc: Global, first: &Automaton, second: &Automaton) -> Result<Automaton, Refusal>
     ensures product { IfOk result (IsProduct first.now second.now) }
     ensures written { IfOk result (IsWritten first.now second.now) }
@@ -58,7 +60,7 @@ pub fn product(alloc: Global, first: &Automaton, second: &Automaton) -> Result<A
 }
 
 /// Whether a start or an edge of either automaton lists several states.
-fn branches(first: &Automaton, second: &Automaton) -> bool
+pub(crate) fn branches(first: &Automaton, second: &Automaton) -> bool
     ensures { result ≡ (has_universal_branching first.now || has_universal_branching second.now) }
 {
     let in_first = has_universal_branching(first);
@@ -112,13 +114,13 @@ fn written_product(
         firsts: &firsts,
         seconds: &seconds,
     };
-    let found = explore(alloc, &operands)?;
-    let states = states_of(alloc, &operands, &found)?;
+    let explored = explore(alloc, &operands)?;
+    let states = states_of(alloc, &operands, &explored)?;
     let acceptance = joint_acceptance(alloc, one, other)?;
     let starts = Starts {
         firsts: one.starts(),
         seconds: other.starts(),
-        found: &found,
+        found: &explored.pairs,
     };
     let items = items_of(alloc, names, sets, acceptance, &starts)?;
     let raw = assembled(alloc, items, states)?;
@@ -140,7 +142,11 @@ fn sets_of_both(one: &Automaton, other: &Automaton) -> Result<u32, Refusal>
 }
 
 /// Returns the names of the propositions of both. Fails with [TaskFault::TooLarge] if they are too many.
-fn names_of(alloc: Global, one: &Automaton, other: &Automaton) -> Result<Vec<ByteString>, Refusal>
+pub(crate) fn names_of(
+    alloc: Global,
+    one: &Automaton,
+    other: &Automaton,
+) -> Result<Vec<ByteString>, Refusal>
     ensures ok { IfOk result (λ names. names.items ≡ names_of_both one.now.propositions other.now.propositions) }
     ensures few { IfOk result (λ names. length names.items < 2 ^ 32) }
     ensures err { IfErr result (or_task (IsJoinFault one.now other.now) (or_memory never)) }
@@ -171,7 +177,7 @@ fn assembled(
 
 /// Returns the edges of `joining.one` within the product. Fails with [TaskFault::TooLarge] if a label is too deep or
 /// too large.
-fn first_table(alloc: Global, joining: &Joining<'_>) -> Result<Table, Refusal>
+pub(crate) fn first_table(alloc: Global, joining: &Joining<'_>) -> Result<Table, Refusal>
     requires named { AreJoined joining.now }
     requires few { length joining.now.names.now < 2 ^ 32 }
     ensures ok { IfOk result (IsFirstTable joining.now) }
@@ -187,7 +193,7 @@ fn first_table(alloc: Global, joining: &Joining<'_>) -> Result<Table, Refusal>
 
 /// Returns the edges of `joining.other` within the product, with its sets numbered after those of `joining.one`. Fails
 /// with [TaskFault::TooLarge] if a label is too deep or too large.
-fn second_table(alloc: Global, joining: &Joining<'_>) -> Result<Table, Refusal>
+pub(crate) fn second_table(alloc: Global, joining: &Joining<'_>) -> Result<Table, Refusal>
     requires named { AreJoined joining.now }
     requires few { length joining.now.names.now < 2 ^ 32 }
     ensures ok { IfOk result (IsSecondTable joining.now) }

@@ -6,8 +6,8 @@ ghost use Rattle.omega_product.specs.private.Starts.{pairs_of, raw_starts, raw_s
 ghost use Rattle.omega_product.specs.Written.{name_items, raw_items};
 
 use crate::acceptance::WrittenAcceptance;
-use crate::edges::number_of;
 use crate::exploring::start_state;
+use crate::pairs::number_of;
 use crate::starts::Starts;
 use omega_formula::AccName;
 use omega_raw::RawItem;

@@ -50,8 +50,9 @@ fn is_among(bytes: &[u8], names: &[ByteString]) -> bool
     false
 }
 
-/// Returns the position in `joined` of each of `names`.
-pub(crate) fn places_among(
+/// Returns the position in `joined` of each of `names`, or the length of `joined` for one that is not there. Takes the
+/// time of comparing each two.
+pub fn places_among(
     alloc: Global,
     joined: &[ByteString],
     names: &[ByteString],

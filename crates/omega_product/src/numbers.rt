@@ -15,3 +15,15 @@ pub(crate) fn following(before: u32, set: u32) -> Result<u32, Refusal>
         None => Err(Refusal::Memory),
     }
 }
+
+/// Returns the number that comes `count` numbers after `before`. Also fails with [Refusal::Memory] if it does not fit,
+/// which can't happen for an edge of an automaton.
+pub(crate) fn number_after(before: u32, count: usize) -> Result<u32, Refusal>
+    ensures ok { IfOk result (λ number. number ≡ before + count) }
+    ensures memory { IsOkUnless result Refusal.Memory }
+{
+    match u32::try_from(count) {
+        Ok(count) => following(before, count),
+        Err(_) => Err(Refusal::Memory),
+    }
+}

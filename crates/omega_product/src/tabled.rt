@@ -65,7 +65,7 @@ impl Tabled {
     }
 
     /// Whether it can be taken together with `other`. Fails with [TaskFault::TooManyPropositions] if that is undecided,
-    /// and with [TaskFault::TooLarge] if the joint label is too deep or too large.
+    /// and with [TaskFault::TooLarge] if the labels of both are too deep or too large to be judged.
     pub(crate) fn can_meet(&self, alloc: Global, other: &Tabled) -> Result<bool, Refusal>
         ensures ok { IfOk result (λ meets. meets ≡ can_meet self.now other.now) }
         ensures err { IfErr result (or_task (IsUnmet self.now other.now) (or_memory never)) }

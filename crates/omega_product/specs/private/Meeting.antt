@@ -5,10 +5,10 @@ use Rattle.omega_text.specs.declared.refusal.task.TaskFault.TheVariants.{BadSolu
 use Rattle.omega_label.specs.Label.{conjunction}
 use Rattle.omega_satisfying.specs.Undecided.{IsHardLabel}
 use Rattle.omega_product.specs.declared.transition.Transition.{Transition}
-use Rattle.omega_edge_labels.specs.Fitting.{FitsAText}
+use Rattle.omega_label.specs.Shape.{FitsALabel}
 
--- `TooManyPropositions` if it may be undecided whether they can be taken together, `TooLarge` if their joint label is
--- too deep or too large
+-- `TooManyPropositions` if it may be undecided whether they can be taken together, `TooLarge` if their labels are
+-- together too deep or too large to be judged
 abbrev pub IsUnmet : Transition → Transition → TaskFault → Type 0
 IsUnmet transition other NotParity = ⊥
 IsUnmet transition other UniversalBranch = ⊥
@@ -18,7 +18,7 @@ IsUnmet transition other Budget = ⊥
 IsUnmet transition other BadSolution = ⊥
 IsUnmet transition other UnknownNode = ⊥
 IsUnmet transition other Controllable = ⊥
-IsUnmet transition other TooLarge = FitsAText (conjunction transition.label other.label) → ⊥
+IsUnmet transition other TooLarge = FitsALabel (conjunction transition.label other.label) → ⊥
 IsUnmet transition other (NotDeterministic state) = ⊥
 
 -- this fault has an edge with some edge of a list

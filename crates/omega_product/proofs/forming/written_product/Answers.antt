@@ -5,7 +5,7 @@ use Rattle.omega_raw.specs.declared.raw_automaton.RawAutomaton.{RawAutomaton}
 use Rattle.omega_raw.specs.declared.raw_state.RawState.{RawState}
 use Rattle.omega_text.specs.Limits.{most_number}
 use Rattle.omega_edge_labels.specs.Limits.{most_edges}
-use Rattle.omega_product.specs.Refusing.{HasDeepAcceptance, HasUnfitFirst, HasUnfitSecond, IsJoinFault, deep_acceptance, many_sets, unfit_first, unfit_second}
+use Rattle.omega_product.specs.Refusing.{HasDeepAcceptance, HasDeepMeeting, HasUnfitFirst, HasUnfitSecond, IsJoinFault, deep_acceptance, deep_meeting, many_sets, unfit_first, unfit_second}
 use Rattle.omega_product.specs.Written.{raw_of, raw_state_of}
 use Rattle.omega_product.proofs.Formulas.{items_are}
 use Rattle.omega_product.proofs.Refused.{large_join}
@@ -27,6 +27,11 @@ returns-in_err-seconds-clause-refused c =
     passed_on c.from_residual-in_err-seconds.result _ _ c.from_residual-in_err-seconds.ensures.1
     (large_join c.args.one.now c.args.other.now (HasUnfitSecond c.args.one.now c.args.other.now) unfit_second _ c.in_err-seconds.ensures.err)
 
+pub returns-in_err-states-clause-refused : goal.returns-in_err-states-clause-refused
+returns-in_err-states-clause-refused c =
+    passed_on c.from_residual-in_err-states.result _ _ c.from_residual-in_err-states.ensures.1
+    (large_join c.args.one.now c.args.other.now (HasDeepMeeting c.args.one.now c.args.other.now) deep_meeting _ c.in_err-states.ensures.err)
+
 pub returns-in_err-acceptance-clause-refused : goal.returns-in_err-acceptance-clause-refused
 returns-in_err-acceptance-clause-refused c =
     passed_on c.from_residual-in_err-acceptance.result _ _ c.from_residual-in_err-acceptance.ensures.1
@@ -35,12 +40,12 @@ returns-in_err-acceptance-clause-refused c =
 
 pub returns-clause-written : goal.returns-clause-written
 returns-clause-written c =
-    let items = items_are c.args.one.now c.args.other.now c.in_ok-found.found.keys c.in_ok-acceptance.acceptance.name c.in_ok-acceptance.acceptance.formula
+    let items = items_are c.args.one.now c.args.other.now c.in_ok-explored.explored.pairs.keys c.in_ok-acceptance.acceptance.name c.in_ok-acceptance.acceptance.formula
     c.in_ok-names.names.items c.in_ok-sets.sets c.starts.result.now c.starts-2.result.now
     c.in_ok-names.ensures.ok c.in_ok-sets.ensures.ok c.starts.ensures c.starts-2.ensures in
     record {
-      pairs = c.in_ok-found.found.keys;
-      reached = c.in_ok-found.ensures.reached;
+      pairs = c.in_ok-explored.explored.pairs.keys;
+      reached = c.in_ok-explored.ensures.explored.reached;
       name = c.in_ok-acceptance.acceptance.name;
       formula = c.in_ok-acceptance.acceptance.formula;
       accepted = c.in_ok-acceptance.ensures.ok;
@@ -49,9 +54,9 @@ returns-clause-written c =
 
 pub returns-clause-states : goal.returns-clause-states
 returns-clause-states c =
-    let states : c.in_ok-raw.raw.states ≡ map (raw_state_of c.args.one.now c.args.other.now c.in_ok-found.found.keys) c.in_ok-found.found.keys =
+    let states : c.in_ok-raw.raw.states ≡ map (raw_state_of c.args.one.now c.args.other.now c.in_ok-explored.explored.pairs.keys) c.in_ok-explored.explored.pairs.keys =
     ap (λ (raw : RawAutomaton). raw.states) c.in_ok-raw.ensures.ok ∙ c.in_ok-states.ensures.states in
-    omega (arith, ap length states, length-map c.in_ok-found.found.keys (raw_state_of c.args.one.now c.args.other.now c.in_ok-found.found.keys), c.in_ok-found.ensures.few)
+    omega (arith, ap length states, length-map c.in_ok-explored.explored.pairs.keys (raw_state_of c.args.one.now c.args.other.now c.in_ok-explored.explored.pairs.keys), c.in_ok-explored.ensures.explored.few)
 
 pub returns-clause-edges : goal.returns-clause-edges
 returns-clause-edges c =

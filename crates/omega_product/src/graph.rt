@@ -1,0 +1,16 @@
+use crate::joint_edges::JointEdges;
+use omega_formula::Acc;
+use omega_text::ByteString;
+
+/// The graph of the product of two automata: what the product is but for its labels and its names of states.
+#[derive(Debug, Drop)]
+pub struct PairGraph {
+    /// The names of the propositions of both.
+    pub propositions: Vec<ByteString>,
+    /// The number of the pair of each two starts.
+    pub starts: Vec<u32>,
+    /// The edges between the pairs.
+    pub edges: JointEdges,
+    /// The acceptance formula of the product.
+    pub acceptance: Acc,
+}

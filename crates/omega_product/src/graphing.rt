@@ -1,0 +1,115 @@
+//! The graph of the reachable pairs of states.
+
+ghost use Rattle.std.specs.Prelude.{◌≡◌, ◌++◌, ◌<◌, ◌≤◌, ◌^◌, length, map, IfErr, IfOk, IsOkUnless, OnOk};
+ghost use Rattle.omega_text.specs.Cases.{never, or_memory, or_task};
+ghost use Rattle.omega_edge_labels.specs.Limits.{most_edges, most_states};
+ghost use Rattle.omega_product.specs.Pairs.{pair_number, starts_with};
+ghost use Rattle.omega_product.specs.PairGraph.{IsPairGraph};
+ghost use Rattle.omega_product.specs.Refusing.{HaveNoBranch, IsJoinFault, IsProductRefusal};
+ghost use Rattle.omega_product.specs.private.Starts.{pairs_of};
+
+use crate::conjoining::joint_formula;
+use crate::explored::Explored;
+use crate::exploring::{explore, start_state};
+use crate::forming::{branches, first_table, names_of, second_table};
+use crate::graph::PairGraph;
+use crate::operands::{Joining, Operands};
+use crate::pairs::number_of;
+use crate::starts::Starts;
+use omega_automaton::Automaton;
+use omega_text::{Refusal, TaskFault};
+use std::alloc::Global;
+
+/// Returns the graph of the product of two automata without universal branching, as `product` makes it, but writes
+/// neither its labels nor names of its states. Each edge has the numbers of the two edges that it takes together.
+///
+/// Refusals: those of `product`, but for limits that only the labels or the number of sets of the product break.
+///
+/// Takes time proportional to the number of pairs of edges, summed over the reachable pairs of states. Each two edges
+/// are judged once.
+pub fn pair_graph(
+    alloc: Global,
+    first: &Automaton,
+    second: &Automaton,
+) -> Result<PairGraph, Refusal>
+    ensures graph { IfOk result (IsPairGraph first.now second.now) }
+    ensures few { IfOk result (λ graph. length graph.edges.ends.items ≤ most_edges) }
+    ensures named { IfOk result (λ graph. length graph.propositions.items < 2 ^ 32) }
+    ensures given { OnOk result (HaveNoBranch first.now second.now) }
+    ensures refused { IfErr result (IsProductRefusal first.now second.now) }
+{
+    if branches(first, second) {
+        return Err(Refusal::Task(TaskFault::UniversalBranch));
+    }
+    graph_of(alloc, first, second)
+}
+
+/// Returns the graph of the product of two automata without universal branching. Fails with
+/// [TaskFault::TooManyPropositions] or [TaskFault::TooLarge].
+fn graph_of(alloc: Global, one: &Automaton, other: &Automaton) -> Result<PairGraph, Refusal>
+    ensures graph { IfOk result (IsPairGraph one.now other.now) }
+    ensures few { IfOk result (λ graph. length graph.edges.ends.items ≤ most_edges) }
+    ensures named { IfOk result (λ graph. length graph.propositions.items < 2 ^ 32) }
+    ensures refused { IfErr result (or_task (IsJoinFault one.now other.now) (or_memory never)) }
+{
+    let names = names_of(alloc, one, other)?;
+    let joining = Joining {
+        one,
+        other,
+        names: names.as_slice(),
+    };
+    let firsts = first_table(alloc, &joining)?;
+    let seconds = second_table(alloc, &joining)?;
+    let operands = Operands {
+        one,
+        other,
+        firsts: &firsts,
+        seconds: &seconds,
+    };
+    let explored = explore(alloc, &operands)?;
+    let acceptance = joint_formula(alloc, one, other)?;
+    let starts = Starts {
+        firsts: one.starts(),
+        seconds: other.starts(),
+        found: &explored.pairs,
+    };
+    let starts = start_numbers(alloc, &starts)?;
+    let Explored {
+        pairs: _pairs,
+        edges,
+        past: _past,
+    } = explored;
+    Ok(PairGraph {
+        propositions: names,
+        starts,
+        edges,
+        acceptance,
+    })
+}
+
+/// Returns the numbers of the pairs of a first and a second start.
+fn start_numbers(alloc: Global, starts: &Starts<'_>) -> Result<Vec<u32>, Refusal>
+    requires { length starts.now.found.now.keys ≤ most_states }
+    ensures ok { IfOk result (λ numbers.
+        numbers.items ≡ map (pair_number starts.now.found.now.keys) (pairs_of starts.now)) }
+    ensures memory { IsOkUnless result Refusal.Memory }
+{
+    let mut numbers = Vec::new(alloc);
+    for first in starts.firsts {
+        add_start_numbers(&mut numbers, start_state(first), starts)?;
+    }
+    Ok(numbers)
+}
+
+/// Appends the numbers of the pairs of the state `first` and a second start.
+fn add_start_numbers(numbers: &mut Vec<u32>, first: u32, starts: &Starts<'_>) -> Result<(), Refusal>
+    requires { length starts.now.found.now.keys ≤ most_states }
+    ensures ok { OnOk result (numbers.new.items ≡ numbers.old.items
+        ++ map (pair_number starts.now.found.now.keys) (starts_with first starts.now.seconds.now)) }
+    ensures memory { IsOkUnless result Refusal.Memory }
+{
+    for second in starts.seconds {
+        numbers.push(number_of(starts.found, (first, start_state(second))))?;
+    }
+    Ok(())
+}
