@@ -6,7 +6,7 @@ use Rattle.std.proofs.lemmas.Option.{slice_get_within}
 use Rattle.std.specs.Prelude.{slice_get}
 use Rattle.omega_automaton.specs.Automaton.{Description, edge_count, edges_of}
 use Rattle.omega_runs.specs.Judging.{AreUsable}
-use Rattle.omega_lasso_search.specs.private.Searched.{AreUsableEdges}
+use Rattle.omega_lasso_search.specs.Tabled.{AreUsableEdges}
 
 -- a flag that is read with `false` past the end
 flag_from : (flags : List Bool) (number : ℕ) → slice_get flags number ≡ Some true → get_or flags number false ≡ true

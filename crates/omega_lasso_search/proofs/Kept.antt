@@ -2,10 +2,10 @@
 use Rattle.std.proofs.Common.{◌≡◌, ℕ, ◌+◌, ◌<◌, List, [], ◌∷◌, length, get_or, map, take, All, refl, sym, ap, subst, ◌∙◌, arith}
 use Rattle.std.specs.List.{range_with_len}
 use Rattle.std.proofs.lemmas.List.FromFn.{get_or-range_with_len, length-range_with_len}
-use Rattle.std.proofs.lemmas.List.Elements.{All-head, All-map, All-more, All-tail, All-weaker}
+use Rattle.std.proofs.lemmas.List.Elements.{All-head, All-more, All-tail, All-weaker}
 use Rattle.omega_components.specs.Graph.{IsInside, Shape}
 use Rattle.omega_components.specs.declared.edge.Edge.{Edge}
-use Rattle.omega_lasso_search.specs.private.Numbering.{AreNamed, IsNamed, ends_in, first_of, name_in}
+use Rattle.omega_lasso_search.specs.private.Numbering.{AreNamed, IsNamed, ends_in, name_in}
 
 -- the numbers below a bound
 abbrev names_below : ℕ → List ℕ
@@ -27,18 +27,15 @@ ends_are bound (x ∷ xs) inside =
     let rest = ends_are bound xs (All-tail (IsInside bound) x xs inside) in
     cc
 
-firsts_are : (bound : ℕ) (starts : List (List ℕ)) → All (λ start. first_of start < bound) starts → map (name_in (names_below bound)) (map first_of starts) ≡ map first_of starts
-firsts_are bound [] below = refl
-firsts_are bound (x ∷ xs) below =
-    let here = name_is bound (first_of x) (All-head (λ start. first_of start < bound) x xs below) in
-    let rest = firsts_are bound xs (All-tail (λ start. first_of start < bound) x xs below) in
+starts_are : (bound : ℕ) (starts : List ℕ) → All (λ start. start < bound) starts → map (name_in (names_below bound)) starts ≡ starts
+starts_are bound [] below = refl
+starts_are bound (x ∷ xs) below =
+    let here = name_is bound x (All-head (λ start. start < bound) x xs below) in
+    let rest = starts_are bound xs (All-tail (λ start. start < bound) x xs below) in
     cc
 
-firsts_below : (bound : ℕ) (starts : List (List ℕ)) → All (λ start. first_of start < bound) starts → All (λ source. source < bound) (map first_of starts)
-firsts_below bound starts below = All-map (λ source. source < bound) first_of starts below
-
-pub kept_numbers : (starts : List (List ℕ)) (ends : List Edge) (bound : ℕ) (sources : List ℕ) (graph : Shape) → All (λ start. first_of start < bound) starts
-    → All (IsInside bound) ends → sources ≡ map first_of starts → graph.states ≡ bound → graph.edges ≡ ends
+pub kept_numbers : (starts : List ℕ) (ends : List Edge) (bound : ℕ) (sources : List ℕ) (graph : Shape) → All (λ start. start < bound) starts
+    → All (IsInside bound) ends → sources ≡ starts → graph.states ≡ bound → graph.edges ≡ ends
     → (names : List ℕ) × AreNamed starts ends names sources graph
 kept_numbers starts ends bound sources graph first inside are counted same = (
   names_below bound,
@@ -51,10 +48,10 @@ kept_numbers starts ends bound sources graph first inside are counted same = (
         (λ edge is. let count = length-range_with_len 0 bound in let f : edge.from < bound = is.0 in let t : edge.to < bound = is.1 in (omega arith, omega arith)) ends inside);
     ends = ap (map (ends_in (names_below bound))) same ∙ ends_are bound ends inside;
     within = subst (λ (xs : List ℕ). All (λ source. source < length (names_below bound)) xs) (sym are)
-        (subst (λ (n : ℕ). All (λ source. source < n) (map first_of starts)) (sym (length-range_with_len 0 bound)) (firsts_below bound starts first));
+        (subst (λ (n : ℕ). All (λ source. source < n) starts) (sym (length-range_with_len 0 bound)) first);
     states = subst (λ (xs : List ℕ). All (λ source. source < graph.states) xs) (sym are)
-        (subst (λ (n : ℕ). All (λ source. source < n) (map first_of starts)) (sym counted) (firsts_below bound starts first));
-    starts = ap (map (name_in (names_below bound))) are ∙ firsts_are bound starts first;
+        (subst (λ (n : ℕ). All (λ source. source < n) starts) (sym counted) first);
+    starts_are = ap (map (name_in (names_below bound))) are ∙ starts_are bound starts first;
   },
 )
 

@@ -1,23 +1,25 @@
 -- Lassos of the automaton, and closed walks of the graph that a source reaches.
-use Rattle.std.proofs.Common.{◌≡◌, ℕ, zero, suc, ◌<◌, Bool, true, false, ltb, ◌↔◌, IsTrue, List, [], ◌∷◌, length, get_or, map, All, Contains, refl, sym, ap, subst, ◌∙◌, arith}
+use Rattle.std.proofs.Common.{◌≡◌, ℕ, zero, suc, ◌<◌, Bool, true, false, ltb, ◌↔◌, IsTrue, List, [], ◌∷◌, length, get_or, map, Contains, refl, sym, ap, subst, ◌∙◌, arith}
 use Rattle.std.specs.List.{list_any}
 use Rattle.std.proofs.lemmas.Bool.{ltb-false, or_parts}
 use Rattle.std.proofs.lemmas.List.{get_or-map, get_or_default, length-map}
 use Rattle.std.proofs.lemmas.List.Elements.{All-contains, Contains-get_or}
-use Rattle.omega_formula.specs.Acceptance.{accepts}
-use Rattle.omega_automaton.specs.Automaton.{AreTargets, Description, IsAutomaton, edges_of}
+use Rattle.omega_formula.specs.Acceptance.{AccTree, accepts}
+use Rattle.omega_automaton.specs.Automaton.{AreTargets, Description, IsAutomaton}
 use Rattle.omega_automaton.specs.Branching.{has_universal_branching, state_branches}
-use Rattle.omega_components.specs.Graph.{AreEdges, Shape, ends_at, listed}
+use Rattle.omega_components.specs.Graph.{Shape, ends_at, listed}
 use Rattle.omega_components.specs.Reaching.{IsWalkFrom}
 use Rattle.omega_walk_laws.specs.Walks.{EdgeSet, HasAccepting, IsAccepting, IsClosedEdgeWalk, IsEdgeWalk, MarkedGraph, marks_on}
 use Rattle.omega_walk_laws.proofs.Walking.{on_edges, walk_in}
 use Rattle.omega_accepting_walk.specs.Rows.{row_at}
 use Rattle.omega_accepting_walk.proofs.Listing.{filter_has, listed_from, listed_has}
-use Rattle.omega_runs.specs.Lasso.{IsAcceptingLasso, IsStart, marks_of}
+use Rattle.omega_runs.specs.Lasso.{IsAcceptingLasso, IsStart, marks_at}
+use Rattle.omega_runs.proofs.SingleTargets.{enters_one}
+use Rattle.omega_lasso_search.specs.Tabled.{ListsOne}
 use Rattle.omega_lasso_search.specs.private.Numbering.{AreNumbered, first_of, name_in}
 use Rattle.omega_lasso_search.specs.declared.search.Search.{Search}
-use Rattle.omega_lasso_search.specs.private.Searched.{IsAcceptingCycle, IsSearch, Reaches, beginning, edges_leaving, graph_of, usable_of}
-use Rattle.omega_lasso_search.proofs.Walks.{TracedWalk, counted, leads_from, leads_to, same_marks, walk_reached}
+use Rattle.omega_lasso_search.specs.private.Searched.{IsAcceptingCycle, IsSearch, IsSearchIn, Reaches, beginning, edges_leaving, graph_of, usable_of}
+use Rattle.omega_lasso_search.proofs.Walks.{TracedWalk, leads_from, leads_to, same_acceptance, walk_reached}
 
 -- a start lists one state
 alone : (start : List ℕ) → 0 < length start → ltb 1 (length start) ≡ false → start ≡ first_of start ∷ []
@@ -37,15 +39,26 @@ start_alone a automaton plain k below =
     let targets : AreTargets a (get_or a.starts k []) = automaton.starts k [] below in
     alone (get_or a.starts k []) targets.listed (fails_at (λ (start : List ℕ). ltb 1 (length start)) a.starts k starts below)
 
-module _ (a : Description) (automaton : IsAutomaton a) (plain : has_universal_branching a ≡ false) (names sources : List ℕ) (graph : Shape)
+-- so do all starts and edges
+pub lists_one : (a : Description) → IsAutomaton a → has_universal_branching a ≡ false → ListsOne a
+lists_one a automaton plain = record {
+  starts = λ start within.
+      let here : get_or a.starts within.0 [] ≡ start = get_or_default a.starts within.0 [] start within.1 ∙ within.2 in
+      subst (λ (states : List ℕ). states ≡ first_of states ∷ []) here (start_alone a automaton plain within.0 within.1);
+  edges = λ number edge stands.
+      let one = enters_one a automaton plain number edge stands in
+      one.enters ∙ ap (λ (target : ℕ). target ∷ []) (sym (ap first_of one.enters));
+}
+
+module _ (a : Description) (single : ListsOne a) (names sources : List ℕ) (graph : Shape)
     (numbered : AreNumbered a names sources graph) where
   same_count : length sources ≡ length a.starts
-  same_count = sym (length-map sources (name_in names)) ∙ ap length numbered.starts ∙ length-map a.starts first_of
+  same_count = sym (length-map sources (name_in names)) ∙ ap length numbered.starts_are ∙ length-map a.starts first_of
 
   named_start : (k : ℕ) → k < length sources → name_in names (get_or sources k 0) ≡ first_of (get_or a.starts k [])
   named_start k below =
       sym (get_or-map (name_in names) sources k 0 (name_in names 0) below)
-      ∙ ap (λ (list : List ℕ). get_or list k (name_in names 0)) numbered.starts
+      ∙ ap (λ (list : List ℕ). get_or list k (name_in names 0)) numbered.starts_are
       ∙ get_or_default (map first_of a.starts) k (name_in names 0) 0 (let same = same_count in omega (arith, length-map a.starts first_of))
       ∙ get_or-map first_of a.starts k [] 0 (let same = same_count in omega arith)
 
@@ -58,7 +71,7 @@ module _ (a : Description) (automaton : IsAutomaton a) (plain : has_universal_br
       let low : k < length a.starts = omega arith in
       let here : get_or sources k 0 ≡ source = get_or_default sources k 0 source below ∙ has.2 in
       let name : first_of (get_or a.starts k []) ≡ name_in names source = sym (named_start k below) ∙ ap (name_in names) here in
-      subst (Contains a.starts) (start_alone a automaton plain k low ∙ ap (λ (state : ℕ). state ∷ []) name) (Contains-get_or a.starts k [] low)
+      subst (Contains a.starts) (single.starts (get_or a.starts k []) (Contains-get_or a.starts k [] low) ∙ ap (λ (state : ℕ). state ∷ []) name) (Contains-get_or a.starts k [] low)
 
   -- and each start has a source
   pub record SourceOf (state : ℕ) : Type 0 where
@@ -111,7 +124,7 @@ record CycleOf (search : Search) (cycle : List ℕ) : Type 0 where
   pub come : Reaches search loop_state
   pub leads : IsEdgeWalk (graph_of search) (usable_of search) loop_state cycle loop_state
   pub longer : 0 < length cycle
-  pub accepted : IsTrue (accepts (marks_on (graph_of search) cycle) search.automaton.now.acceptance)
+  pub accepted : IsTrue (accepts (marks_on (graph_of search) cycle) search.formula.now)
 
 -- an accepting closed walk of usable edges, which lead to its beginning from a source
 pub record IsReachedCycle (search : Search) (cycle : List ℕ) : Type 0 where
@@ -119,9 +132,6 @@ pub record IsReachedCycle (search : Search) (cycle : List ℕ) : Type 0 where
   pub reached : Reaches search (beginning search cycle)
 
 module _ (search : Search) where
-  abbrev a : Description
-  a = search.automaton.now
-
   abbrev rows : List (List ℕ)
   rows = search.marks.now
 
@@ -134,25 +144,19 @@ module _ (search : Search) where
   abbrev edges : List ℕ
   edges = search.edges.now
 
-  -- the edges of a search are those of its graph, each with its marks
-  pub edges_inside : IsSearch search → AreEdges graph edges
-  edges_inside sought =
-      subst (λ (count : ℕ). All (λ number. number < count) edges) (sym (counted a sought.names sources graph sought.numbered)) sought.usable.below
-
-  pub marks_counted : IsSearch search → length rows ≡ length graph.edges
-  marks_counted sought =
-      ap (λ (list : List (List ℕ)). length list) sought.marks_are ∙ length-map (edges_of a) marks_of ∙ sym (counted a sought.names sources graph sought.numbered)
+  abbrev formula : AccTree
+  formula = search.formula.now
 
   -- the cycle of an accepting lasso is one
-  cycle_of : IsSearch search → (stem cycle : List ℕ) → IsAcceptingLasso a stem cycle → CycleOf search cycle
-  cycle_of sought stem cycle lasso =
+  cycle_of : (a : Description) → IsSearchIn a search → (stem cycle : List ℕ) → IsAcceptingLasso a stem cycle → CycleOf search cycle
+  cycle_of a sought stem cycle lasso =
       let names : List ℕ = sought.names in
-      let begin = start_source a sought.automaton sought.plain names sources graph sought.numbered lasso.lasso.start lasso.lasso.begins in
-      let there : TracedWalk a sought.automaton sought.plain names sources graph sought.numbered edges sought.usable (row_at rows) begin.source stem lasso.lasso.loop_state =
-      leads_to a sought.automaton sought.plain names sources graph sought.numbered edges sought.usable (row_at rows) begin.source lasso.lasso.start stem lasso.lasso.loop_state
+      let begin = start_source a sought.single names sources graph sought.numbered lasso.lasso.start lasso.lasso.begins in
+      let there : TracedWalk a sought.single names sources graph sought.numbered edges sought.usable (row_at rows) begin.source stem lasso.lasso.loop_state =
+      leads_to a sought.single names sources graph sought.numbered edges sought.usable (row_at rows) begin.source lasso.lasso.start stem lasso.lasso.loop_state
       begin.below begin.named lasso.lasso.stem_leads in
-      let around : TracedWalk a sought.automaton sought.plain names sources graph sought.numbered edges sought.usable (row_at rows) there.to cycle lasso.lasso.loop_state =
-      leads_to a sought.automaton sought.plain names sources graph sought.numbered edges sought.usable (row_at rows) there.to lasso.lasso.loop_state cycle lasso.lasso.loop_state
+      let around : TracedWalk a sought.single names sources graph sought.numbered edges sought.usable (row_at rows) there.to cycle lasso.lasso.loop_state =
+      leads_to a sought.single names sources graph sought.numbered edges sought.usable (row_at rows) there.to lasso.lasso.loop_state cycle lasso.lasso.loop_state
       there.below there.named lasso.lasso.cycle_leads in
       let same : around.to ≡ there.to = sought.numbered.apart around.to there.to around.below there.below (around.named ∙ sym there.named) in
       record {
@@ -160,28 +164,29 @@ module _ (search : Search) where
         come = (stem, record { source = begin.source; begins = begin.has; leads = there.leads });
         leads = subst (λ state. IsEdgeWalk (graph_of search) (usable_of search) there.to cycle state) same around.leads;
         longer = lasso.lasso.longer;
-        accepted = ap (λ (list : List (List ℕ)). accepts list a.acceptance) (same_marks a graph rows sought.marks_are cycle) ∙ lasso.accepted;
+        accepted = same_acceptance a graph rows sought.marks_are cycle formula
+            ∙ ap (λ (f : AccTree). accepts (map (marks_at a) cycle) f) (sym sought.formula_is) ∙ lasso.accepted;
       }
 
   -- if no closed walk accepts, no lasso does
-  pub no_lasso : IsSearch search → (HasAccepting (graph_of search) (usable_of search) a.acceptance → ⊥)
+  pub no_lasso : (a : Description) → IsSearchIn a search → (HasAccepting (graph_of search) (usable_of search) formula → ⊥)
       → (stem cycle : List ℕ) → IsAcceptingLasso a stem cycle → ⊥
-  no_lasso sought none stem cycle lasso =
-      let found = cycle_of sought stem cycle lasso in
+  no_lasso a sought none stem cycle lasso =
+      let found = cycle_of a sought stem cycle lasso in
       none (cycle, record { closed = record { loop_state = found.loop_state; leads = found.leads; longer = found.longer }; accepted = found.accepted })
 
   -- nor does one if no closed walk accepts that a source reaches
-  pub no_lasso_reached : IsSearch search → (states : List Bool) → AreReached search states
-      → (HasAccepting (graph_of search) (listed (kept states search)) a.acceptance → ⊥)
+  pub no_lasso_reached : (a : Description) → IsSearchIn a search → (states : List Bool) → AreReached search states
+      → (HasAccepting (graph_of search) (listed (kept states search)) formula → ⊥)
       → (stem cycle : List ℕ) → IsAcceptingLasso a stem cycle → ⊥
-  no_lasso_reached sought states reached none stem cycle lasso =
-      let found = cycle_of sought stem cycle lasso in
+  no_lasso_reached a sought states reached none stem cycle lasso =
+      let found = cycle_of a sought stem cycle lasso in
       none (
         cycle,
         record {
           closed = record {
             loop_state = found.loop_state;
-            leads = walk_reached a sought.automaton sought.plain sought.names sources graph sought.numbered edges sought.usable (row_at rows) states
+            leads = walk_reached a sought.single sought.names sources graph sought.numbered edges sought.usable (row_at rows) states
                 (λ state is. (reached state).1 is) found.loop_state cycle found.loop_state found.come found.leads;
             longer = found.longer;
           };
@@ -193,13 +198,13 @@ module _ (search : Search) where
   pub first_inside : IsSearch search → (cycle : List ℕ) → IsAcceptingCycle search cycle → get_or cycle 0 0 < length graph.edges
   first_inside sought cycle accepting =
       let closed = accepting.closed in
-      All-contains (λ number. number < length graph.edges) edges (get_or cycle 0 0) (edges_inside sought)
+      All-contains (λ number. number < length graph.edges) edges (get_or cycle 0 0) sought.edges
       (listed_has edges (get_or cycle 0 0)
       (on_edges (graph_of search) (usable_of search) closed.loop_state cycle closed.loop_state closed.leads (get_or cycle 0 0) (Contains-get_or cycle 0 0 closed.longer)))
 
   -- a closed walk that leaves reached states is reached
   pub cycle_reached : (states : List Bool) → AreReached search states → (cycle : List ℕ)
-      → IsAccepting (graph_of search) (listed (kept states search)) a.acceptance cycle → IsReachedCycle search cycle
+      → IsAccepting (graph_of search) (listed (kept states search)) formula cycle → IsReachedCycle search cycle
   cycle_reached states reached cycle accepting =
       let closed = accepting.closed in
       let first : Contains cycle (get_or cycle 0 0) = Contains-get_or cycle 0 0 closed.longer in
@@ -217,9 +222,9 @@ module _ (search : Search) where
       }
 
   -- an accepting closed walk and a walk to it are an accepting lasso
-  pub is_lasso : IsSearch search → (stem cycle : List ℕ) → IsAcceptingCycle search cycle
+  pub is_lasso : (a : Description) → IsSearchIn a search → (stem cycle : List ℕ) → IsAcceptingCycle search cycle
       → IsWalkFrom (graph_of search) (usable_of search) sources stem (beginning search cycle) → IsAcceptingLasso a stem cycle
-  is_lasso sought stem cycle accepting way =
+  is_lasso a sought stem cycle accepting way =
       let names : List ℕ = sought.names in
       let loop_state : ℕ = accepting.closed.loop_state in
       let enters : beginning search cycle ≡ loop_state = first_leaves (graph_of search) (usable_of search) cycle accepting.closed in
@@ -227,11 +232,12 @@ module _ (search : Search) where
         lasso = record {
           start = name_in names way.source;
           loop_state = name_in names loop_state;
-          begins = source_starts a sought.automaton sought.plain names sources graph sought.numbered way.source way.begins;
-          stem_leads = leads_from a sought.automaton sought.plain names sources graph sought.numbered edges sought.usable (row_at rows) way.source stem loop_state
+          begins = source_starts a sought.single names sources graph sought.numbered way.source way.begins;
+          stem_leads = leads_from a sought.single names sources graph sought.numbered edges sought.usable (row_at rows) way.source stem loop_state
               (subst (λ state. IsEdgeWalk (graph_of search) (usable_of search) way.source stem state) enters way.leads);
-          cycle_leads = leads_from a sought.automaton sought.plain names sources graph sought.numbered edges sought.usable (row_at rows) loop_state cycle loop_state accepting.closed.leads;
+          cycle_leads = leads_from a sought.single names sources graph sought.numbered edges sought.usable (row_at rows) loop_state cycle loop_state accepting.closed.leads;
           longer = accepting.closed.longer;
         };
-        accepted = ap (λ (list : List (List ℕ)). accepts list a.acceptance) (sym (same_marks a graph rows sought.marks_are cycle)) ∙ accepting.accepted;
+        accepted = ap (λ (f : AccTree). accepts (map (marks_at a) cycle) f) sought.formula_is
+            ∙ sym (same_acceptance a graph rows sought.marks_are cycle formula) ∙ accepting.accepted;
       }

@@ -1,5 +1,6 @@
 -- Lemmas of the search for a lasso: flags and numbers, the graph of an automaton, walks in it and lassos.
 pub mod Names
+pub mod Numbers
 pub mod Kept
 pub mod Flags
 pub mod Listed

@@ -93,16 +93,15 @@ first_is [] = refl
 first_is (state ∷ states) = refl
 
 -- one start more
-pub sources_more : (keys keys' sources : List ℕ) (starts : List (List ℕ)) (index source : ℕ) (start : List ℕ) → Grows 1 keys keys'
-    → All (λ number. number < length keys) sources → map (name_in keys) sources ≡ map first_of (take index starts)
-    → index < length starts → start ≡ get_or starts index start → name_in keys' source ≡ first_of start
-    → map (name_in keys') (sources ++ source ∷ []) ≡ map first_of (take (index + 1) starts)
+pub sources_more : (keys keys' sources starts : List ℕ) (index source start : ℕ) → Grows 1 keys keys'
+    → All (λ number. number < length keys) sources → map (name_in keys) sources ≡ take index starts
+    → index < length starts → start ≡ get_or starts index start → name_in keys' source ≡ start
+    → map (name_in keys') (sources ++ source ∷ []) ≡ take (index + 1) starts
 sources_more keys keys' sources starts index source start grows within so_far below here name =
     map_push (name_in keys') sources source
     ∙ ap (λ xs. xs ++ name_in keys' source ∷ []) (names_kept 1 keys keys' sources grows within ∙ so_far)
-    ∙ ap (λ n. map first_of (take index starts) ++ n ∷ []) (name ∙ ap first_of here)
-    ∙ sym (map_push first_of (take index starts) (get_or starts index start))
-    ∙ ap (map first_of) (sym (take_more starts index start below))
+    ∙ ap (λ (n : ℕ). take index starts ++ n ∷ []) (name ∙ here)
+    ∙ sym (take_more starts index start below)
 
 -- an edge of its ends
 abbrev made : ℕ → ℕ → Edge

@@ -1,9 +1,9 @@
 -- Walks of usable edges in the graph are those of the automaton.
-use Rattle.std.proofs.Common.{◌≡◌, ℕ, ◌<◌, Bool, true, false, List, [], ◌∷◌, ◌++◌, length, get_or, filter, map, Contains, refl, sym, ap, subst, ◌∙◌, arith}
+use Rattle.std.proofs.Common.{◌≡◌, ℕ, ◌<◌, Bool, true, false, not, ◌&&◌, ◌||◌, if◌then◌else◌, List, [], ◌∷◌, ◌++◌, length, get_or, filter, map, Contains, refl, sym, ap, ap₂, subst, ◌∙◌, arith}
 use Rattle.std.proofs.lemmas.List.{length-map}
 use Rattle.std.proofs.lemmas.List.Elements.{All-contains}
-use Rattle.omega_automaton.specs.Automaton.{Description, IsAutomaton, edges_of}
-use Rattle.omega_automaton.specs.Branching.{has_universal_branching}
+use Rattle.omega_formula.specs.Acceptance.{AccTree, accepts, conjunction, constant, disjunction, fin, holds, inf, occurs}
+use Rattle.omega_automaton.specs.Automaton.{Description, edges_of}
 use Rattle.omega_components.specs.Graph.{Shape, ends_at, listed, marked}
 use Rattle.omega_components.specs.Reaching.{IsReachedAlong}
 use Rattle.omega_components.specs.declared.edge.Edge.{Edge}
@@ -12,9 +12,8 @@ use Rattle.omega_walk_laws.proofs.Walking.{joined}
 use Rattle.omega_accepting_walk.specs.Rows.{row_at}
 use Rattle.omega_accepting_walk.proofs.Listing.{filter_keeps, listed_from, listed_has}
 use Rattle.omega_runs.specs.Lasso.{IsStep, Leads, marks_at, marks_of}
-use Rattle.omega_runs.proofs.SingleTargets.{enters_one}
+use Rattle.omega_lasso_search.specs.Tabled.{AreUsableEdges, HasMarks, ListsOne}
 use Rattle.omega_lasso_search.specs.private.Numbering.{AreNumbered, ends_in, ends_of, first_of, name_in}
-use Rattle.omega_lasso_search.specs.private.Searched.{AreUsableEdges}
 use Rattle.omega_lasso_search.proofs.Edges.{rows_are, stands_for, stood_for}
 
 -- the marks of edges are those of the automaton's
@@ -26,12 +25,36 @@ same_marks a graph rows are (number ∷ walk) =
     let rest = same_marks a graph rows are walk in
     cc
 
+-- the marks of edges hold what those of the automaton's do, so a formula accepts the one exactly if it accepts the
+-- other
+module _ (a : Description) (graph : Shape) (rows : List (List ℕ)) (have : HasMarks a rows) (walk : List ℕ) where
+  abbrev rows_on : List (List ℕ)
+  rows_on = marks_on (marked graph (row_at rows)) walk
+
+  occurs_same : (negated : Bool) (set : ℕ) → occurs rows_on negated set ≡ occurs (map (marks_at a) walk) negated set
+  occurs_same negated set = go walk
+    where
+      go : (numbers : List ℕ) → occurs (marks_on (marked graph (row_at rows)) numbers) negated set ≡ occurs (map (marks_at a) numbers) negated set
+      go [] = refl
+      go (number ∷ numbers) = ap₂ ◌||◌ (ap (λ h. if negated then not h else h) (have number set)) (go numbers)
+
+  pub same_acceptance : (f : AccTree) → accepts rows_on f ≡ accepts (map (marks_at a) walk) f
+  same_acceptance (constant value) = refl
+  same_acceptance (inf negated set) = occurs_same negated set
+  same_acceptance (fin negated set) = ap not (occurs_same negated set)
+  same_acceptance (conjunction left right) = ap₂ ◌&&◌ (same_acceptance left) (same_acceptance right)
+  same_acceptance (disjunction left right) = ap₂ ◌||◌ (same_acceptance left) (same_acceptance right)
+
+-- the marks of the edges themselves do
+pub own_marks : (a : Description) → HasMarks a (map marks_of (edges_of a))
+own_marks a number set = ap (holds set) (rows_are (edges_of a) number)
+
 -- the graph has as many edges as the automaton
 pub counted : (a : Description) (names sources : List ℕ) (graph : Shape) → AreNumbered a names sources graph → length graph.edges ≡ length (edges_of a)
 counted a names sources graph numbered =
     sym (length-map graph.edges (ends_in names)) ∙ ap (λ (list : List Edge). length list) numbered.ends ∙ length-map (edges_of a) ends_of
 
-module _ (a : Description) (automaton : IsAutomaton a) (plain : has_universal_branching a ≡ false) (names sources : List ℕ) (graph : Shape)
+module _ (a : Description) (single : ListsOne a) (names sources : List ℕ) (graph : Shape)
     (numbered : AreNumbered a names sources graph) (numbers : List ℕ) (usable : AreUsableEdges a numbers) (marks : ℕ → List ℕ) where
   abbrev pub traced : MarkedGraph
   traced = marked graph marks
@@ -47,13 +70,12 @@ module _ (a : Description) (automaton : IsAutomaton a) (plain : has_universal_br
       let below : number < length graph.edges = let same = counted a names sources graph numbered in omega arith in
       let edge = stood_for names (edges_of a) graph.edges numbered.ends number below in
       let stands = stands_for names (edges_of a) graph.edges numbered.ends number edge.0 edge.1 in
-      let one = enters_one a automaton plain number edge.0 edge.1 in
       record {
         edge = edge.0;
         numbered = edge.1;
         usable = (usable.exact number edge.0 edge.1).0 has;
         leaves = sym stands.leaves;
-        enters = one.enters ∙ ap (λ (target : ℕ). target ∷ []) (sym (stands.enters ∙ entered edge.0.edge.targets one.target one.enters));
+        enters = single.edges number edge.0 edge.1 ∙ ap (λ (target : ℕ). target ∷ []) (sym stands.enters);
       }
 
   -- and a step is a usable edge of the graph

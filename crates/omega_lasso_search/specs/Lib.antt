@@ -2,4 +2,5 @@
 pub use Rattle.omega_text.specs.Cases
 pub use Rattle.omega_text.specs.Refusal
 pub mod Searching
+pub mod Tabled
 pub mod private

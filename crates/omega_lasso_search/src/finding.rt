@@ -1,21 +1,26 @@
 //! An accepting lasso for any acceptance formula, found by a search of the automaton itself.
 ghost use Rattle.std.specs.Prelude.{◌≡◌, false, IfErr, IfNone, IfOk, IfSome, IsOkUnless, OnOk, length};
+ghost use Rattle.std.specs.List.{range_with_len};
+ghost use Rattle.omega_automaton.specs.Automaton.{Description};
 ghost use Rattle.omega_automaton.specs.Branching.{has_universal_branching};
 ghost use Rattle.omega_components.specs.Graph.{AreEdges};
 ghost use Rattle.omega_runs.specs.Verdict.{IsVerdict};
 ghost use Rattle.omega_lasso_search.specs.Searching.{IsSearchRefusal, IsSearchable};
-ghost use Rattle.omega_lasso_search.specs.private.Searched.{AreUsableEdges, IsAcceptingCycle, IsSearch, Reaches, beginning, edges_leaving};
+ghost use Rattle.omega_lasso_search.specs.Tabled.{AllAreUsable, AreUsableEdges, IsTabled};
+ghost use Rattle.omega_lasso_search.specs.private.Searched.{IsAcceptingCycle, IsGiven, IsGivenOf, IsSearch, IsVerdictOf, Reaches, beginning, edges_leaving};
 
 use crate::edge_table::edge_table;
-use crate::numbering::number_states;
+use crate::given::Given;
+use crate::numbering::{first_states, number_states};
 use crate::search::Search;
 use crate::turning::turned;
 use crate::usable::usable_edges;
-use omega_accepting_walk::{Acc, accepting_walk};
+use omega_accepting_walk::accepting_walk;
 use omega_automaton::{Automaton, Refusal, has_universal_branching};
-use omega_components::{Graph, path, reached};
+use omega_components::{Edge, Graph, path, reached};
+use omega_formula::Acc;
 use omega_runs::Verdict;
-use omega_text::TaskFault;
+use omega_text::{Numbers, TaskFault};
 use std::alloc::Global;
 
 /// Returns an accepting lasso of `automaton`, or `Empty` if no lasso accepts, whatever its acceptance formula and name.
@@ -35,12 +40,57 @@ pub fn lasso(alloc: Global, automaton: &Automaton) -> Result<Verdict, Refusal>
         return Err(Refusal::Task(TaskFault::UniversalBranch));
     }
     let edges = usable_edges(alloc, automaton)?;
-    let verdict = searched(alloc, automaton, edges.as_slice())?;
+    let verdict = found_by(alloc, automaton, edges.as_slice())?;
     Ok(verdict)
 }
 
+/// Returns an accepting lasso of the automaton with these starts, ends and marks of edges and this acceptance formula,
+/// or `Empty` if no lasso accepts. Each start and each edge of it lists one state, and all its edges are usable: of
+/// other automata the verdict says nothing. Marks may be listed in any order, and twice.
+///
+/// Fails for want of memory alone, and so also if there are 2^32 - 1 edges or more. Takes the time of `lasso`, but that
+/// no label is judged.
+pub fn lasso_in_table(
+    alloc: Global,
+    starts: &[u32],
+    ends: &[Edge],
+    marks: &[Numbers],
+    formula: &Acc,
+) -> Result<Verdict, Refusal>
+    requires { length marks.now ≡ length ends.now }
+    ensures verdict { IfOk result (λ verdict. (a : Description) →
+        IsTabled starts.now ends.now marks.now formula.now a → AllAreUsable a → IsVerdict a verdict) }
+    ensures memory { IsOkUnless result Refusal.Memory }
+{
+    let edges = numbers_below(alloc, ends.len())?;
+    let given = Given {
+        starts,
+        ends,
+        marks,
+        edges: edges.as_slice(),
+        formula,
+    };
+    let verdict = searched(alloc, &given)?;
+    Ok(verdict)
+}
+
+/// Returns the numbers below `count` in ascending order. Also fails with [Refusal::Memory] if they are over 2^32 - 1.
+fn numbers_below(alloc: Global, count: usize) -> Result<Vec<u32>, Refusal>
+    ensures numbers { IfOk result (λ numbers. numbers.items ≡ range_with_len 0 count) }
+    ensures memory { IsOkUnless result Refusal.Memory }
+{
+    if count > u32::MAX as usize {
+        return Err(Refusal::Memory);
+    }
+    let mut numbers = Vec::with_capacity(alloc, count)?;
+    for number in 0..count {
+        numbers.push(number as u32)?;
+    }
+    Ok(numbers)
+}
+
 /// Returns the verdict on `automaton`, given its usable `edges`.
-fn searched(alloc: Global, automaton: &Automaton, edges: &[u32]) -> Result<Verdict, Refusal>
+fn found_by(alloc: Global, automaton: &Automaton, edges: &[u32]) -> Result<Verdict, Refusal>
     requires plain { has_universal_branching automaton.now ≡ false }
     requires usable { AreUsableEdges automaton.now edges.now }
     ensures verdict { IfOk result (IsVerdict automaton.now) }
@@ -48,15 +98,31 @@ fn searched(alloc: Global, automaton: &Automaton, edges: &[u32]) -> Result<Verdi
 {
     automaton.keeps_limits();
     let table = edge_table(alloc, automaton)?;
-    let marks = table.marks.as_slice();
-    let numbered = number_states(alloc, automaton, table.ends.as_slice())?;
-    let sources = numbered.sources.as_slice();
-    let search = Search {
-        automaton,
-        marks,
-        graph: &numbered.graph,
-        sources,
+    let starts = first_states(alloc, automaton.starts())?;
+    let given = Given {
+        starts: starts.as_slice(),
+        ends: table.ends.as_slice(),
+        marks: table.marks.as_slice(),
         edges,
+        formula: automaton.acceptance(),
+    };
+    let verdict = searched(alloc, &given)?;
+    Ok(verdict)
+}
+
+/// Returns the verdict on each automaton of which this is the table.
+fn searched(alloc: Global, given: &Given<'_>) -> Result<Verdict, Refusal>
+    requires { IsGiven given.now }
+    ensures verdict { IfOk result (λ verdict. (a : Description) → IsGivenOf a given.now → IsVerdict a verdict) }
+    ensures memory { IsOkUnless result Refusal.Memory }
+{
+    let numbered = number_states(alloc, given.starts, given.ends)?;
+    let search = Search {
+        marks: given.marks,
+        graph: &numbered.graph,
+        sources: numbered.sources.as_slice(),
+        edges: given.edges,
+        formula: given.formula,
     };
     let verdict = found_in(alloc, &search)?;
     Ok(verdict)
@@ -66,36 +132,36 @@ fn searched(alloc: Global, automaton: &Automaton, edges: &[u32]) -> Result<Verdi
 /// found, looks again among the edges that a source reaches.
 fn found_in(alloc: Global, search: &Search<'_>) -> Result<Verdict, Refusal>
     requires { IsSearch search.now }
-    ensures verdict { IfOk result (IsVerdict search.now.automaton.now) }
+    ensures verdict { IfOk result (IsVerdictOf search.now) }
     ensures memory { IsOkUnless result Refusal.Memory }
 {
-    let formula = search.automaton.acceptance();
-    let found = accepting_walk(alloc, search.graph, search.marks, search.edges, formula)?;
+    let found = accepting_walk(
+        alloc,
+        search.graph,
+        search.marks,
+        search.edges,
+        search.formula,
+    )?;
     match found {
         None => Ok(Verdict::Empty),
         Some(cycle) => match with_stem(alloc, search, cycle.as_slice())? {
             Some(verdict) => Ok(verdict),
-            None => found_among_reached(alloc, search, formula),
+            None => found_among_reached(alloc, search),
         },
     }
 }
 
 /// Returns the verdict of a search, looking for a closed walk among its edges that a source reaches.
-fn found_among_reached(
-    alloc: Global,
-    search: &Search<'_>,
-    formula: &Acc,
-) -> Result<Verdict, Refusal>
-    requires ready { IsSearch search.now }
-    requires formula { formula.now ≡ search.now.automaton.now.acceptance }
-    ensures verdict { IfOk result (IsVerdict search.now.automaton.now) }
+fn found_among_reached(alloc: Global, search: &Search<'_>) -> Result<Verdict, Refusal>
+    requires { IsSearch search.now }
+    ensures verdict { IfOk result (IsVerdictOf search.now) }
     ensures memory { IsOkUnless result Refusal.Memory }
 {
     let states = reached(alloc, search.graph, search.edges, search.sources)?;
     let flags = states.as_slice();
     let edges = leaving(alloc, search.graph, search.edges, flags)?;
     let kept = edges.as_slice();
-    let found = accepting_walk(alloc, search.graph, search.marks, kept, formula)?;
+    let found = accepting_walk(alloc, search.graph, search.marks, kept, search.formula)?;
     match found {
         None => Ok(Verdict::Empty),
         Some(cycle) => {
@@ -113,7 +179,7 @@ fn found_among_reached(
 fn with_stem(alloc: Global, search: &Search<'_>, cycle: &[u32]) -> Result<Option<Verdict>, Refusal>
     requires ready { IsSearch search.now }
     requires cycle { IsAcceptingCycle search.now cycle.now }
-    ensures verdict { IfOk result (λ found. IfSome found (IsVerdict search.now.automaton.now)) }
+    ensures verdict { IfOk result (λ found. IfSome found (IsVerdictOf search.now)) }
     ensures none { IfOk result (λ found. IfNone found (¬ Reaches search.now (beginning search.now cycle.now))) }
     ensures memory { IsOkUnless result Refusal.Memory }
 {

@@ -2,12 +2,11 @@
 //! which they are first met.
 ghost use Rattle.std.specs.Prelude.{◌≡◌, ◌+◌, ◌*◌, ◌<◌, ◌≤◌, length, map, nat_eq, All, IfOk, IsOkUnless, OnOk};
 ghost use Rattle.std.specs.List.{IsDistinct};
-ghost use Rattle.omega_automaton.specs.Automaton.{edges_of};
 ghost use Rattle.omega_components.specs.Graph.{IsInside};
-ghost use Rattle.omega_lasso_search.specs.private.Numbering.{Grows, IsNamed, Represents, RepresentsAutomaton, ends_in, ends_of, first_of, name_in};
+ghost use Rattle.omega_lasso_search.specs.private.Numbering.{Grows, IsNamed, Represents, ends_in, first_of, name_in};
 
 use indexmap::IndexSet;
-use omega_automaton::{Automaton, Refusal};
+use omega_automaton::Refusal;
 use omega_components::{Edge, Graph};
 use omega_text::Numbers;
 use std::alloc::Global;
@@ -19,18 +18,15 @@ pub(crate) struct Numbered {
     pub(crate) sources: Vec<u32>,
 }
 
-/// Returns the graph of `automaton`, whose edges have these `ends`.
+/// Returns the graph with these `ends`, with `starts` as sources.
 pub(crate) fn number_states(
     alloc: Global,
-    automaton: &Automaton,
+    starts: &[u32],
     ends: &[Edge],
 ) -> Result<Numbered, Refusal>
-    requires { ends.now ≡ map ends_of (edges_of automaton.now) }
-    ensures numbered { IfOk result (RepresentsAutomaton automaton.now) }
+    ensures numbered { IfOk result (Represents starts.now ends.now) }
     ensures memory { IsOkUnless result Refusal.Memory }
 {
-    automaton.keeps_limits();
-    let starts = automaton.starts();
     let bound = end_bound(ends, start_bound(starts));
     let numbered = if bound / 2 <= starts.len().max(ends.len()) && bound < u32::MAX as usize {
         keep_numbers(alloc, starts, ends, bound as u32)?
@@ -40,14 +36,13 @@ pub(crate) fn number_states(
     Ok(numbered)
 }
 
-/// Returns one more than the greatest first state in `starts`, or 0 if there are none.
-fn start_bound(starts: &[Numbers]) -> usize
-    requires { All (λ start. 0 < length start) starts.now }
-    ensures { All (λ start. first_of start < result) starts.now }
+/// Returns one more than the greatest state in `starts`, or 0 if there are none.
+fn start_bound(starts: &[u32]) -> usize
+    ensures { All (λ start. start < result) starts.now }
 {
     let mut bound = 0usize;
     for start in starts {
-        bound = bound.max(start.as_slice()[0] as usize + 1);
+        bound = bound.max(*start as usize + 1);
     }
     bound
 }
@@ -64,27 +59,25 @@ fn end_bound(ends: &[Edge], least: usize) -> usize
     bound
 }
 
-/// Returns the graph with these `ends`, whose states are below `bound`, and with the first states of `starts` as
-/// sources.
+/// Returns the graph with these `ends`, whose states are below `bound`, and with `starts` as sources.
 fn keep_numbers(
     alloc: Global,
-    starts: &[Numbers],
+    starts: &[u32],
     ends: &[Edge],
     bound: u32,
 ) -> Result<Numbered, Refusal>
-    requires starts { All (λ start. 0 < length start) starts.now }
-    requires first { All (λ start. first_of start < bound) starts.now }
+    requires first { All (λ start. start < bound) starts.now }
     requires ends { All (IsInside bound) ends.now }
     ensures numbered { IfOk result (Represents starts.now ends.now) }
     ensures memory { IsOkUnless result Refusal.Memory }
 {
-    let sources = first_states(alloc, starts)?;
+    let sources = Vec::from_slice(alloc, starts)?;
     let graph = graph_on(alloc, ends, bound)?;
     Ok(Numbered { graph, sources })
 }
 
 /// Returns the first state of each list in `starts`.
-fn first_states(alloc: Global, starts: &[Numbers]) -> Result<Vec<u32>, Refusal>
+pub(crate) fn first_states(alloc: Global, starts: &[Numbers]) -> Result<Vec<u32>, Refusal>
     requires { All (λ start. 0 < length start) starts.now }
     ensures states { IfOk result (λ states. states.items ≡ map first_of starts.now) }
     ensures memory { IsOkUnless result Refusal.Memory }
@@ -111,8 +104,7 @@ fn graph_on(alloc: Global, ends: &[Edge], states: u32) -> Result<Graph, Refusal>
 }
 
 /// Returns the graph with these `ends`, whose states are numbered as they are first met, the starts before the others.
-fn number_anew(alloc: Global, starts: &[Numbers], ends: &[Edge]) -> Result<Numbered, Refusal>
-    requires { All (λ start. 0 < length start) starts.now }
+fn number_anew(alloc: Global, starts: &[u32], ends: &[Edge]) -> Result<Numbered, Refusal>
     ensures numbered { IfOk result (Represents starts.now ends.now) }
     ensures memory { IsOkUnless result Refusal.Memory }
 {
@@ -122,19 +114,18 @@ fn number_anew(alloc: Global, starts: &[Numbers], ends: &[Edge]) -> Result<Numbe
     Ok(Numbered { graph, sources })
 }
 
-/// Gives the first state of each list in `starts` a number, and returns these numbers.
-fn sources(alloc: Global, starts: &[Numbers], met: &mut IndexSet<u32>) -> Result<Vec<u32>, Refusal>
-    requires starts { All (λ start. 0 < length start) starts.now }
-    requires distinct { IsDistinct nat_eq met.old.keys }
+/// Gives each of `starts` a number, and returns these numbers.
+fn sources(alloc: Global, starts: &[u32], met: &mut IndexSet<u32>) -> Result<Vec<u32>, Refusal>
+    requires { IsDistinct nat_eq met.old.keys }
     ensures distinct { OnOk result (IsDistinct nat_eq met.new.keys) }
     ensures grows { OnOk result (Grows (length starts.now) met.old.keys met.new.keys) }
     ensures within { IfOk result (λ sources. All (λ source. source < length met.new.keys) sources.items) }
-    ensures names { IfOk result (λ sources. map (name_in met.new.keys) sources.items ≡ map first_of starts.now) }
+    ensures names { IfOk result (λ sources. map (name_in met.new.keys) sources.items ≡ starts.now) }
     ensures memory { IsOkUnless result Refusal.Memory }
 {
     let mut sources = Vec::new(alloc);
     for start in starts {
-        let source = number(met, start.as_slice()[0])?;
+        let source = number(met, *start)?;
         sources.push(source)?;
     }
     Ok(sources)

@@ -1,11 +1,10 @@
-use omega_automaton::Automaton;
 use omega_components::Graph;
+use omega_formula::Acc;
 use omega_text::Numbers;
 
 /// A search for an accepting lasso: the usable edges of an automaton, in a graph of all its edges in their order.
 #[derive(Clone, Copy)]
 pub(crate) struct Search<'a> {
-    pub(crate) automaton: &'a Automaton,
     /// The marks of each edge.
     pub(crate) marks: &'a [Numbers],
     pub(crate) graph: &'a Graph,
@@ -13,4 +12,6 @@ pub(crate) struct Search<'a> {
     pub(crate) sources: &'a [u32],
     /// The numbers of the usable edges.
     pub(crate) edges: &'a [u32],
+    /// The acceptance formula.
+    pub(crate) formula: &'a Acc,
 }

@@ -5,7 +5,7 @@ ghost use Rattle.omega_automaton.specs.Automaton.{edges_from};
 ghost use Rattle.omega_runs.specs.Judging.{AreUsable, GivesUpOn, HasHard, HasHardLabel, IsHard};
 ghost use Rattle.omega_runs.specs.Lasso.{IsUsable};
 ghost use Rattle.omega_lasso_search.specs.private.Judged.{AddsJudged};
-ghost use Rattle.omega_lasso_search.specs.private.Searched.{AreUsableEdges};
+ghost use Rattle.omega_lasso_search.specs.Tabled.{AreUsableEdges};
 
 use omega_automaton::{Automaton, EdgeRef, Refusal, State};
 use omega_runs::can_hold;

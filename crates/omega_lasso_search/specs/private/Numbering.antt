@@ -1,19 +1,11 @@
 -- The graph of an automaton, whose states keep their numbers or get new ones. The names of a graph are the states that
 -- its numbers represent, in order.
-use Rattle.std.specs.Prelude.{◌≡◌, ℕ, ◌<◌, ◌≤◌, List, [], ◌∷◌, ◌++◌, length, map, All, slice_index_or}
-use Rattle.omega_automaton.specs.Automaton.{BodyEdge, Description, edges_of}
+use Rattle.std.specs.Prelude.{◌≡◌, ℕ, ◌<◌, ◌≤◌, List, ◌++◌, length, map, All, slice_index_or}
+use Rattle.omega_automaton.specs.Automaton.{Description, edges_of}
 use Rattle.omega_components.specs.Graph.{Shape}
 use Rattle.omega_components.specs.declared.edge.Edge.{Edge}
+pub use Rattle.omega_lasso_search.specs.Tabled.{ends_of, first_of}
 use Rattle.omega_lasso_search.specs.declared.numbering.Numbered.{Numbered}
-
--- the first state of a list, or 0 if it is empty
-abbrev pub first_of : List ℕ → ℕ
-first_of [] = 0
-first_of (state ∷ states) = state
-
--- the ends of an edge: the state that it leaves and the first of its targets
-abbrev pub ends_of : BodyEdge → Edge
-ends_of edge = record { from = edge.source.number; to = first_of edge.edge.targets }
 
 -- the state that a number represents; 0 if the number has no name
 abbrev pub name_in : List ℕ → ℕ → ℕ
@@ -37,23 +29,19 @@ pub record Grows (count : ℕ) (before after : List ℕ) : Type 0 where
 abbrev pub AreDistinctNames : List ℕ → Type 0
 AreDistinctNames names = (p q : ℕ) → p < length names → q < length names → name_in names p ≡ name_in names q → p ≡ q
 
--- the graph has edges with these ends, and the sources are the first states of the lists
-pub record AreNamed (lists : List (List ℕ)) (edges : List Edge) (names sources : List ℕ) (graph : Shape) : Type 0 where
+-- the graph has edges with these ends, and the sources are these states
+pub record AreNamed (starts : List ℕ) (edges : List Edge) (names sources : List ℕ) (graph : Shape) : Type 0 where
   pub apart : AreDistinctNames names
   pub inside : All (IsNamed names) graph.edges
   pub ends : map (ends_in names) graph.edges ≡ edges
   pub within : All (λ source. source < length names) sources
   pub states : All (λ source. source < graph.states) sources
-  pub starts : map (name_in names) sources ≡ map first_of lists
+  pub starts_are : map (name_in names) sources ≡ starts
 
 -- the graph has the edges of the automaton, and the sources are its starts
 abbrev pub AreNumbered : Description → List ℕ → List ℕ → Shape → Type 0
-AreNumbered a names sources graph = AreNamed a.starts (map ends_of (edges_of a)) names sources graph
+AreNumbered a names sources graph = AreNamed (map first_of a.starts) (map ends_of (edges_of a)) names sources graph
 
--- under some names the numbered graph has edges with these ends, and its sources are the first states of the lists
-abbrev pub Represents : List (List ℕ) → List Edge → Numbered → Type 0
-Represents lists edges numbered = (names : List ℕ) × AreNamed lists edges names numbered.sources.items numbered.graph
-
--- under some names the numbered graph has the edges of the automaton, and its sources are the starts
-abbrev pub RepresentsAutomaton : Description → Numbered → Type 0
-RepresentsAutomaton a numbered = (names : List ℕ) × AreNumbered a names numbered.sources.items numbered.graph
+-- under some names the numbered graph has edges with these ends, and its sources are these states
+abbrev pub Represents : List ℕ → List Edge → Numbered → Type 0
+Represents starts edges numbered = (names : List ℕ) × AreNamed starts edges names numbered.sources.items numbered.graph

@@ -1,29 +1,47 @@
--- What a search is: the usable edges of an automaton, in a graph of its edges.
-use Rattle.std.specs.Prelude.{◌≡◌, ◌↔◌, ℕ, ◌<◌, Bool, false, List, All, Contains, Some, filter, map, slice_index_or}
-use Rattle.omega_automaton.specs.Automaton.{BodyEdge, Description, IsAutomaton, edge_at, edge_count, edges_of}
-use Rattle.omega_automaton.specs.Branching.{has_universal_branching}
-use Rattle.omega_components.specs.Graph.{Shape, ends_at, listed, marked}
+-- What a search is: some edges of a graph, and how they are those of an automaton.
+use Rattle.std.specs.Prelude.{◌≡◌, ◌<◌, ℕ, Bool, false, List, All, filter, length, slice_index_or}
+use Rattle.omega_automaton.specs.Automaton.{Description}
+use Rattle.omega_components.specs.Graph.{AreEdges, AreStates, Shape, ends_at, listed, marked}
 use Rattle.omega_components.specs.Reaching.{IsReachedAlong}
 use Rattle.omega_walk_laws.specs.Walks.{EdgeSet, MarkedGraph, IsAccepting}
 use Rattle.omega_accepting_walk.specs.Rows.{row_at}
-use Rattle.omega_runs.specs.Lasso.{IsUsable, marks_of}
+use Rattle.omega_runs.specs.Verdict.{IsVerdict}
+use Rattle.omega_runs.specs.declared.verdict.Verdict.{Verdict}
+pub use Rattle.omega_lasso_search.specs.Tabled.{AreUsableEdges}
+use Rattle.omega_lasso_search.specs.Tabled.{HasMarks, IsTabled, ListsOne}
 use Rattle.omega_lasso_search.specs.declared.search.Search.{Search}
+use Rattle.omega_lasso_search.specs.declared.given.Given.{Given}
 use Rattle.omega_lasso_search.specs.private.Numbering.{AreNumbered}
 
--- the numbers are exactly those of the usable edges
-pub record AreUsableEdges (a : Description) (numbers : List ℕ) : Type 0 where
-  pub below : All (λ number. number < edge_count a) numbers
-  pub exact : (number : ℕ) (edge : BodyEdge) → edge_at a number ≡ Some edge → Contains numbers number ↔ IsUsable edge
+-- the marks are as many as the edges, and the numbers of edges are below their count
+pub record IsGiven (given : Given) : Type 0 where
+  pub marks : length given.marks.now ≡ length given.ends.now
+  pub edges : All (λ number. number < length given.ends.now) given.edges.now
 
--- the parts of a search in an automaton without universal branching: the marks of each edge, the graph of all edges,
--- the starts as its sources, and the usable edges
+-- an automaton is that of a table whose edges with the numbers are the usable ones
+pub record IsGivenOf (a : Description) (given : Given) : Type 0 where
+  pub tabled : IsTabled given.starts.now given.ends.now given.marks.now given.formula.now a
+  pub usable : AreUsableEdges a given.edges.now
+
+-- the parts of a search fit together: the marks are as many as the edges, and numbers are below their counts
 pub record IsSearch (search : Search) : Type 0 where
-  pub automaton : IsAutomaton search.automaton.now
-  pub plain : has_universal_branching search.automaton.now ≡ false
-  pub marks_are : search.marks.now ≡ map marks_of (edges_of search.automaton.now)
+  pub marks : length search.marks.now ≡ length search.graph.now.edges
+  pub edges : AreEdges search.graph.now search.edges.now
+  pub sources : AreStates search.graph.now search.sources.now
+
+-- a search is one in this automaton, whose starts and edges list one state each: the marks of each edge, the graph of
+-- all edges, the starts as its sources, the usable edges and the formula
+pub record IsSearchIn (a : Description) (search : Search) : Type 0 where
+  pub single : ListsOne a
+  pub marks_are : HasMarks a search.marks.now
   pub names : List ℕ
-  pub numbered : AreNumbered search.automaton.now names search.sources.now search.graph.now
-  pub usable : AreUsableEdges search.automaton.now search.edges.now
+  pub numbered : AreNumbered a names search.sources.now search.graph.now
+  pub usable : AreUsableEdges a search.edges.now
+  pub formula_is : a.acceptance ≡ search.formula.now
+
+-- a verdict is right of each automaton that the search is in
+abbrev pub IsVerdictOf : Search → Verdict → Type 0
+IsVerdictOf search verdict = (a : Description) → IsSearchIn a search → IsVerdict a verdict
 
 -- the graph of a search, whose edges have their marks
 abbrev pub graph_of : Search → MarkedGraph
@@ -35,7 +53,7 @@ usable_of search = listed search.edges.now
 
 -- an accepting closed walk in the usable edges
 abbrev pub IsAcceptingCycle : Search → List ℕ → Type 0
-IsAcceptingCycle search cycle = IsAccepting (graph_of search) (usable_of search) search.automaton.now.acceptance cycle
+IsAcceptingCycle search cycle = IsAccepting (graph_of search) (usable_of search) search.formula.now cycle
 
 -- the usable edges reach the state from a source
 abbrev pub Reaches : Search → ℕ → Type 0

@@ -7,20 +7,8 @@ use Rattle.omega_walk_laws.specs.Walks.{HasAccepting, IsAccepting}
 use Rattle.omega_accepting_walk.specs.Rows.{row_at}
 use Rattle.omega_lasso_search.specs.declared.search.Search.{Search}
 use Rattle.omega_lasso_search.specs.private.Searched.{Reaches, beginning, graph_of}
-use Rattle.omega_lasso_search.proofs.Lassos.{AreReached, IsReachedCycle, cycle_reached, edges_inside, kept, marks_counted, no_lasso_reached}
+use Rattle.omega_lasso_search.proofs.Lassos.{AreReached, IsReachedCycle, cycle_reached, kept, no_lasso_reached}
 use Rattle.omega_lasso_search.proofs.finding.found_among_reached.Goals as goal
-
-pub reached-requires-clause-edges : goal.reached-requires-clause-edges
-reached-requires-clause-edges c = edges_inside c.args.search.now c.requires.ready
-
-pub reached-requires-clause-sources : goal.reached-requires-clause-sources
-reached-requires-clause-sources c = c.requires.ready.numbered.states
-
-pub leaving-requires-clause-edges : goal.leaving-requires-clause-edges
-leaving-requires-clause-edges c = edges_inside c.args.search.now c.requires.ready
-
-pub accepting_walk-requires-clause-marks : goal.accepting_walk-requires-clause-marks
-accepting_walk-requires-clause-marks c = marks_counted c.args.search.now c.requires.ready
 
 pub accepting_walk-requires-clause-edges : goal.accepting_walk-requires-clause-edges
 accepting_walk-requires-clause-edges c =
@@ -28,26 +16,24 @@ accepting_walk-requires-clause-edges c =
     let states : List Bool = c.as_slice-flags.result.now in
     subst (λ (edges : List ℕ). All (λ number. number < length search.graph.now.edges) edges) (sym (c.as_slice-kept.ensures.value ∙ c.in_ok-edges.ensures.left))
     (All-filter (λ number. get_or states (ends_at search.graph.now number).from false) (λ number. number < length search.graph.now.edges) search.edges.now
-    (edges_inside c.args.search.now c.requires.ready))
+    c.requires.edges)
 
 pub returns-in-None-clause-verdict : goal.returns-in-None-clause-verdict
 returns-in-None-clause-verdict c =
     let search : Search = c.args.search.now in
     let states : List Bool = c.as_slice-flags.result.now in
-    let same_tree : c.args.formula.now ≡ search.automaton.now.acceptance = c.requires.formula in
     let same_edges : c.as_slice-kept.result.now ≡ kept states search = c.as_slice-kept.ensures.value ∙ c.in_ok-edges.ensures.left in
     let reached : AreReached search states =
     subst (AreReached search) (sym c.as_slice-flags.ensures.value) (λ state. c.in_ok-states.ensures.reached (row_at search.marks.now) state) in
     let none = rw c.in-None.is at c.in_ok-found.ensures.none in
-    no_lasso_reached c.args.search.now c.requires.ready states reached
-    (λ has. none (subst (λ tree. HasAccepting (graph_of search) (listed c.as_slice-kept.result.now) tree) (sym same_tree)
-    (subst (λ (edges : List ℕ). HasAccepting (graph_of search) (listed edges) search.automaton.now.acceptance) (sym same_edges) has)))
+    λ a sought. no_lasso_reached c.args.search.now a sought states reached
+    (λ has. none (subst (λ (edges : List ℕ). HasAccepting (graph_of search) (listed edges) search.formula.now) (sym same_edges) has))
 
 pub with_stem-requires-clause-cycle : goal.with_stem-requires-clause-cycle
 with_stem-requires-clause-cycle c =
     let search : Search = c.args.search.now in
     let states : List Bool = c.as_slice-flags.result.now in
-    let tree : AccTree = search.automaton.now.acceptance in
+    let tree : AccTree = search.formula.now in
     let same_edges : c.as_slice-kept.result.now ≡ kept states search = c.as_slice-kept.ensures.value ∙ c.in_ok-edges.ensures.left in
     let reached : AreReached search states =
     subst (AreReached search) (sym c.as_slice-flags.ensures.value) (λ state. c.in_ok-states.ensures.reached (row_at search.marks.now) state) in
@@ -55,15 +41,14 @@ with_stem-requires-clause-cycle c =
     let is : IsReachedCycle search c.as_slice-walk.result.now =
     cycle_reached search states reached c.as_slice-walk.result.now
     (subst (λ (cycle : List ℕ). IsAccepting (graph_of search) (listed (kept states search)) tree cycle) (sym c.as_slice-walk.ensures.value)
-    (subst (λ tree. IsAccepting (graph_of search) (listed (kept states search)) tree c.in-Some.cycle.items) c.requires.formula
-    (subst (λ (edges : List ℕ). IsAccepting (graph_of search) (listed edges) c.args.formula.now c.in-Some.cycle.items) same_edges walk))) in
+    (subst (λ (edges : List ℕ). IsAccepting (graph_of search) (listed edges) tree c.in-Some.cycle.items) same_edges walk)) in
     is.accepting
 
 pub unreachable-requires : goal.unreachable-requires
 unreachable-requires c =
     let search : Search = c.args.search.now in
     let states : List Bool = c.as_slice-flags.result.now in
-    let tree : AccTree = search.automaton.now.acceptance in
+    let tree : AccTree = search.formula.now in
     let same_edges : c.as_slice-kept.result.now ≡ kept states search = c.as_slice-kept.ensures.value ∙ c.in_ok-edges.ensures.left in
     let reached : AreReached search states =
     subst (AreReached search) (sym c.as_slice-flags.ensures.value) (λ state. c.in_ok-states.ensures.reached (row_at search.marks.now) state) in
@@ -71,7 +56,6 @@ unreachable-requires c =
     let is : IsReachedCycle search c.as_slice-walk.result.now =
     cycle_reached search states reached c.as_slice-walk.result.now
     (subst (λ (cycle : List ℕ). IsAccepting (graph_of search) (listed (kept states search)) tree cycle) (sym c.as_slice-walk.ensures.value)
-    (subst (λ tree. IsAccepting (graph_of search) (listed (kept states search)) tree c.in-Some.cycle.items) c.requires.formula
-    (subst (λ (edges : List ℕ). IsAccepting (graph_of search) (listed edges) c.args.formula.now c.in-Some.cycle.items) same_edges walk))) in
+    (subst (λ (edges : List ℕ). IsAccepting (graph_of search) (listed edges) tree c.in-Some.cycle.items) same_edges walk)) in
     let none : Reaches search (beginning search c.as_slice-walk.result.now) → ⊥ = rw c.in-None-2.is at c.in_ok-verdict-in-Some.ensures.none in
     none is.reached

@@ -26,4 +26,4 @@ returns-in_ok-verdict-in-Some-clause-verdict c =
     let way : IsWalkFrom (graph_of search) (usable_of search) sources stem target =
     subst (λ (xs : List ℕ). IsWalkFrom (graph_of search) (usable_of search) sources xs target) (sym c.as_slice.ensures.value)
     (subst (IsWalkFrom (graph_of search) (usable_of search) sources c.in-Some.stem.items) c.from-target.ensures.from (walk (row_at search.marks.now))) in
-    c.in_ok-verdict-in-Some.ensures.verdict search.automaton.now (is_lasso c.args.search.now c.requires.ready stem c.args.cycle.now c.requires.cycle way)
+    λ a sought. c.in_ok-verdict-in-Some.ensures.verdict a (is_lasso c.args.search.now a sought stem c.args.cycle.now c.requires.cycle way)

@@ -25,6 +25,6 @@ returns-clause-numbered c =
         within = all_below _ keys names c.in_ok-sources.sources.items grows c.in_ok-sources.ensures.within;
         states = All-weaker (λ source. source < length keys) (λ source. source < c.in_ok-graph.graph.states) (λ source low. let states = c.in_ok-graph.ensures.states in omega arith)
             c.in_ok-sources.sources.items c.in_ok-sources.ensures.within;
-        starts = names_kept _ keys names c.in_ok-sources.sources.items grows c.in_ok-sources.ensures.within ∙ c.in_ok-sources.ensures.names;
+        starts_are = names_kept _ keys names c.in_ok-sources.sources.items grows c.in_ok-sources.ensures.within ∙ c.in_ok-sources.ensures.names;
       },
     )

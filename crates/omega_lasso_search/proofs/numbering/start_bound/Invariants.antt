@@ -1,7 +1,6 @@
--- the first states of the lists before are below the bound
+-- the states before are below the bound
 use Rattle.std.proofs.Common.{◌<◌, take, All}
-use Rattle.omega_lasso_search.specs.private.Numbering.{first_of}
 use Rattle.omega_lasso_search.proofs.numbering.start_bound.Given as goal
 
 abbrev pub invariant-loop-start : goal.invariant-loop-start
-invariant-loop-start l = All (λ start. first_of start < l.bound) (take l.start-index l.starts)
+invariant-loop-start l = All (λ start. start < l.bound) (take l.start-index l.starts)
