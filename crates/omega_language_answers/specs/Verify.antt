@@ -30,8 +30,8 @@ IsLassoVerdict automaton lasso explain No output =
     (¬ IsAcceptingLasso automaton lasso.stem lasso.cycle)
     × ((fault : LassoFault) × IsLassoFault automaton lasso.stem lasso.cycle fault × (output ≡ no_text explain fault))
 
--- the answer of `verify`: the texts are those of an automaton and of a lasso, with its word or without, and the verdict
--- is written
+-- the answer of `verify`: the texts are those of an automaton and of a lasso, with its word and its run or without, and
+-- the verdict is written
 pub record IsLassoAnswer (file input : List ℕ) (explain : Bool) (exit : Exit) (output : List ℕ) : Type 0 where
   pub automaton : Description
   pub automaton_read : IsAutomatonText file automaton

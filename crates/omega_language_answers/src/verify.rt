@@ -17,8 +17,9 @@ use omega_text::TaskFault;
 use std::alloc::Global;
 
 /// Judges whether the lasso of `input`, given by the numbers of its edges, is an accepting lasso of the automaton of
-/// `file`, without a search for one. A line of its word, as `empty --word` writes it, is passed over. If the lasso is
-/// not an accepting one and `explain` is set, the answer also says why. Both texts are dropped once they are read.
+/// `file`, without a search for one. The lines of its word and of its run, as `empty` writes them, are passed over. If
+/// the lasso is not an accepting one and `explain` is set, the answer also says why. Both texts are dropped once they
+/// are read.
 ///
 /// Fails with the [Refusal::Text] or [Refusal::Automaton] of `file`, or else with [TaskFault::UniversalBranch] of its
 /// automaton. Or else fails with the [Refusal::Text] of `input`, and then with [TaskFault::TooManyPropositions] of the
@@ -64,7 +65,7 @@ fn automaton_in(alloc: Global, text: Vec<u8>) -> Result<Automaton, Refusal>
     }
 }
 
-/// Reads the lasso of `text`, which is dropped. A line of its word is passed over.
+/// Reads the lasso of `text`, which is dropped. The lines of its word and of its run are passed over.
 fn lasso_in(alloc: Global, text: Vec<u8>) -> Result<LassoText, Refusal>
     ensures lasso { IfOk result (IsLassoLines text.items) }
     ensures refused { IfErr result (IsReadLassoLinesRefusal text.items) }

@@ -3,6 +3,7 @@ use Rattle.std.specs.Prelude.{◌≡◌, ◌⊎◌, ◌↔◌, ℕ, ◌≤◌, B
 use Rattle.omega_text.specs.Limits.{most_text}
 use Rattle.omega_automaton.specs.Automaton.{Description}
 use Rattle.omega_hoa.specs.Alone.{IsAutomatonText}
+use Rattle.omega_empty_answers.specs.declared.lines.Lines.{Lines}
 use Rattle.omega_empty_answers.specs.empty.Answer.{IsEmptyAnswer, IsEmptySearchAnswer}
 use Rattle.omega_language_answers.specs.Complement.{IsComplementAnswer}
 use Rattle.omega_language_answers.specs.Meet.{IsMeetAnswer}
@@ -21,8 +22,8 @@ MetTextsAcceptBoth =
 -- an answer of `empty` to a text: by a search, or by lifting within some budget
 abbrev pub IsEmptinessAnswer : (text output : List ℕ) → Type 0
 IsEmptinessAnswer text output =
-    (with_word : Bool) × (IsEmptySearchAnswer text with_word output
-    ⊎ ((budget : ℕ) × IsEmptyAnswer text budget with_word output))
+    (lines : Lines) × (IsEmptySearchAnswer text lines output
+    ⊎ ((budget : ℕ) × IsEmptyAnswer text budget lines output))
 
 -- an answer to the question whether each word that `one` accepts is accepted by `other`: `complement` of `other`,
 -- `meet` of this with `one`, in either order, and `empty` of that

@@ -3,11 +3,13 @@
 #![tactic(auto)]
 
 mod complements;
+mod graphs;
 mod named_words;
 mod products;
 
 pub use complements::{
     complements_are_apart, complements_are_one, complements_are_writable, complements_cover,
 };
+pub use graphs::graphs_are_of_products;
 pub use named_words::words_are_named;
 pub use products::{products_are_one, products_meet};

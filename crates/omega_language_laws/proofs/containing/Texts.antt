@@ -1,5 +1,5 @@
 -- What `meet`, `complement` and `empty` write of texts, one after the other.
-use Rattle.std.proofs.Common.{◌≡◌, ◌⊎◌, ◌↔◌, ℕ, ◌≤◌, inl, inr, Bool, true, false, List, length, codes, sym, ap, subst, arith}
+use Rattle.std.proofs.Common.{◌≡◌, ◌⊎◌, ◌↔◌, ℕ, ◌≤◌, inl, inr, Bool, false, List, length, codes, sym, ap, subst, arith}
 use Rattle.std.specs.Prelude.{slice_index_or}
 use Rattle.omega_text.specs.Limits.{most_text}
 use Rattle.omega_automaton.specs.Automaton.{Description, IsAutomaton}
@@ -12,6 +12,7 @@ use Rattle.omega_runs.specs.Verdict.{IsVerdict}
 use Rattle.omega_runs.specs.Words.{IsAccepted, LassosHaveAcceptedWords}
 use Rattle.omega_runs.specs.declared.verdict.Verdict.{Verdict}
 use Rattle.omega_runs.specs.declared.verdict.Verdict.TheVariants.{Empty, Lasso}
+use Rattle.omega_empty_answers.specs.declared.lines.Lines.{Lines}
 use Rattle.omega_empty_answers.specs.empty.Answer.{emptiness_text, lasso_lines}
 use Rattle.omega_language_answers.specs.Meet.{IsMeetAnswer}
 use Rattle.omega_language_laws.specs.ComplementTexts.{ComplementsAreReadBack}
@@ -63,39 +64,38 @@ record IsJudged (text output : List ℕ) : Type 0 where
   pub automaton : Description
   pub read : IsAutomatonText text automaton
   pub plain : has_universal_branching automaton ≡ false
-  pub with_word : Bool
+  pub lines : Lines
   pub verdict : Verdict
   pub right : IsVerdict automaton verdict
-  pub written : output ≡ emptiness_text automaton with_word verdict
+  pub written : output ≡ emptiness_text automaton lines verdict
 
 judged : (text output : List ℕ) → IsEmptinessAnswer text output → IsJudged text output
-judged text output (with_word, inl found) = record {
+judged text output (lines, inl found) = record {
   automaton = found.automaton;
   read = found.read;
   plain = found.decided.given;
-  with_word = with_word;
+  lines = lines;
   verdict = found.decided.verdict;
   right = found.decided.right;
   written = found.decided.written;
 }
-judged text output (with_word, inr (budget, found)) = record {
+judged text output (lines, inr (budget, found)) = record {
   automaton = found.automaton;
   read = found.read;
   plain = found.decided.given.plain;
-  with_word = with_word;
+  lines = lines;
   verdict = found.decided.verdict;
   right = found.decided.right;
   written = found.decided.written;
 }
 
 -- no lasso is written as `empty`
-no_lasso : (a : Description) (with_word : Bool) (stem cycle : List ℕ) → codes "empty\n" ≡ lasso_lines a with_word stem cycle → ⊥
-no_lasso a false stem cycle e = let first : 101 ≡ 115 = ap (λ (text : List ℕ). slice_index_or text 0 0) e in omega (arith, first)
-no_lasso a true stem cycle e = let first : 101 ≡ 115 = ap (λ (text : List ℕ). slice_index_or text 0 0) e in omega (arith, first)
+no_lasso : (a : Description) (lines : Lines) (stem cycle : List ℕ) → codes "empty\n" ≡ lasso_lines a lines stem cycle → ⊥
+no_lasso a lines stem cycle e = let first : 101 ≡ 115 = ap (λ (text : List ℕ). slice_index_or text 0 0) e in omega (arith, first)
 
-is_empty : (a : Description) (with_word : Bool) (verdict : Verdict) → IsVerdict a verdict → codes "empty\n" ≡ emptiness_text a with_word verdict → IsVerdict a Empty
-is_empty a with_word Empty right written = right
-is_empty a with_word (Lasso stem cycle) right written = absurd (no_lasso a with_word stem cycle written)
+is_empty : (a : Description) (lines : Lines) (verdict : Verdict) → IsVerdict a verdict → codes "empty\n" ≡ emptiness_text a lines verdict → IsVerdict a Empty
+is_empty a lines Empty right written = right
+is_empty a lines (Lasso stem cycle) right written = absurd (no_lasso a lines stem cycle written)
 
 module _ (one : AutomataAreOne) (automata : MeaningsAreAutomata) (back : ComplementsAreReadBack) (both : MetTextsAcceptBoth)
     (text other output : List ℕ) (is : IsContainmentAnswer text other output) where
@@ -153,7 +153,7 @@ module _ (one : AutomataAreOne) (automata : MeaningsAreAutomata) (back : Complem
 
   -- a lasso has a word that is in both
   outside : LassosHaveAcceptedWords → WordsAreNamed → ComplementsAreApart → (verdict : Verdict) → IsVerdict said.automaton verdict
-      → output ≡ emptiness_text said.automaton said.with_word verdict → ¬ (output ≡ codes "empty\n") → (word : NamedWord) × TextAccepts text word × (¬ TextAccepts other word)
+      → output ≡ emptiness_text said.automaton said.lines verdict → ¬ (output ≡ codes "empty\n") → (word : NamedWord) × TextAccepts text word × (¬ TextAccepts other word)
   outside lassos named apart Empty right written not = absurd (not written)
   outside lassos named apart (Lasso stem cycle) right written not =
       let found = lassos said.automaton stem cycle said.plain right in
@@ -171,7 +171,7 @@ empty_contained one automata back both cover none settled text other is word =
     within one automata back both text other (codes "empty\n") is none word
     (cover settled is.complemented.automaton is.complemented.complement (part_of is.complemented.automaton.propositions word)
     (is_automaton automata other is.complemented.automaton is.complemented.read) is.complemented.given.deterministic is.complemented.right)
-    (is_empty said.automaton said.with_word said.verdict said.right said.written)
+    (is_empty said.automaton said.lines said.verdict said.right said.written)
 
 pub lassos_uncontained : AutomataAreOne → MeaningsAreAutomata → ComplementsAreReadBack → MetTextsAcceptBoth → ComplementsAreApart → LassosHaveAcceptedWords → WordsAreNamed
     → LassosMeanNotContained

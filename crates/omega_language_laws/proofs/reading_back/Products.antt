@@ -30,7 +30,7 @@ use Rattle.omega_product.specs.declared.transition.Transition.{Transition}
 use Rattle.omega_product.proofs.Formulas.{place_within}
 use Rattle.omega_product.proofs.Meaning.{sets_written, states_written}
 use Rattle.omega_round_trips.specs.Laws.{ReadAutomataAreWritable, WasRead}
-use Rattle.omega_round_trips.specs.Writable.{IsWritableName, IsWritableNumber, IsWritableParameter}
+use Rattle.omega_round_trips.specs.Writable.{IsWritableName, IsWritableNumber, IsWritableParameter, IsWritableState}
 use Rattle.omega_round_trips.proofs.meanings.Meant.{Meanings}
 use Rattle.omega_round_trips.proofs.meanings.ReadBack.{meant-read}
 use Rattle.omega_round_trips.proofs.texts.Spelled.{Known}
@@ -55,7 +55,8 @@ writable_name (suc (suc more)) small =
     word_writable (buchi_name (suc (suc more))) (omega arith, refl, AllPass-from_list_all is_word_byte (codes "generalized-Buchi") refl)
     (longer _ _ (omega arith)) (longer _ _ (omega arith)) (small, tt)
 
-module _ (mean : WrittenLabelsMean) (formulas : WrittenFormulasMean) (one other : Description) (pairs : List Pair) (few : length pairs ≤ most_states) where
+module _ (mean : WrittenLabelsMean) (formulas : WrittenFormulasMean) (one other : Description) (own : AllByRecursion IsWritableState one.defined)
+    (its : AllByRecursion IsWritableState other.defined) (pairs : List Pair) (few : length pairs ≤ most_states) where
   number_small : (pair : Pair) → IsWritableNumber (pair_number pairs pair)
   number_small pair = let within = place_within (same_pair pair) pairs in omega (arith, within, few)
 
@@ -66,7 +67,7 @@ module _ (mean : WrittenLabelsMean) (formulas : WrittenFormulasMean) (one other 
   state_read : (pair : Pair) → IsReadState (raw_state_of one other pairs pair)
   state_read pair = record {
     label = tt;
-    name = name_quotable pair;
+    name = name_quotable one other own its pair;
     edges = edges_read (joint_transitions pairs (first_leaving one other pair) (second_leaving one other pair));
   }
 
@@ -136,8 +137,8 @@ product-read known meanings automata fill writable one other a was was' is withi
     let raw_is : is.written ≡ raw_product one other product.pairs product.name (acc_written product.accepted.tree) =
     product.is ∙ ap (λ (f : RawAccTree). raw_product one other product.pairs product.name f) product.accepted.written in
     let read : IsReadAutomaton is.written =
-    subst P (sym raw_is) (product_read known.label_means known.formula_means one other product.pairs few product.name product.accepted.tree
+    subst P (sym raw_is) (product_read known.label_means known.formula_means one other (writable one was).defined (writable other was').defined product.pairs few product.name product.accepted.tree
     (joint_named one other product.name product.accepted.tree product.accepted.joint) small quotable) in
     let raw : AllByRecursion IsRawItem is.written.items =
-    subst Q (sym raw_is) (items_raw known.label_means known.formula_means one other product.pairs few product.name product.accepted.tree) in
+    subst Q (sym raw_is) (items_raw known.label_means known.formula_means one other (writable one was).defined (writable other was').defined product.pairs few product.name product.accepted.tree) in
     meant-read known meanings automata fill is.written a read raw is.means short

@@ -1,9 +1,13 @@
--- The names of pairs can be written between quotes.
-use Rattle.std.proofs.Common.{◌≡◌, ◌==◌, ℕ, zero, suc, ◌+◌, ◌<◌, ◌/◌, ◌%◌, Bool, true, false, cond, nat_lt, if◌then◌else◌, List, [], ◌∷◌, ◌++◌, filter, map, codes, refl, arith}
+-- The names of pairs can be written between quotes, if those of states can.
+use Rattle.std.proofs.Common.{◌≡◌, ◌==◌, ℕ, zero, suc, ◌+◌, ◌<◌, ◌/◌, ◌%◌, Bool, true, false, cond, nat_lt, if◌then◌else◌, List, [], ◌∷◌, ◌++◌, filter, map, codes, Option, Some, None, refl, arith}
+use Rattle.std.specs.Prelude.{IfSome}
 use Rattle.std.specs.Fmt.{decimal, digit_glyph, digits, digits_onto}
 use Rattle.std.specs.List.{AllByRecursion}
 use Rattle.omega_text.specs.hoa.Forms.{IsQuotable, empty, escaped, plain}
-use Rattle.omega_product.specs.Pairs.{Pair, pair_name}
+use Rattle.omega_automaton.specs.Automaton.{Description}
+use Rattle.omega_automaton.specs.declared.state.State.{State}
+use Rattle.omega_product.specs.Pairs.{Pair, name_at, name_of_both, pair_name, with_comma}
+use Rattle.omega_round_trips.specs.Writable.{IsWritableState}
 
 -- quotable bytes after others
 pub both_quotable : (first second : List ℕ) → IsQuotable first → IsQuotable second → IsQuotable (first ++ second)
@@ -43,10 +47,31 @@ decimal_quotable n = digits_quotable 64 n [] empty
 comma_quotable : IsQuotable (codes ",")
 comma_quotable = plain 44 [] (λ e. absurd (omega (arith, e))) (λ e. absurd (omega (arith, e))) empty
 
-pub name_quotable : (pair : Pair) → IsQuotable (pair_name pair)
-name_quotable pair =
-    both_quotable (decimal pair.0) (codes "," ++ decimal pair.1) (decimal_quotable pair.0)
-    (both_quotable (codes ",") (decimal pair.1) comma_quotable (decimal_quotable pair.1))
+comma_between : (text other : List ℕ) → IsQuotable text → IsQuotable other → IsQuotable (with_comma text other)
+comma_between text other first second =
+    both_quotable text (codes "," ++ other) first (both_quotable (codes ",") other comma_quotable second)
+
+numbers_quotable : (pair : Pair) → IsQuotable (with_comma (decimal pair.0) (decimal pair.1))
+numbers_quotable pair = comma_between (decimal pair.0) (decimal pair.1) (decimal_quotable pair.0) (decimal_quotable pair.1)
+
+both_named : (first second : Option (List ℕ)) (pair : Pair) → IfSome first IsQuotable → IfSome second IsQuotable → IsQuotable (name_of_both first second pair)
+both_named None second pair own its = numbers_quotable pair
+both_named (Some name) None pair own its = numbers_quotable pair
+both_named (Some name) (Some other) pair own its = comma_between name other own its
+
+-- the name of a state that can be written is a string
+state_named : (states : List State) → AllByRecursion IsWritableState states → (number : ℕ) → IfSome (name_at states number) IsQuotable
+state_named [] writable number = tt
+state_named (state ∷ states) writable number = go (state.number == number) (state_named states writable.1 number)
+  where
+    go : (b : Bool) → IfSome (name_at states number) IsQuotable → IfSome (if b then state.name else name_at states number) IsQuotable
+    go true rest = writable.0.name
+    go false rest = rest
+
+pub name_quotable : (one other : Description) → AllByRecursion IsWritableState one.defined → AllByRecursion IsWritableState other.defined → (pair : Pair)
+    → IsQuotable (pair_name one other pair)
+name_quotable one other own its pair =
+    both_named (name_at one.defined pair.0) (name_at other.defined pair.1) pair (state_named one.defined own pair.0) (state_named other.defined its pair.1)
 
 -- what holds of all elements of two lists, and of those that pass a test
 module _ {X : Type 0} (P : X → Type 0) where

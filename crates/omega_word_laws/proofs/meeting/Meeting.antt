@@ -6,6 +6,8 @@ use Rattle.std.proofs.lemmas.Bool.{lt-ltb}
 use Rattle.std.proofs.lemmas.List.Elements.{All-append, All-contains}
 use Rattle.omega_formula.specs.Acceptance.{AccTree, holds}
 use Rattle.omega_label.specs.Label.{LabelTree, conjunction, truth}
+use Rattle.omega_conjuncts.specs.Conjuncts.{joined}
+use Rattle.omega_conjuncts.proofs.Meaning.{joined_means}
 use Rattle.omega_satisfying.specs.Satisfiable.{IsSatisfiable}
 use Rattle.omega_automaton.specs.Automaton.{AreTargets, BodyEdge, Description, IsAutomaton, edge_at, edges_of, sets_of}
 use Rattle.omega_automaton.specs.Meaning.{AreMarksOf}
@@ -23,6 +25,7 @@ use Rattle.omega_product.specs.Transitions.{View, transitions_at}
 use Rattle.omega_product.specs.declared.transition.Transition.{Transition}
 use Rattle.omega_word_laws.specs.Products.{ProductsMeet}
 use Rattle.omega_word_laws.proofs.meeting.Buchi.{both_buchi, buchi_both}
+use Rattle.omega_word_laws.proofs.meeting.Conjoined.{both_satisfied, satisfied_both}
 use Rattle.omega_word_laws.proofs.meeting.Found.{number_below, number_tells, starts_found, targets_found}
 use Rattle.omega_word_laws.proofs.meeting.Labels.{and_both, both_and, can_hold_iff}
 use Rattle.omega_word_laws.proofs.meeting.Lists.{beside_left, beside_right, contains_at, contains_filter, contains_flat_map, contains_map, filter_contains, flat_map_contains, index_of, map_contains, passes_nowhere, same_some}
@@ -114,7 +117,7 @@ module _ (one other a : Description) (automaton : IsAutomaton one) (automaton' :
     pub second_in : Contains (seconds pair.1) second
     pub meets : can_meet first second ≡ true
     pub edge_is : IsJointEdge (taken_together is.pairs first second) edge.edge
-    pub name : edge.source.name ≡ Some (pair_name pair)
+    pub name : edge.source.name ≡ Some (pair_name one other pair)
     pub no_label : edge.source.label ≡ None
     pub no_marks : edge.source.marks ≡ []
 
@@ -202,7 +205,9 @@ module _ (one other a : Description) (automaton : IsAutomaton one) (automaton' :
       subst P (sym buchi.formula_is)
       (both_buchi all one.sets other.sets (subst P buchi.both.first both.0)
       (subst (λ f. Satisfies all (moved_after one.sets f)) buchi.both.second both.1))
-  joint_accepts all both (inr conjoined) = let P : AccTree → Type 0 = λ f. Satisfies all f in subst P (sym conjoined.formula_is) both
+  joint_accepts all both (inr conjoined) =
+      let P : AccTree → Type 0 = λ f. Satisfies all f in
+      subst P (sym conjoined.formula_is) (both_satisfied all one.acceptance (moved_after one.sets other.acceptance) both)
 
   pub accepts_joint : (all : ℕ → List ℕ) → Satisfies all a.acceptance → IsJointAcceptance one other a.acc_name a.acceptance → both_accept all
   accepts_joint all h (inl buchi) =
@@ -211,7 +216,9 @@ module _ (one other a : Description) (automaton : IsAutomaton one) (automaton' :
         subst P (sym buchi.both.first) both.0,
         subst (λ f. Satisfies all (moved_after one.sets f)) (sym buchi.both.second) both.1,
       )
-  accepts_joint all h (inr conjoined) = let P : AccTree → Type 0 = λ f. Satisfies all f in subst P conjoined.formula_is h
+  accepts_joint all h (inr conjoined) =
+      let P : AccTree → Type 0 = λ f. Satisfies all f in
+      satisfied_both all one.acceptance (moved_after one.sets other.acceptance) (subst P conjoined.formula_is h)
 
   module _ (word : ℕ → ℕ → Bool) where
     -- a run of the product, taken apart
@@ -230,7 +237,7 @@ module _ (one other a : Description) (automaton : IsAutomaton one) (automaton' :
           head_same _ _ (sym j.edge_is.targets ∙ (accepted.accepting.run.steps i).enters) in
           number_tells is.pairs k.pair (j.first.target, j.second.target) (number_below is.pairs k.pair k.within) (sym (number_is (i + 1)) ∙ sym enters)
 
-      label_is : (i : ℕ) → label_of (accepted.taken i).edge ≡ Some (conjunction (apart i).first.label (apart i).second.label)
+      label_is : (i : ℕ) → label_of (accepted.taken i).edge ≡ Some (joined (apart i).first.label (apart i).second.label)
       label_is i =
           let j = apart i in
           let same : (accepted.taken i).edge ≡ (accepted.accepting.run.steps i).edge =
@@ -238,7 +245,9 @@ module _ (one other a : Description) (automaton : IsAutomaton one) (automaton' :
           ap label_of same ∙ ap₂ option_or j.no_label j.edge_is.label
 
       labels_true : (i : ℕ) → (truth (word i) (apart i).first.label && truth (word i) (apart i).second.label) ≡ true
-      labels_true i = let P : Option LabelTree → Type 0 = λ l. Allows a (accepted.edges i) l (word i) in subst P (label_is i) (accepted.taken i).allowed
+      labels_true i =
+          let P : Option LabelTree → Type 0 = λ l. Allows a (accepted.edges i) l (word i) in
+          sym (joined_means (word i) (apart i).first.label (apart i).second.label) ∙ subst P (label_is i) (accepted.taken i).allowed
 
       marks_both : (i : ℕ) → marks_at a (accepted.edges i) ≡ (accepted.accepting.run.steps i).edge.edge.marks
       marks_both i =
@@ -334,6 +343,9 @@ module _ (one other a : Description) (automaton : IsAutomaton one) (automaton' :
       both_true i =
           both_and _ _ (((first_at i).2.label (word i)).1 (accepted.taken i).allowed) (((second_at i).2.label (word i)).1 (accepted'.taken i).allowed)
 
+      joined_true : (i : ℕ) → truth (word i) (joined (first_at i).0.label (second_at i).0.label) ≡ true
+      joined_true i = joined_means (word i) (first_at i).0.label (second_at i).0.label ∙ both_true i
+
       meet_at : (i : ℕ) → can_meet (first_at i).0 (second_at i).0 ≡ true
       meet_at i = (can_hold_iff (conjunction (first_at i).0.label (second_at i).0.label)).1 (word i, both_true i)
 
@@ -358,7 +370,7 @@ module _ (one other a : Description) (automaton : IsAutomaton one) (automaton' :
           × IsJointEdge (taken_together is.pairs (first_at i).0 (second_at i).0) edge.edge × (edge.source.label ≡ None) × (edge.source.marks ≡ [])
       put i = put_together (pair_at i) (within_at i) (first_at i).0 (second_at i).0 (first_in i) (second_in i) (meet_at i)
 
-      put_label : (i : ℕ) → label_of (put i).1 ≡ Some (conjunction (first_at i).0.label (second_at i).0.label)
+      put_label : (i : ℕ) → label_of (put i).1 ≡ Some (joined (first_at i).0.label (second_at i).0.label)
       put_label i = ap₂ option_or (put i).5 (put i).4.label
 
       put_marks : (i : ℕ) → AreMarksOf ((first_at i).0.marks ++ (second_at i).0.marks) (marks_at a (put i).0)
@@ -371,7 +383,7 @@ module _ (one other a : Description) (automaton : IsAutomaton one) (automaton' :
       put_step i = record {
         edge = (put i).1;
         numbered = (put i).2;
-        usable = (let P : Option LabelTree → Type 0 = λ l. IfSome l IsSatisfiable in subst P (sym (put_label i)) (word i, both_true i));
+        usable = (let P : Option LabelTree → Type 0 = λ l. IfSome l IsSatisfiable in subst P (sym (put_label i)) (word i, joined_true i));
         leaves = (put i).3;
         enters = (put i).4.targets ∙ ap (λ p. pair_number is.pairs p ∷ []) (target_is i);
       }
@@ -409,7 +421,7 @@ module _ (one other a : Description) (automaton : IsAutomaton one) (automaton' :
         taken = λ i. (record {
           edge = (put i).1;
           numbered = (put i).2;
-          allowed = (let P : Option LabelTree → Type 0 = λ l. Allows a (put i).0 l (word i) in subst P (sym (put_label i)) (both_true i));
+          allowed = (let P : Option LabelTree → Type 0 = λ l. Allows a (put i).0 l (word i) in subst P (sym (put_label i)) (joined_true i));
         });
       }
 

@@ -1,5 +1,5 @@
 -- The transitions of an automaton within a product are its edges.
-use Rattle.std.proofs.Common.{◌≡◌, ◌==◌, ◌↔◌, ℕ, zero, suc, ◌+◌, ◌-◌, ◌<◌, ◌≤◌, ◌⊎◌, inl, inr, Bool, true, false, ◌||◌, if◌then◌else◌, nat_eq, nat_lt, List, [], ◌∷◌, ◌++◌, length, map, slice_get, Contains, Option, Some, refl, sym, ap, subst, ◌∙◌, arith, eqb-true, eq-eqb, true≢false}
+use Rattle.std.proofs.Common.{◌≡◌, ◌==◌, ◌↔◌, ℕ, zero, suc, ◌+◌, ◌-◌, ◌<◌, ◌≤◌, ◌⊎◌, inl, inr, Bool, true, false, ◌||◌, if◌then◌else◌, nat_eq, nat_lt, List, [], ◌∷◌, ◌++◌, length, map, slice_get, Contains, Option, Some, refl, sym, ap, ap₂, subst, ◌∙◌, arith, eqb-true, eq-eqb, true≢false}
 use Rattle.std.specs.Prelude.{option_map, slice_index_or}
 use Rattle.std.specs.List.{flat_map}
 use Rattle.std.specs.Option.{unwrap_or}
@@ -19,6 +19,8 @@ use Rattle.omega_runs.proofs.Taken.{allows_where_true}
 use Rattle.omega_runs.proofs.Flat.{IsListed, listed_flat}
 use Rattle.omega_runs.proofs.SingleTargets.{EntersOne, enters_one}
 use Rattle.omega_product.specs.Joining.{number_among, relabelled}
+use Rattle.omega_product.specs.JointEdges.{Numbered, numbered_from}
+use Rattle.omega_product.specs.PairGraph.{edges_before}
 use Rattle.omega_product.specs.Transitions.{View, transition_of, transitions_at, transitions_from}
 use Rattle.omega_edge_labels.specs.Labels.{valuation_label}
 use Rattle.omega_product.specs.declared.transition.Transition.{Transition}
@@ -122,6 +124,79 @@ module _ (view : View) where
           → (number : ℕ) × (edge : BodyEdge) × IsListedAt (state ∷ states) number edge t × (edge.source.number ≡ s)
       go true e h rest = first (eqb-true state.number s e) (from_contains state 0 state.edges t h)
       go false e h rest = later (rest h)
+
+  -- so is each numbered one, and its number is that of the edge
+  numbered_contains : (state : State) (first n : ℕ) (edges : List Edge) (x : Numbered) → Contains (numbered_from n (transitions_from view state first edges)) x
+      → (k : ℕ) × (edge : Edge) × (slice_get edges k ≡ Some edge) × (x ≡ record { number = n + k; transition = transition_of view state (first + k) edge })
+  numbered_contains state first n [] x within = absurd (Contains-nothing x within)
+  numbered_contains state first n (edge ∷ edges) x within =
+      elim (Contains-cases (record { number = n; transition = transition_of view state first edge }) x (numbered_from (n + 1) (transitions_from view state (first + 1) edges)) within) [
+        | inl here ↦
+            let e : first ≡ first + 0 = omega arith in
+            let e' : n ≡ n + 0 = omega arith in
+            (0, edge, refl, sym here ∙ ap₂ {C = Numbered} (λ (m i : ℕ). record { number = m; transition = transition_of view state i edge }) e' e)
+        | inr later ↦
+            let rest = numbered_contains state (first + 1) (n + 1) edges x later in
+            let e : (first + 1) + rest.0 ≡ first + suc rest.0 = omega arith in
+            let e' : (n + 1) + rest.0 ≡ n + suc rest.0 = omega arith in
+            (suc rest.0, rest.1, rest.2, rest.3 ∙ ap₂ {C = Numbered} (λ (m i : ℕ). record { number = m; transition = transition_of view state i rest.1 }) e' e)
+      ]
+
+  pub numbered_found : (states : List State) (s before : ℕ) (x : Numbered) → Contains (numbered_from (before + edges_before states s) (transitions_at view states s)) x
+      → (k : ℕ) × (edge : BodyEdge) × IsListedAt states k edge x.transition × (edge.source.number ≡ s) × (x.number ≡ before + k)
+  numbered_found [] s before x within = absurd (Contains-nothing x within)
+  numbered_found (state ∷ states) s before x within =
+      go (state.number == s) refl within (λ h. numbered_found states s (before + length state.edges) x h)
+    where
+      Found : List State → ℕ → Type 0
+      Found among from = (k : ℕ) × (edge : BodyEdge) × IsListedAt among k edge x.transition × (edge.source.number ≡ s) × (x.number ≡ from + k)
+
+      first : state.number ≡ s
+          → (k : ℕ) × (edge : Edge) × (slice_get state.edges k ≡ Some edge) × (x ≡ record { number = (before + 0) + k; transition = transition_of view state (0 + k) edge })
+          → Found (state ∷ states) before
+      first same (k, edge, at, is) =
+          let body : BodyEdge = record { source = state; edge = edge } in
+          let mapped : slice_get (edges_from state) k ≡ Some body =
+          slice_get-map (λ (e : Edge). record { source = state; edge = e }) state.edges k ∙ ap (option_map (λ (e : Edge). record { source = state; edge = e })) at in
+          let e : 0 + k ≡ k = omega arith in
+          let n : (before + 0) + k ≡ before + k = omega arith in
+          let index : 0 + k ≡ index_in (state ∷ states) k = e ∙ sym (index_first state states k (slice_get_within state.edges k edge at)) in (
+            k,
+            body,
+            record {
+              at = at_left (edges_from state) (flat_map edges_from states) k body mapped;
+              is = ap (λ (y : Numbered). y.transition) is ∙ ap (λ i. transition_of view state i edge) index;
+            },
+            same,
+            ap (λ (y : Numbered). y.number) is ∙ n,
+          )
+
+      later : Found states (before + length state.edges) → Found (state ∷ states) before
+      later (number, edge, listed, same, is) =
+          let long : length (edges_from state) ≡ length state.edges = length-map state.edges (λ (e : Edge). record { source = state; edge = e }) in
+          let e : length state.edges + number ≡ length (edges_from state) + number = omega (arith, long) in
+          let n : (before + length state.edges) + number ≡ before + (length state.edges + number) = omega arith in (
+            length state.edges + number,
+            edge,
+            record {
+              at = ap (slice_get (edges_from state ++ flat_map edges_from states)) e
+                  ∙ at_right (edges_from state) (flat_map edges_from states) number ∙ listed.at;
+              is = listed.is ∙ ap (λ i. transition_of view edge.source i edge.edge) (sym (index_later state states number));
+            },
+            same,
+            is ∙ n,
+          )
+
+      go : (b : Bool) → (state.number == s) ≡ b
+          → Contains (numbered_from (before + (if b then 0 else length state.edges + edges_before states s))
+          (if b then transitions_from view state 0 state.edges else transitions_at view states s)) x
+          → (Contains (numbered_from ((before + length state.edges) + edges_before states s) (transitions_at view states s)) x → Found states (before + length state.edges))
+          → Found (state ∷ states) before
+      go true e h rest = first (eqb-true state.number s e) (numbered_contains state 0 (before + 0) state.edges x h)
+      go false e h rest =
+          let sum : before + (length state.edges + edges_before states s) ≡ (before + length state.edges) + edges_before states s = omega arith in
+          let P : ℕ → Type 0 = λ n. Contains (numbered_from n (transitions_at view states s)) x in
+          later (rest (subst P sum h))
 
   -- an edge that is mapped
   mapped_from : (state : State) (edges : List Edge) (k : ℕ) (edge : BodyEdge)
