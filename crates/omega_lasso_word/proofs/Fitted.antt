@@ -12,7 +12,7 @@ use Rattle.omega_lasso_word.specs.WordText.{others_text, stem_text, word_text}
 use Rattle.omega_lasso_word.specs.Laws.{FittingWordsAreAccepted, HasStrings, LettersAreTrueWhereEdgesCanBeTaken, WordsFitWhereEdgesCanBeTaken, by_number}
 use Rattle.omega_lasso_word.proofs.Admitted.{admitted_words_are_accepted}
 use Rattle.omega_lasso_word.proofs.Lines.{IsLetter, IsSomeLetter, all_along, along_map, first_along, letters_same, others_along}
-use Rattle.omega_lasso_word.proofs.Said.{agrees, agrees_iff, label_said, valuation_said}
+use Rattle.omega_lasso_word.proofs.Said.{agrees, agrees_iff, conjuncts_said, valuation_said}
 use Rattle.omega_lasso_word.proofs.Truths.{texts_have_one_truth}
 
 some_is : {A : Type 0} (x y : A) → Some x ≡ Some y → x ≡ y
@@ -47,7 +47,7 @@ module _ (a : Description) (number : ℕ) (edge : BodyEdge) (held : List ℕ →
       )
   letter_of (Some label) is = (
     truth (by_number a held) label,
-    label_said held a.propositions strings formula label,
+    conjuncts_said held a.propositions strings label,
     (λ holds. taken_of (Some label) is holds, λ taken. allowed_of (Some label) is taken),
   )
 

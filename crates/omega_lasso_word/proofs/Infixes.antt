@@ -83,13 +83,13 @@ words-label : (names : List (List ℕ)) (tree : LabelTree) (nodes : List LabelNo
 words-label names tree nodes flat =
     ap (words_after names []) (flat ∙ sym (append-nil (postfix tree))) ∙ words-postfix names tree [] []
 
--- so what is made of all its nodes are its words
-pub words-whole : (names : List (List ℕ)) (tree : LabelTree) (nodes : List LabelNode) (text : Infix) → nodes ≡ postfix tree
-    → ((part : Words) → whole_words names text (part ∷ []) ≡ words_at 0 part)
-    → whole_words names text (words_after names [] nodes) ≡ label_words 0 names tree
-words-whole names tree nodes text flat started =
+-- so what is made of all its nodes are its words below the operator
+pub words-whole : (over : Above) (names : List (List ℕ)) (tree : LabelTree) (nodes : List LabelNode) (text : Infix) → nodes ≡ postfix tree
+    → ((part : Words) → whole_words names text (part ∷ []) ≡ words_at (tightness_of over) part)
+    → whole_words names text (words_after names [] nodes) ≡ label_words (tightness_of over) names tree
+words-whole over names tree nodes text flat started =
     ap (whole_words names text) (words-label names tree nodes flat)
-    ∙ (started (part_of names tree) ∙ below-above above.Loose names tree)
+    ∙ (started (part_of names tree) ∙ below-above over names tree)
 
 -- what the last node makes of the parts of those before it
 words-append : (names : List (List ℕ)) (front : List LabelNode) (parts : List Words) (rest : List LabelNode)

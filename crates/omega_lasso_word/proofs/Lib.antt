@@ -7,3 +7,4 @@ pub mod Said
 pub mod Lines
 pub mod Fitted
 pub mod Infixes
+pub mod Conjunctions

@@ -1,10 +1,12 @@
 -- What labels and valuations write is a formula, with their truth.
 use Rattle.std.proofs.Common.{◌≡◌, ℕ, zero, suc, ◌+◌, ◌<◌, Bool, true, false, not, ◌&&◌, ◌||◌, if◌then◌else◌, nat_lt, ◌↔◌, List, [], ◌∷◌, ◌++◌, length, get_or, codes, refl, sym, ap, ◌∙◌, subst, append_assoc, append-nil, arith}
-use Rattle.std.specs.List.{AllByRecursion}
+use Rattle.std.specs.List.{AllByRecursion, list_all}
 use Rattle.omega_text.specs.hoa.Forms.{IsQuotable}
 use Rattle.omega_label.specs.Label.{LabelTree, truth}
+use Rattle.omega_conjuncts.specs.Conjuncts.{all_of, conjuncts, each_once}
+use Rattle.omega_conjuncts.proofs.Meaning.{all_of_means, conjuncts_once_mean}
 use Rattle.omega_runs.specs.Words.{has_bit, IsValuation}
-use Rattle.omega_lasso_word.specs.Letters.{enclosed as in_parentheses, label_words, literal_text, literals_after, valuation_text}
+use Rattle.omega_lasso_word.specs.Letters.{conjunction_words, enclosed as in_parentheses, label_words, literal_text, literals_after, valuation_text}
 use Rattle.omega_lasso_word.specs.Formulas.{HasTruth, Part, bare, both, conjunction, denied, either, enclosed, formula, one_conjunction, one_operand, one_sign, operand, quoted, zero_sign}
 use Rattle.omega_lasso_word.specs.Names.{name_text, stands_bare}
 use Rattle.omega_lasso_word.proofs.Reader.{left_true, right_true}
@@ -75,6 +77,20 @@ module _ (held : List ℕ → Bool) where
       (either (label_words 0 names left) (label_words 0 names right) (truth (λ p. held (get_or names p [])) left) (truth (λ p. held (get_or names p [])) right)
       (label_said names all formula left) (label_said names all formula right))
 
+  -- labels joined by `&`: all of them
+  pub conjunction_said : (names : List (List ℕ)) → AllByRecursion IsQuotable names → (labels : List LabelTree)
+      → HasTruth held formula (conjunction_words names labels) (list_all (truth (λ p. held (get_or names p []))) labels)
+  conjunction_said names all labels =
+      subst (λ (value : Bool). HasTruth held formula (conjunction_words names labels) value) (all_of_means (λ p. held (get_or names p [])) labels)
+      (label_said names all formula (all_of labels))
+
+  -- the conjuncts of a label, each once: the label
+  pub conjuncts_said : (names : List (List ℕ)) → AllByRecursion IsQuotable names → (label : LabelTree)
+      → HasTruth held formula (conjunction_words names (each_once (conjuncts label))) (truth (λ p. held (get_or names p [])) label)
+  conjuncts_said names all label =
+      subst (λ (value : Bool). HasTruth held formula (conjunction_words names (each_once (conjuncts label))) value)
+      (conjuncts_once_mean (λ p. held (get_or names p [])) label) (label_said names all formula (all_of (each_once (conjuncts label))))
+
   -- whether a name holds as the bit says
   abbrev literal_truth : ℕ → ℕ → List ℕ → Bool
   literal_truth index p name = if has_bit index p then held name else not (held name)
@@ -103,11 +119,11 @@ module _ (held : List ℕ → Bool) where
       let one : HasTruth held conjunction (front ++ (codes " & " ++ literal_text index p name)) (value && literal_truth index p name) =
       both front (literal_text index p name) value (literal_truth index p name) has
       (one_operand (literal_text index p name) (literal_truth index p name) (literal_said index p name all.0)) in
-      let all_of = literals_said index (p + 1) names (front ++ (codes " & " ++ literal_text index p name)) (value && literal_truth index p name) all.1 one in
+      let every = literals_said index (p + 1) names (front ++ (codes " & " ++ literal_text index p name)) (value && literal_truth index p name) all.1 one in
       subst (λ (v : Bool). HasTruth held conjunction (front ++ ((codes " & " ++ literal_text index p name) ++ literals_after index (p + 1) names)) v)
       (both_assoc value (literal_truth index p name) (agrees index (p + 1) names))
       (subst (λ (t : List ℕ). HasTruth held conjunction t ((value && literal_truth index p name) && agrees index (p + 1) names))
-      (append_assoc front (codes " & " ++ literal_text index p name) (literals_after index (p + 1) names)) all_of)
+      (append_assoc front (codes " & " ++ literal_text index p name) (literals_after index (p + 1) names)) every)
 
   -- a valuation
   pub valuation_said : (index : ℕ) (names : List (List ℕ)) → AllByRecursion IsQuotable names → HasTruth held formula (valuation_text index names) (agrees index 0 names)

@@ -1,6 +1,7 @@
 -- How the words of a label are made from its last node to its first.
 use Rattle.std.specs.Prelude.{ℕ, nat_lt, if◌then◌else◌, List, [], ◌∷◌, ◌++◌, Option, None, Some, get_or, codes}
-use Rattle.omega_label.specs.Label.{LabelTree, conjunction, constant, disjunction, negation, proposition}
+use Rattle.std.specs.List.{flat_map}
+use Rattle.omega_label.specs.Label.{LabelTree}
 use Rattle.omega_label.specs.declared.label.LabelNode.{LabelNode}
 use Rattle.omega_label.specs.declared.label.LabelNode.TheVariants as node
 use Rattle.omega_lasso_word.specs.Letters.{enclosed, label_words}
@@ -49,6 +50,10 @@ joined_words level operator parts =
       level = level;
       words = words_at level (top_words (words_below parts)) ++ (operator ++ words_at level (top_words parts));
     } ∷ words_below (words_below parts)
+
+-- the labels after the first of a conjunction, `&` before each
+abbrev pub further_words : List (List ℕ) → List LabelTree → List ℕ
+further_words names labels = flat_map (λ label. codes " & " ++ label_words 1 names label) labels
 
 -- the parts that a node leaves of those before it; an alias and parentheses, which no label has, have no words
 abbrev pub words_with : List (List ℕ) → List Words → LabelNode → List Words

@@ -4,6 +4,7 @@ use Rattle.omega_label.specs.Label.{LabelTree, conjunction, constant, disjunctio
 use Rattle.omega_automaton.specs.Automaton.{BodyEdge, Description, edge_at}
 use Rattle.omega_runs.specs.Lasso.{label_of}
 use Rattle.omega_runs.specs.Words.{has_bit, index_in}
+use Rattle.omega_conjuncts.specs.Conjuncts.{all_of, conjuncts, each_once}
 use Rattle.omega_lasso_word.specs.Names.{name_text}
 
 -- a text, in parentheses if it needs them
@@ -34,10 +35,15 @@ abbrev pub valuation_text : ℕ → List (List ℕ) → List ℕ
 valuation_text index [] = codes "1"
 valuation_text index (name ∷ names) = literal_text index 0 name ++ literals_after index 1 names
 
--- the letter of an edge: its label, or without one the valuation of its index within its state
+-- the text of labels joined by `&`, `1` if there is none; one alone needs no parentheses
+abbrev pub conjunction_words : List (List ℕ) → List LabelTree → List ℕ
+conjunction_words names labels = label_words 0 names (all_of labels)
+
+-- the letter of an edge: the conjuncts of its label, each once, or without one the valuation of its index within its
+-- state
 abbrev pub text_of_letter : List (List ℕ) → ℕ → Option LabelTree → List ℕ
 text_of_letter names index None = valuation_text index names
-text_of_letter names index (Some label) = label_words 0 names label
+text_of_letter names index (Some label) = conjunction_words names (each_once (conjuncts label))
 
 -- the letter of this edge with its number; nothing without an edge
 abbrev pub letter_at : Description → ℕ → Option BodyEdge → List ℕ

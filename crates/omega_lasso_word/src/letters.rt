@@ -1,28 +1,111 @@
 //! Letters: what edges demand of the propositions.
 
-ghost use Rattle.std.specs.Prelude.{◌≡◌, ◌++◌, [], List, ℕ, get_or, IsOkUnless, OnOk};
-ghost use Rattle.omega_lasso_word.specs.Infix.{sign_words, signs_words, whole_words, words_after};
-ghost use Rattle.omega_lasso_word.specs.Letters.{label_words, literal_text, valuation_text};
+ghost use Rattle.std.specs.Prelude.{◌≡◌, ◌<◌, ◌++◌, [], List, ℕ, fold, get_or, length, IsOkUnless, OnOk};
+ghost use Rattle.omega_label.specs.Label.{conjunction};
+ghost use Rattle.omega_conjuncts.specs.Conjuncts.{conjuncts, each_once};
+ghost use Rattle.omega_lasso_word.specs.Infix.{further_words, sign_words, signs_words, tightness_of, whole_words, words_after};
+ghost use Rattle.omega_lasso_word.specs.Letters.{conjunction_words, label_words, literal_text, valuation_text};
 ghost use Rattle.omega_lasso_word.specs.Names.{name_text};
 
 use crate::names::write_name;
-use crate::signs::{Infix, Sign, Signs};
+use crate::signs::{Above, Infix, Sign, Signs};
+use omega_conjuncts::conjuncts_of;
 use omega_edge_labels::has_bit;
 use omega_label::{Label, LabelNode, ROOM};
 use omega_text::{ByteString, Refusal};
 
-/// Appends `label` with the `names` of its propositions.
+/// Appends the conjunction of `conjuncts` with the `names` of their propositions, as Spot writes formulas: `&` between
+/// each two, and `1` if there is none. Linear in the conjuncts.
+pub fn write_conjuncts(
+    names: &[ByteString],
+    conjuncts: &[Label],
+    out: &mut Vec<u8>,
+) -> Result<(), Refusal>
+    ensures text { OnOk result (out.new.items ≡ out.old.items ++ conjunction_words names.now conjuncts.now) }
+    ensures memory { IsOkUnless result Refusal.Memory }
+{
+    let [first, others @ ..] = conjuncts else {
+        out.push(b'1')?;
+        return Ok(());
+    };
+    write_joined(names, first, others, out)
+}
+
+/// Appends `first` and `others` with `&` between each two. One alone needs no parentheses.
+fn write_joined(
+    names: &[ByteString],
+    first: &Label,
+    others: &[Label],
+    out: &mut Vec<u8>,
+) -> Result<(), Refusal>
+    ensures text { OnOk result
+        (out.new.items ≡ out.old.items ++ label_words 0 names.now (fold conjunction first.now others.now)) }
+    ensures memory { IsOkUnless result Refusal.Memory }
+{
+    if others.is_empty() {
+        write_part(names, first, Above::Loose, out)
+    } else {
+        write_several(names, first, others, out)
+    }
+}
+
+/// Appends `first` and at least one other with `&` between each two.
+fn write_several(
+    names: &[ByteString],
+    first: &Label,
+    others: &[Label],
+    out: &mut Vec<u8>,
+) -> Result<(), Refusal>
+    requires { 0 < length others.now }
+    ensures text { OnOk result
+        (out.new.items ≡ out.old.items ++ label_words 0 names.now (fold conjunction first.now others.now)) }
+    ensures memory { IsOkUnless result Refusal.Memory }
+{
+    write_part(names, first, Above::And, out)?;
+    write_further(names, others, out)
+}
+
+/// Appends `others` with `&` before each.
+fn write_further(names: &[ByteString], others: &[Label], out: &mut Vec<u8>) -> Result<(), Refusal>
+    ensures text { OnOk result (out.new.items ≡ out.old.items ++ further_words names.now others.now) }
+    ensures memory { IsOkUnless result Refusal.Memory }
+{
+    for other in others {
+        out.extend_from_slice(b" & ")?;
+        write_part(names, other, Above::And, out)?;
+    }
+    Ok(())
+}
+
+/// Appends the conjuncts of `label`, each once, with the `names` of their propositions.
 pub(crate) fn write_label(
     names: &[ByteString],
     label: &Label,
     out: &mut Vec<u8>,
 ) -> Result<(), Refusal>
-    ensures text { OnOk result (out.new.items ≡ out.old.items ++ label_words 0 names.now label.now) }
+    ensures text { OnOk result
+        (out.new.items ≡ out.old.items ++ conjunction_words names.now (each_once (conjuncts label.now))) }
+    ensures memory { IsOkUnless result Refusal.Memory }
+{
+    let alloc = *out.allocator();
+    let found = conjuncts_of(alloc, label)?;
+    write_conjuncts(names, found.as_slice(), out)
+}
+
+/// Appends `label`, a part below the operator `above`, with the `names` of its propositions. Linear in the label.
+fn write_part(
+    names: &[ByteString],
+    label: &Label,
+    above: Above,
+    out: &mut Vec<u8>,
+) -> Result<(), Refusal>
+    ensures text { OnOk result
+        (out.new.items ≡ out.old.items ++ label_words (tightness_of above) names.now label.now) }
     ensures memory { IsOkUnless result Refusal.Memory }
 {
     let alloc = *out.allocator();
     let mut room = ROOM;
-    let mut text = Infix::new(alloc)?;
+    let mut text = Infix::new(alloc, above)?;
     put_all(&mut text, label.nodes(&mut room))?;
     text.finish()?;
     write_signs(names, &mut text.signs, out)

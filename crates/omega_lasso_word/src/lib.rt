@@ -9,6 +9,7 @@ mod names;
 mod signs;
 mod word;
 
+pub use letters::write_conjuncts;
 pub use names::write_name;
 pub use omega_automaton::{Automaton, Refusal};
 pub use word::word_of;

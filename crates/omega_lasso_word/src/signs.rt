@@ -141,14 +141,14 @@ pub(crate) struct Infix {
 }
 
 impl Infix {
-    /// Makes a text of which one part is wanted.
-    pub(crate) fn new(alloc: Global) -> Result<Infix, Refusal>
+    /// Makes a text of which one part is wanted, below the operator `above`.
+    pub(crate) fn new(alloc: Global, above: Above) -> Result<Infix, Refusal>
         ensures ok { IfOk result (λ text. (names : List (List ℕ)) (part : Words) →
-            whole_words names text (part ∷ []) ≡ words_at 0 part) }
+            whole_words names text (part ∷ []) ≡ words_at (tightness_of above) part) }
         ensures memory { IsOkUnless result Refusal.Memory }
     {
         let mut waiting = Waitings::new(alloc);
-        waiting.push(Waiting::Part(Above::Loose))?;
+        waiting.push(Waiting::Part(above))?;
         Ok(Infix {
             signs: Signs::new(alloc),
             waiting,

@@ -2,7 +2,7 @@
 use Rattle.std.proofs.Common.{◌++◌, ap, ◌∙◌}
 use Rattle.std.proofs.lemmas.Result.{on_ok_weaker}
 use Rattle.omega_lasso_word.proofs.Infixes.{words-whole}
-use Rattle.omega_lasso_word.proofs.letters.write_label.Goals as goal
+use Rattle.omega_lasso_word.proofs.letters.write_part.Goals as goal
 
 pub returns-clause-text : goal.returns-clause-text
 returns-clause-text c =
@@ -10,5 +10,5 @@ returns-clause-text c =
     on_ok_weaker c.write_signs.result
     (λ is. is ∙ ap (λ words. c.args.out.now.items ++ words)
     (c.in_ok-finish.ensures.ok names ∙ (c.in_ok-put_all.ensures.ok names
-    ∙ words-whole names c.args.label.now c.nodes.result.now c.in_ok-text.text c.nodes.ensures.nodes (c.in_ok-text.ensures.ok names))))
+    ∙ words-whole c.args.above names c.args.label.now c.nodes.result.now c.in_ok-text.text c.nodes.ensures.nodes (c.in_ok-text.ensures.ok names))))
     c.write_signs.ensures.text
