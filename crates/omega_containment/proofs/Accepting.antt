@@ -1,10 +1,11 @@
 -- What the cycle of a product accepts, its first factor accepts.
-use Rattle.std.proofs.Common.{◌≡◌, ℕ, zero, suc, ◌+◌, ◌<◌, inl, inr, Bool, true, false, not, ◌&&◌, ◌||◌, if◌then◌else◌, List, [], ◌∷◌, Contains, refl, sym, ap, ap₂, ◌∙◌, arith}
+use Rattle.std.proofs.Common.{◌≡◌, ◌⊎◌, ℕ, zero, suc, ◌+◌, ◌<◌, inl, inr, Bool, true, false, not, ◌&&◌, ◌||◌, if◌then◌else◌, List, [], ◌∷◌, Contains, refl, sym, ap, ap₂, ◌∙◌, arith}
 use Rattle.std.proofs.lemmas.List.Elements.{Contains-append_left, Contains-append_right}
 use Rattle.omega_formula.specs.Acceptance.{AccTree, accepts, conjunction, constant, disjunction, fin, holds, inf, occurs}
 use Rattle.omega_formula.specs.Kind.{buchi_formula}
 use Rattle.omega_automaton.specs.Automaton.{Description, sets_of}
-use Rattle.omega_product.specs.Acceptance.{IsJointAcceptance, moved_after}
+use Rattle.omega_product.specs.Acceptance.{IsJointAcceptance, both_formulas, moved_after}
+use Rattle.omega_product.proofs.Conjoined.{conjoined_cases}
 use Rattle.omega_product.proofs.Membership.{Contains-here}
 use Rattle.omega_word_laws.proofs.meeting.Labels.{and_both}
 
@@ -52,4 +53,14 @@ pub first_accepts : (one other both : Description) → IsJointAcceptance one oth
 first_accepts one other both (inl buchi) all h =
     ap (accepts all) buchi.both.first ∙ fewer_sets all one.sets other.sets (ap (accepts all) (sym buchi.formula_is) ∙ h)
 first_accepts one other both (inr conjoined) all h =
-    (and_both (accepts all one.acceptance) (accepts all (moved_after one.sets other.acceptance)) (ap (accepts all) (sym conjoined.formula_is) ∙ h)).0
+    go (conjoined_cases one.acceptance moved) (ap (accepts all) (sym conjoined.formula_is) ∙ h)
+  where
+    moved : AccTree
+    moved = moved_after one.sets other.acceptance
+
+    go : ((one.acceptance ≡ constant true) × (both_formulas one.acceptance moved ≡ moved))
+        ⊎ (((moved ≡ constant true) × (both_formulas one.acceptance moved ≡ one.acceptance)) ⊎ (both_formulas one.acceptance moved ≡ conjunction one.acceptance moved))
+        → accepts all (both_formulas one.acceptance moved) ≡ true → accepts all one.acceptance ≡ true
+    go (inl (is, left_out)) h = ap (accepts all) is
+    go (inr (inl (is, left_out))) h = ap (accepts all) (sym left_out) ∙ h
+    go (inr (inr whole)) h = (and_both (accepts all one.acceptance) (accepts all moved) (ap (accepts all) (sym whole) ∙ h)).0

@@ -1,68 +1,20 @@
--- One formula over names of two lists of propositions: its truth, and that a label within a product is the one of its
--- automaton.
-use Rattle.std.proofs.Common.{◌≡◌, ◌⊎◌, ℕ, zero, suc, ◌<◌, ◌≤◌, inl, inr, Bool, true, false, not, ◌&&◌, ◌||◌, if◌then◌else◌, List, [], ◌∷◌, length, filter, get_or, Contains, Option, Some, None, refl, sym, ap, ap₂, ◌∙◌, arith}
+-- Names of the propositions of the first automaton among those of both, and the propositions of labels.
+use Rattle.std.proofs.Common.{◌≡◌, ◌⊎◌, ℕ, zero, suc, ◌<◌, ◌≤◌, inl, inr, Bool, true, false, not, if◌then◌else◌, List, [], ◌∷◌, length, filter, get_or, Contains, Option, Some, None, sym, ap, ◌∙◌, arith}
 use Rattle.std.specs.Prelude.{IfSome}
 use Rattle.std.specs.List.{list_any, position_or_len}
 use Rattle.std.specs.Option.{option_or, unwrap_or}
 use Rattle.std.specs.Str.{bytes_eq}
 use Rattle.std.proofs.lemmas.Bool.{cases_lt, false≢true}
 use Rattle.std.proofs.lemmas.List.{get_or-map}
-use Rattle.std.proofs.lemmas.List.Elements.{All-contains, Contains-append_cases, Contains-append_left, Contains-append_right}
+use Rattle.std.proofs.lemmas.List.Elements.{All-contains, Contains-append_cases, Contains-append_left}
 use Rattle.std.proofs.lemmas.List.Sums.{fails_before_first, passes_at_first}
 use Rattle.std.proofs.lemmas.Slice.Eq.{bytes_eq-Decides}
-use Rattle.omega_label.specs.Label.{LabelTree, conjunction, constant, disjunction, negation, proposition, propositions, truth}
+use Rattle.omega_label.specs.Label.{LabelTree, negation, proposition, propositions}
 use Rattle.omega_automaton.specs.Automaton.{Description, IsLabel}
 use Rattle.omega_edge_labels.specs.Labels.{literal, valuation_label}
-use Rattle.omega_product.specs.Joining.{joined_names, number_among, places_among, relabelled}
-use Rattle.omega_product.proofs.Membership.{Contains-here, Contains-nothing}
-use Rattle.omega_word_laws.proofs.meeting.Labels.{and_both, both_and}
+use Rattle.omega_product.specs.Joining.{joined_names, number_among, places_among}
+use Rattle.omega_product.proofs.Membership.{Contains-nothing}
 use Rattle.omega_word_laws.proofs.naming.Named.{contained_at}
-use Rattle.omega_containment.specs.private.Fitting.{same_formula}
-
--- equal constants
-same_constant : (one other : Bool) → (if one then other else not other) ≡ true → one ≡ other
-same_constant true other h = sym h
-same_constant false true h = absurd (false≢true h)
-same_constant false false h = refl
-
-constant_same : (value : Bool) → (if value then value else not value) ≡ true
-constant_same true = refl
-constant_same false = refl
-
-module _ (names others : List (List ℕ)) where
-  -- what holds of a formula by names
-  pub same_truth : (held : List ℕ → Bool) (one other : LabelTree) → same_formula names others one other ≡ true
-      → truth (λ p. held (get_or names p [])) one ≡ truth (λ p. held (get_or others p [])) other
-  same_truth held (constant one) (constant other) h = same_constant one other h
-  same_truth held (proposition one) (proposition other) h =
-      ap held ((bytes_eq-Decides (get_or names one []) (get_or others other [])).0 h)
-  same_truth held (negation one) (negation other) h = ap not (same_truth held one other h)
-  same_truth held (conjunction one more) (conjunction other rest) h =
-      let both = and_both (same_formula names others one other) (same_formula names others more rest) h in
-      ap₂ ◌&&◌ (same_truth held one other both.0) (same_truth held more rest both.1)
-  same_truth held (disjunction one more) (disjunction other rest) h =
-      let both = and_both (same_formula names others one other) (same_formula names others more rest) h in
-      ap₂ ◌||◌ (same_truth held one other both.0) (same_truth held more rest both.1)
-  same_truth held one other h = absurd (false≢true h)
-
--- a label whose propositions have their names at the places is one formula with its joined form
-module _ (names joined : List (List ℕ)) (places : List ℕ)
-    (named : (p : ℕ) → p < length names → get_or joined (number_among places p) [] ≡ get_or names p []) where
-  relabelled_from : (label : LabelTree) → ((p : ℕ) → Contains (propositions label) p → p < length names)
-      → same_formula names joined label (relabelled places label) ≡ true
-  relabelled_from (constant value) below = constant_same value
-  relabelled_from (proposition number) below =
-      (bytes_eq-Decides (get_or names number []) (get_or joined (number_among places number) [])).1
-      (sym (named number (below number (Contains-here number []))))
-  relabelled_from (negation part) below = relabelled_from part below
-  relabelled_from (conjunction left right) below =
-      both_and (same_formula names joined left (relabelled places left)) (same_formula names joined right (relabelled places right))
-      (relabelled_from left (λ p h. below p (Contains-append_left (propositions left) (propositions right) p h)))
-      (relabelled_from right (λ p h. below p (Contains-append_right (propositions left) (propositions right) p h)))
-  relabelled_from (disjunction left right) below =
-      both_and (same_formula names joined left (relabelled places left)) (same_formula names joined right (relabelled places right))
-      (relabelled_from left (λ p h. below p (Contains-append_left (propositions left) (propositions right) p h)))
-      (relabelled_from right (λ p h. below p (Contains-append_right (propositions left) (propositions right) p h)))
 
 -- the first place of a name among others has this name
 name_there : (joined : List (List ℕ)) (name : List ℕ) → Contains joined name → get_or joined (position_or_len (bytes_eq name) joined) [] ≡ name
@@ -78,7 +30,7 @@ name_there joined name within = sym ((bytes_eq-Decides name (get_or joined at []
         absurd (false≢true (sym fails ∙ (bytes_eq-Decides name (get_or joined within.0 name)).1 (sym within.2)))
 
 -- the propositions of the first automaton have their names at their places among the joined ones
-named_first : (names others : List (List ℕ)) (p : ℕ) → p < length names
+pub named_first : (names others : List (List ℕ)) (p : ℕ) → p < length names
     → get_or (joined_names names others) (number_among (places_among (joined_names names others) names) p) [] ≡ get_or names p []
 named_first names others p below =
     let joined : List (List ℕ) = joined_names names others in
@@ -86,11 +38,6 @@ named_first names others p below =
     let within : Contains joined (get_or names p []) =
     Contains-append_left names (filter (λ (name : List ℕ). not (list_any (bytes_eq name) names)) others) (get_or names p []) (contained_at names p [] below) in
     ap (λ (at : ℕ). get_or joined at []) (get_or-map place names p [] 0 below) ∙ name_there joined (get_or names p []) within
-
-pub relabelled_same : (names others : List (List ℕ)) (label : LabelTree) → ((p : ℕ) → Contains (propositions label) p → p < length names)
-    → same_formula names (joined_names names others) label (relabelled (places_among (joined_names names others) names) label) ≡ true
-relabelled_same names others label below =
-    relabelled_from names (joined_names names others) (places_among (joined_names names others) names) (named_first names others) label below
 
 -- the label of a valuation has the propositions that there are
 single_has : (p q : ℕ) → Contains (p ∷ []) q → p ≡ q

@@ -1,16 +1,12 @@
--- Lemmas of containment: words along a lasso, strings, edges of the first factor, and answers.
+-- Lemmas of containment: words along a lasso, strings, labels and names, the product that is not made, and answers.
 pub mod Along
 pub mod Strings
-pub mod Options
-pub mod PairNames
+pub mod Conjuncts
 pub mod Formulas
-pub mod Parts
-pub mod SameNodes
-pub mod FirstParts
-pub mod Marks
-pub mod Fit
+pub mod Naming
+pub mod Standing
 pub mod Made
-pub mod Paths
 pub mod Accepting
-pub mod Ranging
+pub mod Paths
+pub mod Lettering
 pub mod Answering

@@ -1,14 +1,13 @@
 -- Which refusal of containment applies: that of the complement of `other`, else that of the product of `one` with this
--- complement, else that of the search for a lasso of this product.
+-- complement, of which only the graph is made, else want of memory.
 use Rattle.std.specs.Prelude.{◌≡◌, false}
+use Rattle.omega_text.specs.Cases.{IsMemory}
 use Rattle.omega_text.specs.declared.refusal.Refusal.{Refusal}
 use Rattle.omega_automaton.specs.Automaton.{Description}
 use Rattle.omega_automaton.specs.Branching.{has_universal_branching}
 use Rattle.omega_complement.specs.Complement.{HasComplement, IsComplement}
 use Rattle.omega_complement.specs.Refusing.{IsUncomplemented}
-use Rattle.omega_product.specs.Product.{IsProduct}
 use Rattle.omega_product.specs.Refusing.{IsProductRefusal}
-use Rattle.omega_lasso_search.specs.Searching.{IsSearchRefusal}
 
 -- no refusal of the complement applies to `other`, which is so deterministic, and `one` has no universal branching
 pub record AreComparable (one other : Description) : Type 0 where
@@ -21,6 +20,4 @@ pub data IsContainmentRefusal (one other : Description) (refusal : Refusal) : Ty
   not_met :
       (complement : Description) → HasComplement other → IsComplement other complement
       → IsProductRefusal one complement refusal → IsContainmentRefusal one other refusal
-  not_searched :
-      (complement both : Description) → AreComparable one other → IsComplement other complement
-      → IsProduct one complement both → IsSearchRefusal both refusal → IsContainmentRefusal one other refusal
+  no_memory : AreComparable one other → IsMemory refusal → IsContainmentRefusal one other refusal

@@ -1,7 +1,4 @@
 -- What private contracts alone cite.
-pub mod Fitting
-pub mod Leading
-pub mod Nodes
-pub mod Projecting
-pub mod Ranges
+pub mod Letters
+pub mod Named
 pub mod Telling

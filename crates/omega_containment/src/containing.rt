@@ -1,22 +1,20 @@
 //! Containment by the product with a complement.
 
-ghost use Rattle.std.specs.Prelude.{IfErr, IfOk, IsOkUnless, OnOk};
+ghost use Rattle.std.specs.Prelude.{◌≡◌, ◌<◌, ◌^◌, get_or, length, map, IfErr, IfOk, IsOkUnless, OnOk};
 ghost use Rattle.omega_automaton.specs.Automaton.{Description};
-ghost use Rattle.omega_runs.specs.Lasso.{IsAcceptingLasso};
-ghost use Rattle.omega_runs.specs.Verdict.{IsVerdict};
-ghost use Rattle.omega_lasso_search.specs.Searching.{IsSearchable};
 ghost use Rattle.omega_containment.specs.Containing.{IsContainment, IsCounterexample};
 ghost use Rattle.omega_containment.specs.Refusing.{AreComparable, IsContainmentRefusal};
-ghost use Rattle.omega_containment.specs.private.Telling.{IsDifference, IsSomeDifference};
+ghost use Rattle.omega_containment.specs.private.Letters.{joint_word};
+ghost use Rattle.omega_containment.specs.private.Telling.{IsDifference, IsLassoOn, IsVerdictOn};
 
 use crate::containment::{Containment, Counterexample};
-use crate::projecting::first_lasso;
+use crate::joints::Joints;
+use crate::letters::{joint_word_of, number_at};
 use omega_automaton::{Automaton, Refusal};
 use omega_complement::complement;
-use omega_lasso_search::lasso;
-use omega_lasso_word::word_of;
-use omega_product::product;
-use omega_runs::Verdict;
+use omega_lasso_search::lasso_in_table;
+use omega_product::{PairGraph, pair_graph, places_among};
+use omega_runs::{Verdict, edge_places};
 use omega_text::Seq;
 use std::alloc::Global;
 
@@ -24,88 +22,130 @@ use std::alloc::Global;
 /// and `other` does not, and an accepting lasso of `one` along which it accepts them. Propositions that have one name
 /// are the same, whatever their numbers are (HOA v1, AP).
 ///
-/// `other` is to be deterministic. Looks for an accepting lasso of the product of `one` with the complement of `other`,
-/// and writes its word. All of this is in memory, so the limit of texts does not apply.
+/// `other` is to be deterministic. Looks for an accepting lasso in the graph of the product of `one` with the
+/// complement of `other`, and writes its word. The product itself is not made: labels are joined for the edges of the
+/// lasso alone, and none is too deep or too large for a letter.
 ///
 /// Refusals, the first of these steps that has one:
 ///
 /// - Those of `complement` for `other`, such as [TaskFault::NotDeterministic] with the number of a state.
-/// - Those of `product` for `one` and the complement: [TaskFault::UniversalBranch] if a start or an edge of `one` lists
-///   several states, [TaskFault::TooManyPropositions] and [TaskFault::TooLarge].
-/// - [TaskFault::TooManyPropositions] if it is undecided whether a label of the product can hold.
+/// - Those of `pair_graph` for `one` and the complement: [TaskFault::UniversalBranch] if a start or an edge of `one`
+///   lists several states, [TaskFault::TooManyPropositions] and [TaskFault::TooLarge].
 ///
-/// Takes the time of these calls, and of `word_of` for the lasso. The lasso of `one` takes time linear in its edges,
-/// and for each edge of the lasso in the edges of the state that it leaves.
+/// What follows fails for want of memory alone. Takes the time of `complement`, `pair_graph` and `lasso_in_table`. A
+/// lasso takes time linear in the edges of both automata, the time of `places_among` for the names of each, and that of
+/// `conjuncts_of_both` for each of its edges.
 pub fn contained(alloc: Global, one: &Automaton, other: &Automaton) -> Result<Containment, Refusal>
     ensures right { IfOk result (IsContainment one.now other.now) }
     ensures given { OnOk result (AreComparable one.now other.now) }
     ensures refused { IfErr result (IsContainmentRefusal one.now other.now) }
 {
-    let both = difference(alloc, one, other)?;
-    let verdict = lasso(alloc, &both)?;
-    let answer = told(alloc, one, &both, &verdict)?;
+    one.keeps_limits();
+    other.keeps_limits();
+    let rest = complement(alloc, other)?;
+    rest.keeps_limits();
+    let graph = pair_graph(alloc, one, &rest)?;
+    let verdict = lasso_in_table(
+        alloc,
+        graph.starts.as_slice(),
+        graph.edges.ends.as_slice(),
+        graph.edges.marks.as_slice(),
+        &graph.acceptance,
+    )?;
+    let answer = told(alloc, one, &rest, &graph, &verdict)?;
     Ok(answer)
 }
 
-/// Returns the product of `one` with the complement of `other`.
-fn difference(alloc: Global, one: &Automaton, other: &Automaton) -> Result<Automaton, Refusal>
-    ensures difference { IfOk result (IsDifference one.now other.now) }
-    ensures refused { IfErr result (IsContainmentRefusal one.now other.now) }
-{
-    one.keeps_limits();
-    other.keeps_limits();
-    let _states = one.state_count();
-    let rest = complement(alloc, other)?;
-    rest.keeps_limits();
-    let both = product(alloc, one, &rest)?;
-    both.keeps_limits();
-    Ok(both)
-}
-
-/// Returns what a verdict on `both`, the product of `one` with the complement of another automaton, says of the two.
+/// Returns what a verdict on the graph of the product of `one` with `rest`, the complement of another automaton, says
+/// of the two.
 fn told(
     alloc: Global,
     one: &Automaton,
-    both: &Automaton,
+    rest: &Automaton,
+    graph: &PairGraph,
     verdict: &Verdict,
 ) -> Result<Containment, Refusal>
-    requires difference { IsSomeDifference one.now both.now }
-    requires searchable { IsSearchable both.now }
-    requires verdict { IsVerdict both.now verdict.now }
+    requires named { length graph.now.propositions.items < 2 ^ 32 }
+    requires verdict { IsVerdictOn graph.now verdict.now }
     ensures right { IfOk result (λ answer. (other : Description) →
-        IsDifference one.now other both.now → IsContainment one.now other answer) }
+        IsDifference one.now other rest.now graph.now → IsContainment one.now other answer) }
     ensures memory { IsOkUnless result Refusal.Memory }
 {
     match verdict {
         Verdict::Empty => Ok(Containment::Contained),
         Verdict::Lasso { stem, cycle } => {
-            let example = example_of(alloc, one, both, stem.as_slice(), cycle.as_slice())?;
+            let example = example_of(alloc, one, rest, graph, stem.as_slice(), cycle.as_slice())?;
             Ok(Containment::NotContained(example))
         }
     }
 }
 
-/// Returns the counterexample that an accepting lasso of `both` is, the product of `one` with the complement of another
-/// automaton.
+/// Returns the counterexample that a lasso of the product of `one` with `rest`, the complement of another automaton,
+/// is.
 fn example_of(
     alloc: Global,
     one: &Automaton,
-    both: &Automaton,
+    rest: &Automaton,
+    graph: &PairGraph,
     stem: &[u32],
     cycle: &[u32],
 ) -> Result<Counterexample, Refusal>
-    requires difference { IsSomeDifference one.now both.now }
-    requires searchable { IsSearchable both.now }
-    requires lasso { IsAcceptingLasso both.now stem.now cycle.now }
+    requires named { length graph.now.propositions.items < 2 ^ 32 }
+    requires lasso { IsLassoOn graph.now stem.now cycle.now }
     ensures example { IfOk result (λ example. (other : Description) →
-        IsDifference one.now other both.now → IsCounterexample one.now other example) }
+        IsDifference one.now other rest.now graph.now → IsCounterexample one.now other example) }
     ensures memory { IsOkUnless result Refusal.Memory }
 {
-    let word = word_of(alloc, both, stem, cycle)?;
-    let (firsts, others) = first_lasso(alloc, one, both, stem, cycle)?;
+    let word = word_along(alloc, one, rest, graph, stem, cycle)?;
+    let firsts = graph.edges.firsts.as_slice();
+    let before = numbers_at(alloc, firsts, stem)?;
+    let around = numbers_at(alloc, firsts, cycle)?;
     Ok(Counterexample {
         word: Seq::from_vec(word),
-        stem: Seq::from_vec(firsts),
-        cycle: Seq::from_vec(others),
+        stem: Seq::from_vec(before),
+        cycle: Seq::from_vec(around),
     })
+}
+
+/// Returns the word along the edges of a lasso of the product of `one` and `other`.
+fn word_along(
+    alloc: Global,
+    one: &Automaton,
+    other: &Automaton,
+    graph: &PairGraph,
+    stem: &[u32],
+    cycle: &[u32],
+) -> Result<Vec<u8>, Refusal>
+    requires { length graph.now.propositions.items < 2 ^ 32 }
+    ensures text { IfOk result (λ text. text.items ≡ joint_word one.now other.now graph.now stem.now cycle.now) }
+    ensures memory { IsOkUnless result Refusal.Memory }
+{
+    let names = graph.propositions.as_slice();
+    let places = edge_places(alloc, one)?;
+    let other_places = edge_places(alloc, other)?;
+    let numbers = places_among(alloc, names, one.propositions())?;
+    let other_numbers = places_among(alloc, names, other.propositions())?;
+    let joints = Joints {
+        one,
+        other,
+        graph,
+        places: places.as_slice(),
+        other_places: other_places.as_slice(),
+        numbers: numbers.as_slice(),
+        other_numbers: other_numbers.as_slice(),
+    };
+    let word = joint_word_of(alloc, &joints, stem, cycle)?;
+    Ok(word)
+}
+
+/// Returns the number at each of `places`, 0 past the last.
+fn numbers_at(alloc: Global, numbers: &[u32], places: &[u32]) -> Result<Vec<u32>, Refusal>
+    ensures numbers { IfOk result (λ found. found.items ≡ map (λ place. get_or numbers.now place 0) places.now) }
+    ensures memory { IsOkUnless result Refusal.Memory }
+{
+    let mut found = Vec::with_capacity(alloc, places.len())?;
+    for place in places {
+        found.push(number_at(numbers, *place))?;
+    }
+    Ok(found)
 }

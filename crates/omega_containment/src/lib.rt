@@ -1,7 +1,7 @@
 //! Whether one automaton accepts only words that another accepts, and if not, words that show it.
 //!
-//! A counterexample is a lasso of the product with a complement. The edges of the first factor along it are found again
-//! by the names of the states of the product, by its labels and by its marks (`projecting`, `fitting`, `first_part`).
+//! A counterexample is a lasso of the product with a complement, of which only the graph is made. Each edge of the
+//! graph has the numbers of the two edges that it takes together. By these the word is written (`letters`).
 //!
 //! docs/formats.md says when each refusal comes.
 #![tactic(auto)]
@@ -9,11 +9,8 @@
 mod containing;
 mod containment;
 mod equality;
-mod first_part;
-mod fitting;
-mod leading;
-mod projecting;
-mod ranges;
+mod joints;
+mod letters;
 
 pub use containing::contained;
 pub use containment::{Containment, Counterexample};

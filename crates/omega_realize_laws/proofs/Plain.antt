@@ -1,4 +1,4 @@
--- Controllers, complements and products do not branch universally.
+-- Controllers and complements do not branch universally.
 use Rattle.std.proofs.Common.{◌≡◌, ℕ, suc, ◌+◌, Bool, true, false, nat_lt, if◌then◌else◌, ◌==◌, Option, Some, None, List, [], ◌∷◌, ◌++◌, length, map, refl, sym, ap, subst, ◌∙◌}
 use Rattle.std.specs.Prelude.{slice_index_or}
 use Rattle.std.specs.List.{AllByRecursion, AllZip, filter_map, list_any, range_with_len}
@@ -19,9 +19,6 @@ use Rattle.omega_automaton.specs.declared.state.State.{State}
 use Rattle.omega_complement.specs.Complement.{IsComplement}
 use Rattle.omega_complement.specs.Labels.{each_by_index, state_among, state_at}
 use Rattle.omega_complement.specs.Written.{IsTurnedAt, further_edges, header, sinks, turned_edge, turned_edges}
-use Rattle.omega_product.specs.Pairs.{Pair, pair_number, start_pairs}
-use Rattle.omega_product.specs.Product.{IsJointEdge, IsPairState, IsProduct}
-use Rattle.omega_product.specs.declared.transition.Transition.{Transition}
 use Rattle.omega_winner_text.specs.Winner.{is_kept_edge, kept_edge, kept_edges, kept_state, kept_states, number_of}
 use Rattle.omega_controller_answers.specs.Laws.{controller_of}
 
@@ -150,26 +147,3 @@ module _ (a : Description) (starts_one : list_any lists_two a.starts ≡ false) 
       (ap (list_any lists_two) starts ∙ or_from _ _ (start_plain a.starts starts_one) refl)
       (states_meant (definitions_of raw) raw.states complement.defined means.defined
       (subst (AllByRecursion IsPlainRaw) (sym written.body) (with_sinks written.turned written.sink (all_turned (range_with_len 0 a.states) written.turned written.states))))
-
--- ---- products
-
-joint_plain : (transitions : List Transition) (edges : List Edge) → AllZip IsJointEdge transitions edges → list_any branches edges ≡ false
-joint_plain [] [] zip = refl
-joint_plain [] (edge ∷ edges) zip = absurd zip
-joint_plain (transition ∷ transitions) [] zip = absurd zip
-joint_plain (transition ∷ transitions) (edge ∷ edges) zip = or_from _ _ (ap lists_two zip.0.targets) (joint_plain transitions edges zip.1)
-
-pairs_plain : (one other : Description) (pairs : List Pair) (some : List Pair) (states : List State) → AllZip (IsPairState one other pairs) some states
-    → list_any state_branches states ≡ false
-pairs_plain one other pairs [] [] zip = refl
-pairs_plain one other pairs [] (state ∷ states) zip = absurd zip
-pairs_plain one other pairs (pair ∷ some) [] zip = absurd zip
-pairs_plain one other pairs (pair ∷ some) (state ∷ states) zip = or_from _ _ (joint_plain _ state.edges zip.0.edges) (pairs_plain one other pairs some states zip.1)
-
-single_starts : (pairs : List Pair) (some : List Pair) → list_any lists_two (map (λ pair. pair_number pairs pair ∷ []) some) ≡ false
-single_starts pairs [] = refl
-single_starts pairs (pair ∷ some) = single_starts pairs some
-
-pub product_plain : (one other both : Description) → IsProduct one other both → has_universal_branching both ≡ false
-product_plain one other both is =
-    or_from _ _ (ap (list_any lists_two) is.starts ∙ single_starts is.pairs (start_pairs one other)) (pairs_plain one other is.pairs is.pairs both.defined is.defined)

@@ -5,6 +5,7 @@ use Rattle.std.specs.Str.{bytes_eq}
 use Rattle.std.proofs.lemmas.Bool.{or_parts}
 use Rattle.std.proofs.lemmas.Option.{slice_get_within}
 use Rattle.std.proofs.lemmas.Slice.Eq.{bytes_eq-Decides}
+use Rattle.omega_text.specs.Cases.{IsMemory}
 use Rattle.omega_text.specs.declared.refusal.Refusal.{Refusal}
 use Rattle.omega_text.specs.declared.refusal.Refusal.TheVariants.{Automaton, Game, Io, Memory, Task, Text}
 use Rattle.omega_text.specs.declared.refusal.task.TaskFault.{TaskFault}
@@ -15,7 +16,7 @@ use Rattle.omega_automaton.specs.Branching.{has_universal_branching, state_branc
 use Rattle.omega_automaton.specs.Laws.{MeaningsAreAutomata}
 use Rattle.omega_complement.specs.Complement.{IsDeterministic}
 use Rattle.omega_complement.specs.Refusing.{IsUncomplemented}
-use Rattle.omega_containment.specs.Refusing.{IsContainmentRefusal, not_complemented, not_met, not_searched}
+use Rattle.omega_containment.specs.Refusing.{IsContainmentRefusal, no_memory, not_complemented, not_met}
 use Rattle.omega_controllable.specs.Controllable.{IsControlled, controllable_items}
 use Rattle.omega_controller_answers.specs.Parting.{AreAlike}
 use Rattle.omega_controller_answers.specs.Verify.{IsFileRefusal, IsInputRefusal, IsPairRefusal, IsPairRefused, controller_misstated, not_judged, parted_unlike, specification_misstated, text_about}
@@ -25,11 +26,10 @@ use Rattle.omega_controller_judge.specs.Refusing as judge
 use Rattle.omega_hoa.specs.Laws.{AutomataAreOne, AutomataAreUnrefused}
 use Rattle.omega_io.specs.declared.refused.Which.{Which}
 use Rattle.omega_io.specs.declared.refused.Which.TheVariants.{File, Input}
-use Rattle.omega_lasso_search.specs.Searching.{IsSearchRefusal}
 use Rattle.omega_product.specs.Refusing.{IsProductRefusal}
 use Rattle.omega_realize_laws.specs.ControllerTexts.{ControllersAreReadBack}
 use Rattle.omega_realize_laws.specs.WrittenControllers.{IsWrittenController, WrittenControllersAreNotAtFault}
-use Rattle.omega_realize_laws.proofs.Plain.{complement_plain, controller_plain, product_plain}
+use Rattle.omega_realize_laws.proofs.Plain.{complement_plain, controller_plain}
 use Rattle.omega_realize_laws.proofs.Written as written
 
 -- a refusal is none of those that are about a text
@@ -102,7 +102,7 @@ complement_of_neither a deterministic refusal is = record {
     clash state (inl second) = no_second a.starts second.1.0 deterministic.one_start second.1.1
     clash state (inr first) = deterministic.apart first.1.0 first.1.1 first.1.4.1
 
--- the product with it, and the search there
+-- the product with it
 product_of_neither : (one other : Description) → has_universal_branching one ≡ false → has_universal_branching other ≡ false → (refusal : Refusal) → IsProductRefusal one other refusal
     → IsOfNeither refusal
 product_of_neither one other plain plain' refusal is = record {
@@ -111,11 +111,11 @@ product_of_neither one other plain plain' refusal is = record {
   no_branch = λ e. true≢false (sym (subst (IsProductRefusal one other) e is) ∙ (ap (λ (b : Bool). b || has_universal_branching other) plain ∙ plain'));
 }
 
-search_of_neither : (both : Description) → has_universal_branching both ≡ false → (refusal : Refusal) → IsSearchRefusal both refusal → IsOfNeither refusal
-search_of_neither both plain refusal is = record {
-  no_choice = λ state e. subst (IsSearchRefusal both) e is;
-  no_kind = λ e. subst (IsSearchRefusal both) e is;
-  no_branch = λ e. true≢false (sym (subst (IsSearchRefusal both) e is) ∙ plain);
+memory_of_neither : (refusal : Refusal) → IsMemory refusal → IsOfNeither refusal
+memory_of_neither refusal is = record {
+  no_choice = λ state e. subst IsMemory e is;
+  no_kind = λ e. subst IsMemory e is;
+  no_branch = λ e. subst IsMemory e is;
 }
 
 contained_of_neither : (one other : Description) → has_universal_branching one ≡ false → IsDeterministic other → (refusal : Refusal) → IsContainmentRefusal one other refusal
@@ -124,8 +124,7 @@ contained_of_neither one other plain deterministic refusal (not_complemented is)
 contained_of_neither one other plain deterministic refusal (not_met complement given complemented is) =
     let parts = or_parts (list_any (λ (start : List ℕ). nat_lt 1 (length start)) other.starts) (list_any state_branches other.defined) deterministic.plain in
     product_of_neither one complement plain (complement_plain other parts.0 parts.1 complement complemented) refusal is
-contained_of_neither one other plain deterministic refusal (not_searched complement both comparable complemented product is) =
-    search_of_neither both (product_plain one complement both product) refusal is
+contained_of_neither one other plain deterministic refusal (no_memory given is) = memory_of_neither refusal is
 
 -- ---- names
 

@@ -1,24 +1,34 @@
--- the edges of the lasso were made of edges of the one automaton, and the answer is right
-use Rattle.std.proofs.Common.{◌≡◌, sym, subst}
+-- the lasso is one of the product, whose word is written, and whose edges take edges of the one automaton
+use Rattle.std.proofs.Common.{◌≡◌, ℕ, List, map, get_or, sym, ap, subst, ◌∙◌}
 use Rattle.omega_lasso_word.specs.WordText.{word_text}
+use Rattle.omega_word_laws.proofs.meeting.Graphs.{graphs_of_products}
 use Rattle.omega_containment.specs.Containing.{IsCounterexample}
 use Rattle.omega_containment.specs.declared.containment.Counterexample.{Counterexample}
-use Rattle.omega_containment.proofs.Answering.{example_right, have_firsts}
+use Rattle.omega_containment.proofs.Answering.{are_usable, example_right, is_tabled}
+use Rattle.omega_containment.proofs.Lettering.{word_alike}
 use Rattle.omega_containment.proofs.containing.example_of.Goals as goal
 
-pub first_lasso-requires-clause-stem : goal.first_lasso-requires-clause-stem
-first_lasso-requires-clause-stem c =
-    (have_firsts c.args.one.now c.requires.difference.other c.args.both.now c.requires.difference.difference c.args.stem.now c.args.cycle.now c.requires.lasso).0
-
-pub first_lasso-requires-clause-cycle : goal.first_lasso-requires-clause-cycle
-first_lasso-requires-clause-cycle c =
-    (have_firsts c.args.one.now c.requires.difference.other c.args.both.now c.requires.difference.difference c.args.stem.now c.args.cycle.now c.requires.lasso).1
-
 pub returns-clause-example : goal.returns-clause-example
-returns-clause-example c = λ other difference.
-    (let right = example_right c.args.one.now other c.args.both.now difference c.requires.searchable c.args.stem.now c.args.cycle.now c.requires.lasso
-    c.in_ok-firsts.firsts.items c.in_ok-firsts.others.items c.in_ok-firsts.ensures.stem c.in_ok-firsts.ensures.cycle in
+returns-clause-example c = λ other k.
+    (let one = c.args.one.now in
+    let rest = c.args.rest.now in
+    let graph = c.args.graph.now in
+    let stem : List ℕ = c.args.stem.now in
+    let cycle : List ℕ = c.args.cycle.now in
+    let product = graphs_of_products one rest graph k.graph_is in
+    let lasso = c.requires.lasso product.0 (record { tabled = is_tabled one other rest graph k product.0 product.1; usable = are_usable one other rest graph k product.0 product.1 }) in
+    let right = example_right one other rest graph k product.0 product.1 stem cycle lasso in
+    let firsts : c.as_slice-firsts.result.now ≡ graph.edges.firsts.items = c.as_slice-firsts.ensures.value in
+    let word : c.from_vec.result ≡ word_text product.0 stem cycle =
+    c.from_vec.ensures ∙ c.in_ok-word.ensures.text ∙ word_alike one rest graph k.graph_is product.0 product.1 stem cycle lasso in
+    let before : c.from_vec-2.result ≡ map (λ number. get_or graph.edges.firsts.items number 0) stem =
+    c.from_vec-2.ensures ∙ c.in_ok-before.ensures.numbers ∙ ap (λ (fs : List ℕ). map (λ number. get_or fs number 0) stem) firsts in
+    let around : c.from_vec-3.result ≡ map (λ number. get_or graph.edges.firsts.items number 0) cycle =
+    c.from_vec-3.ensures ∙ c.in_ok-around.ensures.numbers ∙ ap (λ (fs : List ℕ). map (λ number. get_or fs number 0) cycle) firsts in
     let is : record { word = c.from_vec.result; stem = c.from_vec-2.result; cycle = c.from_vec-3.result }
-    ≡ record { word = word_text c.args.both.now c.args.stem.now c.args.cycle.now; stem = c.in_ok-firsts.firsts.items; cycle = c.in_ok-firsts.others.items } =
-    cc (c.from_vec.ensures, c.from_vec-2.ensures, c.from_vec-3.ensures, c.in_ok-word.ensures.text) in
-    subst (λ (example : Counterexample). IsCounterexample c.args.one.now other example) (sym is) right)
+    ≡ record {
+      word = word_text product.0 stem cycle;
+      stem = map (λ number. get_or graph.edges.firsts.items number 0) stem;
+      cycle = map (λ number. get_or graph.edges.firsts.items number 0) cycle;
+    } = cc (word, before, around) in
+    subst (λ (example : Counterexample). IsCounterexample one other example) (sym is) right)

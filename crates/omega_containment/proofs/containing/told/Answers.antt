@@ -2,10 +2,16 @@
 use Rattle.std.proofs.Common.{subst}
 use Rattle.omega_runs.specs.Verdict.{IsVerdict}
 use Rattle.omega_runs.specs.declared.verdict.Verdict.{Verdict}
-use Rattle.omega_containment.proofs.Answering.{contained_right}
+use Rattle.omega_word_laws.proofs.meeting.Graphs.{graphs_of_products}
+use Rattle.omega_containment.proofs.Answering.{are_usable, contained_right, is_tabled}
 use Rattle.omega_containment.proofs.containing.told.Goals as goal
 
 pub returns-in-Empty-clause-right : goal.returns-in-Empty-clause-right
-returns-in-Empty-clause-right c = λ other difference.
-    contained_right c.args.one.now other c.args.both.now difference c.requires.searchable
-    (subst (λ (v : Verdict). IsVerdict c.args.both.now v) c.in-Empty.is c.requires.verdict)
+returns-in-Empty-clause-right c = λ other k.
+    (let one = c.args.one.now in
+    let rest = c.args.rest.now in
+    let graph = c.args.graph.now in
+    let product = graphs_of_products one rest graph k.graph_is in
+    contained_right one other rest graph k product.0 product.1
+    (subst (λ (v : Verdict). IsVerdict product.0 v) c.in-Empty.is
+    (c.requires.verdict product.0 (record { tabled = is_tabled one other rest graph k product.0 product.1; usable = are_usable one other rest graph k product.0 product.1 }))))

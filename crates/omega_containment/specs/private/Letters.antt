@@ -1,0 +1,64 @@
+-- The words along a lasso of a product, of which only the graph is made.
+use Rattle.std.specs.Prelude.{◌≡◌, ℕ, false, List, [], ◌∷◌, ◌++◌, length, codes, get_or, Option, None, Some}
+use Rattle.std.specs.List.{flat_map}
+use Rattle.omega_automaton.specs.Automaton.{BodyEdge, Description, edge_at}
+use Rattle.omega_edge_labels.specs.Labels.{label_at}
+use Rattle.omega_conjuncts.specs.Conjuncts.{conjuncts, each_once}
+use Rattle.omega_label.specs.Label.{LabelTree, constant}
+use Rattle.omega_label.specs.Renumbering.{relabelled}
+use Rattle.omega_lasso_word.specs.Letters.{conjunction_words}
+use Rattle.omega_product.specs.Joining.{places_among}
+use Rattle.omega_product.specs.declared.graph.PairGraph.{PairGraph}
+use Rattle.omega_runs.specs.Places.{ArePlaces}
+use Rattle.omega_runs.specs.Words.{index_in}
+use Rattle.omega_containment.specs.declared.joints.Joints.{Joints}
+
+-- what finds labels is that of the automata
+pub record FindsLabels (joints : Joints) : Type 0 where
+  pub places : ArePlaces joints.one.now joints.places.now
+  pub other_places : ArePlaces joints.other.now joints.other_places.now
+  pub numbers : joints.numbers.now ≡ places_among joints.graph.now.propositions.items joints.one.now.propositions
+  pub other_numbers :
+      joints.other_numbers.now ≡ places_among joints.graph.now.propositions.items joints.other.now.propositions
+
+-- the label of an edge, over the propositions that these numbers are of; `f` without an edge
+abbrev pub moved_label : List ℕ → ℕ → Option BodyEdge → LabelTree
+moved_label numbers index None = constant false
+moved_label numbers index (Some edge) = relabelled numbers (label_at (length numbers) edge.source index edge.edge)
+
+-- the label of the edge with this number
+abbrev pub label_in : List ℕ → Description → ℕ → LabelTree
+label_in numbers a number = moved_label numbers (index_in a.defined number) (edge_at a number)
+
+-- the conjuncts of an edge of the product of two automata with a graph: those of the labels of the two edges that it
+-- takes together, each once
+abbrev pub joint_conjuncts : Description → Description → PairGraph → ℕ → List LabelTree
+joint_conjuncts one other graph number =
+    let names = graph.propositions.items in
+    each_once
+    (conjuncts (label_in (places_among names one.propositions) one (get_or graph.edges.firsts.items number 0))
+    ++ conjuncts (label_in (places_among names other.propositions) other (get_or graph.edges.seconds.items number 0)))
+
+-- its letter
+abbrev pub joint_letter : Description → Description → PairGraph → ℕ → List ℕ
+joint_letter one other graph number =
+    conjunction_words graph.propositions.items (joint_conjuncts one other graph number)
+
+-- the letters of a stem, `;` after each
+abbrev pub stem_letters : Description → Description → PairGraph → List ℕ → List ℕ
+stem_letters one other graph numbers = flat_map (λ number. joint_letter one other graph number ++ codes "; ") numbers
+
+-- the letters of the others of a cycle, `;` before each
+abbrev pub others_letters : Description → Description → PairGraph → List ℕ → List ℕ
+others_letters one other graph numbers = flat_map (λ number. codes "; " ++ joint_letter one other graph number) numbers
+
+-- the letters of a cycle, `;` between each two
+abbrev pub cycle_letters : Description → Description → PairGraph → List ℕ → List ℕ
+cycle_letters one other graph [] = []
+cycle_letters one other graph (first ∷ others) =
+    joint_letter one other graph first ++ others_letters one other graph others
+
+-- the word of a lasso
+abbrev pub joint_word : Description → Description → PairGraph → List ℕ → List ℕ → List ℕ
+joint_word one other graph stem cycle =
+    stem_letters one other graph stem ++ (codes "cycle{" ++ (cycle_letters one other graph cycle ++ codes "}"))
