@@ -1,6 +1,7 @@
 -- Lemmas on automata of words: letters, edges, states, runs, membership, and refusals.
 pub mod Below
 pub mod Edges
+pub mod Going
 pub mod Judging
 pub mod Letters
 pub mod Opened

@@ -1,7 +1,7 @@
 -- Refusals of membership: for a choice or not, and never for a failed read or write.
 use Rattle.std.proofs.Common.{◌≡◌, inl, inr, ℕ, true, false, List, Option, Some, None, sym, ap, ◌∙◌}
 use Rattle.omega_automaton.specs.Automaton.{Description}
-use Rattle.omega_containment.specs.Refusing.{IsContainmentRefusal, not_complemented, not_met, not_searched}
+use Rattle.omega_containment.specs.Refusing.{IsContainmentRefusal, no_memory, not_complemented, not_met}
 use Rattle.omega_label.specs.Label.{LabelTree}
 use Rattle.omega_symbolic_word.specs.declared.symbolic_word.SymbolicWord.{SymbolicWord}
 use Rattle.omega_text.specs.declared.refusal.Refusal.{Refusal}
@@ -34,13 +34,13 @@ no_choice refusal is state same = none (sym is ∙ ap choice_in same)
 pub has_choice : (one a : Description) (state : ℕ) → IsContainmentRefusal one a (Task (NotDeterministic state)) → HasChoice a state
 has_choice one a state (not_complemented refused) = refused
 has_choice one a state (not_met complement given is refused) = absurd refused
-has_choice one a state (not_searched complement both given is met refused) = absurd refused
+has_choice one a state (no_memory given refused) = absurd refused
 
 -- no containment is refused for a failed read or write
 contained_io : (one a : Description) → IsContainmentRefusal one a Io → ⊥
 contained_io one a (not_complemented refused) = refused
 contained_io one a (not_met complement given is refused) = refused
-contained_io one a (not_searched complement both given is met refused) = refused
+contained_io one a (no_memory given refused) = refused
 
 unjudged_io : (held unheld : LabelTree) (label : Option LabelTree) → IsUnjudgedWith held unheld label Io → ⊥
 unjudged_io held unheld None is = is

@@ -6,7 +6,6 @@ use Rattle.omega_text.specs.hoa.Forms.{IsQuotable}
 use Rattle.omega_automaton.specs.Automaton.{Description, IsAutomaton}
 use Rattle.omega_automaton.specs.Branching.{has_universal_branching}
 use Rattle.omega_containment.specs.Containing.{GoesAlong}
-use Rattle.omega_containment.proofs.Along.{word_along}
 use Rattle.omega_lasso_search.specs.Searching.{IsSearchable}
 use Rattle.omega_lasso_word.specs.Fitting.{Fits}
 use Rattle.omega_lasso_word.specs.Laws.{HasStrings}
@@ -31,6 +30,7 @@ use Rattle.omega_accepts.specs.Membership.{HasStringNames, IsMembership, IsRejec
 use Rattle.omega_accepts.specs.Written.{IsWordAutomaton}
 use Rattle.omega_accepts.specs.declared.membership.Membership.TheVariants.{Accepted, Rejected}
 use Rattle.omega_accepts.specs.private.Choosing.{AcceptCommon, AcceptsSome, is_lasso}
+use Rattle.omega_accepts.proofs.Going.{goes_along}
 use Rattle.omega_accepts.proofs.Running.{accepted_admits, admitted_accepts}
 
 -- an automaton with an accepting lasso accepts a word over names
@@ -84,7 +84,7 @@ module _ (word : SymbolicWord) (one a : Description) (means : IsWordAutomaton wo
 
     rejection : IsMembership word a (Rejected (word_text one stem (first ∷ others)))
     rejection =
-        let found = word_along one automaton lasso.lasso.loop_state first others lasso.lasso.cycle_leads lasso.lasso.start stem lasso.lasso.stem_leads in
+        let found = goes_along one automaton stem first others lasso in
         record {
           named = found.0;
           rejected = is_rejected found.0 (accepted found.0 found.1);

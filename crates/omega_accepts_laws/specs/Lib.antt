@@ -1,0 +1,2 @@
+-- The law of the words that `empty --word` writes.
+pub mod WrittenWords
