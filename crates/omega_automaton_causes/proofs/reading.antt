@@ -1,0 +1,3 @@
+-- Lemmas of what is read of aliases.
+pub mod Rows
+pub mod Uses
