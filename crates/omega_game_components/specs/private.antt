@@ -1,0 +1,4 @@
+-- What only private contracts cite.
+pub mod Table
+pub mod Groups
+pub mod Sizes
