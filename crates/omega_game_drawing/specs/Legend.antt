@@ -1,9 +1,20 @@
--- The legend of a drawing with a solution: the colours of the winners, and a bold edge.
-use Rattle.std.specs.Prelude.{ℕ, true, Some, List, ◌++◌, codes, decimal}
+-- The legend of a drawing: the shapes of the players' nodes, with a solution the colours of the winners and a bold
+-- edge, and with a lasso the colours of its edges.
+use Rattle.std.specs.Prelude.{ℕ, Bool, false, true, if◌then◌else◌, Some, List, [], ◌++◌, codes, decimal}
 use Rattle.omega_parity_game.specs.declared.player.Player.{Player}
 use Rattle.omega_parity_game.specs.declared.player.Player.TheVariants.{One, Zero}
 use Rattle.omega_parity_game.specs.Player.{player_number}
-use Rattle.omega_game_drawing.specs.Nodes.{edge_end, fill_part}
+use Rattle.omega_game_drawing.specs.Nodes.{edge_end, fill_part, shape_part}
+use Rattle.omega_game_drawing.specs.declared.role.Role.TheVariants.{Cycle, Plain, Stem}
+
+-- the label of a node of a player, and the end of its line
+abbrev pub owner_label : Player → List ℕ
+owner_label player = codes "player " ++ (decimal (player_number player) ++ codes "\"];\n")
+
+-- a node of a player, as the drawing has them, which says whose it is
+abbrev pub owner_field : Player → List ℕ
+owner_field player =
+    codes "    owner" ++ (decimal (player_number player) ++ (shape_part player ++ owner_label player))
 
 -- the words that a player wins
 abbrev pub winner_label : Player → List ℕ
@@ -20,10 +31,25 @@ choice_label = codes "    chosen [shape=plaintext, label=\"the winner's choice\"
 
 -- an edge to a choice, as the drawing has them
 abbrev pub choice_sample : List ℕ
-choice_sample = choice_label ++ (codes "    choosing [shape=point];\n" ++ (codes "    choosing -> chosen" ++ edge_end true))
+choice_sample = choice_label ++ (codes "    choosing [shape=point];\n" ++ (codes "    choosing -> chosen" ++ edge_end true Plain))
 
--- the legend, in a frame of its own, with the fields one below the other
-abbrev pub legend_text : List ℕ
-legend_text =
-    codes "  subgraph cluster_legend {\n    label=\"legend\";\n" ++ (winner_field Zero ++ (winner_field One
-    ++ (codes "    legend0 -> legend1 [style=invis];\n" ++ (choice_sample ++ codes "  }\n"))))
+-- the winners, one below the other, and a choice
+abbrev pub solution_samples : List ℕ
+solution_samples =
+    winner_field Zero ++ (winner_field One ++ (codes "    legend0 -> legend1 [style=invis];\n" ++ choice_sample))
+
+-- an edge of the stem and one of the cycle, as the drawing has them
+abbrev pub walk_samples : List ℕ
+walk_samples =
+    codes "    stem [shape=plaintext, label=\"the stem\"];\n    stemming [shape=point];\n    stemming -> stem" ++ (edge_end false Stem
+    ++ (codes "    cycle [shape=plaintext, label=\"the cycle\"];\n    cycling [shape=point];\n    cycling -> cycle" ++ edge_end false Cycle))
+
+-- these samples, if they are wanted
+abbrev pub samples_if : Bool → List ℕ → List ℕ
+samples_if wanted samples = if wanted then samples else []
+
+-- the legend, in a frame of its own, of a drawing with a solution or not, and with a lasso or not
+abbrev pub legend_text : (solved walked : Bool) → List ℕ
+legend_text solved walked =
+    codes "  subgraph cluster_legend {\n    label=\"legend\";\n" ++ (owner_field Zero ++ (owner_field One
+    ++ (codes "    owner0 -> owner1 [style=invis];\n" ++ (samples_if solved solution_samples ++ (samples_if walked walk_samples ++ codes "  }\n")))))

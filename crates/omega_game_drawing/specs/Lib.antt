@@ -3,4 +3,5 @@ pub mod Extent
 pub mod GameDrawing
 pub mod Legend
 pub mod Nodes
+pub mod Roles
 pub mod private

@@ -1,2 +1,4 @@
 -- What only private contracts cite.
 pub mod Entering
+pub mod Looks
+pub mod Marking

@@ -6,8 +6,10 @@
 mod extent;
 mod game_drawing;
 mod legend;
+mod marks;
 mod near;
 mod nodes;
+mod role;
 
 pub use extent::Extent;
-pub use game_drawing::{draw_game, draw_solution};
+pub use game_drawing::{draw_game, draw_solution, draw_solution_walk, draw_walk};

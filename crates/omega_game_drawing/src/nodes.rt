@@ -2,58 +2,66 @@
 
 ghost use Rattle.std.specs.Prelude.{◌≡◌, ◌<◌, ◌++◌, All, IsOkUnless, OnOk, codes, decimal, length};
 ghost use Rattle.omega_parity_game.specs.Game.{node_at};
-ghost use Rattle.omega_game_drawing.specs.Nodes.{colour_of, drawn_node, dots, edge_beyond, edge_end, edge_to, edge_to_dots, drawn_edges, fill_part, is_chosen, leads_on, node_label, node_text, node_text_if_drawn, shape_of, successor_line};
+ghost use Rattle.omega_game_drawing.specs.Nodes.{colour_of, drawn_node, dots, edge_beyond, edge_end, edge_to, edge_to_dots, drawn_edges, fill_part, is_chosen, leads_on, node_label, node_text, node_text_if_drawn, outline_part, plain_end, shape_of, shape_part, successor_line};
+ghost use Rattle.omega_game_drawing.specs.private.Looks.{marked_look};
+ghost use Rattle.omega_game_drawing.specs.private.Marking.{marked_edge};
 
+use crate::marks::Marks;
+use crate::role::Role;
 use omega_dot::write_name_line;
 use omega_parity_game::{ForwardGame, Player, Refusal};
 use omega_text::write_number;
 
 /// Appends the lines of the node at `place` and of its edges, with its `winner` and its owner's `choice` if they are
-/// known. Nothing is appended if the node is not drawn.
+/// known, and with the `marks` of a lasso. Nothing is appended if the node is not drawn.
 pub(crate) fn write_place(
     game: &ForwardGame,
     drawn: &[bool],
     place: u32,
     winner: Option<Player>,
     choice: Option<u32>,
+    marks: &Marks,
     out: &mut Vec<u8>,
 ) -> Result<(), Refusal>
     requires place { place < length game.now }
     requires entries { length drawn.now ≡ length game.now }
-    ensures ok { OnOk result (out.new.items ≡ out.old.items
-        ++ node_text_if_drawn game.now drawn.now winner choice place (node_at game.now place)) }
+    ensures ok { OnOk result (out.new.items ≡ out.old.items ++ node_text_if_drawn game.now drawn.now
+        (marked_look winner choice marks.now place) place (node_at game.now place)) }
     ensures memory { IsOkUnless result Refusal.Memory }
 {
     if !drawn[place as usize] {
         return Ok(());
     }
-    write_line(game, place, winner, out)?;
-    write_edges(game, drawn, place, choice, out)?;
+    write_line(game, place, winner, marks.node_role(place), out)?;
+    write_edges(game, drawn, place, choice, marks, out)?;
     write_edge_beyond(game, drawn, place, out)
 }
 
-/// Appends the line of the node at `place`, with its `winner` if that is known.
+/// Appends the line of the node at `place`, with its `winner` if that is known, and with its `role` in a lasso.
 fn write_line(
     game: &ForwardGame,
     place: u32,
     winner: Option<Player>,
+    role: Role,
     out: &mut Vec<u8>,
 ) -> Result<(), Refusal>
     requires { place < length game.now }
-    ensures ok { OnOk result (out.new.items ≡ out.old.items ++ drawn_node winner (node_at game.now place)) }
+    ensures ok { OnOk result (out.new.items ≡ out.old.items ++ drawn_node winner role (node_at game.now place)) }
     ensures memory { IsOkUnless result Refusal.Memory }
 {
     out.extend_from_slice(b"  ")?;
     write_number(u128::from(game.id(place)), out)?;
     write_shape(game.owner(place), out)?;
     write_label(game, place, out)?;
-    write_fill(winner, out)
+    write_fill(winner, out)?;
+    write_outline(role, out)?;
+    out.extend_from_slice(b"];\n")?;
+    Ok(())
 }
 
 /// Appends the shape of the nodes of `owner`, and the beginning of their label.
-fn write_shape(owner: Player, out: &mut Vec<u8>) -> Result<(), Refusal>
-    ensures ok { OnOk result (out.new.items ≡ out.old.items
-        ++ (codes " [shape=" ++ (shape_of owner ++ codes ", label=\""))) }
+pub(crate) fn write_shape(owner: Player, out: &mut Vec<u8>) -> Result<(), Refusal>
+    ensures ok { OnOk result (out.new.items ≡ out.old.items ++ shape_part owner) }
     ensures memory { IsOkUnless result Refusal.Memory }
 {
     out.extend_from_slice(b" [shape=")?;
@@ -80,9 +88,9 @@ fn write_label(game: &ForwardGame, place: u32, out: &mut Vec<u8>) -> Result<(), 
     Ok(())
 }
 
-/// Appends the end of a node's line, with the colour of its `winner` if that is known.
+/// Appends the end of a node's label, and the colour of its `winner` if that is known.
 pub(crate) fn write_fill(winner: Option<Player>, out: &mut Vec<u8>) -> Result<(), Refusal>
-    ensures ok { OnOk result (out.new.items ≡ out.old.items ++ (codes "\"" ++ (fill_part winner ++ codes "];\n"))) }
+    ensures ok { OnOk result (out.new.items ≡ out.old.items ++ (codes "\"" ++ fill_part winner)) }
     ensures memory { IsOkUnless result Refusal.Memory }
 {
     out.push(b'"')?;
@@ -90,8 +98,19 @@ pub(crate) fn write_fill(winner: Option<Player>, out: &mut Vec<u8>) -> Result<()
         out.extend_from_slice(b", style=filled, fillcolor=")?;
         write_colour(winner, out)?;
     }
-    out.extend_from_slice(b"];\n")?;
     Ok(())
+}
+
+/// Appends the outline of a node, if it is on a lasso.
+fn write_outline(role: Role, out: &mut Vec<u8>) -> Result<(), Refusal>
+    ensures ok { OnOk result (out.new.items ≡ out.old.items ++ outline_part role) }
+    ensures memory { IsOkUnless result Refusal.Memory }
+{
+    match role {
+        Role::Plain => Ok(()),
+        Role::Stem => Ok(out.extend_from_slice(b", color=blue, penwidth=2")?),
+        Role::Cycle => Ok(out.extend_from_slice(b", color=red, penwidth=2")?),
+    }
 }
 
 /// Appends the colour of the nodes that `winner` wins.
@@ -112,17 +131,18 @@ fn write_edges(
     drawn: &[bool],
     place: u32,
     choice: Option<u32>,
+    marks: &Marks,
     out: &mut Vec<u8>,
 ) -> Result<(), Refusal>
     requires place { place < length game.now }
     requires entries { length drawn.now ≡ length game.now }
     ensures ok { OnOk result (out.new.items ≡ out.old.items
-        ++ drawn_edges game.now drawn.now choice (node_at game.now place)) }
+        ++ drawn_edges game.now drawn.now choice (marked_edge marks.now place) (node_at game.now place)) }
     ensures memory { IsOkUnless result Refusal.Memory }
 {
     game.keeps_limits();
     for successor in game.successors(place) {
-        write_edge_to(game, drawn, place, choice, *successor, out)?;
+        write_edge_to(game, drawn, place, choice, marks, *successor, out)?;
     }
     Ok(())
 }
@@ -133,6 +153,7 @@ fn write_edge_to(
     drawn: &[bool],
     place: u32,
     choice: Option<u32>,
+    marks: &Marks,
     successor: u32,
     out: &mut Vec<u8>,
 ) -> Result<(), Refusal>
@@ -140,40 +161,57 @@ fn write_edge_to(
     requires successor { successor < length game.now }
     requires entries { length drawn.now ≡ length game.now }
     ensures ok { OnOk result (out.new.items ≡ out.old.items
-        ++ edge_to game.now drawn.now choice (node_at game.now place) successor) }
+        ++ edge_to game.now drawn.now choice (marked_edge marks.now place) (node_at game.now place) successor) }
     ensures memory { IsOkUnless result Refusal.Memory }
 {
     if drawn[successor as usize] {
-        write_edge(game, place, choice, successor, out)
+        write_edge(game, place, choice, marks, successor, out)
     } else {
         Ok(())
     }
 }
 
-/// Appends the edge from the node at `place` to `successor`, bold if that is the `choice`.
+/// Appends the edge from the node at `place` to `successor`, bold if that is the `choice` or if it is on a lasso.
 fn write_edge(
     game: &ForwardGame,
     place: u32,
     choice: Option<u32>,
+    marks: &Marks,
     successor: u32,
     out: &mut Vec<u8>,
 ) -> Result<(), Refusal>
     requires place { place < length game.now }
     requires successor { successor < length game.now }
     ensures ok { OnOk result (out.new.items ≡ out.old.items
-        ++ successor_line game.now choice (node_at game.now place) successor) }
+        ++ successor_line game.now choice (marked_edge marks.now place) (node_at game.now place) successor) }
     ensures memory { IsOkUnless result Refusal.Memory }
 {
     out.extend_from_slice(b"  ")?;
     write_number(u128::from(game.id(place)), out)?;
     out.extend_from_slice(b" -> ")?;
     write_number(u128::from(game.id(successor)), out)?;
-    write_edge_end(is_chosen(choice, successor), out)
+    write_edge_end(
+        is_chosen(choice, successor),
+        marks.edge_role(place, successor),
+        out,
+    )
 }
 
-/// Appends the end of an edge's line, bold if it is chosen.
-pub(crate) fn write_edge_end(chosen: bool, out: &mut Vec<u8>) -> Result<(), Refusal>
-    ensures ok { OnOk result (out.new.items ≡ out.old.items ++ edge_end chosen) }
+/// Appends the end of an edge's line: bold if it is chosen or on a lasso, red on the cycle and blue on the stem.
+pub(crate) fn write_edge_end(chosen: bool, role: Role, out: &mut Vec<u8>) -> Result<(), Refusal>
+    ensures ok { OnOk result (out.new.items ≡ out.old.items ++ edge_end chosen role) }
+    ensures memory { IsOkUnless result Refusal.Memory }
+{
+    match role {
+        Role::Plain => write_plain_end(chosen, out),
+        Role::Stem => Ok(out.extend_from_slice(b" [style=bold, color=blue];\n")?),
+        Role::Cycle => Ok(out.extend_from_slice(b" [style=bold, color=red];\n")?),
+    }
+}
+
+/// Appends the end of the line of an edge that is on no lasso, bold if it is chosen.
+fn write_plain_end(chosen: bool, out: &mut Vec<u8>) -> Result<(), Refusal>
+    ensures ok { OnOk result (out.new.items ≡ out.old.items ++ plain_end chosen) }
     ensures memory { IsOkUnless result Refusal.Memory }
 {
     if chosen {

@@ -8,4 +8,5 @@ pub mod Deciding
 pub mod Steps
 pub mod Texts
 pub mod Written
-pub mod BeforeWord
+pub mod Spaced
+pub mod LassoPart

@@ -64,7 +64,7 @@ module _ (source gap text rest : List ℕ) (from : ℕ) (kind : LassoKind) (valu
       }
 
 -- from a place on, the text is cut into tokens with these symbols, and white space to its end
-record IsCutFrom (source : List ℕ) (from : ℕ) (symbols : List LassoSymbol) : Type 0 where
+pub record IsCutFrom (source : List ℕ) (from : ℕ) (symbols : List LassoSymbol) : Type 0 where
   pub lexemes : List (Lexeme LassoKind)
   pub end : ℕ
   pub cuts : Cuts lasso_format source from lexemes end
@@ -72,18 +72,18 @@ record IsCutFrom (source : List ℕ) (from : ℕ) (symbols : List LassoSymbol) :
   pub gap : IsGap source end (length source)
 
 -- at the end of every text these bytes are cut so
-abbrev IsWritten : List ℕ → List LassoSymbol → Type 0
+abbrev pub IsWritten : List ℕ → List LassoSymbol → Type 0
 IsWritten text symbols = (source : List ℕ) (from : ℕ) → from ≤ length source → drop from source ≡ text → IsCutFrom source from symbols
 
 -- the two words
-stem_is_word : IsWord (codes "stem")
+pub stem_is_word : IsWord (codes "stem")
 stem_is_word = (omega arith, refl, All-from_recursion (λ b. is_word_byte b ≡ true) (codes "stem") (refl, (refl, (refl, (refl, tt)))))
 
-cycle_is_word : IsWord (codes "cycle")
+pub cycle_is_word : IsWord (codes "cycle")
 cycle_is_word = (omega arith, refl, All-from_recursion (λ b. is_word_byte b ≡ true) (codes "cycle") (refl, (refl, (refl, (refl, (refl, tt))))))
 
 -- one white byte
-one_white : (byte : ℕ) → is_white byte ≡ true → AllPass is_white (byte ∷ [])
+pub one_white : (byte : ℕ) → is_white byte ≡ true → AllPass is_white (byte ∷ [])
 one_white byte white = All-cons (λ b. is_white b ≡ true) byte [] white (All-nil (λ b. is_white b ≡ true))
 
 -- numbers before a line feed begin with white space
@@ -107,7 +107,7 @@ module _ (gaps : EndsAreGaps) (numerals : NumbersAreLongest) (words : WordsAreLo
   }
 
   -- a token and what is written after it
-  token_written : (gap text rest : List ℕ) (kind : LassoKind) (value : ℕ) (symbols : List LassoSymbol)
+  pub token_written : (gap text rest : List ℕ) (kind : LassoKind) (value : ℕ) (symbols : List LassoSymbol)
       → AllPass is_white gap → Spells kind value text → IsLongest (text ++ rest) (length text)
       → IsWritten rest symbols → IsWritten (gap ++ (text ++ rest)) (symbol kind value ∷ symbols)
   token_written gap text rest kind value symbols white spells longest then source from within e =

@@ -2,7 +2,7 @@
 
 ghost use Rattle.omega_lasso_text.specs.Grammar.{lasso_syntax};
 ghost use Rattle.omega_lasso_text.specs.Laws.{LassoRefusalsAreOne, LassoTextsAreReadOrRefused, LassosAreNotRefused, LassosOfTextsAreOne, WrittenLassosAreRead};
-ghost use Rattle.omega_lasso_text.specs.Laws.{WordsArePassedOver, WrittenLassosHaveNoWord, WrittenLinesAreRead};
+ghost use Rattle.omega_lasso_text.specs.Laws.{RunsArePassedOver, SpacedLassosAreRead, WordsArePassedOver, WrittenLassosHaveNoMore, WrittenLinesAreRead};
 ghost use Rattle.omega_text.specs.Syntax.{SyntaxFaultsAreFirst};
 
 use crate::kind::LassoKind;
@@ -58,15 +58,26 @@ pub fn written_lassos_are_read()
     words_are_longest();
 }
 
-/// States that the written form of a lasso is what stands before a line of a word that follows it, and that it has no
-/// such line itself.
-pub fn words_are_passed_over()
-    ensures word { WordsArePassedOver }
-    ensures none { WrittenLassosHaveNoWord }
+/// States that the written form of a lasso with more white space at its front and after its numbers says that lasso if
+/// it keeps the limits of texts and of numbers.
+pub fn spaced_lassos_are_read()
+    ensures { SpacedLassosAreRead }
+{
+    ends_are_gaps();
+    numbers_are_longest();
+    words_are_longest();
+}
+
+/// States that the written form of a lasso is the part of the lasso if a line of a word or of a run follows it, or
+/// nothing.
+pub fn words_and_runs_are_passed_over()
+    ensures words { WordsArePassedOver }
+    ensures runs { RunsArePassedOver }
+    ensures none { WrittenLassosHaveNoMore }
 {}
 
-/// States that a text with the written form of a lasso before its word says that lasso if it keeps the limits of texts
-/// and of numbers.
+/// States that a text whose part of the lasso is its written form says that lasso if it keeps the limits of texts and
+/// of numbers.
 pub fn written_lines_are_read()
     ensures { WrittenLinesAreRead }
 {

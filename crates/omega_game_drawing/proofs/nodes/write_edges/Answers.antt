@@ -2,6 +2,7 @@
 use Rattle.std.proofs.Common.{ℕ, List, ◌++◌, length, get_or, ap, ◌∙◌, arith}
 use Rattle.omega_parity_game.specs.Game.{node_at}
 use Rattle.omega_game_drawing.specs.Nodes.{edge_to}
+use Rattle.omega_game_drawing.specs.private.Marking.{marked_edge}
 use Rattle.omega_game_drawing.proofs.Places.{successor_is_place}
 use Rattle.omega_dot.proofs.Rows.{text_more}
 use Rattle.omega_game_drawing.proofs.nodes.write_edges.Goals as goal
@@ -14,7 +15,7 @@ write_edge_to-requires-clause-successor c =
 pub loop-successor-preserved : goal.loop-successor-preserved
 loop-successor-preserved c =
     let node = node_at c.args.game.now c.args.place in
-    let edge = edge_to c.args.game.now c.args.drawn.now c.args.choice node in
+    let edge = edge_to c.args.game.now c.args.drawn.now c.args.choice (marked_edge c.args.marks.now c.args.place) node in
     text_more edge node.successors c.loop-successor.successor-index 0 c.args.out.now.items c.loop-successor.out.items _
     (omega (arith, ap length c.successors-successor-items.ensures)) c.loop-successor.invariant
     (c.in_ok-write_edge_to.ensures.ok

@@ -3,9 +3,10 @@ use Rattle.std.proofs.Common.{◌≡◌, ◌++◌, take}
 use Rattle.std.specs.List.{flat_map}
 use Rattle.omega_parity_game.specs.Game.{node_at}
 use Rattle.omega_game_drawing.specs.Nodes.{edge_to}
+use Rattle.omega_game_drawing.specs.private.Marking.{marked_edge}
 use Rattle.omega_game_drawing.proofs.nodes.write_edges.Given as goal
 
 abbrev pub invariant-loop-successor : goal.invariant-loop-successor
 invariant-loop-successor l =
     l.out.items ≡ l.fn.out.items
-    ++ flat_map (edge_to l.game l.drawn l.choice (node_at l.game l.place)) (take l.successor-index (node_at l.game l.place).successors)
+    ++ flat_map (edge_to l.game l.drawn l.choice (marked_edge l.marks l.place) (node_at l.game l.place)) (take l.successor-index (node_at l.game l.place).successors)

@@ -1,5 +1,5 @@
 -- The law by its lemma.
-use Rattle.omega_lasso_text.proofs.BeforeWord.{lines_read}
+use Rattle.omega_lasso_text.proofs.LassoPart.{lines_read}
 use Rattle.omega_lasso_text.proofs.laws.written_lines_are_read.Goals as goal
 
 pub returns : goal.returns
