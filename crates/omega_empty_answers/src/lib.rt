@@ -7,7 +7,9 @@ mod automaton_text;
 mod draw;
 mod empty;
 mod game;
+mod lines;
 
 pub use draw::{draw_automaton_text, draw_lasso_text};
 pub use empty::{decide_automaton, decide_emptiness, search_automaton, search_emptiness};
 pub use game::write_emptiness_game;
+pub use lines::Lines;

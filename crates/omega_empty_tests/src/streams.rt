@@ -1,5 +1,6 @@
 //! What each automaton of a stream is answered in turn, worked by hand.
 use crate::rows::assert_named;
+use omega_empty_answers::Lines;
 use omega_io::{FromRead, Refused, Which};
 use omega_stream_questions::{
     Answers, complement_stream, contained_stream, empty_stream_by_lifting, empty_stream_by_search,
@@ -33,12 +34,14 @@ fn complements(alloc: Global, text: &str) -> Result<Answers, Refusal> {
 }
 
 fn searched(alloc: Global, text: &str, word: bool) -> Result<Answers, Refusal> {
-    empty_stream_by_search(alloc, &mut FromRead::new(text.as_bytes()), word)
+    let lines = Lines { word, run: false };
+    empty_stream_by_search(alloc, &mut FromRead::new(text.as_bytes()), lines)
 }
 
 // Lifts at most twice for each automaton.
 fn lifted_twice(alloc: Global, text: &str, word: bool) -> Result<Answers, Refusal> {
-    empty_stream_by_lifting(alloc, &mut FromRead::new(text.as_bytes()), word, 2)
+    let lines = Lines { word, run: false };
+    empty_stream_by_lifting(alloc, &mut FromRead::new(text.as_bytes()), lines, 2)
 }
 
 static TRIMMED: [(&str, &str, &str); 3] = [
@@ -134,7 +137,11 @@ const ONE_IS_EMPTY: &str =
 
 // By lifting within a budget that is enough.
 fn lifted_enough(alloc: Global, text: &str) -> Result<Answers, Refusal> {
-    empty_stream_by_lifting(alloc, &mut FromRead::new(text.as_bytes()), false, 100)
+    let lines = Lines {
+        word: false,
+        run: false,
+    };
+    empty_stream_by_lifting(alloc, &mut FromRead::new(text.as_bytes()), lines, 100)
 }
 
 #[test]

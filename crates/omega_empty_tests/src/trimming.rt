@@ -163,7 +163,7 @@ static MET: [(&str, &str, &str, &str); 3] = [
         "a pair in which no accepting lasso starts",
         OFTEN,
         "HOA: v1 States: 2 Start: 0 AP: 1 \"a\" acc-name: Buchi Acceptance: 1 Inf(0) --BODY-- State: 0 [0] 0 {0} [!0] 1 State: 1 [!0] 1 {0} --END--",
-        "HOA: v1\nStates: 1\nStart: 0\nAP: 1 \"a\"\nacc-name: generalized-Buchi 2\nAcceptance: 2 Inf(0)&Inf(1)\n--BODY--\nState: 0 \"0,0\"\n[0&0] 0 {0 1}\n--END--\n",
+        "HOA: v1\nStates: 1\nStart: 0\nAP: 1 \"a\"\nacc-name: generalized-Buchi 2\nAcceptance: 2 Inf(0)&Inf(1)\n--BODY--\nState: 0 \"0,0\"\n[0] 0 {0 1}\n--END--\n",
     ),
     (
         "no pair left",

@@ -1,0 +1,2 @@
+-- Lemmas of runs of lassos.
+pub mod Sources
