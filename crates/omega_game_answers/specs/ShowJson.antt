@@ -6,6 +6,7 @@ use Rattle.omega_parity_game.specs.declared.player.Player.TheVariants.{One, Zero
 use Rattle.omega_parity_game.specs.declared.priority_counts.PriorityCount.{PriorityCount}
 use Rattle.omega_parity_game.specs.Bound.{bound_of, priority_counts}
 use Rattle.omega_parity_game.specs.Game.{Node, greatest_identifier, priorities, successor_count, successors_at}
+use Rattle.omega_game_components.specs.Components.{HasComponents}
 use Rattle.omega_pg.specs.game.Text.{IsGameText}
 
 -- a member whose value is a number, after what stands before the number
@@ -56,14 +57,27 @@ abbrev pub bounds_member : List Node → List ℕ
 bounds_member nodes =
     codes ",\"bounds\":[" ++ (player_bound Zero nodes ++ (codes "," ++ (player_bound One nodes ++ codes "]")))
 
--- the object of a game, on a line
-abbrev pub game_object : List Node → List ℕ
-game_object nodes =
+-- the members of the components: how many there are, and how many nodes the largest has
+abbrev pub components_members : ℕ → ℕ → List ℕ
+components_members count largest =
+    member_text (codes ",\"components\":") count ++ member_text (codes ",\"largest\":") largest
+
+-- the object of a game with this many components, the largest of this many nodes, on a line
+abbrev pub game_object : List Node → ℕ → ℕ → List ℕ
+game_object nodes count largest =
     size_members nodes ++ (priorities_member (priority_counts (priorities nodes))
-    ++ (member_text (codes ",\"self_loops\":") (self_loop_count nodes) ++ (bounds_member nodes ++ codes "}\n")))
+    ++ (member_text (codes ",\"self_loops\":") (self_loop_count nodes)
+    ++ (components_members count largest ++ (bounds_member nodes ++ codes "}\n"))))
+
+-- a text is the object of a game
+pub record IsGameObject (nodes : List Node) (output : List ℕ) : Type 0 where
+  pub count : ℕ
+  pub largest : ℕ
+  pub components : HasComponents nodes count largest
+  pub written : output ≡ game_object nodes count largest
 
 -- the answer of `show --json`: the text is that of a game, and its object is written
 pub record IsShowJsonAnswer (text output : List ℕ) : Type 0 where
   pub game : List Node
   pub read : IsGameText text game
-  pub written : output ≡ game_object game
+  pub object : IsGameObject game output

@@ -29,5 +29,5 @@ pub use solve::asked::Asked;
 pub use solve::both::{fits_both, solution_in_turns, winners_of};
 pub use solve::solve_game;
 pub use verify::explaining::lost_by;
-pub use verify::verify_solution;
 pub use verify::winners::verify_winners;
+pub use verify::{judged_game, verify_solution};

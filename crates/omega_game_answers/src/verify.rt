@@ -62,11 +62,7 @@ fn judged(
 
 /// Reads the game of `text`, or the part of it that the node with the identifier `from` reaches, if one is given. The
 /// text is dropped. Fails with the [Refusal::Text] or [Refusal::Game] of the text, or with [TaskFault::UnknownNode].
-pub(crate) fn judged_game(
-    alloc: Global,
-    text: Vec<u8>,
-    from: Option<u32>,
-) -> Result<ForwardGame, Refusal>
+pub fn judged_game(alloc: Global, text: Vec<u8>, from: Option<u32>) -> Result<ForwardGame, Refusal>
     ensures game { IfOk result (IsJudgedGame text.items from) }
     ensures refused { IfErr result (or_memory (IsJudgedGameRefusal text.items from)) }
 {

@@ -1,17 +1,19 @@
 ghost use Rattle.std.specs.Prelude.{◌≡◌, ◌++◌, ◌<◌, ◌≤◌, IfErr, IfOk, IsOkUnless, OnOk, length};
 ghost use Rattle.omega_pg.specs.game.Refusing.{IsReadRefusal};
-ghost use Rattle.omega_game_answers.specs.ShowJson.{IsShowJsonAnswer, bounds_member, game_object, has_self_loop, member_text, pair_text, pairs_after, pairs_text, player_bound, priorities_member, self_loop_count, size_members};
+ghost use Rattle.omega_game_answers.specs.ShowJson.{IsGameObject, IsShowJsonAnswer, bounds_member, components_members, has_self_loop, member_text, pair_text, pairs_after, pairs_text, player_bound, priorities_member, self_loop_count, size_members};
 
 use crate::game_text::forward_game_of;
 use omega_game::{ForwardGame, Player, PriorityCount, Refusal, bound};
+use omega_game_components::{Components, count_components};
 use omega_text::write_number;
 use std::alloc::Global;
 
 /// Returns a JSON object on one line for the game of `text`. Its members are `nodes`, `edges`, `greatest` (the greatest
 /// identifier), `priorities` (a pair for each priority in use, the greatest first, with the number of nodes that have
-/// it), `self_loops` (the number of nodes that are among their successors) and `bounds`. The last has for player 0 and
-/// player 1 the bound on lifts, or null if it is 2^128 or more. Fails with the [Refusal::Text] or [Refusal::Game] of
-/// the text.
+/// it), `self_loops` (the number of nodes that are among their successors), `components` (the number of strongly
+/// connected components), `largest` (the number of nodes of the largest one) and `bounds`. The last has for player 0
+/// and player 1 the bound on lifts, or null if it is 2^128 or more. Fails with the [Refusal::Text] or [Refusal::Game]
+/// of the text.
 pub fn show_json(alloc: Global, text: Vec<u8>) -> Result<Vec<u8>, Refusal>
     ensures answer { IfOk result (λ output. IsShowJsonAnswer text.items output.items) }
     ensures refused { IfErr result (IsReadRefusal text.items) }
@@ -22,13 +24,15 @@ pub fn show_json(alloc: Global, text: Vec<u8>) -> Result<Vec<u8>, Refusal>
 
 /// Returns the object of `game`.
 fn object_of(alloc: Global, game: &ForwardGame) -> Result<Vec<u8>, Refusal>
-    ensures text { IfOk result (λ output. output.items ≡ game_object game.now) }
+    ensures object { IfOk result (λ output. IsGameObject game.now output.items) }
     ensures memory { IsOkUnless result Refusal.Memory }
 {
+    let components = count_components(alloc, game)?;
     let mut out = Vec::new(alloc);
     append_size(game, &mut out)?;
     append_priorities(game.priority_counts(), &mut out)?;
     append_member(b",\"self_loops\":", self_loops(game) as u128, &mut out)?;
+    append_components(components, &mut out)?;
     append_bounds(game, &mut out)?;
     out.extend_from_slice(b"}\n")?;
     Ok(out)
@@ -122,6 +126,17 @@ fn is_self_loop(game: &ForwardGame, place: u32) -> bool
     ensures { result ≡ has_self_loop game.now place }
 {
     game.successors(place).contains(&place)
+}
+
+/// Appends the members `components` and `largest`.
+fn append_components(components: Components, out: &mut Vec<u8>) -> Result<(), Refusal>
+    ensures text { OnOk result
+        (out.new.items ≡ out.old.items ++ components_members components.count components.largest) }
+    ensures memory { IsOkUnless result Refusal.Memory }
+{
+    append_member(b",\"components\":", components.count as u128, out)?;
+    append_member(b",\"largest\":", components.largest as u128, out)?;
+    Ok(())
 }
 
 /// Appends the member `bounds`.
