@@ -88,6 +88,7 @@ text_of name.Game options = option_map (λ text. text.now) options.game
 text_of name.Automaton options = option_map (λ text. text.now) options.automaton
 text_of name.Specification options = option_map (λ text. text.now) options.specification
 text_of name.Explain options = option_map (λ text. text.now) options.explain
+text_of name.Names options = option_map (λ text. text.now) options.names
 text_of name.Word options = option_map (λ text. text.now) options.word
 text_of name.WordText options = option_map (λ text. text.now) options.word_text
 text_of name.Status options = option_map (λ text. text.now) options.status
@@ -99,6 +100,7 @@ text_of name.Controller options = option_map (λ text. text.now) options.control
 text_of name.AsGame options = option_map (λ text. text.now) options.as_game
 text_of name.Lift options = option_map (λ text. text.now) options.lift
 text_of name.Solution options = option_map (λ text. text.now) options.solution
+text_of name.Walk options = option_map (λ text. text.now) options.walk
 text_of name.Legend options = option_map (λ text. text.now) options.legend
 text_of name.Lasso options = option_map (λ text. text.now) options.lasso
 text_of name.Depth options = option_map (λ text. text.now) options.depth
@@ -120,6 +122,10 @@ GivesPart options from depth =
     Gives (IsNumberText most_number) (text_of name.From options) from × Gives (IsNumberText most_number) (text_of name.Depth options) depth
     × (IsSome depth → IsSome from)
 
+-- the options ask `empty` for the word of a lasso, and for the states of its run with their names
+abbrev pub GivesEmptyLines : Options → (word names : Bool) → Type 0
+GivesEmptyLines options word names = GivesFlag (text_of name.Word options) word × GivesFlag (text_of name.Names options) names
+
 -- the subcommand of this name, with these options, asks for a command that lifts, with this budget
 abbrev pub AsksToLift : List ℕ → Options → Command → ℕ → Type 0
 AsksToLift subcommand options (command.Solve player from) budget =
@@ -128,9 +134,9 @@ AsksToLift subcommand options (command.Solve player from) budget =
 AsksToLift subcommand options (command.Search from) budget =
     (subcommand ≡ codes "solve") × GivesFlag (text_of name.Search options) true × (text_of name.Player options ≡ None)
     × Gives (IsNumberText most_number) (text_of name.From options) from × GivesBudget (text_of name.Budget options) budget
-AsksToLift subcommand options (command.Empty word status) budget =
+AsksToLift subcommand options (command.Empty word names status) budget =
     (subcommand ≡ codes "empty") × GivesFlag (text_of name.Stream options) false × GivesFlag (text_of name.Search options) false
-    × GivesFlag (text_of name.Word options) word × GivesFlag (text_of name.Status options) status × GivesBudget (text_of name.Budget options) budget
+    × GivesEmptyLines options word names × GivesFlag (text_of name.Status options) status × GivesBudget (text_of name.Budget options) budget
 AsksToLift subcommand options (command.RealizeByLifting controller) budget =
     (subcommand ≡ codes "realize") × GivesFlag (text_of name.Lift options) true × GivesFlag (text_of name.AsGame options) false
     × GivesFlag (text_of name.Controller options) controller × GivesBudget (text_of name.Budget options) budget
@@ -145,12 +151,12 @@ AsksUnlifted subcommand options budget =
 
 -- the subcommand of this name, with these options, asks for this of each automaton of a stream, with this budget
 abbrev pub AsksOfEach : List ℕ → Options → OfEach → ℕ → Type 0
-AsksOfEach subcommand options (each.Empty word status) budget =
-    (subcommand ≡ codes "empty") × GivesFlag (text_of name.Search options) false × GivesFlag (text_of name.Word options) word
+AsksOfEach subcommand options (each.Empty word names status) budget =
+    (subcommand ≡ codes "empty") × GivesFlag (text_of name.Search options) false × GivesEmptyLines options word names
     × GivesFlag (text_of name.Status options) status × GivesFlag (text_of name.Progress options) false
     × GivesBudget (text_of name.Budget options) budget
-AsksOfEach subcommand options (each.EmptySearch word status) budget =
-    (subcommand ≡ codes "empty") × GivesFlag (text_of name.Search options) true × GivesFlag (text_of name.Word options) word
+AsksOfEach subcommand options (each.EmptySearch word names status) budget =
+    (subcommand ≡ codes "empty") × GivesFlag (text_of name.Search options) true × GivesEmptyLines options word names
     × GivesFlag (text_of name.Status options) status × GivesFlag (text_of name.Progress options) false
     × (text_of name.Budget options ≡ None) × (budget ≡ most_budget)
 AsksOfEach subcommand options each.Complement budget = (subcommand ≡ codes "complement") × (budget ≡ most_budget)
@@ -166,17 +172,24 @@ AsksOfGame options file from explain =
 -- the subcommand of this name, with these options, asks for what is done with the file of this name beside the input
 abbrev pub AsksBeside : List ℕ → Options → (file : List ℕ) → Beside → Type 0
 AsksBeside subcommand options file (beside.Verify from explain) =
-    (subcommand ≡ codes "verify") × AsksOfGame options file from explain × GivesFlag (text_of name.Winners options) false
+    (subcommand ≡ codes "verify") × AsksOfGame options file from explain
+    × GivesFlag (text_of name.Winners options) false × GivesFlag (text_of name.Names options) false
+AsksBeside subcommand options file (beside.VerifyNamed from) =
+    (subcommand ≡ codes "verify") × AsksOfGame options file from true
+    × GivesFlag (text_of name.Winners options) false × GivesFlag (text_of name.Names options) true
 AsksBeside subcommand options file (beside.VerifyWinners from explain) =
-    (subcommand ≡ codes "verify") × AsksOfGame options file from explain × GivesFlag (text_of name.Winners options) true
+    (subcommand ≡ codes "verify") × AsksOfGame options file from explain
+    × GivesFlag (text_of name.Winners options) true × GivesFlag (text_of name.Names options) false
 AsksBeside subcommand options file (beside.VerifyLasso explain) =
     (subcommand ≡ codes "verify") × (text_of name.Automaton options ≡ Some file) × (text_of name.Game options ≡ None)
     × (text_of name.Specification options ≡ None) × (text_of name.From options ≡ None)
-    × GivesFlag (text_of name.Winners options) false × GivesFlag (text_of name.Explain options) explain
+    × GivesFlag (text_of name.Winners options) false × GivesFlag (text_of name.Names options) false
+    × GivesFlag (text_of name.Explain options) explain
 AsksBeside subcommand options file (beside.VerifyController explain) =
     (subcommand ≡ codes "verify") × (text_of name.Specification options ≡ Some file) × (text_of name.Game options ≡ None)
     × (text_of name.Automaton options ≡ None) × (text_of name.From options ≡ None)
-    × GivesFlag (text_of name.Winners options) false × GivesFlag (text_of name.Explain options) explain
+    × GivesFlag (text_of name.Winners options) false × GivesFlag (text_of name.Names options) false
+    × GivesFlag (text_of name.Explain options) explain
 AsksBeside subcommand options file (beside.Accepts explain) = ⊥
 AsksBeside subcommand options file (beside.Meet trim) =
     (subcommand ≡ codes "meet") × (text_of name.With options ≡ Some file) × GivesFlag (text_of name.Trim options) trim
@@ -191,14 +204,23 @@ AsksBeside subcommand options file (beside.Equal explain) =
     (subcommand ≡ codes "equal") × (text_of name.To options ≡ Some file) × GivesFlag (text_of name.Explain options) explain
 AsksBeside subcommand options file (beside.DrawSolution from depth legend) =
     (subcommand ≡ codes "draw") × Gives IsFormatText (text_of name.Format options) (Some Pg)
-    × (text_of name.Solution options ≡ Some file) × GivesFlag (text_of name.Legend options) legend
-    × GivesPart options from depth × GivesFlag (text_of name.Lasso options) false
+    × (text_of name.Solution options ≡ Some file) × (text_of name.Walk options ≡ None)
+    × GivesFlag (text_of name.Legend options) legend × GivesPart options from depth × GivesFlag (text_of name.Lasso options) false
+AsksBeside subcommand options file (beside.DrawWalk from depth legend) =
+    (subcommand ≡ codes "draw") × Gives IsFormatText (text_of name.Format options) (Some Pg)
+    × (text_of name.Walk options ≡ Some file) × (text_of name.Solution options ≡ None)
+    × GivesFlag (text_of name.Legend options) legend × GivesPart options from depth × GivesFlag (text_of name.Lasso options) false
 
 -- the subcommand of this name, with these options, asks for what is done with this text beside the input
 abbrev pub AsksGiven : List ℕ → Options → (text : List ℕ) → Beside → Type 0
 AsksGiven subcommand options text (beside.Accepts explain) =
     (subcommand ≡ codes "accepts") × (text_of name.WordText options ≡ Some text) × GivesFlag (text_of name.Explain options) explain
 AsksGiven subcommand options text other = ⊥
+
+-- nothing is drawn in a game: neither a solution nor a walk, and so no legend
+abbrev pub GivesNoDrawn : Options → Type 0
+GivesNoDrawn options =
+    (text_of name.Solution options ≡ None) × (text_of name.Walk options ≡ None) × GivesFlag (text_of name.Legend options) false
 
 -- the subcommand of this name, with these options, asks for the task
 abbrev pub AsksFor : List ℕ → Options → Task → Type 0
@@ -225,11 +247,11 @@ AsksFor subcommand options (task.Run (command.Solve player from) budget) =
     AsksToLift subcommand options (command.Solve player from) budget × GivesFlag (text_of name.Progress options) false
 AsksFor subcommand options (task.Run (command.Search from) budget) =
     AsksToLift subcommand options (command.Search from) budget × GivesFlag (text_of name.Progress options) false
-AsksFor subcommand options (task.Run (command.Empty word status) budget) =
-    AsksToLift subcommand options (command.Empty word status) budget × GivesFlag (text_of name.Progress options) false
-AsksFor subcommand options (task.Run (command.EmptySearch word status) budget) =
+AsksFor subcommand options (task.Run (command.Empty word names status) budget) =
+    AsksToLift subcommand options (command.Empty word names status) budget × GivesFlag (text_of name.Progress options) false
+AsksFor subcommand options (task.Run (command.EmptySearch word names status) budget) =
     (subcommand ≡ codes "empty") × GivesFlag (text_of name.Stream options) false × GivesFlag (text_of name.Search options) true
-    × GivesFlag (text_of name.Word options) word × GivesFlag (text_of name.Status options) status
+    × GivesEmptyLines options word names × GivesFlag (text_of name.Status options) status
     × (text_of name.Budget options ≡ None) × GivesFlag (text_of name.Progress options) false × (budget ≡ most_budget)
 AsksFor subcommand options (task.Run (command.RealizeByLifting controller) budget) =
     AsksToLift subcommand options (command.RealizeByLifting controller) budget × GivesFlag (text_of name.Progress options) false
@@ -248,15 +270,15 @@ AsksFor subcommand options (task.Run command.Trim budget) =
     (subcommand ≡ codes "trim") × GivesFlag (text_of name.Stream options) false × (budget ≡ most_budget)
 AsksFor subcommand options (task.Run (command.Draw format) budget) =
     (subcommand ≡ codes "draw") × Gives IsFormatText (text_of name.Format options) (Some format)
-    × (text_of name.Solution options ≡ None) × GivesFlag (text_of name.Legend options) false × GivesPart options None None
+    × GivesNoDrawn options × GivesPart options None None
     × GivesFlag (text_of name.Lasso options) false × (budget ≡ most_budget)
 AsksFor subcommand options (task.Run (command.DrawPart from depth) budget) =
     (subcommand ≡ codes "draw") × Gives IsFormatText (text_of name.Format options) (Some Pg)
-    × (text_of name.Solution options ≡ None) × GivesFlag (text_of name.Legend options) false × GivesPart options (Some from) depth
+    × GivesNoDrawn options × GivesPart options (Some from) depth
     × GivesFlag (text_of name.Lasso options) false × (budget ≡ most_budget)
 AsksFor subcommand options (task.Run command.DrawLasso budget) =
     (subcommand ≡ codes "draw") × Gives IsFormatText (text_of name.Format options) (Some Hoa)
-    × (text_of name.Solution options ≡ None) × GivesFlag (text_of name.Legend options) false × GivesPart options None None
+    × GivesNoDrawn options × GivesPart options None None
     × GivesFlag (text_of name.Lasso options) true × (budget ≡ most_budget)
 AsksFor subcommand options (task.Observed command budget) =
     AsksToLift subcommand options command budget × GivesFlag (text_of name.Progress options) true
@@ -270,8 +292,8 @@ GoesWithEither either.ShowJson options = GivesFlag (text_of name.Json options) t
 GoesWithEither either.Check options = Unit {0}
 GoesWithEither either.Canon options = (text_of name.From options ≡ None) × GivesFlag (text_of name.Min options) false
 GoesWithEither either.Draw options =
-    (text_of name.From options ≡ None) × (text_of name.Depth options ≡ None) × (text_of name.Solution options ≡ None)
-    × GivesFlag (text_of name.Legend options) false × GivesFlag (text_of name.Lasso options) false
+    (text_of name.From options ≡ None) × (text_of name.Depth options ≡ None) × GivesNoDrawn options
+    × GivesFlag (text_of name.Lasso options) false
 
 -- the subcommand takes either format, and none is given, nor an option that goes with one alone
 pub record IsOfEither (subcommand : List ℕ) (options : Options) (asked : OfEither) : Type 0 where
@@ -353,6 +375,7 @@ HasOption subcommand name.Automaton = subcommand ≡ codes "verify"
 HasOption subcommand name.Specification = subcommand ≡ codes "verify"
 HasOption subcommand name.Explain =
     (subcommand ≡ codes "verify") ⊎ (subcommand ≡ codes "accepts") ⊎ (subcommand ≡ codes "contained") ⊎ (subcommand ≡ codes "equal")
+HasOption subcommand name.Names = (subcommand ≡ codes "verify") ⊎ (subcommand ≡ codes "empty")
 HasOption subcommand name.Word = subcommand ≡ codes "empty"
 HasOption subcommand name.WordText = subcommand ≡ codes "accepts"
 HasOption subcommand name.Status = subcommand ≡ codes "empty"
@@ -364,6 +387,7 @@ HasOption subcommand name.Controller = subcommand ≡ codes "realize"
 HasOption subcommand name.AsGame = subcommand ≡ codes "realize"
 HasOption subcommand name.Lift = subcommand ≡ codes "realize"
 HasOption subcommand name.Solution = subcommand ≡ codes "draw"
+HasOption subcommand name.Walk = subcommand ≡ codes "draw"
 HasOption subcommand name.Legend = subcommand ≡ codes "draw"
 HasOption subcommand name.Lasso = subcommand ≡ codes "draw"
 HasOption subcommand name.Depth = subcommand ≡ codes "draw"
@@ -389,6 +413,7 @@ IsRequired name.Game options = (text_of name.Automaton options ≡ None) × (tex
 IsRequired name.Automaton options = ⊥
 IsRequired name.Specification options = ⊥
 IsRequired name.Explain options = ⊥
+IsRequired name.Names options = ⊥
 IsRequired name.Word options = ⊥
 IsRequired name.WordText options = Unit {0}
 IsRequired name.Status options = ⊥
@@ -400,6 +425,7 @@ IsRequired name.Controller options = ⊥
 IsRequired name.AsGame options = ⊥
 IsRequired name.Lift options = ⊥
 IsRequired name.Solution options = ⊥
+IsRequired name.Walk options = ⊥
 IsRequired name.Legend options = ⊥
 IsRequired name.Lasso options = ⊥
 IsRequired name.Depth options = ⊥
@@ -423,6 +449,7 @@ StandsForNothing name.Game text = ⊥
 StandsForNothing name.Automaton text = ⊥
 StandsForNothing name.Specification text = ⊥
 StandsForNothing name.Explain text = (flag : Bool) → IsTruthText text flag → ⊥
+StandsForNothing name.Names text = (flag : Bool) → IsTruthText text flag → ⊥
 StandsForNothing name.Word text = (flag : Bool) → IsTruthText text flag → ⊥
 StandsForNothing name.WordText text = ⊥
 StandsForNothing name.Status text = (flag : Bool) → IsTruthText text flag → ⊥
@@ -434,6 +461,7 @@ StandsForNothing name.Controller text = (flag : Bool) → IsTruthText text flag 
 StandsForNothing name.AsGame text = (flag : Bool) → IsTruthText text flag → ⊥
 StandsForNothing name.Lift text = (flag : Bool) → IsTruthText text flag → ⊥
 StandsForNothing name.Solution text = ⊥
+StandsForNothing name.Walk text = ⊥
 StandsForNothing name.Legend text = (flag : Bool) → IsTruthText text flag → ⊥
 StandsForNothing name.Lasso text = (flag : Bool) → IsTruthText text flag → ⊥
 StandsForNothing name.Depth text = (number : ℕ) → IsNumberText most_number text number → ⊥
@@ -486,6 +514,7 @@ IsUsed name.Game options = text_of name.Game options ≢ None
 IsUsed name.Automaton options = text_of name.Automaton options ≢ None
 IsUsed name.Specification options = text_of name.Specification options ≢ None
 IsUsed name.Explain options = GivesFlag (text_of name.Explain options) true
+IsUsed name.Names options = GivesFlag (text_of name.Names options) true
 IsUsed name.Word options = GivesFlag (text_of name.Word options) true
 IsUsed name.WordText options = text_of name.WordText options ≢ None
 IsUsed name.Status options = GivesFlag (text_of name.Status options) true
@@ -497,6 +526,7 @@ IsUsed name.Controller options = GivesFlag (text_of name.Controller options) tru
 IsUsed name.AsGame options = GivesFlag (text_of name.AsGame options) true
 IsUsed name.Lift options = GivesFlag (text_of name.Lift options) true
 IsUsed name.Solution options = text_of name.Solution options ≢ None
+IsUsed name.Walk options = text_of name.Walk options ≢ None
 IsUsed name.Legend options = GivesFlag (text_of name.Legend options) true
 IsUsed name.Lasso options = GivesFlag (text_of name.Lasso options) true
 IsUsed name.Depth options = text_of name.Depth options ≢ None
@@ -511,17 +541,22 @@ IsUsed name.File options = text_of name.File options ≢ None
 
 -- the option of the subcommand that conflicts with this one. The search of `solve` is for both players, and that of
 -- `empty` makes no lifts. The progress of a stream is not reported. `verify` judges one thing, and only a game has
--- parts and winners. The game of `realize` is written without being solved
+-- parts, winners and names. Wrong winners are shown by no walk. One of a solution and a walk is drawn. The game of
+-- `realize` is written without being solved
 abbrev pub IsApartFrom : OptionName → List ℕ → OptionName → Type 0
 IsApartFrom name.Search subcommand option =
     ((subcommand ≡ codes "solve") × (option ≡ name.Player))
     ⊎ ((subcommand ≡ codes "empty") × ((option ≡ name.Budget) ⊎ (option ≡ name.Progress)))
 IsApartFrom name.Stream subcommand option = (subcommand ≡ codes "empty") × (option ≡ name.Progress)
 IsApartFrom name.Automaton subcommand option =
-    (subcommand ≡ codes "verify") × ((option ≡ name.Game) ⊎ (option ≡ name.From) ⊎ (option ≡ name.Winners) ⊎ (option ≡ name.Lenient))
+    (subcommand ≡ codes "verify")
+    × ((option ≡ name.Game) ⊎ (option ≡ name.From) ⊎ (option ≡ name.Winners) ⊎ (option ≡ name.Names) ⊎ (option ≡ name.Lenient))
 IsApartFrom name.Specification subcommand option =
     (subcommand ≡ codes "verify")
-    × ((option ≡ name.Automaton) ⊎ (option ≡ name.Game) ⊎ (option ≡ name.From) ⊎ (option ≡ name.Winners) ⊎ (option ≡ name.Lenient))
+    × ((option ≡ name.Automaton) ⊎ (option ≡ name.Game) ⊎ (option ≡ name.From) ⊎ (option ≡ name.Winners) ⊎ (option ≡ name.Names)
+    ⊎ (option ≡ name.Lenient))
+IsApartFrom name.Winners subcommand option = (subcommand ≡ codes "verify") × (option ≡ name.Names)
+IsApartFrom name.Solution subcommand option = (subcommand ≡ codes "draw") × (option ≡ name.Walk)
 IsApartFrom name.Controller subcommand option = (subcommand ≡ codes "realize") × (option ≡ name.AsGame)
 IsApartFrom name.Lift subcommand option = (subcommand ≡ codes "realize") × (option ≡ name.AsGame)
 IsApartFrom one subcommand option = ⊥
@@ -533,18 +568,21 @@ pub record IsConflict (subcommand : List ℕ) (options : Options) (one other : O
   pub other_used : IsUsed other options
 
 -- the option of the subcommand that has to be given if this one is. The steps of a depth are counted from a node, and a
--- legend is of a solution. The lifts of `realize` are bounded and reported only if it lifts
-abbrev pub IsNeededBy : OptionName → List ℕ → OptionName → Type 0
-IsNeededBy name.Depth subcommand option = (subcommand ≡ codes "draw") × (option ≡ name.From)
-IsNeededBy name.Legend subcommand option = (subcommand ≡ codes "draw") × (option ≡ name.Solution)
-IsNeededBy name.Budget subcommand option = (subcommand ≡ codes "realize") × (option ≡ name.Lift)
-IsNeededBy name.Progress subcommand option = (subcommand ≡ codes "realize") × (option ≡ name.Lift)
-IsNeededBy one subcommand option = ⊥
+-- legend is of a solution, or of a walk that is drawn in place of one. Names are those of an explanation. The lifts of
+-- `realize` are bounded and reported only if it lifts
+abbrev pub IsNeededBy : OptionName → List ℕ → Options → OptionName → Type 0
+IsNeededBy name.Depth subcommand options option = (subcommand ≡ codes "draw") × (option ≡ name.From)
+IsNeededBy name.Legend subcommand options option =
+    (subcommand ≡ codes "draw") × (option ≡ name.Solution) × (text_of name.Walk options ≡ None)
+IsNeededBy name.Names subcommand options option = (subcommand ≡ codes "verify") × (option ≡ name.Explain)
+IsNeededBy name.Budget subcommand options option = (subcommand ≡ codes "realize") × (option ≡ name.Lift)
+IsNeededBy name.Progress subcommand options option = (subcommand ≡ codes "realize") × (option ≡ name.Lift)
+IsNeededBy one subcommand options option = ⊥
 
 -- an option is given without this one, which has to be given with it
 pub record IsWanting (subcommand : List ℕ) (options : Options) (option : OptionName) : Type 0 where
   pub one : OptionName
-  pub needed : IsNeededBy one subcommand option
+  pub needed : IsNeededBy one subcommand options option
   pub one_used : IsUsed one options
   pub missing : IsUsed option options → ⊥
 
@@ -552,7 +590,7 @@ pub record IsWanting (subcommand : List ℕ) (options : Options) (option : Optio
 abbrev pub IsForFormat : List ℕ → OptionName → Format → Type 0
 IsForFormat subcommand option Pg =
     ((subcommand ≡ codes "canon") × ((option ≡ name.From) ⊎ (option ≡ name.Min)))
-    ⊎ ((subcommand ≡ codes "draw") × ((option ≡ name.Solution) ⊎ (option ≡ name.Legend) ⊎ (option ≡ name.From) ⊎ (option ≡ name.Depth)))
+    ⊎ ((subcommand ≡ codes "draw") × ((option ≡ name.Solution) ⊎ (option ≡ name.Walk) ⊎ (option ≡ name.Legend) ⊎ (option ≡ name.From) ⊎ (option ≡ name.Depth)))
     ⊎ (HasOption subcommand name.Format × (option ≡ name.Lenient))
 IsForFormat subcommand option Hoa = (subcommand ≡ codes "draw") × (option ≡ name.Lasso)
 

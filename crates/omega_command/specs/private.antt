@@ -1,4 +1,6 @@
 -- What only private contracts cite.
 pub mod Flags
+pub mod Judging
 pub mod Numbers
 pub mod Subcommands
+pub mod Tasks

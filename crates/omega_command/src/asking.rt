@@ -5,7 +5,9 @@ ghost use Rattle.omega_command.specs.CommandLine.{LeavesFormat, LeavesNoFormat, 
 ghost use Rattle.omega_command.specs.declared.command.Format.TheVariants.{Hoa, Pg};
 ghost use Rattle.omega_command.specs.declared.either.OfEither.{OfEither};
 ghost use Rattle.omega_command.specs.declared.either.OfEither.TheVariants as either;
+ghost use Rattle.omega_command.specs.declared.mistake.Mistake.TheVariants as mistake;
 ghost use Rattle.omega_command.specs.declared.options.OptionName.TheVariants as name;
+ghost use Rattle.omega_command.specs.private.Tasks.{IsTaskBeside};
 
 use crate::beside::Beside;
 use crate::command::{Command, Format};
@@ -231,7 +233,10 @@ fn drawing_of_either<'a>(options: &Options<'a>) -> Result<Option<OfEither>, Mist
     if is_set(OptionName::Lasso, options.lasso)? {
         return Ok(None);
     }
-    if options.solution.is_some() || options.from.is_some() || options.depth.is_some() {
+    if options.solution.is_some() || options.walk.is_some() {
+        return Ok(None);
+    }
+    if options.from.is_some() || options.depth.is_some() {
         return Ok(None);
     }
     Ok(Some(OfEither::Draw))
@@ -495,24 +500,47 @@ fn game_drawing_for<'a>(alloc: Global, options: &Options<'a>) -> Result<Task, Mi
         return Err(Mistake::Missing(OptionName::From));
     }
     let legend = is_set(OptionName::Legend, options.legend)?;
-    let Some(name) = options.solution else {
-        if legend {
-            return Err(Mistake::Missing(OptionName::Solution));
+    if let Some(solution) = options.solution {
+        if options.walk.is_some() {
+            return Err(Mistake::Conflict(OptionName::Solution, OptionName::Walk));
         }
-        return Ok(match from {
-            None => Task::Run(Command::Draw(Format::Pg), MOST_BUDGET),
-            Some(from) => Task::Run(Command::DrawPart { from, depth }, MOST_BUDGET),
-        });
-    };
-    match String::from_str(alloc, name) {
-        Ok(file) => Ok(Task::Beside {
-            file,
-            asked: Beside::DrawSolution {
+        return task_beside(
+            alloc,
+            solution,
+            Beside::DrawSolution {
                 from,
                 depth,
                 legend,
             },
-        }),
+        );
+    }
+    if let Some(walk) = options.walk {
+        return task_beside(
+            alloc,
+            walk,
+            Beside::DrawWalk {
+                from,
+                depth,
+                legend,
+            },
+        );
+    }
+    if legend {
+        return Err(Mistake::Missing(OptionName::Solution));
+    }
+    Ok(match from {
+        None => Task::Run(Command::Draw(Format::Pg), MOST_BUDGET),
+        Some(from) => Task::Run(Command::DrawPart { from, depth }, MOST_BUDGET),
+    })
+}
+
+/// Returns the task with the file of this name beside the input.
+fn task_beside<'a>(alloc: Global, name: &str, asked: Beside) -> Result<Task, Mistake<'a>>
+    ensures task { IfOk result (IsTaskBeside name.now asked) }
+    ensures memory { IfErr result (λ found. found ≡ mistake.Memory) }
+{
+    match String::from_str(alloc, name) {
+        Ok(file) => Ok(Task::Beside { file, asked }),
         Err(_) => Err(Mistake::Memory),
     }
 }
@@ -525,6 +553,9 @@ fn automaton_drawing_for<'a>(options: &Options<'a>) -> Result<Task, Mistake<'a>>
 {
     if options.solution.is_some() {
         return Err(Mistake::OnlyWith(OptionName::Solution, Format::Pg));
+    }
+    if options.walk.is_some() {
+        return Err(Mistake::OnlyWith(OptionName::Walk, Format::Pg));
     }
     if is_set(OptionName::Legend, options.legend)? {
         return Err(Mistake::OnlyWith(OptionName::Legend, Format::Pg));

@@ -8,6 +8,11 @@ pub enum Beside {
         /// Whether a `no` is explained.
         explain: bool,
     },
+    /// The same, and a `no` is explained with the names of nodes.
+    VerifyNamed {
+        /// The identifier of the node whose part is meant.
+        from: Option<u32>,
+    },
     /// Checks the winners in the solution that the input has; its choices are passed over.
     VerifyWinners {
         /// The identifier of the node whose part is meant.
@@ -54,6 +59,16 @@ pub enum Beside {
     },
     /// Draws the game that the input has with the solution of it in the file; whole, or the part that one node reaches.
     DrawSolution {
+        /// The identifier of the node whose part is drawn.
+        from: Option<u32>,
+        /// How many steps from that node the part goes, if that is said.
+        depth: Option<u32>,
+        /// Whether the drawing says what its colours mean.
+        legend: bool,
+    },
+    /// Draws the game that the input has with the walk in it that the file has; whole, or the part that one node
+    /// reaches.
+    DrawWalk {
         /// The identifier of the node whose part is drawn.
         from: Option<u32>,
         /// How many steps from that node the part goes, if that is said.

@@ -39,6 +39,8 @@ pub enum Command {
     Empty {
         /// Whether the word that the lasso accepts is written too.
         word: bool,
+        /// Whether the states of the lasso's run are written too, with their names.
+        names: bool,
         /// Whether the exit says which of the two is written.
         status: bool,
     },
@@ -46,6 +48,8 @@ pub enum Command {
     EmptySearch {
         /// Whether the word that the lasso accepts is written too.
         word: bool,
+        /// Whether the states of the lasso's run are written too, with their names.
+        names: bool,
         /// Whether the exit says which of the two is written.
         status: bool,
     },

@@ -5,6 +5,8 @@ pub enum OfEach {
     Empty {
         /// Whether the word that a lasso accepts is written too.
         word: bool,
+        /// Whether the states of a lasso's run are written too, with their names.
+        names: bool,
         /// Whether the exit says if one of the automata accepts nothing.
         status: bool,
     },
@@ -12,6 +14,8 @@ pub enum OfEach {
     EmptySearch {
         /// Whether the word that a lasso accepts is written too.
         word: bool,
+        /// Whether the states of a lasso's run are written too, with their names.
+        names: bool,
         /// Whether the exit says if one of the automata accepts nothing.
         status: bool,
     },

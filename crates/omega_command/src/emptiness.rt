@@ -30,11 +30,16 @@ fn emptiness_of_one_for<'a>(options: &Options<'a>) -> Result<Task, Mistake<'a>>
     ensures mistaken { IfErr result (IsMistake (codes "empty") options.now) }
 {
     let word = is_set(OptionName::Word, options.word)?;
+    let names = is_set(OptionName::Names, options.names)?;
     let status = is_set(OptionName::Status, options.status)?;
     let budget = budget_in(options)?;
     let observed = is_set(OptionName::Progress, options.progress)?;
     if !is_set(OptionName::Search, options.search)? {
-        let command = Command::Empty { word, status };
+        let command = Command::Empty {
+            word,
+            names,
+            status,
+        };
         return Ok(if observed {
             Task::Observed(command, budget)
         } else {
@@ -47,7 +52,11 @@ fn emptiness_of_one_for<'a>(options: &Options<'a>) -> Result<Task, Mistake<'a>>
     if observed {
         return Err(Mistake::Conflict(OptionName::Search, OptionName::Progress));
     }
-    let command = Command::EmptySearch { word, status };
+    let command = Command::EmptySearch {
+        word,
+        names,
+        status,
+    };
     Ok(Task::Run(command, MOST_BUDGET))
 }
 
@@ -61,15 +70,24 @@ fn emptiness_of_each_for<'a>(options: &Options<'a>) -> Result<Task, Mistake<'a>>
         return Err(Mistake::Conflict(OptionName::Stream, OptionName::Progress));
     }
     let word = is_set(OptionName::Word, options.word)?;
+    let names = is_set(OptionName::Names, options.names)?;
     let status = is_set(OptionName::Status, options.status)?;
     let budget = budget_in(options)?;
     if !is_set(OptionName::Search, options.search)? {
-        let each = OfEach::Empty { word, status };
+        let each = OfEach::Empty {
+            word,
+            names,
+            status,
+        };
         return Ok(Task::Run(Command::Each(each), budget));
     }
     if options.budget.is_some() {
         return Err(Mistake::Conflict(OptionName::Search, OptionName::Budget));
     }
-    let each = OfEach::EmptySearch { word, status };
+    let each = OfEach::EmptySearch {
+        word,
+        names,
+        status,
+    };
     Ok(Task::Run(Command::Each(each), MOST_BUDGET))
 }

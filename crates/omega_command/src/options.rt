@@ -12,6 +12,7 @@ pub enum OptionName {
     Automaton,
     Specification,
     Explain,
+    Names,
     Word,
     /// The option `--word` with a text, in place of the flag.
     WordText,
@@ -25,6 +26,7 @@ pub enum OptionName {
     AsGame,
     Lift,
     Solution,
+    Walk,
     Legend,
     Lasso,
     Depth,
@@ -51,6 +53,7 @@ impl fmt::Display for OptionName {
             OptionName::Automaton => "--automaton <FILE>",
             OptionName::Specification => "--specification <FILE>",
             OptionName::Explain => "--explain",
+            OptionName::Names => "--names",
             OptionName::Word => "--word",
             OptionName::WordText => "--word <WORD>",
             OptionName::Status => "--status",
@@ -62,6 +65,7 @@ impl fmt::Display for OptionName {
             OptionName::AsGame => "--game",
             OptionName::Lift => "--lift",
             OptionName::Solution => "--solution <FILE>",
+            OptionName::Walk => "--walk <FILE>",
             OptionName::Legend => "--legend",
             OptionName::Lasso => "--lasso",
             OptionName::Depth => "--depth <N>",
@@ -99,6 +103,8 @@ pub struct Options<'a> {
     /// As `search`.
     pub explain: Option<&'a str>,
     /// As `search`.
+    pub names: Option<&'a str>,
+    /// As `search`.
     pub word: Option<&'a str>,
     /// The text of a word whose letters are formulas.
     pub word_text: Option<&'a str>,
@@ -120,6 +126,8 @@ pub struct Options<'a> {
     pub lift: Option<&'a str>,
     /// The name of the file of a solution.
     pub solution: Option<&'a str>,
+    /// The name of the file of a walk.
+    pub walk: Option<&'a str>,
     /// As `search`.
     pub legend: Option<&'a str>,
     /// As `search`.

@@ -2,6 +2,7 @@
 ghost use Rattle.std.specs.Prelude.{◌≡◌, IfErr, IfOk, None, Some, codes};
 ghost use Rattle.omega_command.specs.CommandLine.{AsksFor, GivesFlag, IsMistake, text_of};
 ghost use Rattle.omega_command.specs.declared.options.OptionName.TheVariants as name;
+ghost use Rattle.omega_command.specs.private.Judging.{judging_for};
 
 use crate::beside::Beside;
 use crate::line::Task;
@@ -17,13 +18,14 @@ pub fn verifying_for<'a>(alloc: Global, options: &Options<'a>) -> Result<Task, M
 {
     let explain = is_set(OptionName::Explain, options.explain)?;
     let winners = is_set(OptionName::Winners, options.winners)?;
+    let names = is_set(OptionName::Names, options.names)?;
     if let Some(specification) = options.specification {
-        return controller_verifying_for(alloc, options, specification, explain, winners);
+        return controller_verifying_for(alloc, options, specification, explain, winners, names);
     }
     if let Some(automaton) = options.automaton {
-        return lasso_verifying_for(alloc, options, automaton, explain, winners);
+        return lasso_verifying_for(alloc, options, automaton, explain, winners, names);
     }
-    solution_verifying_for(alloc, options, explain, winners)
+    solution_verifying_for(alloc, options, explain, winners, names)
 }
 
 /// Returns the task that `verify` requests with `options` that name neither an automaton nor a specification, or what
@@ -33,11 +35,13 @@ fn solution_verifying_for<'a>(
     options: &Options<'a>,
     explain: bool,
     winners: bool,
+    names: bool,
 ) -> Result<Task, Mistake<'a>>
     requires unspecified { text_of name.Specification options.now ≡ None }
     requires no_automaton { text_of name.Automaton options.now ≡ None }
     requires explain { GivesFlag (text_of name.Explain options.now) explain }
     requires winners { GivesFlag (text_of name.Winners options.now) winners }
+    requires names { GivesFlag (text_of name.Names options.now) names }
     ensures asked { IfOk result (AsksFor (codes "verify") options.now) }
     ensures mistaken { IfErr result (IsMistake (codes "verify") options.now) }
 {
@@ -45,19 +49,32 @@ fn solution_verifying_for<'a>(
         return Err(Mistake::Missing(OptionName::Game));
     };
     let from = identifier_in(options)?;
-    let Ok(file) = String::from_str(alloc, name) else {
-        return Err(Mistake::Memory);
-    };
-    if winners {
-        return Ok(Task::Beside {
-            file,
-            asked: Beside::VerifyWinners { from, explain },
-        });
+    if names && winners {
+        return Err(Mistake::Conflict(OptionName::Winners, OptionName::Names));
     }
-    Ok(Task::Beside {
-        file,
-        asked: Beside::Verify { from, explain },
-    })
+    if names && !explain {
+        return Err(Mistake::Missing(OptionName::Explain));
+    }
+    match String::from_str(alloc, name) {
+        Ok(file) => Ok(Task::Beside {
+            file,
+            asked: judging_for(from, explain, winners, names),
+        }),
+        Err(_) => Err(Mistake::Memory),
+    }
+}
+
+/// Returns what is asked of a solution. With names of nodes, its choices are judged and a `no` is explained.
+fn judging_for(from: Option<u32>, explain: bool, winners: bool, names: bool) -> Beside
+    ensures { result ≡ judging_for from explain winners names }
+{
+    if names {
+        Beside::VerifyNamed { from }
+    } else if winners {
+        Beside::VerifyWinners { from, explain }
+    } else {
+        Beside::Verify { from, explain }
+    }
 }
 
 /// Returns the task that `verify` requests with `options` that name an automaton and no specification, or what is wrong
@@ -68,11 +85,13 @@ fn lasso_verifying_for<'a>(
     automaton: &'a str,
     explain: bool,
     winners: bool,
+    names: bool,
 ) -> Result<Task, Mistake<'a>>
     requires unspecified { text_of name.Specification options.now ≡ None }
     requires automaton { text_of name.Automaton options.now ≡ Some automaton.now }
     requires explain { GivesFlag (text_of name.Explain options.now) explain }
     requires winners { GivesFlag (text_of name.Winners options.now) winners }
+    requires names { GivesFlag (text_of name.Names options.now) names }
     ensures asked { IfOk result (AsksFor (codes "verify") options.now) }
     ensures mistaken { IfErr result (IsMistake (codes "verify") options.now) }
 {
@@ -84,6 +103,9 @@ fn lasso_verifying_for<'a>(
     }
     if winners {
         return Err(Mistake::Conflict(OptionName::Automaton, OptionName::Winners));
+    }
+    if names {
+        return Err(Mistake::Conflict(OptionName::Automaton, OptionName::Names));
     }
     match String::from_str(alloc, automaton) {
         Ok(file) => Ok(Task::Beside {
@@ -101,10 +123,12 @@ fn controller_verifying_for<'a>(
     specification: &'a str,
     explain: bool,
     winners: bool,
+    names: bool,
 ) -> Result<Task, Mistake<'a>>
     requires specification { text_of name.Specification options.now ≡ Some specification.now }
     requires explain { GivesFlag (text_of name.Explain options.now) explain }
     requires winners { GivesFlag (text_of name.Winners options.now) winners }
+    requires names { GivesFlag (text_of name.Names options.now) names }
     ensures asked { IfOk result (AsksFor (codes "verify") options.now) }
     ensures mistaken { IfErr result (IsMistake (codes "verify") options.now) }
 {
@@ -119,6 +143,9 @@ fn controller_verifying_for<'a>(
     }
     if winners {
         return Err(Mistake::Conflict(OptionName::Specification, OptionName::Winners));
+    }
+    if names {
+        return Err(Mistake::Conflict(OptionName::Specification, OptionName::Names));
     }
     match String::from_str(alloc, specification) {
         Ok(file) => Ok(Task::Beside {

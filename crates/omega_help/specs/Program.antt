@@ -65,12 +65,13 @@ abbrev pub verify : Shape
 verify =
     with_options (codes "verify")
     (optional (codes "game") ∷ optional (codes "automaton") ∷ optional (codes "specification") ∷ flag (codes "winners") ∷ optional (codes "from") ∷ flag (codes "explain")
-    ∷ flag (codes "lenient") ∷ verbose ∷ operand (codes "file") ∷ [])
+    ∷ flag (codes "names") ∷ flag (codes "lenient") ∷ verbose ∷ operand (codes "file") ∷ [])
 
 abbrev pub empty : Shape
 empty =
     with_options (codes "empty")
-    (flag (codes "search") ∷ flag (codes "word") ∷ flag (codes "status") ∷ flag (codes "stream") ∷ optional (codes "budget") ∷ flag (codes "progress") ∷ verbose ∷ operand (codes "file") ∷ [])
+    (flag (codes "search") ∷ flag (codes "word") ∷ flag (codes "names") ∷ flag (codes "status") ∷ flag (codes "stream") ∷ optional (codes "budget")
+    ∷ flag (codes "progress") ∷ verbose ∷ operand (codes "file") ∷ [])
 
 abbrev pub game : Shape
 game = with_options (codes "game") (verbose ∷ operand (codes "file") ∷ [])
@@ -109,8 +110,8 @@ realize =
 abbrev pub draw : Shape
 draw =
     with_options (codes "draw")
-    (optional (codes "format") ∷ optional (codes "from") ∷ optional (codes "depth") ∷ optional (codes "solution") ∷ flag (codes "legend")
-    ∷ flag (codes "lasso") ∷ flag (codes "lenient") ∷ verbose ∷ operand (codes "file") ∷ [])
+    (optional (codes "format") ∷ optional (codes "from") ∷ optional (codes "depth") ∷ optional (codes "solution") ∷ optional (codes "walk")
+    ∷ flag (codes "legend") ∷ flag (codes "lasso") ∷ flag (codes "lenient") ∷ verbose ∷ operand (codes "file") ∷ [])
 
 -- ---- the program
 

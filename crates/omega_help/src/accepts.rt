@@ -19,7 +19,7 @@ deterministic, or WORD has to be one word for it.
   yes
   $ omega accepts --word 'a; cycle{a | b}' --explain often.hoa
   no
-  word a & a; cycle{(a | b) & !a}
+  word a; cycle{(a | b) & !a}
 
 The automaton says that a holds again and again. It does in the first word. WORD in the second command
 admits many words, as a letter says of some names whether they hold, and leaves others open.
@@ -48,8 +48,8 @@ FILE; `omega check --help` lists them. A text with --ABORT--, with no automaton 
 automaton, and is refused as 3 Syntax. 55 TooLarge comes if WORD has over 1024 names, or if a letter is
 over a limit of labels. Then 41 UniversalBranch, 42 TooManyPropositions, 55 TooLarge and
 56 NotDeterministic come as from `omega contained`, but 56 only if a letter leaves a proposition open.
-With --verbose a second line says which of the two is refused, `omega: in the word` or
-`omega: in the automaton`. A file that can't be read is refused as 61 Io, and with --verbose a second line
+With --verbose another line says which of the two is refused, `omega: in the word` or
+`omega: in the automaton`. A file that can't be read is refused as 61 Io, and with --verbose another line
 has its name.
 
 Exit status: 0 yes, 1 a text or the task is refused, 2 the command line is wrong, 4 out of memory, 5 a

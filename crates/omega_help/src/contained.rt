@@ -21,7 +21,7 @@ each word that the one in FILE accepts, and `no` if not.
   no
   stem 0
   cycle 2
-  word request & !grant; cycle{!grant & !grant}
+  word request & !grant; cycle{!grant}
 
 The rule says that grant holds again and again. The system need not keep it: after a request it may go on
 for ever without a grant.
@@ -49,9 +49,9 @@ Faults of the other automaton's text come first, then those of the text in FILE;
 lists them. A text with --ABORT--, with no automaton or with several is not one automaton, and is refused
 as 3 Syntax; with --stream that in FILE is not. Then, if a start or an edge of one of them lists several
 states joined by &, the refusal is 41 UniversalBranch, and 42 TooManyPropositions, 55 TooLarge and
-56 NotDeterministic come as from `omega complement` and `omega meet`. With --verbose a second line says
+56 NotDeterministic come as from `omega complement` and `omega meet`. With --verbose another line says
 which of the two is refused, `omega: in the other automaton` or `omega: in the automaton`. A file that
-can't be read is refused as 61 Io, and with --verbose a second line has its name. Files are read before
+can't be read is refused as 61 Io, and with --verbose another line has its name. Files are read before
 standard input.
 
 Exit status: 0 yes, 1 a text or the task is refused, 2 the command line is wrong, 4 out of memory, 5 a

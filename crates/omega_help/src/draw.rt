@@ -2,7 +2,9 @@ ghost use Rattle.std.specs.Prelude.{◌≡◌, IfOk};
 ghost use Rattle.omega_help.specs.Program.{draw};
 ghost use Rattle.clap.specs.Words.{shape_of};
 
-use crate::options::{FILE, FORMAT, LASSO, LEGEND, LENIENT, OptionHelp, SOLUTION, VERBOSE, Value};
+use crate::options::{
+    FILE, FORMAT, LASSO, LEGEND, LENIENT, OptionHelp, SOLUTION, VERBOSE, Value, WALK,
+};
 use crate::subcommand::subcommand;
 use clap::Command;
 use std::alloc::{AllocError, Global};
@@ -17,6 +19,10 @@ identifier, its name and its priority, and an edge to each successor. With --sol
 solution of the game, as `omega solve` writes it: each node is filled in its winner's colour, light blue
 for player 0 and orange for player 1, and each edge to a chosen successor is bold. With --legend, the
 drawing says so in a frame of its own.
+
+With --walk, the file has a walk in the game, as `omega verify --explain` writes it after `no`, with that
+line or without it, and with names or without them: its cycle is red, and the edges of the stem alone are
+blue. Another text of this kind is refused as 53 BadSolution. A walk is drawn in place of a solution.
 
   $ echo '0 0 0 1,2; 1 1 1 0; 2 2 1 0 \"goal\";' > game.pg
   $ omega solve --search game.pg > solution.txt
@@ -56,8 +62,8 @@ names may have any bytes. A node without successors loses for its owner: it is d
 In docs/formats.md, *The lenient game text* and *The lenient solution text* have the rules. --lenient goes
 with --format pg only, which may then be left out.
 
---solution, --legend, --from and --depth go with --format pg only, --legend with --solution only, --depth
-with --from only, and --lasso with --format hoa only.
+--solution, --walk, --legend, --from and --depth go with --format pg only, --legend with --solution or
+--walk only, --depth with --from only, and --lasso with --format hoa only.
 
 If --format is left out, and with it all options that go with one format only, the first token of FILE
 says what is drawn: an automaton begins with `HOA:`, and all else is read as a game. Without a FILE,
@@ -65,10 +71,11 @@ says what is drawn: an automaton begins with `HOA:`, and all else is read as a g
 
 Faults of the text come first; `omega check --help` lists them. A text with --ABORT--, with no automaton
 or with several is not one automaton, and is refused as 3 Syntax. Faults of a game, 54 behind them, come
-before those of its solution, 53 BadSolution among these. A solution that fits the game is drawn, right
-or wrong, since `omega verify` judges it. A file that can't be read is refused as 61 Io. With --lasso the
-refusals 41 and 42 come as from `omega empty --search`. With --verbose a second line says which of two
-texts is refused, `omega: in the game` or `omega: in the solution`, or has the name of the file.
+before those of its solution or of the walk, 53 BadSolution among these. A solution that fits the game is
+drawn, right or wrong, since `omega verify` judges it. A file that can't be read is refused as 61 Io. With
+--lasso the refusals 41 and 42 come as from `omega empty --search`. With --verbose another line says which
+of two texts is refused, `omega: in the game`, `omega: in the solution` or `omega: in the walk`, or has
+the name of the file.
 
 Exit status: 0 done, 1 a text or the task is refused, 2 the command line is wrong, 4 out of memory, 5 a
 read or a write failed.";
@@ -86,6 +93,7 @@ const OPTIONS: &[OptionHelp] = &[
         help: "Draw only nodes to which at most N steps lead from that node, 0 to 2147483647",
     },
     SOLUTION,
+    WALK,
     LEGEND,
     LASSO,
     LENIENT,

@@ -45,6 +45,15 @@ name, such as true, xor or GoLeft. An edge without label has the letter of its v
 A letter stands for every set of propositions that makes it true. Here a holds at first and b does not.
 From then on b holds, with or without a. Every word that fits the letters is accepted.
 
+--names writes a last line: the states that the edges of the lasso leave, in the form of a word, each by
+its number, and after that its name, if it has one, as it stands in the text.
+
+  $ echo 'HOA: v1 States: 2 Start: 0 Acceptance: 1 Fin(0)
+    --BODY-- State: 0 \"waits\" [t] 0 {0} [t] 1 State: 1 [t] 1 --END--' | omega empty --search --names
+  stem 1
+  cycle 2
+  run 0 \"waits\"; cycle{1}
+
 With --status the exit status says which of the two is written: 0 after a lasso, and 6 after `empty`, so
 that a script needs no text. Without it the exit status is 0 after both.
 
@@ -104,6 +113,11 @@ const OPTIONS: &[OptionHelp] = &[
         help: "Decide by a search without lifting, which is quicker on large automata",
     },
     WORD,
+    OptionHelp {
+        name: "names",
+        value: Value::None,
+        help: "Write the states of the lasso's run, with their names, as a last line",
+    },
     OptionHelp {
         name: "status",
         value: Value::None,

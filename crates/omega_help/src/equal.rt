@@ -22,7 +22,7 @@ if each word is accepted by both or by none, and `no` if not.
   accepted by file
   stem 1
   cycle 0
-  word !a & !a; cycle{a & 1}
+  word !a; cycle{a}
 
 With --explain lines follow `no`: first which of the two automata accepts the word, `accepted by input`
 for the one in FILE or on standard input, and `accepted by file` for the other. Then come a lasso of that
@@ -35,9 +35,9 @@ other.
 Faults of the other automaton's text come first, then those of the text in FILE; `omega check --help`
 lists them. A text with --ABORT--, with no automaton or with several is not one automaton, and is refused
 as 3 Syntax. Then 41 UniversalBranch, 42 TooManyPropositions, 55 TooLarge and 56 NotDeterministic come as
-from `omega contained`, for either automaton. With --verbose a second line says which of the two is
+from `omega contained`, for either automaton. With --verbose another line says which of the two is
 refused, `omega: in the other automaton` or `omega: in the automaton`. A file that can't be read is
-refused as 61 Io, and with --verbose a second line has its name. Files are read before standard input.
+refused as 61 Io, and with --verbose another line has its name. Files are read before standard input.
 
 Exit status: 0 yes, 1 a text or the task is refused, 2 the command line is wrong, 4 out of memory, 5 a
 read or a write failed, 6 no.";

@@ -53,9 +53,9 @@ Faults of the other automaton's text come first, then those of the text in FILE;
 lists them. A text with --ABORT--, with no automaton or with several is not one automaton, and is refused
 as 3 Syntax. Then, if a start or an edge of one of them lists several states joined by &, the refusal is
 41 UniversalBranch. It is 55 TooLarge if the union would have over 1048576 states or 8388608 edges, or
-would be over another limit of automata. With --verbose a second line says which text is refused,
+would be over another limit of automata. With --verbose another line says which text is refused,
 `omega: in the other automaton` or `omega: in the automaton`. A file that can't be read is refused as
-61 Io, and with --verbose a second line has its name. Files are read before standard input.
+61 Io, and with --verbose another line has its name. Files are read before standard input.
 
 Exit status: 0 done, 1 a text or the task is refused, 2 the command line is wrong, 4 out of memory, 5 a
 read or a write failed.";

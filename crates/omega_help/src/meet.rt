@@ -28,12 +28,12 @@ a word exactly if both do.
   State: 0 \"0,0\"
   [0&!1] 1 {0}
   State: 1 \"1,0\"
-  [!1&!1] 1 {0}
+  [!1] 1 {0}
   --END--
   $ omega meet --with never.hoa system.hoa | omega empty --search --word
   stem 0
   cycle 1
-  word request & !grant; cycle{!grant & !grant}
+  word request & !grant; cycle{!grant}
 
 The second automaton accepts the words in which grant never holds. The product shows that the system has
 such a word. To find the words of a system that break a rule, give the complement of the rule's automaton,
@@ -41,11 +41,11 @@ as `omega complement` writes it, to --with: if the product accepts nothing, the 
 
 Propositions are joined by name: those of the automaton in FILE come first, then those that only the
 other has. The states are the pairs of states that are reached, numbered breadth first from the starts in
-their order. Each is named by its two numbers. From a pair, an edge leads for each edge of the one state
-and each edge of the other whose labels can hold together, and its label joins both by &. Edges without
-labels get those of their valuations, and labels and marks of states are moved to the edges that leave
-them. The acceptance formula joins both by &, with
-the sets of the other automaton after those of the one in FILE. If each set of both has to recur, and
+their order. Each is named by the names of its two states, or else by their numbers. From a pair, an
+edge leads for each edge of the one state and each edge of the other whose labels can hold together, and
+its label joins both by &, each conjunct once. Edges without labels get those of their valuations, and
+labels and marks of states are moved to the edges that leave them. The acceptance formula joins both by
+&, with the sets of the other automaton after those of the one in FILE. If each set of both has to recur, and
 they are at most 16, each set of the product has to, and it is named all, Buchi or generalized-Buchi.
 Else it has no name, and `omega empty --search` decides it. What `tool:`, `name:` and `properties:` say
 is left out.
@@ -67,24 +67,25 @@ made, and may be over the limit that the next command of a pipe has.
   State: 0 \"0,0\"
   [0&1] 1 {0}
   State: 1 \"1,0\"
-  [1&1] 0 {0}
+  [1] 0 {0}
   --END--
 
 Faults of the other automaton's text come first, then those of the text in FILE; `omega check --help`
 lists them. A text with --ABORT--, with no automaton or with several is not one automaton, and is refused
-as 3 Syntax. With --verbose a second line says which text has the fault, `omega: in the other automaton`
+as 3 Syntax. With --verbose another line says which text has the fault, `omega: in the other automaton`
 or `omega: in the automaton`:
 
   $ echo 'HOA: v1 Acceptance: 0 t --BODY-- State: 0' | omega meet --verbose --with never.hoa
   omega: 3 Syntax at 42
   omega: in the automaton
+  omega: line 2, column 1: end of the text
 
 Then, if a start or an edge of one of them lists several states joined by &, the refusal is
 41 UniversalBranch. It is 55 TooLarge if the product would have over 1048576 states or 8388608 edges, or
 would be over another limit of automata. 42 TooManyPropositions comes only where two labels together
 mention over 12 propositions, and 4194304 steps do not decide whether they can hold together. With --trim
 the same two come of the product's own labels, as from `omega trim`, if they do not come before. A file that
-can't be read is refused as 61 Io, and with --verbose a second line has its name. Files are read before
+can't be read is refused as 61 Io, and with --verbose another line has its name. Files are read before
 standard input.
 
 Exit status: 0 done, 1 a text or the task is refused, 2 the command line is wrong, 4 out of memory, 5 a

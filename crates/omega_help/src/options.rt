@@ -65,7 +65,7 @@ pub const FILE: OptionHelp = OptionHelp {
 pub const VERBOSE: OptionHelp = OptionHelp {
     name: "verbose",
     value: Value::Letter('v'),
-    help: "Name on standard error the text that is refused, or the file that cannot be read",
+    help: "Say more of a refusal on standard error: which text, where, and what is to be mended",
 };
 
 /// The option that says what kind of text is read.
@@ -131,11 +131,18 @@ pub const SOLUTION: OptionHelp = OptionHelp {
     help: "Draw the solution of the game in this file too",
 };
 
+/// The option that names the file of a walk.
+pub const WALK: OptionHelp = OptionHelp {
+    name: "walk",
+    value: Value::Optional("FILE"),
+    help: "Draw the walk in this file too, which `omega verify --explain` wrote of the game",
+};
+
 /// The flag that asks what the colours of a drawing mean.
 pub const LEGEND: OptionHelp = OptionHelp {
     name: "legend",
     value: Value::None,
-    help: "Draw a legend of the solution: who wins in which colour, what a bold edge is",
+    help: "Draw a legend of the solution or of the walk: what the colours and bold edges mean",
 };
 
 /// The flag that asks for a lasso to be drawn.

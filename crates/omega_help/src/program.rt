@@ -52,8 +52,13 @@ after the other.
 A command reads the file that its last word names, as in `omega solve game.pg`. Without a name, or with
 -, it reads standard input. It writes its answer to standard output. If a text or the task is refused, a
 line on standard error says why, such as `omega: 3 Syntax at 0` for a text that is no game from its first
-byte on. Bytes are counted from 0. With --verbose, or -v, a second line says which text is refused if a
-command reads two texts, and which file if one can't be read.
+byte on. Bytes are counted from 0. With --verbose, or -v, further lines say which text is refused if a
+command reads two, in which line and column the fault is or what is to be mended, and which file can't be
+read:
+
+  $ echo '0 0 0 1; 1 0 0 2;' | omega solve --verbose
+  omega: 11 UndefinedSuccessor
+  omega: node 1: successor 2 is no node
 
 Exit status:
   0  done

@@ -36,11 +36,12 @@ states, edges, propositions and sets it has, and its acceptance formula. An auto
   1 automaton states 1 edges 1 propositions 0 sets 1 acceptance Inf(0)
 
 --json writes the same as JSON, one value on a line: a line for the game, or one for each automaton. Of a
-game it says besides how many nodes have each priority, the greatest first, and how many nodes are their
-own successors. A bound of 2^128 or more is null.
+game it says besides how many nodes have each priority, the greatest first, how many nodes are their own
+successors, and how many strongly connected components there are and nodes in the largest of them. A
+bound of 2^128 or more is null.
 
   $ omega show --format pg --json game.pg
-  {\"nodes\":2,\"edges\":2,\"greatest\":1,\"priorities\":[[2,1],[1,1]],\"self_loops\":0,\"bounds\":[4,4]}
+  {\"nodes\":2,\"edges\":2,\"greatest\":1,\"priorities\":[[2,1],[1,1]],\"self_loops\":0,\"components\":1,\"largest\":2,\"bounds\":[4,4]}
   $ echo 'HOA: v1 --ABORT-- HOA: v1 Acceptance: 1 Inf(0)
     --BODY-- State: 0 [t] 0 {0} --END--' | omega show --format hoa --json
   {\"automaton\":0,\"aborted\":true}

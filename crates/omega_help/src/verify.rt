@@ -34,7 +34,15 @@ on the way is 1, which is odd.
 With --explain three lines follow `no`. The first names the first player whose choices do not win. The
 other two have the nodes of a walk that these choices leave possible, from a node given to that player.
 From the last node of the cycle the walk goes back to the first. The greatest priority on the cycle loses
-for the player.
+for the player. With --names too, the name of a node stands after its identifier, if it has one. Without
+--explain, and with --winners, it is a fault. `omega draw --walk` draws the walk.
+
+  $ echo '0 0 0 1,2; 1 1 1 0 \"request\"; 2 2 1 0;' > named.pg
+  $ echo 'paritysol 2; 0 0 1; 1 0; 2 0;' | omega verify --game named.pg --explain --names
+  no
+  player 0
+  stem
+  cycle 1 \"request\" 0
 
 --from ID judges a solution of the part of the game that is reached from the node with that identifier,
 as `omega solve --from ID` writes it; the file has the whole game. If no node has the identifier,
@@ -89,12 +97,12 @@ With --explain a line follows `no` that says what is wrong with the lasso: the f
 there, or that can't be taken where it stands; or that the cycle does not close, or does not accept.
 
 A lasso text is what `omega empty` writes: `stem` and numbers of edges, then `cycle` and at least one,
-with white space between them. What --word adds is passed over: a line that begins with `word ` and all
-after it. The edges of the body are numbered from 0 in the order of the text, through all states. A
-number that no edge has is no fault of the text: the answer is `no`. A start or an edge of the automaton
-that lists several states joined by & is refused as 41 UniversalBranch. 42 TooManyPropositions comes only
-where a label of one of the lasso's edges mentions over 12 propositions, and 4194304 steps do not decide
-whether it can hold.
+with white space between them. What --word and --names add is passed over: a line that begins with
+`word ` or `run ` and all after it. The edges of the body are numbered from 0 in the order of the text,
+through all states. A number that no edge has is no fault of the text: the answer is `no`. A start or an
+edge of the automaton that lists several states joined by & is refused as 41 UniversalBranch.
+42 TooManyPropositions comes only where a label of one of the lasso's edges mentions over 12
+propositions, and 4194304 steps do not decide whether it can hold.
 
 --specification FILE checks a controller for the specification in FILE, a deterministic automaton whose
 item `controllable-AP:` lists the propositions that the system controls, as `omega realize` reads it; its
@@ -110,7 +118,7 @@ every letter of the environment, and the specification accepts each of its words
   yes
 
 If both texts are at fault, the fault of the game, the automaton or the specification is reported. With
---verbose a second line says which text has the fault: `omega: in the game` or `omega: in the solution`,
+--verbose another line says which text has the fault: `omega: in the game` or `omega: in the solution`,
 `omega: in the automaton` or `omega: in the lasso`, and `omega: in the specification` or
 `omega: in the controller`.
 
@@ -119,8 +127,9 @@ If both texts are at fault, the fault of the game, the automaton or the specific
   $ echo 'stem 0 cycle' | omega verify --verbose --automaton automaton.hoa
   omega: 3 Syntax at 13
   omega: in the lasso
+  omega: line 2, column 1: end of the text
 
-A file that can't be read is refused as 61 Io, and with --verbose a second line has its name. Files are
+A file that can't be read is refused as 61 Io, and with --verbose another line has its name. Files are
 read before standard input.
 
 Exit status: 0 yes, 1 a text or the task is refused, 2 the command line is wrong, 3 the greatest budget
@@ -145,6 +154,11 @@ const OPTIONS: &[OptionHelp] = &[
         help: "Judge a solution of only the part that the node with this identifier reaches",
     },
     EXPLAIN,
+    OptionHelp {
+        name: "names",
+        value: Value::None,
+        help: "With --explain, write the names of the nodes of the walk too",
+    },
     LENIENT,
     VERBOSE,
     FILE,

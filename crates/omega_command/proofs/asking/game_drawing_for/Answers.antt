@@ -1,4 +1,4 @@
--- `game_drawing_for`: a depth needs a node, and a legend a solution.
+-- `game_drawing_for`: a depth needs a node, and a legend a solution or a walk.
 use Rattle.std.proofs.Common.{inr, refl, sym}
 use Rattle.omega_text.specs.Limits.{most_number}
 use Rattle.omega_command.specs.CommandLine.{IsNumberText, text_of}
@@ -21,7 +21,7 @@ pub returns-then-legend-clause-mistaken : goal.returns-then-legend-clause-mistak
 returns-then-legend-clause-mistaken c =
     inr (record {
       one = name.Legend;
-      needed = (refl, refl);
+      needed = (refl, refl, rw c.in_default-walk.is refl);
       one_used = rw c.if-legend.true at c.in_ok-legend.ensures.given;
       missing = λ used. used (rw c.in_default.is refl);
     })
