@@ -40,8 +40,8 @@ streams_count_none tells every budget stream.Canon unread_before unread_after ou
 -- a question counts none either
 questions_count_none : {L : Type 0} (tells : Progress → L → L → Type 0) (every budget : ℕ) (one : OfQuestion) (unread_before unread_after : Option (List ℕ))
     (output : List ℕ) (before after : L) → CountsReportedOfInput tells every (of_question one) unread_before unread_after budget output before after
-questions_count_none tells every budget (question.Empty word status) unread_before unread_after output before after = tt
-questions_count_none tells every budget (question.EmptySearch word status) unread_before unread_after output before after = tt
+questions_count_none tells every budget (question.Empty lines status) unread_before unread_after output before after = tt
+questions_count_none tells every budget (question.EmptySearch lines status) unread_before unread_after output before after = tt
 questions_count_none tells every budget (question.Realize controller) unread_before unread_after output before after = tt
 questions_count_none tells every budget (question.RealizeByLifting controller) unread_before unread_after output before after = tt
 
@@ -108,7 +108,7 @@ module _ {L : Type 0} (held : L → Option (List ℕ)) (failed : L → ℕ) (eve
       let (nodes, judged, none) = counted.holds in
       uncounted_lines (Solve None from) (λ lines. record { text = counted.text; read = counted.read; holds = (nodes, judged, none) }) observed
   counted_lines (Search from) observed counted = uncounted_lines (Search from) (λ lines. tt) observed
-  counted_lines (Empty word status) observed counted = uncounted_lines (Empty word status) (λ lines. tt) observed
+  counted_lines (Empty word names status) observed counted = uncounted_lines (Empty word names status) (λ lines. tt) observed
   counted_lines (Show format) observed counted = uncounted_lines (Show format) (λ lines. tt) observed
   counted_lines (ShowJson format) observed counted = uncounted_lines (ShowJson format) (λ lines. tt) observed
   counted_lines (Check format) observed counted = uncounted_lines (Check format) (λ lines. tt) observed
@@ -116,7 +116,7 @@ module _ {L : Type 0} (held : L → Option (List ℕ)) (failed : L → ℕ) (eve
   counted_lines (CanonPart from) observed counted = uncounted_lines (CanonPart from) (λ lines. tt) observed
   counted_lines (CanonLeast from) observed counted = uncounted_lines (CanonLeast from) (λ lines. tt) observed
   counted_lines (Each asked) observed counted = uncounted_lines (Each asked) (λ lines. tt) observed
-  counted_lines (EmptySearch word status) observed counted = uncounted_lines (EmptySearch word status) (λ lines. tt) observed
+  counted_lines (EmptySearch word names status) observed counted = uncounted_lines (EmptySearch word names status) (λ lines. tt) observed
   counted_lines Complement observed counted = uncounted_lines Complement (λ lines. tt) observed
   counted_lines Trim observed counted = uncounted_lines Trim (λ lines. tt) observed
   counted_lines Game observed counted = uncounted_lines Game (λ lines. tt) observed

@@ -1,6 +1,7 @@
 -- Lemmas by theme.
 pub mod Counted
 pub mod Emptied
+pub mod Explaining
 pub mod Held
 pub mod Lifted
 pub mod Performing

@@ -67,7 +67,7 @@ input_refused (Search from) unread_before unread_after refusal other nodes playe
   read = lifted.read;
   holds = (lifted.holds.0, runs_refused way.Search players refusal other lifted.holds.1);
 }
-input_refused (Empty word status) unread_before unread_after refusal other nodes players lifted = record {
+input_refused (Empty word names status) unread_before unread_after refusal other nodes players lifted = record {
   text = lifted.text;
   read = lifted.read;
   holds = text_refused lifted.text refusal other nodes players lifted.holds;
@@ -79,7 +79,7 @@ input_refused (Canon format) unread_before unread_after refusal other nodes play
 input_refused (CanonPart from) unread_before unread_after refusal other nodes players lifted = lifted
 input_refused (CanonLeast from) unread_before unread_after refusal other nodes players lifted = lifted
 input_refused (Each asked) unread_before unread_after refusal other nodes players lifted = lifted
-input_refused (EmptySearch word status) unread_before unread_after refusal other nodes players lifted = lifted
+input_refused (EmptySearch word names status) unread_before unread_after refusal other nodes players lifted = lifted
 input_refused Complement unread_before unread_after refusal other nodes players lifted = lifted
 input_refused Trim unread_before unread_after refusal other nodes players lifted = lifted
 input_refused Game unread_before unread_after refusal other nodes players lifted = lifted

@@ -1,30 +1,16 @@
 -- What the program does with a command line, from what its steps do.
-use Rattle.std.proofs.Common.{◌≡◌, ◌+◌, ◌<◌, ◌≤◌, ℕ, List, [], Result, Ok, Err, IfOk, IfErr, OnErr, arith, inl, inr, subst}
+use Rattle.std.proofs.Common.{◌≡◌, ◌+◌, ◌<◌, ◌≤◌, ℕ, List, Result, Ok, Err, IfOk, IfErr, OnErr, arith, inl, inr, subst}
 use Rattle.std.specs.Io.KnownBytes.{Keeps}
 use Rattle.omega_text.specs.declared.refusal.Refusal.{Refusal}
 use Rattle.omega_io.specs.declared.exit.Exit.{Exit}
-use Rattle.omega_io.specs.Exit.{status_of}
 use Rattle.omega_io.specs.Failures.{failures_of}
 use Rattle.omega_io.specs.RefusalLine.{line_of}
 use Rattle.omega_text.specs.declared.refusal.Refusal.TheVariants.{Memory}
 use Rattle.omega_run.specs.Perform.{Performs}
-use Rattle.omega_run.specs.Report.{IsRefusalReported, Reports, ReportsBy}
+use Rattle.omega_run.specs.Report.{IsRefusalReported, ReportsBy}
 use Rattle.omega_run.specs.Respond.{IsRunRefusal}
 use Rattle.omega_run.specs.Run.{BreaksOff, Completes}
 use Rattle.omega_run.specs.World.{Streams}
-
--- what is written for an outcome may be stated in other words
-pub reports_as : (outcome : Result Exit Refusal) (status : ℕ) (Reported Others : List ℕ → Type 0) → ((text : List ℕ) → Reported text → Others text)
-    → Reports outcome status Reported → Reports outcome status Others
-reports_as (Ok exit) status Reported Others wider (ends, reported) = (ends, wider [] reported)
-reports_as (Err refusal) status Reported Others wider (inl reported) = inl (reported.0, wider (line_of refusal) reported.1)
-reports_as (Err refusal) status Reported Others wider (inr reported) = inr (reported.0, wider (line_of Memory) reported.1)
-
--- if anything may be written, the status alone counts
-pub reports_any : (outcome : Result Exit Refusal) (status : ℕ) (Reported : List ℕ → Type 0) → status ≡ status_of outcome
-    → ((text : List ℕ) → Reported text) → Reports outcome status Reported
-reports_any (Ok exit) status Reported ends all = (ends, all [])
-reports_any (Err refusal) status Reported ends all = inl (ends, all (line_of refusal))
 
 -- the lines that were made for a refusal are written, or that there was no memory for them
 pub reports_lines : {V : Type 0} (bytes : V → List ℕ) (wanted : Refusal → List ℕ) (refusal : Refusal) (lines : Result V Refusal) (status : ℕ)

@@ -4,12 +4,12 @@ use Rattle.omega_text.specs.Cases.{or_io, or_memory}
 use Rattle.omega_text.specs.declared.refusal.Refusal.{Refusal}
 use Rattle.omega_text.specs.declared.refusal.Refusal.TheVariants.{Automaton, Game, Io, Memory, Task, Text}
 use Rattle.omega_command.specs.declared.beside.Beside.{Beside}
-use Rattle.omega_command.specs.declared.beside.Beside.TheVariants.{Accepts, Contained, ContainedStream, DrawSolution, Equal, Join, Meet, Verify, VerifyController, VerifyLasso, VerifyWinners}
+use Rattle.omega_command.specs.declared.beside.Beside.TheVariants.{Accepts, Contained, ContainedStream, DrawSolution, DrawWalk, Equal, Join, Meet, Verify, VerifyController, VerifyLasso, VerifyNamed, VerifyWinners}
 use Rattle.omega_io.specs.Failures.{IsTransferRefusal, failures_in, failures_of}
 use Rattle.omega_io.specs.Reading.{IsRead, ReadsText}
 use Rattle.omega_accepts.proofs.Refused.{membership_io}
 use Rattle.omega_accepts_answers.specs.Accepts as accepts
-use Rattle.omega_containment.specs.Refusing.{IsContainmentRefusal, not_complemented, not_met, not_searched}
+use Rattle.omega_containment.specs.Refusing.{IsContainmentRefusal, no_memory, not_complemented, not_met}
 use Rattle.omega_containment_answers.specs.Contained as contained
 use Rattle.omega_containment_answers.specs.Equal as equal
 use Rattle.omega_controller_answers.specs.Verify as controller
@@ -75,6 +75,7 @@ module _ (file : List ℕ) (before after : Option (List ℕ)) where
   file_refuses : (asked : Beside) (refusal : Refusal) → ReadsText before after (λ input. RefusesFile asked file input refusal)
       → RefusesText (AnswersBeside asked file) before after refusal
   file_refuses (Verify from explain) refusal h = record { text = h.text; read = h.read; holds = inl h.holds }
+  file_refuses (VerifyNamed from) refusal h = record { text = h.text; read = h.read; holds = inl h.holds }
   file_refuses (VerifyWinners from explain) refusal h = record { text = h.text; read = h.read; holds = inl h.holds }
   file_refuses (VerifyLasso explain) refusal h = record { text = h.text; read = h.read; holds = inl h.holds }
   file_refuses (VerifyController explain) refusal h = record { text = h.text; read = h.read; holds = inl h.holds }
@@ -86,11 +87,13 @@ module _ (file : List ℕ) (before after : Option (List ℕ)) where
   file_refuses (ContainedStream explain) refusal h = record { text = h.text; read = h.read; holds = stream_file file h.text explain refusal h.holds }
   file_refuses (Equal explain) refusal h = record { text = h.text; read = h.read; holds = equal_file file h.text refusal h.holds }
   file_refuses (DrawSolution from depth legend) refusal h = record { text = h.text; read = h.read; holds = inr h.holds }
+  file_refuses (DrawWalk from depth legend) refusal h = record { text = h.text; read = h.read; holds = inr h.holds }
 
   -- that of the input is
   input_refuses : (asked : Beside) (refusal : Refusal) → ReadsText before after (λ input. RefusesInput asked file input refusal)
       → RefusesText (AnswersBeside asked file) before after refusal
   input_refuses (Verify from explain) refusal h = record { text = h.text; read = h.read; holds = inr h.holds }
+  input_refuses (VerifyNamed from) refusal h = record { text = h.text; read = h.read; holds = inr h.holds }
   input_refuses (VerifyWinners from explain) refusal h = record { text = h.text; read = h.read; holds = inr h.holds }
   input_refuses (VerifyLasso explain) refusal h = record { text = h.text; read = h.read; holds = inr h.holds }
   input_refuses (VerifyController explain) refusal h = record { text = h.text; read = h.read; holds = inr (inl h.holds) }
@@ -102,11 +105,13 @@ module _ (file : List ℕ) (before after : Option (List ℕ)) where
   input_refuses (ContainedStream explain) refusal h = record { text = h.text; read = h.read; holds = inr (inl h.holds) }
   input_refuses (Equal explain) refusal h = record { text = h.text; read = h.read; holds = equal_input file h.text refusal h.holds }
   input_refuses (DrawSolution from depth legend) refusal h = record { text = h.text; read = h.read; holds = inl h.holds }
+  input_refuses (DrawWalk from depth legend) refusal h = record { text = h.text; read = h.read; holds = inl h.holds }
 
   -- both are
   both_refuse : (asked : Beside) (refusal : Refusal) → ReadsText before after (λ input. RefusesBoth asked file input refusal)
       → RefusesText (AnswersBeside asked file) before after refusal
   both_refuse (Verify from explain) refusal h = absurd h.holds
+  both_refuse (VerifyNamed from) refusal h = absurd h.holds
   both_refuse (VerifyWinners from explain) refusal h = absurd h.holds
   both_refuse (VerifyLasso explain) refusal h = absurd h.holds
   both_refuse (VerifyController explain) refusal h = record { text = h.text; read = h.read; holds = inr (inr h.holds) }
@@ -118,6 +123,7 @@ module _ (file : List ℕ) (before after : Option (List ℕ)) where
   both_refuse (ContainedStream explain) refusal h = record { text = h.text; read = h.read; holds = inr (inr h.holds.0) }
   both_refuse (Equal explain) refusal h = record { text = h.text; read = h.read; holds = equal_both file h.text refusal h.holds }
   both_refuse (DrawSolution from depth legend) refusal h = absurd h.holds
+  both_refuse (DrawWalk from depth legend) refusal h = absurd h.holds
 
 pub about_refuses : (asked : Beside) (file : List ℕ) (before after : Option (List ℕ)) (which : Option Which) (refusal : Refusal)
     → IsRefusalAbout asked file before after which refusal → IsRunRefusal (AnswersBeside asked file) before after refusal
@@ -170,7 +176,7 @@ automaton_io text (inr (short, inr (lexemes, cut, inr segment))) = elim segment.
 containment_io : (one other : Description) → IsContainmentRefusal one other Io → ⊥
 containment_io one other (not_complemented refused) = refused
 containment_io one other (not_met complement given is refused) = refused
-containment_io one other (not_searched complement both given is met refused) = refused
+containment_io one other (no_memory comparable refused) = refused
 
 pair_io : (outer inner : List ℕ) → contained.IsPairRefused outer inner Io → ⊥
 pair_io outer inner pair = containment_io pair.one pair.other pair.refused
@@ -218,6 +224,7 @@ io_about : (asked : Beside) (file input : List ℕ) (which : Option Which)
     → IsRefusedBeside asked file input which Io → ⊥
 io_about asked file input None (inl h) = absurd (cc h)
 io_about (Verify from explain) file input None (inr h) = h
+io_about (VerifyNamed from) file input None (inr h) = h
 io_about (VerifyWinners from explain) file input None (inr h) = h
 io_about (VerifyLasso explain) file input None (inr h) = h
 io_about (VerifyController explain) file input None (inr h) = judged_io file input None h
@@ -231,8 +238,11 @@ io_about (ContainedStream explain) file input None (inr h) = item_io file input 
 io_about (Equal explain) file input None (inr (inl pair, other)) = pair_io file input pair
 io_about (Equal explain) file input None (inr (inr pair, other)) = pair_io input file pair
 io_about (DrawSolution from depth legend) file input None (inr h) = h
+io_about (DrawWalk from depth legend) file input None (inr h) = h
 io_about (Verify None explain) file input (Some File) h = h
 io_about (Verify (Some identifier) explain) file input (Some File) h = h
+io_about (VerifyNamed None) file input (Some File) h = h
+io_about (VerifyNamed (Some identifier)) file input (Some File) h = h
 io_about (VerifyWinners from explain) file input (Some File) h = winners_game_io file from input h
 io_about (VerifyLasso explain) file input (Some File) (inl (inl h)) = automaton_io file h
 io_about (VerifyLasso explain) file input (Some File) (inl (inr h)) = cc h.refused
@@ -249,7 +259,9 @@ io_about (ContainedStream explain) file input (Some File) (inr (pair, choice)) =
 io_about (Equal explain) file input (Some File) (inl text) = automaton_io file text
 io_about (Equal explain) file input (Some File) (inr (pair, choice)) = pair_io file input pair
 io_about (DrawSolution from depth legend) file input (Some File) h = h.refused
+io_about (DrawWalk from depth legend) file input (Some File) h = h.refused
 io_about (Verify from explain) file input (Some Input) h = h.refused
+io_about (VerifyNamed from) file input (Some Input) h = h.refused
 io_about (VerifyWinners from explain) file input (Some Input) h = h.refused
 io_about (VerifyLasso explain) file input (Some Input) h = h.refused
 io_about (VerifyController explain) file input (Some Input) (inl text) = automaton_io input text.refused
@@ -264,6 +276,8 @@ io_about (Equal explain) file input (Some Input) (inl text) = automaton_io input
 io_about (Equal explain) file input (Some Input) (inr (pair, choice)) = pair_io input file pair
 io_about (DrawSolution None depth legend) file input (Some Input) h = h
 io_about (DrawSolution (Some identifier) depth legend) file input (Some Input) h = h
+io_about (DrawWalk None depth legend) file input (Some Input) h = h
+io_about (DrawWalk (Some identifier) depth legend) file input (Some Input) h = h
 
 unfailed_about : (asked : Beside) (file input : List ℕ) (which : Option Which) (refusal : Refusal)
     → IsRefusedBeside asked file input which refusal

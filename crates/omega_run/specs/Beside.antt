@@ -5,7 +5,7 @@ use Rattle.omega_text.specs.declared.refusal.Refusal.{Refusal}
 use Rattle.omega_game_answers.specs.Verify.{IsJudgedGameRefusal, RefusesSolution}
 use Rattle.omega_game_answers.specs.Winners.{IsWinnersGameRefusal, RefusesWinners}
 use Rattle.omega_command.specs.declared.beside.Beside.{Beside}
-use Rattle.omega_command.specs.declared.beside.Beside.TheVariants.{Accepts, Contained, ContainedStream, DrawSolution, Equal, Join, Meet, Verify, VerifyController, VerifyLasso, VerifyWinners}
+use Rattle.omega_command.specs.declared.beside.Beside.TheVariants.{Accepts, Contained, ContainedStream, DrawSolution, DrawWalk, Equal, Join, Meet, Verify, VerifyController, VerifyLasso, VerifyNamed, VerifyWinners}
 use Rattle.omega_accepts_answers.specs.Accepts as accepts
 use Rattle.omega_containment_answers.specs.Contained as contained
 use Rattle.omega_containment_answers.specs.Equal as equal
@@ -17,6 +17,7 @@ use Rattle.omega_language_answers.specs.Meet.{IsProductRefused, IsTextRefused}
 use Rattle.omega_stream_questions.specs.Contained as stream
 use Rattle.omega_trim_answers.specs.Meet.{IsTrimRefused}
 use Rattle.omega_union_answers.specs.Join.{IsUnionRefused}
+use Rattle.omega_walk_answers.specs.Draw.{RefusesWalk}
 use Rattle.omega_io.specs.declared.refused.Which.{Which}
 use Rattle.omega_io.specs.declared.refused.Which.TheVariants.{File, Input}
 use Rattle.omega_io.specs.Failures.{IsTransferRefusal}
@@ -25,8 +26,10 @@ use Rattle.omega_io.specs.RefusalLine.{line_of}
 use Rattle.omega_io.specs.Lines.{file_lines, lines_in}
 use Rattle.omega_io.specs.Refused.{IsAbout}
 use Rattle.omega_word_text.specs.Text.{IsWordRefusal}
+use Rattle.omega_run.specs.Causes.{IsCauseAbout, IsNoCause, texts}
+use Rattle.omega_run.specs.Held.{IsHeld}
 use Rattle.omega_run.specs.Perform.{Performs}
-use Rattle.omega_run.specs.Report.{ReportsBy}
+use Rattle.omega_run.specs.Report.{ReportsBy, ReportsCause}
 use Rattle.omega_run.specs.Respond.{AnswersBeside}
 use Rattle.omega_run.specs.World.{Streams, World}
 
@@ -34,6 +37,8 @@ use Rattle.omega_run.specs.World.{Streams, World}
 abbrev pub name_of : Beside → Which → List ℕ
 name_of (Verify from explain) File = codes "game"
 name_of (Verify from explain) Input = codes "solution"
+name_of (VerifyNamed from) File = codes "game"
+name_of (VerifyNamed from) Input = codes "solution"
 name_of (VerifyWinners from explain) File = codes "game"
 name_of (VerifyWinners from explain) Input = codes "solution"
 name_of (VerifyLasso explain) File = codes "automaton"
@@ -54,10 +59,13 @@ name_of (Equal explain) File = codes "other automaton"
 name_of (Equal explain) Input = codes "automaton"
 name_of (DrawSolution from depth legend) File = codes "solution"
 name_of (DrawSolution from depth legend) Input = codes "game"
+name_of (DrawWalk from depth legend) File = codes "walk"
+name_of (DrawWalk from depth legend) Input = codes "game"
 
 -- why the text of the file is refused
 abbrev pub RefusesFile : Beside → (file input : List ℕ) → Refusal → Type 0
 RefusesFile (Verify from explain) file input refusal = IsJudgedGameRefusal file from refusal
+RefusesFile (VerifyNamed from) file input refusal = IsJudgedGameRefusal file from refusal
 RefusesFile (VerifyWinners from explain) file input refusal = IsWinnersGameRefusal file from input refusal
 RefusesFile (VerifyLasso explain) file input refusal = RefusesAutomaton file input refusal
 RefusesFile (VerifyController explain) file input refusal = controller.IsFileRefusal file input refusal
@@ -69,10 +77,12 @@ RefusesFile (ContainedStream explain) file input refusal =
     IsAutomatonRefusal file refusal ⊎ (stream.IsPairRefused file input explain refusal × contained.IsChoice refusal)
 RefusesFile (Equal explain) file input refusal = equal.IsFileRefusal file input refusal
 RefusesFile (DrawSolution from depth legend) file input refusal = RefusesSolution input from file refusal
+RefusesFile (DrawWalk from depth legend) file input refusal = RefusesWalk input from file refusal
 
 -- why the text of the input is
 abbrev pub RefusesInput : Beside → (file input : List ℕ) → Refusal → Type 0
 RefusesInput (Verify from explain) file input refusal = RefusesSolution file from input refusal
+RefusesInput (VerifyNamed from) file input refusal = RefusesSolution file from input refusal
 RefusesInput (VerifyWinners from explain) file input refusal = RefusesWinners file from input refusal
 RefusesInput (VerifyLasso explain) file input refusal = RefusesLasso file input refusal
 RefusesInput (VerifyController explain) file input refusal = controller.IsInputRefusal file input refusal
@@ -83,10 +93,12 @@ RefusesInput (Contained explain) file input refusal = IsTextRefused file input r
 RefusesInput (ContainedStream explain) file input refusal = stream.IsStreamRefused file input refusal
 RefusesInput (Equal explain) file input refusal = equal.IsInputRefusal file input refusal
 RefusesInput (DrawSolution from depth legend) file input refusal = IsJudgedGameRefusal input from refusal
+RefusesInput (DrawWalk from depth legend) file input refusal = IsJudgedGameRefusal input from refusal
 
 -- why the two texts are refused together, though each is good by itself
 abbrev pub RefusesBoth : Beside → (file input : List ℕ) → Refusal → Type 0
 RefusesBoth (Verify from explain) file input refusal = ⊥
+RefusesBoth (VerifyNamed from) file input refusal = ⊥
 RefusesBoth (VerifyWinners from explain) file input refusal = ⊥
 RefusesBoth (VerifyLasso explain) file input refusal = ⊥
 RefusesBoth (VerifyController explain) file input refusal = controller.IsPairRefused file input None refusal
@@ -99,6 +111,7 @@ RefusesBoth (ContainedStream explain) file input refusal = stream.IsPairRefused 
 RefusesBoth (Equal explain) file input refusal =
     (contained.IsPairRefused file input refusal ⊎ contained.IsPairRefused input file refusal) × ¬ contained.IsChoice refusal
 RefusesBoth (DrawSolution from depth legend) file input refusal = ⊥
+RefusesBoth (DrawWalk from depth legend) file input refusal = ⊥
 
 -- the input was read and the refusal is one of the text that is named; if none is named, it is one of both texts
 -- together, or want of memory, or a read or a write failed
@@ -125,12 +138,18 @@ abbrev pub lines_of_file : (verbose : Bool) → List ℕ → Refusal → List �
 lines_of_file false name refusal = line_of refusal
 lines_of_file true name refusal = file_lines name refusal
 
--- the texts were answered, or refused with lines that name the text that the refusal is about
-abbrev pub IsRunBeside : (verbose : Bool) → Beside → (file : List ℕ) → ℕ → Streams → Streams → (List ℕ → Type 0) → Type 0
-IsRunBeside verbose asked file status before after tells =
+-- the texts were answered, or refused with lines that name the text that the refusal is about, and with its cause
+abbrev pub IsAnswered : (Option Which → Refusal → List ℕ → Type 0) → (verbose : Bool) → Beside → (file : List ℕ) → ℕ → (List ℕ → Type 0) → Streams → Streams → Type 0
+IsAnswered IsReason verbose asked file status tells before after =
     (outcome : Result Exit Refusal) × (which : Option Which) × Performs (AnswersBeside asked file) outcome before after
     × IfErr outcome (IsRefusalAbout asked file before.unread after.unread which)
-    × ReportsBy (lines_about verbose asked which) outcome status tells
+    × ReportsCause (lines_about verbose asked which) (IsReason which) outcome status tells
+
+-- the text of the file was answered beside that of the input, which is held with `--verbose`, so that causes are told
+abbrev pub IsRunBeside : (verbose : Bool) → Beside → (file : List ℕ) → ℕ → (List ℕ → Type 0) → Streams → Streams → Type 0
+IsRunBeside false asked file status tells = IsAnswered (λ which. IsNoCause) false asked file status tells
+IsRunBeside true asked file status tells =
+    IsHeld (λ input. IsAnswered (IsCauseAbout asked (texts file input) (texts file input)) true asked file status tells) status tells
 
 -- the file of this name was refused, and the lines for that were written; nothing else was read or written
 abbrev pub IsFileRefused : (verbose : Bool) → List ℕ → ℕ → World → Type 0
@@ -141,5 +160,5 @@ IsFileRefused verbose name status world =
 -- the file of this name was read as some text, which was answered to beside that of the input; or the file was refused
 abbrev pub IsRunWithFile : (verbose : Bool) → Beside → List ℕ → ℕ → World → Type 0
 IsRunWithFile verbose asked name status world =
-    ((text : List ℕ) × world.reads name text × IsRunBeside verbose asked text status world.before world.after world.tells)
+    ((text : List ℕ) × world.reads name text × IsRunBeside verbose asked text status world.tells world.before world.after)
     ⊎ IsFileRefused verbose name status world

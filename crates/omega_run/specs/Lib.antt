@@ -9,7 +9,9 @@ pub use Rattle.omega_io.specs.Writing
 pub use Rattle.omega_io.specs.Lines
 pub use Rattle.omega_io.specs.Refused
 pub mod Beside
+pub mod Causes
 pub mod Formats
+pub mod Held
 pub mod Lenient
 pub mod Obey
 pub mod Perform

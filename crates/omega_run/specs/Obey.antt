@@ -1,5 +1,5 @@
 -- What the program leaves when it obeys a command line: its status, and what it read and wrote.
-use Rattle.std.specs.Prelude.{◌≡◌, ◌+◌, ◌⊎◌, ◌++◌, Bool, true, false, List, Option, Some, Result, Ok, Err, ℕ, string_bytes}
+use Rattle.std.specs.Prelude.{◌≡◌, ◌+◌, ◌⊎◌, ◌++◌, Bool, true, false, List, [], Option, Some, Result, Ok, Err, ℕ, string_bytes}
 use Rattle.std.specs.Io.KnownBytes.{Appends}
 use Rattle.omega_text.specs.declared.refusal.Refusal.{Refusal}
 use Rattle.omega_text.specs.declared.refusal.Refusal.TheVariants.{Io}
@@ -18,64 +18,92 @@ use Rattle.omega_command.specs.declared.line.Task.TheVariants.{Beside, Given, Ru
 use Rattle.omega_io.specs.declared.exit.Exit.{Exit}
 use Rattle.omega_io.specs.declared.exit.Exit.TheVariants.{Done}
 use Rattle.omega_io.specs.Exit.{fault_status}
-use Rattle.omega_io.specs.Reading.{IsRead, ReadsText}
+use Rattle.omega_io.specs.RefusalLine.{line_of}
 use Rattle.omega_io.specs.Writing.{WritesBeginning}
-use Rattle.omega_io.specs.declared.refused.Which.{Which}
+use Rattle.omega_io.specs.declared.refused.Refused.{Refused}
 use Rattle.omega_io.specs.declared.refused.Which.TheVariants as which
+use Rattle.omega_io.specs.Refused.{IsRefusedOf}
+use Rattle.omega_lenient.specs.Refusing.{IsLenientReadRefusal}
 use Rattle.omega_lenient.specs.StrictText.{IsStrictGameText}
 use Rattle.omega_budget.specs.Observing.{lifts_between_reports, refusal_in}
-use Rattle.omega_run.specs.Beside.{IsFileRefused, IsRunBeside, IsRunWithFile, lines_about}
-use Rattle.omega_run.specs.Lenient.{IsGameUnread, IsPairUnread, IsReadAs, IsUnanswered, has_game}
+use Rattle.omega_run.specs.Beside.{IsAnswered, IsFileRefused, IsRunBeside, IsRunWithFile, lines_about}
+use Rattle.omega_run.specs.Causes.{IsCause, IsCauseTold, IsNoCause, kind_beside, kind_for, texts}
+use Rattle.omega_run.specs.Held.{IsHeld}
+use Rattle.omega_run.specs.Lenient.{IsGameCauseTold, IsReadAs, IsUnread}
 use Rattle.omega_run.specs.Perform.{Performs}
 use Rattle.omega_run.specs.Progress.{AreProgressLines, CountsLines}
-use Rattle.omega_run.specs.Report.{Reports, ReportsBy}
+use Rattle.omega_run.specs.Report.{Reports, ReportsCause}
 use Rattle.omega_run.specs.Respond.{Answers}
 use Rattle.omega_run.specs.Formats.{IsFormatOf}
-use Rattle.omega_run.specs.World.{Streams, World}
+use Rattle.omega_run.specs.World.{Streams, World, over}
+
+-- the command was run
+abbrev pub IsCommandRun : (Refusal → List ℕ → Type 0) → Command → ℕ → ℕ → (List ℕ → Type 0) → Streams → Streams → Type 0
+IsCommandRun IsReason command budget status tells before after =
+    (outcome : Result Exit Refusal) × Performs (Answers command budget) outcome before after
+    × ReportsCause line_of IsReason outcome status tells
 
 -- the command was run and observed: the lines of its progress come before those of its outcome, and both are one text;
 -- its answer counts the lifts of these lines
-abbrev pub IsObservedRun : Command → ℕ → ℕ → (List ℕ → Type 0) → Streams → Streams → Type 0
-IsObservedRun command budget status tells before after =
+abbrev pub IsObservedRun : (Refusal → List ℕ → Type 0) → Command → ℕ → ℕ → (List ℕ → Type 0) → Streams → Streams → Type 0
+IsObservedRun IsReason command budget status tells before after =
     (outcome : Result Exit Refusal) × (lines : List ℕ) × Performs (Answers command budget) outcome before after
     × AreProgressLines command (refusal_in outcome) lifts_between_reports budget before.unread after.unread lines
     × CountsLines command outcome lifts_between_reports budget before.unread after.unread before.held after.held lines
-    × Reports outcome status (λ text. tells (lines ++ text))
+    × ReportsCause line_of IsReason outcome status (λ text. tells (lines ++ text))
 
--- the task was done with the text of the input; a refusal has one line, and with `--verbose` another with what it is
+-- the command was run so, on its input, and no cause is told; with `--verbose` the input is held, and the cause of a
+-- refusal of its text is told
+abbrev pub IsRunTelling : (verbose : Bool) → Command → ((Refusal → List ℕ → Type 0) → Streams → Streams → Type 0) → ℕ → (List ℕ → Type 0) → Streams → Streams → Type 0
+IsRunTelling false command IsRun status tells = IsRun IsNoCause
+IsRunTelling true command IsRun status tells = IsHeld (λ text. IsRun (IsCause (kind_for command) text text [])) status tells
+
+-- the task was done with the text of the input; a refusal has one line, and with `--verbose` others with what it is
 -- about
 abbrev pub IsPerformed : (verbose : Bool) → Task → ℕ → World → Type 0
 IsPerformed verbose (Run command budget) status world =
-    (outcome : Result Exit Refusal) × Performs (Answers command budget) outcome world.before world.after × Reports outcome status world.tells
-IsPerformed verbose (Observed command budget) status world = IsObservedRun command budget status world.tells world.before world.after
+    IsRunTelling verbose command (λ IsReason. IsCommandRun IsReason command budget status world.tells) status world.tells world.before world.after
+IsPerformed verbose (Observed command budget) status world =
+    IsRunTelling verbose command (λ IsReason. IsObservedRun IsReason command budget status world.tells) status world.tells world.before world.after
 IsPerformed verbose (Beside file asked) status world = IsRunWithFile verbose asked (string_bytes file) status world
 IsPerformed verbose (Given text asked) status world =
-    IsRunBeside verbose asked (string_bytes text) status world.before world.after world.tells
+    IsRunBeside verbose asked (string_bytes text) status world.tells world.before world.after
 
--- the streams with an input that has this left and whose reads never failed
-abbrev pub over : Option (List ℕ) → Streams → Streams
-over unread streams = record streams { unread = unread; failed_reads = 0 }
+-- nothing was written
+abbrev pub KeepsOutput : Streams → Streams → Type 0
+KeepsOutput before after = (after.held ≡ before.held) × (after.failed_writes ≡ before.failed_writes)
 
--- the input was read, its game has this canonical text, and the task was done with that as its input; or it was refused
+-- the game of this text was read, and the task was done with its canonical text as input; or it was refused
+abbrev pub IsDoneOfText : (verbose : Bool) → Task → (source : List ℕ) → ℕ → World → Type 0
+IsDoneOfText verbose task source status world =
+    ((game : List ℕ) × (rest : Option (List ℕ)) × IsStrictGameText source game
+    × IsPerformed verbose task status (record world { before = over (Some game) world.before; after = over rest world.after }))
+    ⊎ ((refusal : Refusal) × IsLenientReadRefusal source refusal
+    × ReportsCause line_of (IsGameCauseTold verbose source) (Err refusal) status world.tells × KeepsOutput world.before world.after)
+
+-- the input was read, and the task was done with the canonical text of its game
 abbrev pub IsDoneOfGame : (verbose : Bool) → Task → ℕ → World → Type 0
 IsDoneOfGame verbose task status world =
-    ((game : List ℕ) × (rest : Option (List ℕ)) × ReadsText world.before.unread world.after.unread (λ text. IsStrictGameText text game)
-    × (world.after.failed_reads ≡ world.before.failed_reads)
-    × IsPerformed verbose task status (record world { before = over (Some game) world.before; after = over rest world.after }))
-    ⊎ ((refusal : Refusal) × IsGameUnread world.before.unread world.after.unread refusal × Reports (Err refusal) status world.tells
-    × IsUnanswered refusal world.before world.after)
+    IsHeld (λ source before after. IsDoneOfText verbose task source status (record world { before = before; after = after }))
+    status world.tells world.before world.after
 
--- the file of this name and the input were read, and what was read in place of their texts was answered; or one of the
--- two was refused
-abbrev pub IsRunOfTexts : (verbose : Bool) → two.Beside → List ℕ → ℕ → World → Type 0
-IsRunOfTexts verbose asked name status world =
-    ((source file input : List ℕ) × (rest : Option (List ℕ)) × world.reads name source × IsReadAs (has_game asked which.File) source file
-    × ReadsText world.before.unread world.after.unread (λ text. IsReadAs (has_game asked which.Input) text input)
-    × (world.after.failed_reads ≡ world.before.failed_reads)
-    × IsRunBeside verbose asked file status (over (Some input) world.before) (over rest world.after) world.tells)
-    ⊎ ((source : List ℕ) × (refusal : Refusal) × (refused : Option Which) × world.reads name source
-    × IsPairUnread asked source world.before.unread world.after.unread refused refusal
-    × ReportsBy (lines_about verbose asked refused) (Err refusal) status world.tells × IsUnanswered refusal world.before world.after)
+-- what is read in place of these two texts was answered; or one of the two was refused
+abbrev pub IsRunOfTexts : (verbose : Bool) → two.Beside → (source written : List ℕ) → ℕ → (List ℕ → Type 0) → Streams → Streams → Type 0
+IsRunOfTexts verbose asked source written status tells before after =
+    ((file input : List ℕ) × (rest : Option (List ℕ))
+    × IsReadAs (kind_beside asked which.File) source file × IsReadAs (kind_beside asked which.Input) written input
+    × IsAnswered (IsCauseTold verbose asked (texts source written) (texts file input)) verbose asked file status tells
+    (over (Some input) before) (over rest after))
+    ⊎ ((refused : Refused) × IsRefusedOf (IsUnread (kind_beside asked which.File) source) (IsUnread (kind_beside asked which.Input) written) refused
+    × ReportsCause (lines_about verbose asked refused.text) (IsCauseTold verbose asked (texts source written) (texts source written) refused.text)
+    (Err refused.refusal) status tells × KeepsOutput before after)
+
+-- the file of this name was read, and then the input, and what is read in place of their texts was answered; or the
+-- file was refused
+abbrev pub IsRunOfFiles : (verbose : Bool) → two.Beside → List ℕ → ℕ → World → Type 0
+IsRunOfFiles verbose asked name status world =
+    ((source : List ℕ) × world.reads name source
+    × IsHeld (λ written. IsRunOfTexts verbose asked source written status world.tells) status world.tells world.before world.after)
     ⊎ IsFileRefused verbose name status world
 
 -- the task was done, with games, and solutions of them, read as other tools write them
@@ -83,7 +111,7 @@ abbrev pub IsPerformedLeniently : (verbose : Bool) → Task → ℕ → World �
 IsPerformedLeniently verbose (Run command budget) status world = IsDoneOfGame verbose (Run command budget) status world
 IsPerformedLeniently verbose (Observed command budget) status world = IsDoneOfGame verbose (Observed command budget) status world
 IsPerformedLeniently verbose (Given text asked) status world = IsDoneOfGame verbose (Given text asked) status world
-IsPerformedLeniently verbose (Beside file asked) status world = IsRunOfTexts verbose asked (string_bytes file) status world
+IsPerformedLeniently verbose (Beside file asked) status world = IsRunOfFiles verbose asked (string_bytes file) status world
 
 -- the task was done, with games read leniently or not
 abbrev pub IsPerformedReading : (lenient verbose : Bool) → Task → ℕ → World → Type 0

@@ -33,7 +33,7 @@ LiftsInput (Solve player from) unread_before unread_after refusal nodes players 
     ReadsText unread_before unread_after (λ text. LiftsText text (asked_for player) from refusal nodes players)
 LiftsInput (Search from) unread_before unread_after refusal nodes players =
     ReadsText unread_before unread_after (λ text. LiftsText text way.Search from refusal nodes players)
-LiftsInput (Empty word status) unread_before unread_after refusal nodes players =
+LiftsInput (Empty word names status) unread_before unread_after refusal nodes players =
     ReadsText unread_before unread_after (λ text. LiftsAutomatonText text refusal nodes players)
 LiftsInput (RealizeByLifting controller) unread_before unread_after refusal nodes players =
     ReadsText unread_before unread_after (λ text. realize.LiftsText text refusal nodes players)

@@ -1,10 +1,11 @@
 -- The status after an outcome, and the lines for it on standard error.
-use Rattle.std.specs.Prelude.{◌≡◌, ◌⊎◌, [], List, Result, Ok, Err, ℕ}
+use Rattle.std.specs.Prelude.{◌≡◌, ◌⊎◌, ◌++◌, [], List, Result, Ok, Err, ℕ}
 use Rattle.omega_text.specs.declared.refusal.Refusal.{Refusal}
 use Rattle.omega_text.specs.declared.refusal.Refusal.TheVariants.{Memory}
 use Rattle.omega_io.specs.declared.exit.Exit.{Exit}
 use Rattle.omega_io.specs.Exit.{status_of}
 use Rattle.omega_io.specs.RefusalLine.{line_of}
+use Rattle.omega_run.specs.Causes.{MayExplain}
 
 -- the status of a refusal, and these lines on standard error
 abbrev pub IsRefusalReported : Refusal → List ℕ → ℕ → (List ℕ → Type 0) → Type 0
@@ -20,3 +21,8 @@ ReportsBy lines (Err refusal) status tells =
 -- the same, with one line for a refusal
 abbrev pub Reports : Result Exit Refusal → ℕ → (List ℕ → Type 0) → Type 0
 Reports = ReportsBy line_of
+
+-- the same, with these lines for a refusal and after them that of its cause, or no more if there is no memory for it
+abbrev pub ReportsCause : (Refusal → List ℕ) → (Refusal → List ℕ → Type 0) → Result Exit Refusal → ℕ → (List ℕ → Type 0) → Type 0
+ReportsCause lines IsReason outcome status tells =
+    (cause : List ℕ) × MayExplain IsReason outcome cause × ReportsBy (λ refusal. lines refusal ++ cause) outcome status tells

@@ -5,7 +5,7 @@ use Rattle.omega_text.specs.declared.refusal.Refusal.{Refusal}
 use Rattle.omega_pg.specs.game.Refusing.{IsRefusal}
 use Rattle.omega_parity_game.specs.declared.player.Player.{Player}
 use Rattle.omega_command.specs.declared.beside.Beside.{Beside}
-use Rattle.omega_command.specs.declared.beside.Beside.TheVariants.{Accepts, Contained, ContainedStream, DrawSolution, Equal, Join, Meet, Verify, VerifyController, VerifyLasso, VerifyWinners}
+use Rattle.omega_command.specs.declared.beside.Beside.TheVariants.{Accepts, Contained, ContainedStream, DrawSolution, DrawWalk, Equal, Join, Meet, Verify, VerifyController, VerifyLasso, VerifyNamed, VerifyWinners}
 use Rattle.omega_command.specs.declared.command.Command.{Command}
 use Rattle.omega_command.specs.declared.command.Command.TheVariants.{Canon, CanonLeast, CanonPart, Check, Complement, Draw, DrawLasso, DrawPart, Each, Empty, EmptySearch, Game, RealizabilityGame, Realize, RealizeByLifting, Search, Show, ShowJson, Solve, Trim}
 use Rattle.omega_command.specs.declared.command.Format.TheVariants.{Hoa, Pg}
@@ -29,6 +29,7 @@ use Rattle.omega_stream_answers.specs.Check.{IsStreamCheckAnswer}
 use Rattle.omega_game_answers.specs.Check.{IsCheckAnswer}
 use Rattle.omega_empty_answers.specs.Draw.{IsAutomatonDrawingAnswer, IsLassoDrawingAnswer}
 use Rattle.omega_game_answers.specs.Draw.{IsGameDrawingAnswer, IsSolutionDrawingAnswer}
+use Rattle.omega_empty_answers.specs.declared.lines.Lines.{Lines}
 use Rattle.omega_empty_answers.specs.empty.Answer.{IsEmptyAnswer, IsEmptyRefusal, IsEmptySearchAnswer, IsEmptySearchRefusal}
 use Rattle.omega_stream_answers.specs.Show.{IsStreamShowAnswer}
 use Rattle.omega_stream_answers.specs.ShowJson.{IsStreamShowJsonAnswer}
@@ -58,6 +59,8 @@ use Rattle.omega_language_answers.specs.Meet.{IsMeetAnswer, IsMeetRefusal, IsTex
 use Rattle.omega_trim_answers.specs.Meet.{IsMeetTrimmedAnswer, IsMeetTrimmedRefusal}
 use Rattle.omega_trim_answers.specs.Trim.{IsTrimAnswer, IsTrimAnswerRefusal}
 use Rattle.omega_union_answers.specs.Join.{IsJoinAnswer, IsJoinRefusal}
+use Rattle.omega_walk_answers.specs.Draw.{IsWalkDrawingAnswer, RefusesWalk}
+use Rattle.omega_walk_answers.specs.Verify.{IsNamedVerifyAnswer}
 
 -- for which players a game is solved: for one, or for both if none is named
 abbrev pub asked_for : Option Player → Asked
@@ -80,15 +83,19 @@ exit_of false verdict = Done
 exit_of true verdict.Empty = No
 exit_of true (verdict.Lasso stem cycle) = Done
 
+-- the lines that are written of a lasso besides: its word, and its run with the names of states
+abbrev pub lines_for : (word names : Bool) → Lines
+lines_for word names = record { word = word; run = names }
+
 -- the answer of `empty`, and how it ends
-abbrev pub EndsEmpty : List ℕ → ℕ → (word status : Bool) → Exit → List ℕ → Type 0
-EndsEmpty text budget word status exit output =
-    (answer : IsEmptyAnswer text budget word output) × (exit ≡ exit_of status answer.decided.verdict)
+abbrev pub EndsEmpty : List ℕ → ℕ → Lines → (status : Bool) → Exit → List ℕ → Type 0
+EndsEmpty text budget lines status exit output =
+    (answer : IsEmptyAnswer text budget lines output) × (exit ≡ exit_of status answer.decided.verdict)
 
 -- that of `empty --search`
-abbrev pub EndsEmptySearch : List ℕ → (word status : Bool) → Exit → List ℕ → Type 0
-EndsEmptySearch text word status exit output =
-    (answer : IsEmptySearchAnswer text word output) × (exit ≡ exit_of status answer.decided.verdict)
+abbrev pub EndsEmptySearch : List ℕ → Lines → (status : Bool) → Exit → List ℕ → Type 0
+EndsEmptySearch text lines status exit output =
+    (answer : IsEmptySearchAnswer text lines output) × (exit ≡ exit_of status answer.decided.verdict)
 
 -- the answer of `realize`: whether the automaton is realizable, or with `controller` the winner's automaton
 abbrev pub IsRealizeAnswer : (controller : Bool) → List ℕ → Exit → List ℕ → Type 0
@@ -101,8 +108,10 @@ EndsEach tells AreAnswers exit output = (no : Bool) × AreAnswers output no × (
 
 -- what the command makes of each automaton of the stream that the text is, with this budget
 abbrev pub AnswersEach : OfEach → ℕ → List ℕ → Result (Exit × List ℕ) Refusal → Type 0
-AnswersEach (each.Empty word status) budget text = Concludes (EndsEach status (AreLiftingAnswers text budget word)) (IsLiftingStreamRefusal text budget word)
-AnswersEach (each.EmptySearch word status) budget text = Concludes (EndsEach status (AreSearchAnswers text word)) (IsSearchStreamRefusal text word)
+AnswersEach (each.Empty word names status) budget text =
+    Concludes (EndsEach status (AreLiftingAnswers text budget (lines_for word names))) (IsLiftingStreamRefusal text budget (lines_for word names))
+AnswersEach (each.EmptySearch word names status) budget text =
+    Concludes (EndsEach status (AreSearchAnswers text (lines_for word names))) (IsSearchStreamRefusal text (lines_for word names))
 AnswersEach each.Complement budget text = Concludes (EndsEach false (AreComplementAnswers text)) (IsComplementStreamRefusal text)
 AnswersEach each.Trim budget text = Concludes (EndsEach false (AreTrimAnswers text)) (IsTrimStreamRefusal text)
 
@@ -121,8 +130,8 @@ Answers (CanonLeast from) budget text = Replies (IsCanonLeastAnswer text from) (
 Answers (Solve player from) budget text =
     Replies (IsSolveAnswer text (asked_for player) from budget) (IsSolveRefusal text (asked_for player) from budget)
 Answers (Search from) budget text = Replies (IsSolveAnswer text way.Search from budget) (IsSolveRefusal text way.Search from budget)
-Answers (Empty word status) budget text = Concludes (EndsEmpty text budget word status) (IsEmptyRefusal text budget)
-Answers (EmptySearch word status) budget text = Concludes (EndsEmptySearch text word status) (IsEmptySearchRefusal text)
+Answers (Empty word names status) budget text = Concludes (EndsEmpty text budget (lines_for word names) status) (IsEmptyRefusal text budget)
+Answers (EmptySearch word names status) budget text = Concludes (EndsEmptySearch text (lines_for word names) status) (IsEmptySearchRefusal text)
 Answers (Each asked) budget text = AnswersEach asked budget text
 Answers Complement budget text = Replies (IsComplementAnswer text) (IsComplementRefusal text)
 Answers Trim budget text = Replies (IsTrimAnswer text) (IsTrimAnswerRefusal text)
@@ -163,9 +172,14 @@ IsControllerRefusal file input refusal =
 abbrev pub IsJudgingRefusal : List ℕ → Option ℕ → List ℕ → Refusal → Type 0
 IsJudgingRefusal file from input refusal = IsWinnersGameRefusal file from input refusal ⊎ RefusesWinners file from input refusal
 
+-- the refusal of `draw --walk`: that of the game, or of the walk's text
+abbrev pub IsWalkDrawingRefusal : (walk : List ℕ) → Option ℕ → (input : List ℕ) → Refusal → Type 0
+IsWalkDrawingRefusal walk from input refusal = IsJudgedGameRefusal input from refusal ⊎ RefusesWalk input from walk refusal
+
 -- the same of the text of a file, or of the command line, and that of the input: the budget bounds none of these
 abbrev pub AnswersBeside : Beside → (file input : List ℕ) → Result (Exit × List ℕ) Refusal → Type 0
 AnswersBeside (Verify from explain) file input = Concludes (IsVerifyAnswer file from input explain) (IsVerifyRefusal file from input)
+AnswersBeside (VerifyNamed from) file input = Concludes (IsNamedVerifyAnswer file from input) (IsVerifyRefusal file from input)
 AnswersBeside (VerifyWinners from explain) file input = Concludes (IsWinnersAnswer file from input explain) (IsJudgingRefusal file from input)
 AnswersBeside (VerifyLasso explain) file input = Concludes (IsLassoAnswer file input explain) (IsLassoAnswerRefusal file input)
 AnswersBeside (VerifyController explain) file input =
@@ -180,6 +194,8 @@ AnswersBeside (ContainedStream explain) file input =
 AnswersBeside (Equal explain) file input = Concludes (IsEqualAnswer file input explain) (IsEqualRefusal file input)
 AnswersBeside (DrawSolution from depth legend) file input =
     Replies (IsSolutionDrawingAnswer input file from depth legend) (IsVerifyRefusal input from file)
+AnswersBeside (DrawWalk from depth legend) file input =
+    Replies (IsWalkDrawingAnswer input file from depth legend) (IsWalkDrawingRefusal file from input)
 
 -- the whole input was read, and this is the answer to its text
 abbrev pub Responds : (List ℕ → Result (Exit × List ℕ) Refusal → Type 0) → (unread_before unread_after : Option (List ℕ)) → Exit → List ℕ → Type 0

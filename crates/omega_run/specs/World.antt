@@ -26,6 +26,10 @@ streams unread failed_reads held failed_writes = record {
 abbrev pub streams_of : {R W : Type 0} → input.Ghosts R → output.Ghosts W → R → W → Streams
 streams_of reading writing from to = streams (reading.remaining from) (reading.failed from) (writing.contents to) (writing.failed to)
 
+-- the streams with an input that has this left and whose reads never failed
+abbrev pub over : Option (List ℕ) → Streams → Streams
+over unread streams = record streams { unread = unread; failed_reads = 0 }
+
 -- standard error took a text, or a beginning of it if one of its writes failed
 abbrev pub tells_of : {E : Type 0} → output.Ghosts E → (before after : E) → List ℕ → Type 0
 tells_of telling before after = Tells (telling.contents before) (telling.contents after) (telling.failed before) (telling.failed after)

@@ -1,78 +1,27 @@
-//! What is done with two texts, that of a file and that of the input.
-ghost use Rattle.std.specs.Prelude.{◌≡◌, ◌+◌, ◌-◌, ◌^◌, ◌<◌, ◌≤◌, ◌⊎◌, Ok, IfOk, IfErr, OnOk, length, string_bytes};
+//! What is answered to two texts, that of a file and that of the input.
+ghost use Rattle.std.specs.Prelude.{◌≡◌, ◌+◌, ◌-◌, ◌^◌, ◌<◌, ◌≤◌, ◌⊎◌, Ok, IfOk, IfErr, OnOk, length};
 ghost use Rattle.omega_text.specs.Limits.{most_text};
 ghost use Rattle.omega_text.specs.declared.refusal.Refusal.TheVariants.{Memory};
 ghost use Rattle.omega_io.specs.Failures.{failures_of};
 ghost use Rattle.omega_io.specs.Refused.{IsAbout};
-ghost use Rattle.omega_run.specs.Beside.{IsRefusalAbout, IsRunBeside, IsRunWithFile};
-ghost use Rattle.omega_run.specs.Beside.{RefusesBoth, RefusesFile, RefusesInput};
+ghost use Rattle.omega_run.specs.Beside.{IsRefusalAbout, RefusesBoth, RefusesFile, RefusesInput};
 ghost use Rattle.omega_run.specs.Perform.{Performs};
 ghost use Rattle.omega_run.specs.Respond.{AnswersBeside, Responds};
-ghost use Rattle.omega_run.specs.World.{streams_of, tells_of, world_of};
+ghost use Rattle.omega_run.specs.World.{streams_of};
 ghost use Rattle.omega_run.specs.private.steps.Beside.{plain, text_in};
 
 use crate::each::contained_each;
-use crate::reporting::{report_about, report_file};
 use omega_accepts_answers::accepts_text;
 use omega_command::Beside;
 use omega_containment_answers::{contained_texts, equal_texts};
 use omega_controller_answers::verify_controller;
 use omega_game_answers::{draw_solution_text, verify_solution, verify_winners};
-use omega_io::{Exit, Input, InputFiles, Output, Refused, read_all, write_text};
+use omega_io::{Exit, Input, Output, Refused, read_all, write_text};
 use omega_language_answers::{meet_texts, verify_lasso};
 use omega_trim_answers::meet_trimmed_texts;
 use omega_union_answers::join_texts;
+use omega_walk_answers::{draw_walk_text, verify_with_names};
 use std::alloc::Global;
-
-/// Reads the file of this name and then the input, writes the answer to both, or the lines of a refusal, and returns
-/// the status to end with.
-pub(crate) fn run_beside<F: InputFiles, R: Input, W: Output, E: Output>(
-    alloc: Global,
-    name: &str,
-    asked: Beside,
-    verbose: bool,
-    files: &F,
-    input: &mut R,
-    output: &mut W,
-    errors: &mut E,
-) -> u8
-    requires reads { R.failed input.old < 2 ^ 64 - 1 }
-    requires writes { W.failed output.old < 2 ^ 64 - 1 }
-    requires tells { E.failed errors.old < 2 ^ 64 - 1 }
-    ensures { IsRunWithFile verbose asked name.now result
-        (world_of F.InputFiles E.Output files.now errors.old errors.new
-        (streams_of R.Input W.Output input.old output.old) (streams_of R.Input W.Output input.new output.new)) }
-{
-    match files.read_file(alloc, name) {
-        Ok(file) => {
-            let outcome = write_beside(alloc, asked, file, input, output);
-            report_about(alloc, outcome, asked, verbose, errors)
-        }
-        Err(refusal) => report_file(alloc, name, refusal, verbose, errors),
-    }
-}
-
-/// Reads the input, writes the answer to its text and to a text that the command line has, or the lines of a refusal,
-/// and returns the status to end with.
-pub(crate) fn run_given<R: Input, W: Output, E: Output>(
-    alloc: Global,
-    text: String,
-    asked: Beside,
-    verbose: bool,
-    input: &mut R,
-    output: &mut W,
-    errors: &mut E,
-) -> u8
-    requires reads { R.failed input.old < 2 ^ 64 - 1 }
-    requires writes { W.failed output.old < 2 ^ 64 - 1 }
-    requires tells { E.failed errors.old < 2 ^ 64 - 1 }
-    ensures { IsRunBeside verbose asked (string_bytes text) result
-        (streams_of R.Input W.Output input.old output.old) (streams_of R.Input W.Output input.new output.new)
-        (tells_of E.Output errors.old errors.new) }
-{
-    let outcome = write_beside(alloc, asked, text.into_bytes(), input, output);
-    report_about(alloc, outcome, asked, verbose, errors)
-}
 
 /// Reads the input, makes the whole answer to its text and that of the file in memory, and then writes it.
 pub(crate) fn write_beside<R: Input, W: Output>(
@@ -137,6 +86,7 @@ fn answer_texts(
 {
     match asked {
         Beside::Verify { from, explain } => verify_solution(alloc, file, from, input, explain),
+        Beside::VerifyNamed { from } => verify_with_names(alloc, file, from, input),
         Beside::VerifyWinners { from, explain } => {
             verify_winners(alloc, file, from, input, explain)
         }
@@ -167,6 +117,14 @@ fn answer_texts(
             depth,
             legend,
         } => match draw_solution_text(alloc, input, file.as_slice(), from, depth, legend) {
+            Ok(made) => Ok((Exit::Done, made)),
+            Err(refused) => Err(refused),
+        },
+        Beside::DrawWalk {
+            from,
+            depth,
+            legend,
+        } => match draw_walk_text(alloc, input, file.as_slice(), from, depth, legend) {
             Ok(made) => Ok((Exit::Done, made)),
             Err(refused) => Err(refused),
         },

@@ -13,6 +13,7 @@ ghost use Rattle.omega_run.specs.Respond.{Answers, AnswersBeside, IsRunRefusal, 
 
 use crate::held_text::HeldText;
 use omega_command::OfEach;
+use omega_empty_answers::Lines;
 use omega_io::{Exit, Input, Refusal, Refused};
 use omega_stream_questions::{
     complement_stream, contained_stream, empty_stream_by_lifting, empty_stream_by_search,
@@ -37,12 +38,22 @@ pub(crate) fn answer_each<R: Input>(
     ensures counted { R.failed input.new ≡ R.failed input.old + failures_of result }
 {
     match asked {
-        OfEach::Empty { word, status } => {
-            let answers = empty_stream_by_lifting(alloc, input, word, budget)?;
+        OfEach::Empty {
+            word,
+            names,
+            status,
+        } => {
+            let lines = Lines { word, run: names };
+            let answers = empty_stream_by_lifting(alloc, input, lines, budget)?;
             Ok((exit_after(status, answers.no), answers.text))
         }
-        OfEach::EmptySearch { word, status } => {
-            let answers = empty_stream_by_search(alloc, input, word)?;
+        OfEach::EmptySearch {
+            word,
+            names,
+            status,
+        } => {
+            let lines = Lines { word, run: names };
+            let answers = empty_stream_by_search(alloc, input, lines)?;
             Ok((exit_after(status, answers.no), answers.text))
         }
         OfEach::Complement => {

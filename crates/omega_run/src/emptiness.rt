@@ -11,30 +11,30 @@ ghost use Rattle.omega_run.specs.Respond.{EndsEmpty, EndsEmptySearch};
 ghost use Rattle.omega_run.specs.private.steps.Emptiness.{exit_after};
 
 use omega_budget::Reporter;
-use omega_empty_answers::{decide_emptiness, search_emptiness};
+use omega_empty_answers::{Lines, decide_emptiness, search_emptiness};
 use omega_io::{Exit, Refusal};
 use std::alloc::Global;
 
-/// Returns what `empty` answers to `text` by lifting within `budget`. With `status` it ends with [Exit::No] if nothing
-/// is accepted. The run is reported to `observer`.
+/// Returns what `empty` answers to `text` by lifting within `budget`, with these `lines`. With `status` it ends with
+/// [Exit::No] if nothing is accepted. The run is reported to `observer`.
 pub(crate) fn decided_emptiness<L, T: Reporter<L>>(
     alloc: Global,
     text: Vec<u8>,
-    word: bool,
+    lines: Lines,
     status: bool,
     budget: u64,
     reporter: &T,
     observer: &mut L,
 ) -> Result<(Exit, Vec<u8>), Refusal>
     requires budget { budget ≤ most_lifts }
-    ensures answered { IfOk result (λ made. EndsEmpty text.items budget word status made.0 made.1.items) }
+    ensures answered { IfOk result (λ made. EndsEmpty text.items budget lines status made.0 made.1.items) }
     ensures limit { OnOk result (length text.items ≤ most_text) }
     ensures refused { IfErr result (or_memory (IsEmptyRefusal text.items budget)) }
     ensures unfailed { failures_of result ≡ 0 }
     ensures reported { IsObserved (LiftsAutomatonText text.items) (refusal_in result)
         (T.tells reporter.now) (T.pace reporter.now) budget observer.old observer.new }
 {
-    match decide_emptiness(alloc, text, word, budget, reporter, observer) {
+    match decide_emptiness(alloc, text, lines, budget, reporter, observer) {
         Ok(made) => Ok((exit_after(status, made.as_slice()), made)),
         Err(refusal) => Err(refusal),
     }
@@ -44,15 +44,15 @@ pub(crate) fn decided_emptiness<L, T: Reporter<L>>(
 pub(crate) fn searched_emptiness(
     alloc: Global,
     text: Vec<u8>,
-    word: bool,
+    lines: Lines,
     status: bool,
 ) -> Result<(Exit, Vec<u8>), Refusal>
-    ensures answered { IfOk result (λ made. EndsEmptySearch text.items word status made.0 made.1.items) }
+    ensures answered { IfOk result (λ made. EndsEmptySearch text.items lines status made.0 made.1.items) }
     ensures limit { OnOk result (length text.items ≤ most_text) }
     ensures refused { IfErr result (or_memory (IsEmptySearchRefusal text.items)) }
     ensures unfailed { failures_of result ≡ 0 }
 {
-    match search_emptiness(alloc, text, word) {
+    match search_emptiness(alloc, text, lines) {
         Ok(made) => Ok((exit_after(status, made.as_slice()), made)),
         Err(refusal) => Err(refusal),
     }

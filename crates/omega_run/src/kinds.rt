@@ -2,6 +2,7 @@ ghost use Rattle.std.specs.Prelude.{◌≡◌};
 ghost use Rattle.omega_run.specs.private.steps.Kinds.{of_kind};
 
 use omega_command::{Command, Format, OfEach};
+use omega_empty_answers::Lines;
 use omega_parity_game::Player;
 
 /// A command, by what it reads.
@@ -62,8 +63,8 @@ pub(crate) enum OfText {
 /// A command that reads one text and answers a question about it. The exit is `No` if the answer is.
 #[derive(Clone, Copy)]
 pub(crate) enum OfQuestion {
-    Empty { word: bool, status: bool },
-    EmptySearch { word: bool, status: bool },
+    Empty { lines: Lines, status: bool },
+    EmptySearch { lines: Lines, status: bool },
     Realize { controller: bool },
     RealizeByLifting { controller: bool },
 }
@@ -86,9 +87,21 @@ pub(crate) fn kind_of(command: Command) -> Kind
         Command::Each(asked) => Kind::Each(asked),
         Command::Solve { player, from } => Kind::Text(OfText::Solve { player, from }),
         Command::Search { from } => Kind::Text(OfText::Search { from }),
-        Command::Empty { word, status } => Kind::Question(OfQuestion::Empty { word, status }),
-        Command::EmptySearch { word, status } => {
-            Kind::Question(OfQuestion::EmptySearch { word, status })
+        Command::Empty {
+            word,
+            names,
+            status,
+        } => {
+            let lines = Lines { word, run: names };
+            Kind::Question(OfQuestion::Empty { lines, status })
+        }
+        Command::EmptySearch {
+            word,
+            names,
+            status,
+        } => {
+            let lines = Lines { word, run: names };
+            Kind::Question(OfQuestion::EmptySearch { lines, status })
         }
         Command::Complement => Kind::Text(OfText::Complement),
         Command::Trim => Kind::Text(OfText::Trim),

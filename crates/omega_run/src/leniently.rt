@@ -1,22 +1,24 @@
 //! Tasks whose games, and solutions of them, are read as other tools write them.
-ghost use Rattle.std.specs.Prelude.{◌≡◌, ◌+◌, ◌-◌, ◌^◌, ◌<◌, ◌⊎◌, IfErr, IfOk};
+ghost use Rattle.std.specs.Prelude.{◌≡◌, ◌-◌, ◌^◌, ◌<◌, ◌⊎◌, ℕ, List, Option, Err, IfErr, IfOk};
 ghost use Rattle.omega_text.specs.declared.refusal.Refusal.TheVariants.{Memory};
 ghost use Rattle.omega_command.specs.Line.{IsRunnableTask};
-ghost use Rattle.omega_io.specs.Failures.{failures_of};
-ghost use Rattle.omega_io.specs.Reading.{ReadsTextFrom};
+ghost use Rattle.omega_io.specs.RefusalLine.{line_of};
 ghost use Rattle.omega_io.specs.Refused.{IsRefusedOf};
 ghost use Rattle.omega_io.specs.declared.refused.Which.TheVariants as which;
-ghost use Rattle.omega_lenient.specs.StrictText.{IsStrictGameText};
-ghost use Rattle.omega_run.specs.Beside.{IsRunBeside};
-ghost use Rattle.omega_run.specs.Lenient.{IsGameUnread, IsPairUnread, IsReadAs, IsUnread, has_game};
-ghost use Rattle.omega_run.specs.Obey.{IsDoneOfGame, IsPerformedLeniently, IsPerformedReading, IsRunOfTexts};
-ghost use Rattle.omega_run.specs.World.{streams_of, tells_of, world_of};
-ghost use Rattle.omega_run.specs.private.steps.Beside.{plain};
+ghost use Rattle.omega_run.specs.Causes.{kind_beside};
+ghost use Rattle.omega_run.specs.Held.{IsHeld};
+ghost use Rattle.omega_run.specs.Lenient.{IsGameCauseTold, IsReadAs, IsUnread};
+ghost use Rattle.omega_run.specs.Obey.{IsDoneOfGame, IsDoneOfText, IsPerformedLeniently, IsPerformedReading};
+ghost use Rattle.omega_run.specs.Obey.{IsRunOfFiles, IsRunOfTexts};
+ghost use Rattle.omega_run.specs.Report.{ReportsCause};
+ghost use Rattle.omega_run.specs.World.{streams, streams_of, tells_of, world_of};
 
-use crate::beside::write_beside;
+use crate::causes::{Texts, cause_about, cause_after};
 use crate::held_text::HeldText;
-use crate::reporting::{report, report_about, report_file};
+use crate::reporting::{report, report_about, report_file, report_with};
 use crate::task::run;
+use crate::text_kind::{TextKind, kind_beside};
+use crate::two_texts::run_texts;
 use omega_command::{Beside, Task};
 use omega_io::{Input, InputFiles, Output, Refusal, Refused, Which, read_all};
 use omega_lenient::{bare_text, strict_game_text};
@@ -68,7 +70,7 @@ fn run_leniently<F: InputFiles, R: Input, W: Output, E: Output>(
         (streams_of R.Input W.Output input.old output.old) (streams_of R.Input W.Output input.new output.new)) }
 {
     match task {
-        Task::Beside { file, asked } => run_texts(
+        Task::Beside { file, asked } => run_files(
             alloc,
             file.as_str(),
             asked,
@@ -111,30 +113,71 @@ fn run_game<F: InputFiles, R: Input, W: Output, E: Output>(
         (world_of F.InputFiles E.Output files.now errors.old errors.new
         (streams_of R.Input W.Output input.old output.old) (streams_of R.Input W.Output input.new output.new)) }
 {
-    match game_of(alloc, input) {
-        Ok(text) => {
-            let mut held = HeldText::new(text.as_slice());
-            run(alloc, task, verbose, files, &mut held, output, errors)
-        }
+    match read_all(alloc, input) {
+        Ok(source) => run_source(
+            alloc,
+            task,
+            verbose,
+            source.as_slice(),
+            files,
+            output,
+            errors,
+        ),
         Err(refusal) => report(alloc, Err(refusal), errors),
     }
 }
 
-/// Reads an input, and returns the canonical text of its game.
-fn game_of<R: Input>(alloc: Global, input: &mut R) -> Result<Vec<u8>, Refusal>
-    requires { R.failed input.old < 2 ^ 64 - 1 }
-    ensures game { IfOk result (λ game.
-        ReadsTextFrom R.Input input.old input.new (λ text. IsStrictGameText text game.items)) }
-    ensures refused { IfErr result (IsGameUnread (R.remaining input.old) (R.remaining input.new)) }
-    ensures counted { R.failed input.new ≡ R.failed input.old + failures_of result }
+/// Does a task with the canonical text of the game of a text.
+fn run_source<F: InputFiles, W: Output, E: Output>(
+    alloc: Global,
+    task: Task,
+    verbose: bool,
+    source: &[u8],
+    files: &F,
+    output: &mut W,
+    errors: &mut E,
+) -> u8
+    requires runnable { IsRunnableTask task }
+    requires writes { W.failed output.old < 2 ^ 64 - 1 }
+    requires tells { E.failed errors.old < 2 ^ 64 - 1 }
+    ensures { (before after : Option (List ℕ)) → IsDoneOfText verbose task source.now result
+        (world_of F.InputFiles E.Output files.now errors.old errors.new
+        (streams before 0 (W.contents output.old) (W.failed output.old))
+        (streams after 0 (W.contents output.new) (W.failed output.new))) }
 {
-    let text = read_all(alloc, input)?;
-    strict_game_text(alloc, text.as_slice())
+    match strict_game_text(alloc, source) {
+        Ok(text) => {
+            let mut held = HeldText::new(text.as_slice());
+            run(alloc, task, verbose, files, &mut held, output, errors)
+        }
+        Err(refusal) => report_game(alloc, source, refusal, verbose, errors),
+    }
+}
+
+/// Writes the lines for the refusal of the game that a text has, and returns the status. If `verbose` is set, the cause
+/// is written too.
+fn report_game<E: Output>(
+    alloc: Global,
+    source: &[u8],
+    refusal: Refusal,
+    verbose: bool,
+    errors: &mut E,
+) -> u8
+    requires { E.failed errors.old < 2 ^ 64 - 1 }
+    ensures { ReportsCause line_of (IsGameCauseTold verbose source.now) (Err refusal) result
+        (tells_of E.Output errors.old errors.new) }
+{
+    let outcome = Err(refusal);
+    if !verbose {
+        return report_with(alloc, outcome, b"", errors);
+    }
+    let cause = cause_after(alloc, TextKind::Game, source, &outcome);
+    report_with(alloc, outcome, cause.as_slice(), errors)
 }
 
 /// Reads the file of this name and then the input, and writes the answer to what is read in place of their texts, or
 /// the lines of a refusal.
-fn run_texts<F: InputFiles, R: Input, W: Output, E: Output>(
+fn run_files<F: InputFiles, R: Input, W: Output, E: Output>(
     alloc: Global,
     name: &str,
     asked: Beside,
@@ -147,27 +190,28 @@ fn run_texts<F: InputFiles, R: Input, W: Output, E: Output>(
     requires reads { R.failed input.old < 2 ^ 64 - 1 }
     requires writes { W.failed output.old < 2 ^ 64 - 1 }
     requires tells { E.failed errors.old < 2 ^ 64 - 1 }
-    ensures { IsRunOfTexts verbose asked name.now result
+    ensures { IsRunOfFiles verbose asked name.now result
         (world_of F.InputFiles E.Output files.now errors.old errors.new
         (streams_of R.Input W.Output input.old output.old) (streams_of R.Input W.Output input.new output.new)) }
 {
-    let source = match files.read_file(alloc, name) {
-        Ok(source) => source,
-        Err(refusal) => return report_file(alloc, name, refusal, verbose, errors),
-    };
-    match texts_of(alloc, asked, source.as_slice(), input) {
-        Ok((file, text)) => {
-            let mut held = HeldText::new(text.as_slice());
-            run_held(alloc, file, asked, verbose, &mut held, output, errors)
-        }
-        Err(refused) => report_about(alloc, Err(refused), asked, verbose, errors),
+    match files.read_file(alloc, name) {
+        Ok(source) => run_with(
+            alloc,
+            source.as_slice(),
+            asked,
+            verbose,
+            input,
+            output,
+            errors,
+        ),
+        Err(refusal) => report_file(alloc, name, refusal, verbose, errors),
     }
 }
 
-/// Writes the answer to the text of a file and that of an input, or the lines of a refusal.
-fn run_held<R: Input, W: Output, E: Output>(
+/// Reads the input, and writes the answer to what is read in place of its text and that of a file.
+fn run_with<R: Input, W: Output, E: Output>(
     alloc: Global,
-    file: Vec<u8>,
+    source: &[u8],
     asked: Beside,
     verbose: bool,
     input: &mut R,
@@ -177,33 +221,51 @@ fn run_held<R: Input, W: Output, E: Output>(
     requires reads { R.failed input.old < 2 ^ 64 - 1 }
     requires writes { W.failed output.old < 2 ^ 64 - 1 }
     requires tells { E.failed errors.old < 2 ^ 64 - 1 }
-    ensures { IsRunBeside verbose asked file.items result
-        (streams_of R.Input W.Output input.old output.old) (streams_of R.Input W.Output input.new output.new)
-        (tells_of E.Output errors.old errors.new) }
-{
-    let outcome = write_beside(alloc, asked, file, input, output);
-    report_about(alloc, outcome, asked, verbose, errors)
-}
-
-/// Reads an input, and returns what is read in place of the text of the file, and of that of the input; or why there is
-/// no such text, and in place of which.
-fn texts_of<R: Input>(
-    alloc: Global,
-    asked: Beside,
-    file: &[u8],
-    input: &mut R,
-) -> Result<(Vec<u8>, Vec<u8>), Refused>
-    requires { R.failed input.old < 2 ^ 64 - 1 }
-    ensures file { IfOk result (λ texts. IsReadAs (has_game asked which.File) file.now texts.0.items) }
-    ensures input { IfOk result (λ texts. ReadsTextFrom R.Input input.old input.new
-        (λ text. IsReadAs (has_game asked which.Input) text texts.1.items)) }
-    ensures refused { IfErr result (λ refused. IsPairUnread asked file.now
-        (R.remaining input.old) (R.remaining input.new) refused.text refused.refusal) }
-    ensures counted { R.failed input.new ≡ R.failed input.old + failures_of (plain result) }
+    ensures { IsHeld (λ written. IsRunOfTexts verbose asked source.now written result
+        (tells_of E.Output errors.old errors.new)) result (tells_of E.Output errors.old errors.new)
+        (streams_of R.Input W.Output input.old output.old) (streams_of R.Input W.Output input.new output.new) }
 {
     match read_all(alloc, input) {
-        Ok(text) => texts_for(alloc, asked, file, text.as_slice()),
-        Err(refusal) => Err(Refused::from(refusal)),
+        Ok(text) => {
+            let written = Texts {
+                file: source,
+                input: text.as_slice(),
+            };
+            run_written(alloc, asked, verbose, written, output, errors)
+        }
+        Err(refusal) => report(alloc, Err(refusal), errors),
+    }
+}
+
+/// Writes the answer to what is read in place of two texts, or the lines of a refusal.
+fn run_written<W: Output, E: Output>(
+    alloc: Global,
+    asked: Beside,
+    verbose: bool,
+    written: Texts<'_>,
+    output: &mut W,
+    errors: &mut E,
+) -> u8
+    requires writes { W.failed output.old < 2 ^ 64 - 1 }
+    requires tells { E.failed errors.old < 2 ^ 64 - 1 }
+    ensures { (before after : Option (List ℕ)) → IsRunOfTexts verbose asked written.entry.file.now written.entry.input.now
+        result (tells_of E.Output errors.old errors.new)
+        (streams before 0 (W.contents output.old) (W.failed output.old))
+        (streams after 0 (W.contents output.new) (W.failed output.new)) }
+{
+    match texts_for(alloc, asked, written.file, written.input) {
+        Ok((file, input)) => {
+            let read = Texts {
+                file: file.as_slice(),
+                input: input.as_slice(),
+            };
+            run_texts(alloc, asked, verbose, written, read, output, errors)
+        }
+        Err(refused) => {
+            let outcome = Err(refused);
+            let cause = cause_about(alloc, verbose, asked, written, written, &outcome);
+            report_about(alloc, outcome, asked, verbose, cause.as_slice(), errors)
+        }
     }
 }
 
@@ -214,45 +276,29 @@ fn texts_for(
     file: &[u8],
     input: &[u8],
 ) -> Result<(Vec<u8>, Vec<u8>), Refused>
-    ensures file { IfOk result (λ texts. IsReadAs (has_game asked which.File) file.now texts.0.items) }
-    ensures input { IfOk result (λ texts. IsReadAs (has_game asked which.Input) input.now texts.1.items) }
+    ensures file { IfOk result (λ texts. IsReadAs (kind_beside asked which.File) file.now texts.0.items) }
+    ensures input { IfOk result (λ texts. IsReadAs (kind_beside asked which.Input) input.now texts.1.items) }
     ensures refused { IfErr result (IsRefusedOf
-        (IsUnread (has_game asked which.File) file.now) (IsUnread (has_game asked which.Input) input.now)) }
+        (IsUnread (kind_beside asked which.File) file.now) (IsUnread (kind_beside asked which.Input) input.now)) }
 {
-    let file = match text_for(alloc, has_game(asked, Which::File), file) {
+    let file = match text_for(alloc, kind_beside(asked, Which::File), file) {
         Ok(text) => text,
         Err(refusal) => return Err(Refused::of(Which::File, refusal)),
     };
-    match text_for(alloc, has_game(asked, Which::Input), input) {
+    match text_for(alloc, kind_beside(asked, Which::Input), input) {
         Ok(input) => Ok((file, input)),
         Err(refusal) => Err(Refused::of(Which::Input, refusal)),
     }
 }
 
-/// Returns what is read in place of a text that has a game, or else a solution.
-fn text_for(alloc: Global, is_game: bool, text: &[u8]) -> Result<Vec<u8>, Refusal>
-    ensures read { IfOk result (λ made. IsReadAs is_game text.now made.items) }
-    ensures refused { IfErr result (λ refusal. (refusal ≡ Memory) ⊎ IsUnread is_game text.now refusal) }
+/// Returns what is read in place of a text of this kind.
+fn text_for(alloc: Global, kind: TextKind, text: &[u8]) -> Result<Vec<u8>, Refusal>
+    ensures read { IfOk result (λ made. IsReadAs kind text.now made.items) }
+    ensures refused { IfErr result (λ refusal. (refusal ≡ Memory) ⊎ IsUnread kind text.now refusal) }
 {
-    if is_game {
-        strict_game_text(alloc, text)
-    } else {
-        bare_text(alloc, text)
-    }
-}
-
-/// Whether this one of two texts has a game, and not a solution of one.
-fn has_game(asked: Beside, which: Which) -> bool
-    ensures { result ≡ has_game asked which }
-{
-    match asked {
-        Beside::Verify { .. } | Beside::VerifyWinners { .. } => match which {
-            Which::File => true,
-            Which::Input => false,
-        },
-        _ => match which {
-            Which::File => false,
-            Which::Input => true,
-        },
+    match kind {
+        TextKind::Game => strict_game_text(alloc, text),
+        TextKind::Solution { .. } | TextKind::Winners => bare_text(alloc, text),
+        TextKind::Automata | TextKind::Other => Ok(Vec::from_slice(alloc, text)?),
     }
 }

@@ -4,6 +4,7 @@
 #![tactic(auto)]
 
 mod beside;
+mod causes;
 mod each;
 mod emptiness;
 mod format;
@@ -13,12 +14,15 @@ mod laws;
 mod leniently;
 mod obeying;
 mod observing;
+mod one_text;
 mod progress;
 mod questions;
 mod reporting;
 mod respond;
 mod run;
 mod task;
+mod text_kind;
+mod two_texts;
 
 pub use laws::budgets_are_of_solvers;
 pub use obeying::obey;

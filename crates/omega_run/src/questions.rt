@@ -43,10 +43,10 @@ pub(crate) fn answer_question<L, T: Reporter<L>>(
         (T.tells reporter.now) (T.pace reporter.now) budget observer.old observer.new }
 {
     match question {
-        OfQuestion::Empty { word, status } => {
-            decided_emptiness(alloc, text, word, status, budget, reporter, observer)
+        OfQuestion::Empty { lines, status } => {
+            decided_emptiness(alloc, text, lines, status, budget, reporter, observer)
         }
-        OfQuestion::EmptySearch { word, status } => searched_emptiness(alloc, text, word, status),
+        OfQuestion::EmptySearch { lines, status } => searched_emptiness(alloc, text, lines, status),
         OfQuestion::Realize { controller } => realized(alloc, text, controller),
         OfQuestion::RealizeByLifting { controller } => {
             realized_by_lifting(alloc, text, controller, budget, reporter, observer)

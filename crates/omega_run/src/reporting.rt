@@ -1,5 +1,5 @@
 //! The lines on standard error for the outcome of a task, and the status with which the program ends.
-ghost use Rattle.std.specs.Prelude.{◌≡◌, ◌-◌, ◌^◌, ◌<◌, ◌≤◌, Err, IfErr, IfOk, IsOkUnless};
+ghost use Rattle.std.specs.Prelude.{◌≡◌, ◌++◌, ◌-◌, ◌^◌, ◌<◌, ◌≤◌, ℕ, List, Err, IfErr, IfOk, IsOkUnless};
 ghost use Rattle.omega_text.specs.declared.refusal.Refusal.TheVariants.{Memory};
 ghost use Rattle.omega_io.specs.Exit.{status_of};
 ghost use Rattle.omega_io.specs.RefusalLine.{line_of};
@@ -7,7 +7,7 @@ ghost use Rattle.omega_run.specs.Beside.{lines_about, lines_of_file, name_of, te
 ghost use Rattle.omega_run.specs.Report.{IsRefusalReported, Reports, ReportsBy};
 ghost use Rattle.omega_run.specs.World.{tells_of};
 ghost use Rattle.omega_run.specs.private.steps.Beside.{plain, text_in};
-ghost use Rattle.omega_run.specs.private.steps.Telling.{TellsLast};
+ghost use Rattle.omega_run.specs.private.steps.Telling.{IsToldOf, ReportsWith, TellsLast};
 
 use omega_command::Beside;
 use omega_io::{
@@ -36,72 +36,110 @@ pub(crate) fn report<E: Output>(alloc: Global, outcome: Result<Exit, Refusal>, e
     }
 }
 
-/// Writes the line of a refusal after lines of progress, unless a write of those failed, and returns the status after
-/// the outcome.
+/// Writes the line of a refusal and after it that of its `cause`, and returns the status after the outcome. If there is
+/// no memory for the cause, it is left out.
+pub(crate) fn report_with<E: Output>(
+    alloc: Global,
+    outcome: Result<Exit, Refusal>,
+    cause: &[u8],
+    errors: &mut E,
+) -> u8
+    requires { E.failed errors.old < 2 ^ 64 - 1 }
+    ensures { ReportsWith line_of cause.now outcome result (tells_of E.Output errors.old errors.new) }
+{
+    let Err(refusal) = outcome else {
+        return exit_code(&outcome);
+    };
+    report_lines(refusal, line_in(alloc, refusal), cause, errors)
+}
+
+/// Returns the line of a refusal.
+fn line_in(alloc: Global, refusal: Refusal) -> Result<Vec<u8>, Refusal>
+    ensures line { IfOk result (λ line. line.items ≡ line_of refusal) }
+    ensures memory { IsOkUnless result Memory }
+{
+    let mut line = Vec::new(alloc);
+    refusal_line(&refusal, &mut line)?;
+    Ok(line)
+}
+
+/// Writes the line of a refusal and that of its `cause` after lines of progress, unless a write of those failed, and
+/// returns the status after the outcome.
 pub(crate) fn report_after<E: Output>(
     alloc: Global,
     outcome: Result<Exit, Refusal>,
+    cause: &[u8],
     sound: u64,
     errors: &mut E,
 ) -> u8
     requires sound { sound < 2 ^ 64 - 1 }
     requires since { sound ≤ E.failed errors.old }
-    ensures { Reports outcome result (TellsLast sound
+    ensures { ReportsWith line_of cause.now outcome result (TellsLast sound
         (E.contents errors.old) (E.contents errors.new) (E.failed errors.old) (E.failed errors.new)) }
 {
     if errors.failures() == sound {
-        report(alloc, outcome, errors)
+        report_with(alloc, outcome, cause, errors)
     } else {
         exit_code(&outcome)
     }
 }
 
-/// Writes the lines for a refusal of one of two texts, and returns the status after the outcome. A second line names
-/// the text that the refusal is about, if there is one and `verbose` is set.
+/// Writes the lines for a refusal of one of two texts, and returns the status after the outcome. If `verbose` is set, a
+/// line names the text that the refusal is about, if there is one. The last line is that of the `cause`.
 pub(crate) fn report_about<E: Output>(
     alloc: Global,
     outcome: Result<Exit, Refused>,
     asked: Beside,
     verbose: bool,
+    cause: &[u8],
     errors: &mut E,
 ) -> u8
     requires { E.failed errors.old < 2 ^ 64 - 1 }
-    ensures { ReportsBy (lines_about verbose asked (text_in outcome)) (plain outcome) result
+    ensures { ReportsWith (lines_about verbose asked (text_in outcome)) cause.now (plain outcome) result
         (tells_of E.Output errors.old errors.new) }
 {
     match outcome {
-        Ok(exit) => report(alloc, Ok(exit), errors),
+        Ok(exit) => report_with(alloc, Ok(exit), cause, errors),
         Err(
             Refused {
                 refusal,
                 text: None,
             },
-        ) => report(alloc, Err(refusal), errors),
+        ) => report_with(alloc, Err(refusal), cause, errors),
         Err(
             Refused {
                 refusal,
                 text: Some(which),
             },
-        ) => report_text(alloc, name_of(asked, which), refusal, verbose, errors),
+        ) => report_text(
+            alloc,
+            name_of(asked, which),
+            refusal,
+            verbose,
+            cause,
+            errors,
+        ),
     }
 }
 
-/// Writes the lines for the refusal of a text that has this name, the second only if `verbose` is set, and returns the
-/// status.
+/// Writes the lines for the refusal of a text that has this name, the one with the name only if `verbose` is set, and
+/// that of the `cause`, and returns the status.
 fn report_text<E: Output>(
     alloc: Global,
     name: &str,
     refusal: Refusal,
     verbose: bool,
+    cause: &[u8],
     errors: &mut E,
 ) -> u8
     requires { E.failed errors.old < 2 ^ 64 - 1 }
-    ensures { ReportsBy (text_lines verbose name.now) (Err refusal) result (tells_of E.Output errors.old errors.new) }
+    ensures { ReportsWith (text_lines verbose name.now) cause.now (Err refusal) result
+        (tells_of E.Output errors.old errors.new) }
 {
     if verbose {
-        report_lines(refusal, lines_in(alloc, name, refusal), errors)
+        report_lines(refusal, lines_in(alloc, name, refusal), cause, errors)
     } else {
-        report(alloc, Err(refusal), errors)
+        report_with(alloc, Err(refusal), cause, errors)
     }
 }
 
@@ -121,7 +159,7 @@ pub(crate) fn report_file<E: Output>(
     if !verbose {
         return report(alloc, Err(refusal), errors);
     }
-    report_lines(refusal, file_lines(alloc, name, refusal), errors)
+    report_lines(refusal, file_lines(alloc, name, refusal), b"", errors)
 }
 
 /// Returns what one of the two texts is called.
@@ -129,10 +167,12 @@ fn name_of(asked: Beside, which: Which) -> &'static str
     ensures { result.now ≡ name_of asked which }
 {
     match asked {
-        Beside::Verify { .. } | Beside::VerifyWinners { .. } => match which {
-            Which::File => "game",
-            Which::Input => "solution",
-        },
+        Beside::Verify { .. } | Beside::VerifyNamed { .. } | Beside::VerifyWinners { .. } => {
+            match which {
+                Which::File => "game",
+                Which::Input => "solution",
+            }
+        }
         Beside::VerifyLasso { .. } => match which {
             Which::File => "automaton",
             Which::Input => "lasso",
@@ -157,22 +197,32 @@ fn name_of(asked: Beside, which: Which) -> &'static str
             Which::File => "solution",
             Which::Input => "game",
         },
+        Beside::DrawWalk { .. } => match which {
+            Which::File => "walk",
+            Which::Input => "game",
+        },
     }
 }
 
-/// Writes the lines of a refusal, and returns its status. If there was no memory for the lines, writes that of
-/// [Refusal::Memory].
-fn report_lines<E: Output>(refusal: Refusal, lines: Result<Vec<u8>, Refusal>, errors: &mut E) -> u8
+/// Writes the lines of a refusal and that of its `cause`, and returns its status. If there was no memory for the lines,
+/// writes that of [Refusal::Memory].
+fn report_lines<E: Output>(
+    refusal: Refusal,
+    lines: Result<Vec<u8>, Refusal>,
+    cause: &[u8],
+    errors: &mut E,
+) -> u8
     requires tells { E.failed errors.old < 2 ^ 64 - 1 }
     requires memory { IsOkUnless lines Memory }
-    ensures reported { IfOk lines (λ lines.
-        IsRefusalReported refusal lines.items result (tells_of E.Output errors.old errors.new)) }
+    ensures reported { IfOk lines (λ lines. (told : List ℕ) × IsToldOf cause.now told
+        × IsRefusalReported refusal (lines.items ++ told) result (tells_of E.Output errors.old errors.new)) }
     ensures wanting { IfErr lines (λ _.
         IsRefusalReported Memory (line_of Memory) result (tells_of E.Output errors.old errors.new)) }
 {
     match lines {
         Ok(lines) => {
-            tell(errors, lines.as_slice());
+            let told = with_cause(lines, cause);
+            tell(errors, told.as_slice());
             exit_code(&Err(refusal))
         }
         Err(wanting) => {
@@ -180,4 +230,13 @@ fn report_lines<E: Output>(refusal: Refusal, lines: Result<Vec<u8>, Refusal>, er
             exit_code(&Err(wanting))
         }
     }
+}
+
+/// Appends the `cause` to the lines of a refusal, if there is memory for it.
+fn with_cause(lines: Vec<u8>, cause: &[u8]) -> Vec<u8>
+    ensures { (told : List ℕ) × IsToldOf cause.now told × (result.items ≡ lines.items ++ told) }
+{
+    let mut told = lines;
+    let _ = told.extend_from_slice(cause);
+    told
 }

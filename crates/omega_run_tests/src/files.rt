@@ -49,9 +49,9 @@ acc-name: all
 Acceptance: 0 t
 --BODY--
 State: 0 \"0,0\"
-[0&0] 1
+[0] 1
 State: 1 \"1,0\"
-[0&0] 0
+[0] 0
 --END--
 ";
 
@@ -146,7 +146,7 @@ static RUNS: [(&str, &str, &str, u8, &str, &str); 38] = [
         IN_TURN,
         1,
         "",
-        "omega: 56 NotDeterministic at 0\nomega: in the other automaton\n",
+        "omega: 56 NotDeterministic at 0\nomega: in the other automaton\nomega: state 0: edges 0 and 1 can be taken together\n",
     ),
     // What is wrong with the game comes first.
     (
@@ -155,7 +155,7 @@ static RUNS: [(&str, &str, &str, u8, &str, &str); 38] = [
         "$",
         1,
         "",
-        "omega: 3 Syntax at 5\nomega: in the game\n",
+        "omega: 3 Syntax at 5\nomega: in the game\nomega: line 1, column 6: ';'\n",
     ),
     (
         "omega verify --game h",
@@ -171,7 +171,7 @@ static RUNS: [(&str, &str, &str, u8, &str, &str); 38] = [
         "paritysol 2 0 0 2;",
         1,
         "",
-        "omega: 3 Syntax at 12\nomega: in the solution\n",
+        "omega: 3 Syntax at 12\nomega: in the solution\nomega: line 1, column 13: '0'\n",
     ),
     (
         "omega verify --game g --from 3",
@@ -255,7 +255,7 @@ static RUNS: [(&str, &str, &str, u8, &str, &str); 38] = [
         "",
         1,
         "",
-        "omega: 3 Syntax at 9\n",
+        "omega: 3 Syntax at 9\nomega: line 1, column 10: end of the text\n",
     ),
     (
         "omega show --format pg h",
@@ -298,7 +298,7 @@ static RUNS: [(&str, &str, &str, u8, &str, &str); 38] = [
         "",
         OFTEN,
         6,
-        "no\nword cycle{!a & !a}\n",
+        "no\nword cycle{!a}\n",
         "",
     ),
     (
@@ -307,7 +307,7 @@ static RUNS: [(&str, &str, &str, u8, &str, &str); 38] = [
         "",
         1,
         "",
-        "omega: 3 Syntax at 6\nomega: in the word\n",
+        "omega: 3 Syntax at 6\nomega: in the word\nomega: line 1, column 7: end of the text\n",
     ),
     (
         "omega empty --search --word g",

@@ -105,7 +105,7 @@ static RUNS: [(&str, &str, &str, u8, &str, &str); 15] = [
         "paritysol 0; $",
         1,
         "",
-        "omega: 1 Lex at 16\nomega: in the game\n",
+        "omega: 1 Lex at 16\nomega: in the game\nomega: line 1, column 17: '/'\n",
     ),
     (
         "omega verify --lenient -v --game g",
@@ -113,7 +113,7 @@ static RUNS: [(&str, &str, &str, u8, &str, &str); 15] = [
         "/* of one */ paritysol 0; 0 -1;",
         1,
         "",
-        "omega: 1 Lex at 28\nomega: in the solution\n",
+        "omega: 1 Lex at 28\nomega: in the solution\nomega: line 1, column 29: '-1;'\n",
     ),
     (
         "omega draw --lenient -v --solution g",
@@ -121,7 +121,7 @@ static RUNS: [(&str, &str, &str, u8, &str, &str); 15] = [
         "0 0 0 1;",
         1,
         "",
-        "omega: 11 UndefinedSuccessor\nomega: in the game\n",
+        "omega: 11 UndefinedSuccessor\nomega: in the game\nomega: node 0: successor 1 is no node\n",
     ),
     (
         "omega solve --lenient -v h",

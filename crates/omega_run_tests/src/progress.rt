@@ -103,6 +103,7 @@ fn emptiness_is_reported_for_player_0(rt: HostRuntime) -> Result<(), Fail> {
         alloc,
         Command::Empty {
             word: false,
+            names: false,
             status: false,
         },
         automaton,

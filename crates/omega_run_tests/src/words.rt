@@ -52,23 +52,23 @@ static ASKED: [(&str, &str); 53] = [
     ),
     (
         "omega empty --budget 0",
-        "Do { task: Run(Empty { word: false, status: false }, 0), source: Input, lenient: false, verbose: false }",
+        "Do { task: Run(Empty { word: false, names: false, status: false }, 0), source: Input, lenient: false, verbose: false }",
     ),
     (
         "omega empty --word",
-        "Do { task: Run(Empty { word: true, status: false }, 1099511627776), source: Input, lenient: false, verbose: false }",
+        "Do { task: Run(Empty { word: true, names: false, status: false }, 1099511627776), source: Input, lenient: false, verbose: false }",
     ),
     (
         "omega empty --word --search g",
-        "Do { task: Run(EmptySearch { word: true, status: false }, 1099511627776), source: File(\"g\"), lenient: false, verbose: false }",
+        "Do { task: Run(EmptySearch { word: true, names: false, status: false }, 1099511627776), source: File(\"g\"), lenient: false, verbose: false }",
     ),
     (
         "omega empty --status --budget 7",
-        "Do { task: Run(Empty { word: false, status: true }, 7), source: Input, lenient: false, verbose: false }",
+        "Do { task: Run(Empty { word: false, names: false, status: true }, 7), source: Input, lenient: false, verbose: false }",
     ),
     (
         "omega empty --status --search",
-        "Do { task: Run(EmptySearch { word: false, status: true }, 1099511627776), source: Input, lenient: false, verbose: false }",
+        "Do { task: Run(EmptySearch { word: false, names: false, status: true }, 1099511627776), source: Input, lenient: false, verbose: false }",
     ),
     (
         "omega meet --verbose --with g h",
@@ -180,11 +180,11 @@ static ASKED: [(&str, &str); 53] = [
     ),
     (
         "omega empty --stream --budget 7 --word",
-        "Do { task: Run(Each(Empty { word: true, status: false }), 7), source: Input, lenient: false, verbose: false }",
+        "Do { task: Run(Each(Empty { word: true, names: false, status: false }), 7), source: Input, lenient: false, verbose: false }",
     ),
     (
         "omega empty --stream --search --status",
-        "Do { task: Run(Each(EmptySearch { word: false, status: true }), 1099511627776), source: Input, lenient: false, verbose: false }",
+        "Do { task: Run(Each(EmptySearch { word: false, names: false, status: true }), 1099511627776), source: Input, lenient: false, verbose: false }",
     ),
     (
         "omega complement --stream",

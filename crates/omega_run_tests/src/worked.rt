@@ -48,7 +48,7 @@ static GAMES: [(&str, &str, &str); 11] = [
     (
         "omega show --json --format pg",
         "0 0 0 1,2; 1 1 1 0; 2 2 1 0;",
-        "{\"nodes\":3,\"edges\":4,\"greatest\":2,\"priorities\":[[2,1],[1,1],[0,1]],\"self_loops\":0,\"bounds\":[6,12]}\n",
+        "{\"nodes\":3,\"edges\":4,\"greatest\":2,\"priorities\":[[2,1],[1,1],[0,1]],\"self_loops\":0,\"components\":1,\"largest\":3,\"bounds\":[6,12]}\n",
     ),
     // 7 stays odd, 4 has one greater priority, and 1 has two.
     (

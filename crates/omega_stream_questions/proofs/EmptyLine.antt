@@ -2,14 +2,14 @@
 use Rattle.std.proofs.Common.{◌≡◌, ℕ, Bool, false, true, List, codes, refl}
 use Rattle.std.specs.Str.{bytes_eq}
 use Rattle.omega_automaton.specs.Automaton.{Description}
+use Rattle.omega_empty_answers.specs.declared.lines.Lines.{Lines}
 use Rattle.omega_empty_answers.specs.empty.Answer.{emptiness_text}
 use Rattle.omega_runs.specs.declared.verdict.Verdict.{Verdict}
 use Rattle.omega_runs.specs.declared.verdict.Verdict.TheVariants as verdict
 use Rattle.omega_stream_questions.specs.Empty.{is_empty}
 
 -- the text says which verdict it is: that of a lasso begins otherwise than `empty`
-pub says_empty : (automaton : Description) (word : Bool) (found : Verdict) (text : List ℕ) → text ≡ emptiness_text automaton word found
+pub says_empty : (automaton : Description) (lines : Lines) (found : Verdict) (text : List ℕ) → text ≡ emptiness_text automaton lines found
     → bytes_eq text (codes "empty\n") ≡ is_empty found
-says_empty automaton word verdict.Empty text is = rw is refl
-says_empty automaton false (verdict.Lasso stem cycle) text is = rw is refl
-says_empty automaton true (verdict.Lasso stem cycle) text is = rw is refl
+says_empty automaton lines verdict.Empty text is = rw is refl
+says_empty automaton lines (verdict.Lasso stem cycle) text is = rw is refl

@@ -4,6 +4,7 @@ use Rattle.std.specs.Prelude.{◌≡◌, ℕ, Bool, false, true, List}
 use Rattle.omega_text.specs.declared.refusal.Refusal.{Refusal}
 use Rattle.omega_automaton.specs.Automaton.{Description}
 use Rattle.omega_empty.specs.Deciding.{IsEmptinessRefusal}
+use Rattle.omega_empty_answers.specs.declared.lines.Lines.{Lines}
 use Rattle.omega_empty_answers.specs.empty.Answer.{IsDecision, IsSearchDecision}
 use Rattle.omega_lasso_search.specs.Searching.{IsSearchRefusal}
 use Rattle.omega_runs.specs.declared.verdict.Verdict.{Verdict}
@@ -18,30 +19,30 @@ is_empty verdict.Empty = true
 is_empty (verdict.Lasso stem cycle) = false
 
 -- the answer of `empty --search` for an automaton
-abbrev pub IsSearchAnswer : (word : Bool) → Description → Answer → Type 0
-IsSearchAnswer word automaton answer =
-    (decided : IsSearchDecision automaton word answer.text) × (answer.no ≡ is_empty decided.verdict)
+abbrev pub IsSearchAnswer : (lines : Lines) → Description → Answer → Type 0
+IsSearchAnswer lines automaton answer =
+    (decided : IsSearchDecision automaton lines answer.text) × (answer.no ≡ is_empty decided.verdict)
 
 -- the answer of `empty` for an automaton, which is decided within the budget
-abbrev pub IsLiftingAnswer : (budget : ℕ) (word : Bool) → Description → Answer → Type 0
-IsLiftingAnswer budget word automaton answer =
-    (decided : IsDecision automaton budget word answer.text) × (answer.no ≡ is_empty decided.verdict)
+abbrev pub IsLiftingAnswer : (budget : ℕ) (lines : Lines) → Description → Answer → Type 0
+IsLiftingAnswer budget lines automaton answer =
+    (decided : IsDecision automaton budget lines answer.text) × (answer.no ≡ is_empty decided.verdict)
 
 -- the answers of `empty --search --stream`, one after the other
-abbrev pub AreSearchAnswers : List ℕ → (word : Bool) → List ℕ → Bool → Type 0
-AreSearchAnswers text word = IsAnswered (AnswersItem (IsSearchAnswer word) aborted_line) text
+abbrev pub AreSearchAnswers : List ℕ → (lines : Lines) → List ℕ → Bool → Type 0
+AreSearchAnswers text lines = IsAnswered (AnswersItem (IsSearchAnswer lines) aborted_line) text
 
 -- the refusal of `empty --search --stream`: that of the text, or else that of the first automaton that is refused
-abbrev pub IsSearchStreamRefusal : List ℕ → (word : Bool) → Refusal → Type 0
-IsSearchStreamRefusal text word =
-    IsAskingRefusal (AnswersItem (IsSearchAnswer word) aborted_line) (RefusesAutomaton IsSearchRefusal) text
+abbrev pub IsSearchStreamRefusal : List ℕ → (lines : Lines) → Refusal → Type 0
+IsSearchStreamRefusal text lines =
+    IsAskingRefusal (AnswersItem (IsSearchAnswer lines) aborted_line) (RefusesAutomaton IsSearchRefusal) text
 
 -- the answers of `empty --stream` with a budget for each automaton, one after the other
-abbrev pub AreLiftingAnswers : List ℕ → (budget : ℕ) (word : Bool) → List ℕ → Bool → Type 0
-AreLiftingAnswers text budget word = IsAnswered (AnswersItem (IsLiftingAnswer budget word) aborted_line) text
+abbrev pub AreLiftingAnswers : List ℕ → (budget : ℕ) (lines : Lines) → List ℕ → Bool → Type 0
+AreLiftingAnswers text budget lines = IsAnswered (AnswersItem (IsLiftingAnswer budget lines) aborted_line) text
 
 -- the refusal of `empty --stream`: that of the text, or else that of the first automaton that is refused
-abbrev pub IsLiftingStreamRefusal : List ℕ → (budget : ℕ) (word : Bool) → Refusal → Type 0
-IsLiftingStreamRefusal text budget word =
-    IsAskingRefusal (AnswersItem (IsLiftingAnswer budget word) aborted_line)
+abbrev pub IsLiftingStreamRefusal : List ℕ → (budget : ℕ) (lines : Lines) → Refusal → Type 0
+IsLiftingStreamRefusal text budget lines =
+    IsAskingRefusal (AnswersItem (IsLiftingAnswer budget lines) aborted_line)
     (RefusesAutomaton (λ automaton. IsEmptinessRefusal automaton budget)) text

@@ -13,14 +13,14 @@ ghost use Rattle.omega_stream_questions.specs.Items.{AnswersItem, RefusesAutomat
 use crate::aborted::append_aborted;
 use crate::emptied::is_empty_line;
 use omega_budget::NoObserver;
-use omega_empty_answers::decide_automaton;
+use omega_empty_answers::{Lines, decide_automaton};
 use omega_stream_reading::{Answers, Automaton, Input, Item, ItemQuestion, ask_stream};
 use omega_text::Refusal;
 use std::alloc::Global;
 
 /// Decides by lifting, for each automaton of the stream that `input` gives, in turn, whether it is empty. The budget is
-/// that of each automaton. Returns for each of them `empty`, or an accepting lasso, with its word if `word` is set, and
-/// for an aborted segment the line `aborted`. The answer is `no` if one of the automata is empty.
+/// that of each automaton. Returns for each of them `empty`, or an accepting lasso with the wanted `lines`, and for an
+/// aborted segment the line `aborted`. The answer is `no` if one of the automata is empty.
 ///
 /// Fails with the [Refusal::Text] or [Refusal::Automaton] of the stream, or else with the refusal of the first
 /// automaton that is refused, the first that applies of [GameFault::TooManyNodes], [TaskFault::NotParity],
@@ -29,32 +29,32 @@ use std::alloc::Global;
 pub fn empty_stream_by_lifting<R: Input>(
     alloc: Global,
     input: &mut R,
-    word: bool,
+    lines: Lines,
     budget: u64,
 ) -> Result<Answers, Refusal>
     requires reads { R.failed input.old < 2 ^ 64 - 1 }
     requires budget { budget ≤ most_lifts }
     ensures answers { IfOk result (λ answers. ReadsWhole (R.remaining input.old) (R.remaining input.new)
-        (λ text. AreLiftingAnswers text budget word answers.text.items answers.no)) }
+        (λ text. AreLiftingAnswers text budget lines answers.text.items answers.no)) }
     ensures refused { IfErr result (or_memory (or_io (λ refusal.
         ReadsText (R.remaining input.old) (R.remaining input.new)
-        (λ text. IsLiftingStreamRefusal text budget word refusal)))) }
+        (λ text. IsLiftingStreamRefusal text budget lines refusal)))) }
     ensures counted { R.failed input.new ≡ R.failed input.old + failures_of result }
 {
-    let question = ByLifting { word, budget };
+    let question = ByLifting { lines, budget };
     ask_stream::<ByLifting, R>(alloc, input, &question)
 }
 
 /// Asks whether an automaton is empty, by lifting within a budget.
 #[derive(Drop)]
 struct ByLifting {
-    word: bool,
+    lines: Lines,
     budget: u64,
     ghost within: { budget ≤ most_lifts },
 }
 
 impl ItemQuestion for ByLifting {
-    ghost answers = { λ question. AnswersItem (IsLiftingAnswer question.budget question.word) aborted_line };
+    ghost answers = { λ question. AnswersItem (IsLiftingAnswer question.budget question.lines) aborted_line };
 
     ghost refuses = { λ question. RefusesAutomaton (λ automaton. IsEmptinessRefusal automaton question.budget) };
 
@@ -69,7 +69,7 @@ impl ItemQuestion for ByLifting {
             Item::Automaton(automaton) => append_decided(
                 alloc,
                 automaton,
-                self.word,
+                self.lines,
                 self.budget,
                 out,
             ),
@@ -82,16 +82,16 @@ impl ItemQuestion for ByLifting {
 fn append_decided(
     alloc: Global,
     automaton: &Automaton,
-    word: bool,
+    lines: Lines,
     budget: u64,
     out: &mut Vec<u8>,
 ) -> Result<bool, Refusal>
     requires { budget ≤ most_lifts }
     ensures answer { IfOk result (λ no.
-        AppendsAnswer (IsLiftingAnswer budget word automaton.now) out.old.items out.new.items no) }
+        AppendsAnswer (IsLiftingAnswer budget lines automaton.now) out.old.items out.new.items no) }
     ensures refused { IfErr result (or_memory (not_io (IsEmptinessRefusal automaton.now budget))) }
 {
-    let text = decide_automaton(alloc, automaton, word, budget, &NoObserver, &mut ())?;
+    let text = decide_automaton(alloc, automaton, lines, budget, &NoObserver, &mut ())?;
     out.extend_from_slice(text.as_slice())?;
     Ok(is_empty_line(text.as_slice()))
 }

@@ -11,13 +11,13 @@ ghost use Rattle.omega_stream_questions.specs.Items.{AnswersItem, RefusesAutomat
 
 use crate::aborted::append_aborted;
 use crate::emptied::is_empty_line;
-use omega_empty_answers::search_automaton;
+use omega_empty_answers::{Lines, search_automaton};
 use omega_stream_reading::{Answers, Automaton, Input, Item, ItemQuestion, ask_stream};
 use omega_text::Refusal;
 use std::alloc::Global;
 
 /// Decides by a search for each automaton of the stream that `input` gives, in turn, whether it is empty. Returns for
-/// each of them `empty`, or an accepting lasso, with its word if `word` is set, and for an aborted segment the line
+/// each of them `empty`, or an accepting lasso, with the wanted `lines`, and for an aborted segment the line
 /// `aborted`. The answer is `no` if one of the automata is empty.
 ///
 /// Fails with the [Refusal::Text] or [Refusal::Automaton] of the stream, or else with the refusal of the first
@@ -26,27 +26,27 @@ use std::alloc::Global;
 pub fn empty_stream_by_search<R: Input>(
     alloc: Global,
     input: &mut R,
-    word: bool,
+    lines: Lines,
 ) -> Result<Answers, Refusal>
     requires { R.failed input.old < 2 ^ 64 - 1 }
     ensures answers { IfOk result (λ answers. ReadsWhole (R.remaining input.old) (R.remaining input.new)
-        (λ text. AreSearchAnswers text word answers.text.items answers.no)) }
+        (λ text. AreSearchAnswers text lines answers.text.items answers.no)) }
     ensures refused { IfErr result (or_memory (or_io (λ refusal.
-        ReadsText (R.remaining input.old) (R.remaining input.new) (λ text. IsSearchStreamRefusal text word refusal)))) }
+        ReadsText (R.remaining input.old) (R.remaining input.new) (λ text. IsSearchStreamRefusal text lines refusal)))) }
     ensures counted { R.failed input.new ≡ R.failed input.old + failures_of result }
 {
-    let question = BySearch { word };
+    let question = BySearch { lines };
     ask_stream::<BySearch, R>(alloc, input, &question)
 }
 
 /// Asks whether an automaton is empty, by a search.
 #[derive(Drop)]
 struct BySearch {
-    word: bool,
+    lines: Lines,
 }
 
 impl ItemQuestion for BySearch {
-    ghost answers = { λ question. AnswersItem (IsSearchAnswer question.word) aborted_line };
+    ghost answers = { λ question. AnswersItem (IsSearchAnswer question.lines) aborted_line };
 
     ghost refuses = { λ question. RefusesAutomaton IsSearchRefusal };
 
@@ -58,7 +58,7 @@ impl ItemQuestion for BySearch {
         out: &mut Vec<u8>,
     ) -> Result<bool, Refusal> {
         match item {
-            Item::Automaton(automaton) => append_searched(alloc, automaton, self.word, out),
+            Item::Automaton(automaton) => append_searched(alloc, automaton, self.lines, out),
             Item::Aborted => append_aborted(out),
         }
     }
@@ -68,14 +68,14 @@ impl ItemQuestion for BySearch {
 fn append_searched(
     alloc: Global,
     automaton: &Automaton,
-    word: bool,
+    lines: Lines,
     out: &mut Vec<u8>,
 ) -> Result<bool, Refusal>
     ensures answer { IfOk result (λ no.
-        AppendsAnswer (IsSearchAnswer word automaton.now) out.old.items out.new.items no) }
+        AppendsAnswer (IsSearchAnswer lines automaton.now) out.old.items out.new.items no) }
     ensures refused { IfErr result (or_memory (not_io (IsSearchRefusal automaton.now))) }
 {
-    let text = search_automaton(alloc, automaton, word)?;
+    let text = search_automaton(alloc, automaton, lines)?;
     out.extend_from_slice(text.as_slice())?;
     Ok(is_empty_line(text.as_slice()))
 }

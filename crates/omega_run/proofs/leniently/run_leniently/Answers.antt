@@ -2,4 +2,4 @@
 use Rattle.omega_run.proofs.leniently.run_leniently.Goals as goal
 
 pub returns-in-Beside : goal.returns-in-Beside
-returns-in-Beside g c = rw c.in-Beside.is (rw c.as_str.ensures.value at c.run_texts.ensures)
+returns-in-Beside g c = rw c.in-Beside.is (rw c.as_str.ensures.value at c.run_files.ensures)

@@ -1,20 +1,29 @@
--- `report_after`: if no write of the lines failed, the line of the refusal is written after them, and else nothing.
+-- `report_after`: if no write of the lines failed, the lines of the refusal are written after them, and else nothing.
 use Rattle.std.proofs.Common.{◌∙◌, arith, refl}
-use Rattle.omega_run.proofs.Performing.{reports_any, reports_as}
+use Rattle.omega_io.specs.RefusalLine.{line_of}
+use Rattle.omega_run.specs.World.{tells_of}
+use Rattle.omega_run.specs.private.steps.Telling.{TellsLast}
+use Rattle.omega_run.proofs.Explaining.{told_any, told_as}
 use Rattle.omega_run.proofs.reporting.report_after.Goals as goal
 
 pub returns-then-failures-sound : goal.returns-then-failures-sound
 returns-then-failures-sound g c =
-    reports_as _ _ _ _
+    told_as line_of c.args.cause.now c.args.outcome c.report_with.result
+    (tells_of g.E.Output c.args.errors.now c.report_with.new.errors)
+    (TellsLast c.args.sound (g.E.Output.contents c.args.errors.now) (g.E.Output.contents c.report_with.new.errors)
+    (g.E.Output.failed c.args.errors.now) (g.E.Output.failed c.report_with.new.errors))
     (λ text reported. record {
       reported = λ same. reported;
       silent = λ some. absurd (omega (arith, some, c.failures.ensures, c.if-failures-sound.true));
     })
-    c.report.ensures
+    c.report_with.ensures
 
 pub returns-else-failures-sound : goal.returns-else-failures-sound
 returns-else-failures-sound g c =
-    reports_any _ _ _ c.exit_code.ensures
+    told_any line_of c.args.cause.now c.args.outcome c.exit_code.result
+    (TellsLast c.args.sound (g.E.Output.contents c.args.errors.now) (g.E.Output.contents c.args.errors.now)
+    (g.E.Output.failed c.args.errors.now) (g.E.Output.failed c.args.errors.now))
+    c.exit_code.ensures
     (λ text. record {
       reported = λ same. absurd (c.if-failures-sound.false (c.failures.ensures ∙ same));
       silent = λ some. (refl, refl);

@@ -39,8 +39,8 @@ of_text text.DrawLasso = command.DrawLasso
 
 -- the command of a question about one text
 abbrev pub of_question : OfQuestion → Command
-of_question (question.Empty word status) = command.Empty word status
-of_question (question.EmptySearch word status) = command.EmptySearch word status
+of_question (question.Empty lines status) = command.Empty lines.word lines.run status
+of_question (question.EmptySearch lines status) = command.EmptySearch lines.word lines.run status
 of_question (question.Realize controller) = command.Realize controller
 of_question (question.RealizeByLifting controller) = command.RealizeByLifting controller
 

@@ -12,6 +12,6 @@ returns-clause-answer c =
       holds = (
         decided,
         c.is_empty_line.ensures
-            ∙ says_empty c.args.automaton.now c.args.word decided.verdict c.as_slice-2.result.now (c.as_slice-2.ensures.value ∙ decided.written),
+            ∙ says_empty c.args.automaton.now c.args.lines decided.verdict c.as_slice-2.result.now (c.as_slice-2.ensures.value ∙ decided.written),
       );
     }
