@@ -1,17 +1,13 @@
-//! Tests of the public calls of `omega_acc`, `omega_raw`, `omega_automaton` and `omega_hoa`, apart from them, so that
-//! each library is proved once. They are one crate, since each crate of tests has to load what it tests. Texts whose
-//! refusals and canonical texts are known are tried on the built program.
+//! Tests of labels and automata that are put together part by part, and of what is read as it is written, apart from
+//! their libraries, so that each library is proved once. Other calls on labels, formulas, automata and streams are
+//! tried by `checks/run calls`, and texts whose refusals and canonical texts are known on the built program.
 #![tactic(auto)]
 
 #[cfg(test)]
-mod acc;
+mod faults;
 #[cfg(test)]
-mod automaton;
-#[cfg(test)]
-mod hoa;
+mod labels;
 #[cfg(test)]
 mod outcomes;
 #[cfg(test)]
 mod raw;
-#[cfg(test)]
-mod texts;

@@ -1,20 +1,10 @@
-//! What is answered to texts.
+//! What calls answer.
 use omega_text::Refusal;
 use std::process::Abort;
-
-/// The number of a refusal, or 0, and its place.
-pub(crate) type Reported = (u32, Option<usize>);
 
 /// Asserts that a row of a table holds. A message that is put together is slow to prove: so this one serves all tables.
 pub(crate) fn assert_row(rt: &impl Abort, row: usize, holds: bool) {
     assert!(rt; holds, "row {row}");
-}
-
-pub(crate) fn reported<T: Drop>(answer: Result<T, Refusal>) -> Reported {
-    match answer {
-        Ok(_) => (0, None),
-        Err(refusal) => (refusal.number(), refusal.at()),
-    }
 }
 
 /// Returns the number of a refusal, or 0 for an answer.

@@ -1,8 +1,9 @@
 //! Labels, aliases and acceptance formulas.
-use crate::lists::put;
+use crate::lists::{numbers, put, put_answer};
 use omega_acc::{
-    Acc, Aliases, Label, RawAcc, RawLabel, expand, expand_in_place, expanded_size, read_acc,
-    read_label, read_raw_acc, read_raw_label, write_acc, write_label,
+    Acc, Aliases, Label, Order, Parity, ParityKind, RawAcc, RawLabel, expand, expand_in_place,
+    expanded_size, priority, read_acc, read_label, read_raw_acc, read_raw_label, write_acc,
+    write_label,
 };
 use omega_text::{Cursor, HoaKind, Refusal, TextCursor, check_tokens, hoa_tokens};
 use std::alloc::Global;
@@ -11,7 +12,8 @@ pub(crate) fn has(call: &str) -> bool {
     match call {
         "read_label" | "read_raw_label" | "RawLabel" | "expand" | "expand_in_place" => true,
         "expanded_size" | "shape of a label" | "read_acc" | "read_raw_acc" | "RawAcc" => true,
-        "Acc" | "shape of a formula" => true,
+        "Acc" | "shape of a formula" | "end of a label" | "end of a formula" => true,
+        "depth of a label" | "depth of a formula" | "is RawAcc" | "priority" => true,
         _ => false,
     }
 }
@@ -32,6 +34,12 @@ pub(crate) fn called(
         "read_raw_acc" => raw_written(alloc, raw_formula_in(alloc, text)),
         "RawAcc" => raw_written(alloc, raw_built(alloc)),
         "Acc" => formula_written(alloc, built(alloc)),
+        "end of a label" => label_end(alloc, text),
+        "end of a formula" => formula_end(alloc, text),
+        "depth of a label" => depth_of(alloc, raw_label_in(alloc, text), other),
+        "depth of a formula" => formula_depth_of(alloc, raw_formula_in(alloc, text), other),
+        "is RawAcc" => is_built(alloc, raw_formula_in(alloc, text)),
+        "priority" => priority_in(alloc, text),
         _ => formula_again(alloc, formula_in(alloc, text)),
     }
 }
@@ -86,11 +94,17 @@ fn written(alloc: Global, label: &Label) -> Result<Vec<u8>, Refusal> {
     }
 }
 
-/// Returns `@a` for a text, and `@b` for `@a&!@a`.
+/// Returns `@a`, `@b` and so on for the labels of a text, between which stands `;`.
 fn aliases(alloc: Global, text: &[u8]) -> Result<Aliases, Refusal> {
+    let Ok(text) = std::str::from_utf8(text) else {
+        return Err(Refusal::Io);
+    };
     let mut aliases = Aliases::new(alloc);
-    add_again(alloc, &mut aliases, b"@a", text)?;
-    add_again(alloc, &mut aliases, b"@b", b"@a&!@a")?;
+    let mut letter = b'a';
+    for label in text.split(';') {
+        add_again(alloc, &mut aliases, &[b'@', letter], label.as_bytes())?;
+        letter = letter.wrapping_add(1);
+    }
     Ok(aliases)
 }
 
@@ -253,4 +267,133 @@ fn text_of(alloc: Global, formula: &Acc) -> Result<Vec<u8>, Refusal> {
             Ok(out)
         }
     }
+}
+
+/// Returns the number of the refusal of a text as a label, or 0 if it begins with one, and the place of the refusal or,
+/// if it has none, that of the cursor.
+fn label_end(alloc: Global, text: &[u8]) -> Result<Vec<u8>, Refusal> {
+    let tokens = hoa_tokens(alloc, text)?;
+    let mut cursor = Cursor::new(tokens.as_slice(), text.len());
+    let refusal = read_label(alloc, &mut cursor).err();
+    end(alloc, refusal, cursor.place())
+}
+
+/// Returns the same of a text as an acceptance formula.
+fn formula_end(alloc: Global, text: &[u8]) -> Result<Vec<u8>, Refusal> {
+    let tokens = hoa_tokens(alloc, text)?;
+    let mut cursor = Cursor::new(tokens.as_slice(), text.len());
+    let refusal = read_acc(alloc, &mut cursor).err();
+    end(alloc, refusal, cursor.place())
+}
+
+fn end(alloc: Global, refusal: Option<Refusal>, place: usize) -> Result<Vec<u8>, Refusal> {
+    let (number, at) = match refusal {
+        Some(refusal) => (refusal.number(), refusal.at().unwrap_or(place)),
+        None => (0, place),
+    };
+    let mut out = Vec::new(alloc);
+    put(&mut out, u128::from(number))?;
+    put(&mut out, at as u128)?;
+    Ok(out)
+}
+
+/// Returns the depth of a label, whether it is too deep, and whether its propositions are below each of some numbers.
+fn depth_of(
+    alloc: Global,
+    raw: Result<RawLabel, Refusal>,
+    counts: &[u8],
+) -> Result<Vec<u8>, Refusal> {
+    match raw {
+        Ok(raw) => label_depth(alloc, &raw, counts),
+        Err(refusal) => Err(refusal),
+    }
+}
+
+fn label_depth(alloc: Global, raw: &RawLabel, counts: &[u8]) -> Result<Vec<u8>, Refusal> {
+    let counts = numbers(alloc, counts)?;
+    let mut out = Vec::new(alloc);
+    put(&mut out, u128::from(raw.depth()))?;
+    put_answer(&mut out, raw.is_too_deep())?;
+    for count in &counts {
+        put_answer(&mut out, raw.propositions_below(*count))?;
+    }
+    Ok(out)
+}
+
+/// Returns the same of a formula and its sets.
+fn formula_depth_of(
+    alloc: Global,
+    raw: Result<RawAcc, Refusal>,
+    counts: &[u8],
+) -> Result<Vec<u8>, Refusal> {
+    match raw {
+        Ok(raw) => formula_depth(alloc, &raw, counts),
+        Err(refusal) => Err(refusal),
+    }
+}
+
+fn formula_depth(alloc: Global, raw: &RawAcc, counts: &[u8]) -> Result<Vec<u8>, Refusal> {
+    let counts = numbers(alloc, counts)?;
+    let mut out = Vec::new(alloc);
+    put(&mut out, u128::from(raw.depth()))?;
+    put_answer(&mut out, raw.is_too_deep())?;
+    for count in &counts {
+        put_answer(&mut out, raw.sets_below(*count))?;
+    }
+    Ok(out)
+}
+
+/// Whether a formula is `(Inf(0))&t|Fin(!1)`, with these parentheses.
+fn is_built(alloc: Global, raw: Result<RawAcc, Refusal>) -> Result<Vec<u8>, Refusal> {
+    match raw {
+        Ok(raw) => compared(alloc, &raw, raw_built(alloc)),
+        Err(refusal) => Err(refusal),
+    }
+}
+
+fn compared(
+    alloc: Global,
+    raw: &RawAcc,
+    other: Result<RawAcc, Refusal>,
+) -> Result<Vec<u8>, Refusal> {
+    let mut out = Vec::new(alloc);
+    match other {
+        Ok(other) => put_answer(&mut out, *raw == other)?,
+        Err(refusal) => return Err(refusal),
+    }
+    Ok(out)
+}
+
+/// Returns the priority of the marks after the first three numbers of a text: 0 for max or 1 for min, 0 for even or 1
+/// for odd, and the count of sets.
+fn priority_in(alloc: Global, text: &[u8]) -> Result<Vec<u8>, Refusal> {
+    let numbers = numbers(alloc, text)?;
+    let mut out = Vec::new(alloc);
+    match numbers.as_slice() {
+        [order, parity, count, marks @ ..] => {
+            put_priority(&mut out, kind_of(*order, *parity, *count), marks)?
+        }
+        _ => return Err(Refusal::Io),
+    }
+    Ok(out)
+}
+
+fn kind_of(order: u32, parity: u32, count: u32) -> ParityKind {
+    ParityKind {
+        order: if order == 0 { Order::Max } else { Order::Min },
+        parity: if parity == 0 {
+            Parity::Even
+        } else {
+            Parity::Odd
+        },
+        count,
+    }
+}
+
+fn put_priority(out: &mut Vec<u8>, kind: ParityKind, marks: &[u32]) -> Result<(), Refusal> {
+    let count = kind.count;
+    if count > 9 || !marks.iter().all(|mark| *mark < count) {
+        return Err(Refusal::Io);
+    }
+    put(out, u128::from(priority(kind, marks)))
 }

@@ -1,8 +1,11 @@
 //! Calls on the game of a text, which is read once and lent: a function that owns a game is slow to prove.
+use crate::lists::{only_number, put_all};
 use crate::{building, quiet, solutions, solving};
-use omega_game::{Game, Refusal};
+use omega_causes::solution_cause;
+use omega_game::{Game, Player, Refusal};
 use omega_game_drawing::{Extent, draw_game};
-use omega_pg::{read_game, write_game};
+use omega_least_priority::turned_priorities;
+use omega_pg::{read_game, read_winners, write_game};
 use std::alloc::Global;
 
 pub(crate) fn has(call: &str) -> bool {
@@ -12,7 +15,8 @@ pub(crate) fn has(call: &str) -> bool {
 fn is_here(call: &str) -> bool {
     match call {
         "read_game" | "part" | "draw_game" | "draw_part" | "GameBuilder" | "finish_forward" => true,
-        "game" => true,
+        "game" | "game of a part" | "solution_cause" | "turned_priorities" => true,
+        "read_winners" => true,
         _ => false,
     }
 }
@@ -31,7 +35,7 @@ pub(crate) fn called(
 
 fn of_game(alloc: Global, call: &str, game: &Game, other: &[u8]) -> Result<Vec<u8>, Refusal> {
     if solving::has(call) {
-        return solving::of_game(alloc, call, game, quiet::runs(other));
+        return solving::of_game(alloc, call, game, other);
     }
     match call {
         "read_game" => write_game(alloc, game.forward()),
@@ -41,6 +45,10 @@ fn of_game(alloc: Global, call: &str, game: &Game, other: &[u8]) -> Result<Vec<u
         "GameBuilder" => building::built_again(alloc, game),
         "finish_forward" => building::forward_built_again(alloc, game),
         "game" => quiet::of_game(alloc, game, quiet::runs(other)),
+        "game of a part" => read_of_part(alloc, game, other),
+        "solution_cause" => solution_cause(alloc, game.forward(), other),
+        "turned_priorities" => turned(alloc, game),
+        "read_winners" => winners_given(alloc, game, other),
         _ => solutions::of_game(alloc, call, game, other),
     }
 }
@@ -51,6 +59,39 @@ fn part_of_first(alloc: Global, game: &Game) -> Result<Vec<u8>, Refusal> {
         return Err(Refusal::Io);
     }
     building::written(alloc, game.part(alloc, 0))
+}
+
+/// Returns what is read of the part of the node whose identifier is the only number of a text.
+fn read_of_part(alloc: Global, game: &Game, text: &[u8]) -> Result<Vec<u8>, Refusal> {
+    match game.place_of(only_number(alloc, text)?) {
+        Some(place) => read_of_game(alloc, game.part(alloc, place)),
+        None => Err(Refusal::Io),
+    }
+}
+
+fn read_of_game(alloc: Global, made: Result<Game, Refusal>) -> Result<Vec<u8>, Refusal> {
+    match made {
+        Ok(game) => quiet::of_game(alloc, &game, true),
+        Err(refusal) => Err(refusal),
+    }
+}
+
+/// Returns the priorities of a game of which the least counts, so that the greatest does.
+fn turned(alloc: Global, game: &Game) -> Result<Vec<u8>, Refusal> {
+    let turned = turned_priorities(alloc, game.forward())?;
+    let mut out = Vec::new(alloc);
+    put_all(&mut out, turned.as_slice())?;
+    Ok(out)
+}
+
+/// Returns a digit for the winner of each place.
+fn winners_given(alloc: Global, game: &Game, text: &[u8]) -> Result<Vec<u8>, Refusal> {
+    let winners = read_winners(alloc, game.forward(), text)?;
+    let mut out = Vec::new(alloc);
+    for winner in &winners {
+        out.push(if *winner == Player::Zero { b'0' } else { b'1' })?;
+    }
+    Ok(out)
 }
 
 /// Returns a drawing of what the game's first node reaches by two edges.

@@ -1,14 +1,18 @@
 //! Texts and words of lassos, and their referee.
 use crate::lists::put;
 use omega_lasso_judge::{judge_lasso, write_lasso_fault};
-use omega_lasso_text::{LassoText, Refusal, read_lasso, write_lasso};
+use omega_lasso_text::{LassoText, Refusal, read_lasso, read_lasso_lines, write_lasso};
 use omega_lasso_word::{Automaton, word_of};
 use omega_runs::edge_places;
 use std::alloc::Global;
 
 /// Returns a lasso that is read and written.
-pub(crate) fn read_and_written(alloc: Global, text: &[u8]) -> Result<Vec<u8>, Refusal> {
-    match read_lasso(alloc, text) {
+pub(crate) fn read_and_written(alloc: Global, call: &str, text: &[u8]) -> Result<Vec<u8>, Refusal> {
+    let read = match call {
+        "read_lasso" => read_lasso(alloc, text),
+        _ => read_lasso_lines(alloc, text),
+    };
+    match read {
         Ok(lasso) => write_lasso(alloc, lasso.stem.as_slice(), lasso.cycle.as_slice()),
         Err(refusal) => Err(refusal),
     }

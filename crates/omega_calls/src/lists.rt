@@ -1,5 +1,35 @@
-//! Lists in text.
-use omega_text::{Refusal, write_number};
+//! Lists in texts.
+use omega_text::{PgKind, Refusal, pg_tokens, write_number};
+use std::alloc::Global;
+
+/// Returns the numbers of a text, whatever stands between them.
+pub(crate) fn numbers(alloc: Global, text: &[u8]) -> Result<Vec<u32>, Refusal> {
+    let tokens = pg_tokens(alloc, text)?;
+    let mut numbers = Vec::new(alloc);
+    for token in &tokens {
+        if token.kind == PgKind::Number {
+            numbers.push(token.value)?;
+        }
+    }
+    Ok(numbers)
+}
+
+/// Returns the only number of a text.
+pub(crate) fn only_number(alloc: Global, text: &[u8]) -> Result<u32, Refusal> {
+    let numbers = numbers(alloc, text)?;
+    match numbers.as_slice() {
+        [number] => Ok(*number),
+        _ => Err(Refusal::Io),
+    }
+}
+
+/// Returns the numbers that a list begins with, after their count, and the numbers after them.
+pub(crate) fn counted(numbers: &[u32]) -> (&[u32], &[u32]) {
+    match numbers.split_first() {
+        Some((count, others)) => others.split_at(others.len().min(*count as usize)),
+        None => (numbers, numbers),
+    }
+}
 
 /// Puts a number, with a space after it.
 pub(crate) fn put(out: &mut Vec<u8>, number: u128) -> Result<(), Refusal> {

@@ -1,15 +1,20 @@
 //! A program that makes one public call of the libraries on two texts, each of them a word after the call's name, and
-//! writes what the call gives. Its status is 0, or the number of the refusal. It is 61 also if a call left something
-//! changed after a refused request, or if there is no such call. `checks/calls.py` refuses its requests for memory.
+//! writes what the call gives. If the first word is `-`, that text is the standard input. The status is 0, or the
+//! number of the refusal, whose line goes to standard error unless memory is refused. It is 61 also if a call left
+//! something changed after a refused request, or if there is no such call. `checks/calls.py` refuses its requests for
+//! memory, and compares what it writes with what is known.
 #![tactic(auto)]
 
 mod automata;
 mod building;
+mod choices;
 mod comparing;
 mod emptiness;
 mod expressions;
+mod faults;
 mod games;
 mod inputs;
+mod kinds;
 mod lassos;
 mod lists;
 mod quiet;
@@ -20,7 +25,7 @@ mod solving;
 mod streams;
 mod tokens;
 
-use omega_io::{ToWrite, write_text};
+use omega_io::{FromRead, ToWrite, read_all, refusal_line, tell, write_text};
 use omega_text::Refusal;
 use std::alloc::Global;
 use std::io;
@@ -33,7 +38,20 @@ fn main(rt: HostRuntime) -> ExitCode {
             Ok(()) => ExitCode::SUCCESS,
             Err(refusal) => status_of(refusal),
         },
-        Err(refusal) => status_of(refusal),
+        Err(refusal) => {
+            if refusal != Refusal::Memory {
+                tell_refusal(&rt, refusal);
+            }
+            status_of(refusal)
+        }
+    }
+}
+
+/// Writes the line of a refusal to standard error, if there is memory for it.
+fn tell_refusal(rt: &HostRuntime, refusal: Refusal) {
+    let mut line = Vec::new(rt.alloc());
+    if refusal_line(&refusal, &mut line).is_ok() {
+        tell(&mut ToWrite::new(rt.stderr()), line.as_slice());
     }
 }
 
@@ -44,7 +62,7 @@ fn status_of(refusal: Refusal) -> ExitCode {
 /// Returns what the words request.
 fn answer(rt: &HostRuntime) -> Result<Vec<u8>, Refusal> {
     match words_of(rt) {
-        Ok(words) => asked(rt.alloc(), words.as_slice()),
+        Ok(words) => asked(rt, words.as_slice()),
         Err(error) if error.kind() == io::ErrorKind::OutOfMemory => Err(Refusal::Memory),
         Err(_) => Err(Refusal::Io),
     }
@@ -55,18 +73,23 @@ fn words_of(rt: &HostRuntime) -> io::Result<Vec<String>> {
     Ok(words)
 }
 
-fn asked(alloc: Global, words: &[String]) -> Result<Vec<u8>, Refusal> {
+fn asked(rt: &HostRuntime, words: &[String]) -> Result<Vec<u8>, Refusal> {
     if words.len() < 4 {
         return Err(Refusal::Io);
     }
-    let (text, other) = (words[2].as_bytes(), words[3].as_bytes());
-    called(alloc, words[1].as_str(), text, other)
+    let (call, text, other) = (words[1].as_str(), words[2].as_bytes(), words[3].as_bytes());
+    if text == b"-".as_slice() {
+        let input = read_all(rt.alloc(), &mut FromRead::new(rt.stdin()))?;
+        called(rt.alloc(), call, input.as_slice(), other)
+    } else {
+        called(rt.alloc(), call, text, other)
+    }
 }
 
 /// Returns what a call gives of two texts.
 fn called(alloc: Global, call: &str, text: &[u8], other: &[u8]) -> Result<Vec<u8>, Refusal> {
     if tokens::has(call) {
-        tokens::called(alloc, call, text)
+        tokens::called(alloc, call, text, other)
     } else if expressions::has(call) {
         expressions::called(alloc, call, text, other)
     } else if raw::has(call) {
@@ -77,6 +100,8 @@ fn called(alloc: Global, call: &str, text: &[u8], other: &[u8]) -> Result<Vec<u8
         streams::called(alloc, call, text)
     } else if inputs::has(call) {
         inputs::called(alloc, call, text)
+    } else if faults::has(call) {
+        faults::called(alloc, call, text, other)
     } else if games::has(call) {
         games::called(alloc, call, text, other)
     } else if building::has(call) {
@@ -85,8 +110,8 @@ fn called(alloc: Global, call: &str, text: &[u8], other: &[u8]) -> Result<Vec<u8
         searching::called(alloc, call, text)
     } else if quiet::has(call) {
         quiet::called(alloc, call, text, other)
-    } else if call == "read_lasso" {
-        lassos::read_and_written(alloc, text)
+    } else if call == "read_lasso" || call == "read_lasso_lines" {
+        lassos::read_and_written(alloc, call, text)
     } else {
         Err(Refusal::Io)
     }

@@ -1,18 +1,20 @@
 //! Calls that ask for no memory, after those that make what they are made on.
 use crate::expressions::label_in;
+use crate::kinds::put_hoa;
 use crate::lists::{put, put_all, put_answer};
 use omega_acc::{
-    Aliases, Label, Order, Parity, ParityKind, RawLabel, acceptance_kind, expand, parity_of,
-    priority, satisfiable,
+    AccKind, Aliases, Label, Order, Parity, ParityKind, RawLabel, acceptance_kind, expand,
+    parity_of, priority, satisfiable,
 };
 use omega_automaton::{Automaton, EdgeRef, State};
 use omega_game::{Game, Player, Refusal, Seq, Strategy, bound};
 use omega_hoa::Stream;
 use omega_io::{Exit, exit_code};
 use omega_measure::fits;
+use omega_raw::HeaderValue;
 use omega_text::{
-    Cursor, HoaKind, PgKind, TextCursor, TextFault, TokenKind, TokenSource, check_tokens,
-    hoa_tokens, next_hoa_token, next_pg_number, next_pg_token,
+    ByteString, Cursor, HoaKind, PgKind, TextCursor, TextFault, TokenKind, TokenSource,
+    check_tokens, hoa_tokens, next_hoa_token, next_pg_number, next_pg_token,
 };
 use std::alloc::Global;
 
@@ -87,14 +89,23 @@ fn put_places<'a, S: TokenSource<'a, HoaKind>>(
     Ok(())
 }
 
-/// Puts the place of a source and whether a token is there, and takes it. Whether there was one.
+/// Puts the place of a source, and takes the token there and puts it, and whether it was shown before. Whether there
+/// was one.
 fn put_place<'a, S: TokenSource<'a, HoaKind>>(
     source: &mut S,
     out: &mut Vec<u8>,
 ) -> Result<bool, Refusal> {
     put(out, source.place() as u128)?;
-    put_answer(out, source.look().is_some())?;
-    Ok(source.take().is_some())
+    let shown = source.look();
+    let taken = source.take();
+    put_answer(out, shown == taken)?;
+    match taken {
+        Some(token) => {
+            put_hoa(out, &token)?;
+            Ok(true)
+        }
+        None => Ok(false),
+    }
 }
 
 /// Calls on a game.
@@ -112,16 +123,31 @@ fn put_game(game: &Game, strategy: &Strategy, out: &mut Vec<u8>) -> Result<(), R
         put(out, u128::from(game.id(place)))?;
         put(out, u128::from(game.priority(place)))?;
         put_player(game.owner(place), game.priority(place), out)?;
-        put_answer(out, game.name(place).is_some())?;
+        put_name(game.name(place), out)?;
+        put_answer(out, game.place_of(game.id(place)) == Some(place))?;
         put_all(out, game.successors(place))?;
         put_all(out, game.predecessors(place))?;
     }
     put(out, game.edges() as u128)?;
-    put(out, game.priority_counts().len() as u128)?;
-    put_answer(out, game.place_of(0).is_some())?;
+    for class in game.priority_counts() {
+        put_all(out, &[class.priority, class.nodes])?;
+    }
+    for id in 0..11 {
+        put_answer(out, game.place_of(id).is_some())?;
+    }
     put_answer(out, strategy.fits(game.forward(), Player::Zero))?;
     put_answer(out, fits(game.forward(), Player::Zero))?;
-    put(out, bound(game.forward(), Player::Zero).unwrap_or(0))
+    put(out, bound(game.forward(), Player::Zero).unwrap_or(0))?;
+    put(out, bound(game.forward(), Player::One).unwrap_or(0))
+}
+
+/// Puts whether a node has a name, and the name.
+fn put_name(name: Option<&[u8]>, out: &mut Vec<u8>) -> Result<(), Refusal> {
+    put_answer(out, name.is_some())?;
+    match name {
+        Some(bytes) => Ok(out.extend_from_slice(bytes)?),
+        None => Ok(()),
+    }
 }
 
 /// Puts a player, and whether a priority that occurs for ever is lost by the opponent.
@@ -172,13 +198,11 @@ pub(crate) fn of_automaton(
 
 fn put_automaton(automaton: &Automaton, out: &mut Vec<u8>) -> Result<(), Refusal> {
     put(out, u128::from(automaton.state_count()))?;
-    put(out, u128::from(automaton.edge_count()))?;
-    put(out, automaton.starts().len() as u128)?;
     put(out, automaton.propositions().len() as u128)?;
-    put(out, automaton.properties().len() as u128)?;
-    put(out, automaton.unknown().len() as u128)?;
-    put_answer(out, automaton.tool().is_some())?;
-    put_answer(out, automaton.name().is_some())?;
+    put(out, u128::from(automaton.set_count()))?;
+    put(out, automaton.defined().len() as u128)?;
+    put(out, u128::from(automaton.edge_count()))?;
+    put_headers(automaton, out)?;
     for state in automaton.defined() {
         put_edges(state, out)?;
     }
@@ -191,7 +215,59 @@ fn put_automaton(automaton: &Automaton, out: &mut Vec<u8>) -> Result<(), Refusal
     put_kind(automaton, out)
 }
 
+/// Puts the starts, names and words of an automaton.
+fn put_headers(automaton: &Automaton, out: &mut Vec<u8>) -> Result<(), Refusal> {
+    for start in automaton.starts() {
+        put_all(out, start.as_slice())?;
+    }
+    put_words(automaton.propositions(), out)?;
+    put_words(automaton.properties(), out)?;
+    for header in automaton.unknown() {
+        out.extend_from_slice(header.name.as_slice())?;
+        put_values(header.values.as_slice(), out)?;
+    }
+    put_name(automaton.name(), out)?;
+    match automaton.tool() {
+        Some(tool) => {
+            put_name(Some(tool.name.as_slice()), out)?;
+            match &tool.version {
+                Some(version) => put_name(Some(version.as_slice()), out),
+                None => put_answer(out, false),
+            }
+        }
+        None => put_answer(out, false),
+    }
+}
+
+/// Puts words, with a space after each, and `;`.
+fn put_words(words: &[ByteString], out: &mut Vec<u8>) -> Result<(), Refusal> {
+    for word in words {
+        out.extend_from_slice(word.as_slice())?;
+        out.push(b' ')?;
+    }
+    Ok(out.push(b';')?)
+}
+
+/// Puts the values of a header item, with a space before each, and `;`.
+fn put_values(values: &[HeaderValue], out: &mut Vec<u8>) -> Result<(), Refusal> {
+    for value in values {
+        out.push(b' ')?;
+        match value {
+            HeaderValue::Boolean(truth) => put_answer(out, *truth)?,
+            HeaderValue::Number(number) => put(out, u128::from(*number))?,
+            HeaderValue::Text(text) => put_name(Some(text.as_slice()), out)?,
+            HeaderValue::Word(word) => out.extend_from_slice(word.as_slice())?,
+        }
+    }
+    Ok(out.push(b';')?)
+}
+
+/// Puts the number, the name and the marks of a state, and its edges.
 fn put_edges(state: &State, out: &mut Vec<u8>) -> Result<(), Refusal> {
+    put(out, u128::from(state.number))?;
+    put_name(state.name.as_slice(), out)?;
+    put_all(out, state.marks.as_slice())?;
+    put_answer(out, state.label.is_some())?;
     for at in 0..state.edges.len() {
         put_edge(&state.edges.edge(at), out)?;
     }
@@ -211,6 +287,29 @@ fn put_kind(automaton: &Automaton, out: &mut Vec<u8>) -> Result<(), Refusal> {
         return Ok(());
     };
     let (count, formula) = (automaton.set_count(), automaton.acceptance());
-    put_answer(out, acceptance_kind(name, count, formula).is_ok())?;
-    put_answer(out, parity_of(name, count, formula).is_ok())
+    match acceptance_kind(name, count, formula) {
+        Ok(AccKind::Parity(kind)) => put_parity(kind, out)?,
+        Ok(AccKind::GenBuchi(sets)) => put(out, u128::from(sets))?,
+        Err(refusal) => put(out, u128::from(refusal.number()))?,
+    }
+    match parity_of(name, count, formula) {
+        Ok(kind) => put_parity(kind, out),
+        Err(refusal) => put(out, u128::from(refusal.number())),
+    }
+}
+
+/// Puts a parity, as `max even 2`, with `;` after it.
+fn put_parity(kind: ParityKind, out: &mut Vec<u8>) -> Result<(), Refusal> {
+    out.extend_from_slice(if kind.order == Order::Max {
+        b"max ".as_slice()
+    } else {
+        b"min ".as_slice()
+    })?;
+    out.extend_from_slice(if kind.parity == Parity::Even {
+        b"even ".as_slice()
+    } else {
+        b"odd ".as_slice()
+    })?;
+    put(out, u128::from(kind.count))?;
+    Ok(out.push(b';')?)
 }

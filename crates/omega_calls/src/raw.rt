@@ -1,6 +1,6 @@
 //! Automata as they are written.
 use crate::automata::written;
-use crate::lists::{put_all, put_answer};
+use crate::lists::{put, put_all, put_answer};
 use omega_acc::RawLabel;
 use omega_automaton::automaton_of;
 use omega_raw::{RawEdge, RawEdges, StateName, read_raw};
@@ -12,7 +12,7 @@ use std::alloc::Global;
 
 pub(crate) fn has(call: &str) -> bool {
     match call {
-        "read_raw" | "automaton_of" | "RawEdges" | "StateName" => true,
+        "read_raw" | "automaton_of" | "RawEdges" | "StateName" | "end of an automaton" => true,
         _ => false,
     }
 }
@@ -22,6 +22,7 @@ pub(crate) fn called(alloc: Global, call: &str, text: &[u8]) -> Result<Vec<u8>, 
         "read_raw" => over_bytes(alloc, text),
         "automaton_of" => over_tokens(alloc, text),
         "RawEdges" => edges_written(alloc),
+        "end of an automaton" => raw_end(alloc, text),
         _ => name_written(alloc, text),
     }
 }
@@ -48,6 +49,18 @@ fn meaning<'a, S: TokenSource<'a, HoaKind>>(
         Ok(raw) => written(alloc, automaton_of(alloc, raw)),
         Err(refusal) => Err(refusal),
     }
+}
+
+/// Returns the place after the automaton that a text begins with.
+fn raw_end(alloc: Global, text: &[u8]) -> Result<Vec<u8>, Refusal> {
+    let tokens = hoa_tokens(alloc, text)?;
+    let mut cursor = Cursor::new(tokens.as_slice(), text.len());
+    if let Err(refusal) = read_raw(alloc, &mut cursor) {
+        return Err(refusal);
+    }
+    let mut out = Vec::new(alloc);
+    put(&mut out, cursor.place() as u128)?;
+    Ok(out)
 }
 
 /// Returns two short edges and one with a label, in as much memory as they need.

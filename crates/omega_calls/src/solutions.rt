@@ -2,10 +2,11 @@
 ghost use Rattle.std.specs.Prelude.{◌<◌, length, All, IsTrue};
 ghost use Rattle.omega_parity_game.specs.Solution.{IsSolution};
 
+use crate::choices;
 use crate::lists::{put_all, put_answer};
 use omega_game::{
-    Game, Lasso, MOST_NUMBER, Player, Refusal, Solution, check_solution_by_order, check_strategy,
-    check_strategy_by_order, check_strategy_fast, counterexample,
+    Game, Lasso, MOST_NUMBER, Player, Refusal, Solution, Strategy, check_solution_by_order,
+    check_strategy, check_strategy_by_order, check_strategy_fast, counterexample,
 };
 use omega_game_drawing::{Extent, draw_solution};
 use omega_pg::{read_solution, write_solution};
@@ -15,18 +16,22 @@ pub(crate) fn has(call: &str) -> bool {
     match call {
         "read_solution" | "draw_solution" | "places_given" | "counterexample" => true,
         "check_strategy" | "check_strategy_fast" | "check_strategy_by_order" => true,
-        "check_solution_by_order" => true,
+        "check_solution_by_order" | "by rising order" | "by first place" => true,
+        "fits" | "fast of all places" => true,
         _ => false,
     }
 }
 
-/// Returns what a call gives of a game and the solution of a text.
+/// Returns what a call gives of a game and the solution of a text, or the choices of a player in a text of numbers.
 pub(crate) fn of_game(
     alloc: Global,
     call: &str,
     game: &Game,
     text: &[u8],
 ) -> Result<Vec<u8>, Refusal> {
+    if text.starts_with(b"0") || text.starts_with(b"1") {
+        return choices::of_text(alloc, call, game, text);
+    }
     match read_solution(alloc, game.forward(), text) {
         Ok(solution) => of_solution(alloc, call, game, &solution),
         Err(refusal) => Err(refusal),
@@ -44,13 +49,20 @@ fn of_solution(
     match call {
         "read_solution" => write_solution(alloc, game.forward(), solution),
         "draw_solution" => draw_solution(alloc, game.forward(), Extent::Whole, solution, true),
-        "check_solution_by_order" => judged_by_order(alloc, game, solution),
+        "check_solution_by_order" => judged_by_order(alloc, game, solution, &[2, 1, 0]),
+        "by rising order" => judged_by_order(alloc, game, solution, &[0, 1, 2]),
+        "by first place" => judged_by_order(alloc, game, solution, &[0]),
         _ => judged(alloc, call, game, solution),
     }
 }
 
-/// Whether the order of places 2, 1, 0 shows that both players' choices win.
-fn judged_by_order(alloc: Global, game: &Game, solution: &Solution) -> Result<Vec<u8>, Refusal> {
+/// Whether an order of places shows that both players' choices win.
+fn judged_by_order(
+    alloc: Global,
+    game: &Game,
+    solution: &Solution,
+    order: &[u32],
+) -> Result<Vec<u8>, Refusal> {
     let fit = solution.zero.fits(game.forward(), Player::Zero)
         && solution.one.fits(game.forward(), Player::One);
     if solution.winners.len() != game.len() || !fit {
@@ -59,7 +71,7 @@ fn judged_by_order(alloc: Global, game: &Game, solution: &Solution) -> Result<Ve
     let mut out = Vec::new(alloc);
     put_answer(
         &mut out,
-        check_solution_by_order(alloc, game.forward(), solution, &[2, 1, 0])?,
+        check_solution_by_order(alloc, game.forward(), solution, order)?,
     )?;
     Ok(out)
 }
@@ -84,12 +96,24 @@ fn judge(
         return Err(Refusal::Io);
     }
     let places = solution.places_given(alloc, player)?;
-    if !are_places(game, places.as_slice())
-        || !solution.strategy(player).fits(game.forward(), player)
-    {
+    let (given, strategy) = (places.as_slice(), solution.strategy(player));
+    put_judged(alloc, call, game, player, given, given, strategy, out)
+}
+
+/// Puts what a call gives of the places from which a player's choices are to win, and of an order of places.
+pub(crate) fn put_judged(
+    alloc: Global,
+    call: &str,
+    game: &Game,
+    player: Player,
+    given: &[u32],
+    order: &[u32],
+    strategy: &Strategy,
+    out: &mut Vec<u8>,
+) -> Result<(), Refusal> {
+    if !are_places(game, given) || !strategy.fits(game.forward(), player) {
         return Err(Refusal::Io);
     }
-    let (given, strategy) = (places.as_slice(), solution.strategy(player));
     match call {
         "places_given" => put_all(out, given),
         "check_strategy" => put_answer(
@@ -97,19 +121,29 @@ fn judge(
             check_strategy(alloc, game.forward(), player, given, strategy)?,
         ),
         "check_strategy_fast" => {
-            let said = check_strategy_fast(alloc, game.forward(), player, given, strategy)?;
-            put_answer(out, said == Some(true))
+            put_said(
+                out,
+                check_strategy_fast(alloc, game.forward(), player, given, strategy)?,
+            )
         }
         "check_strategy_by_order" => {
             put_answer(
                 out,
-                check_strategy_by_order(alloc, game.forward(), player, given, strategy, given)?,
+                check_strategy_by_order(alloc, game.forward(), player, given, strategy, order)?,
             )
         }
         _ => put_lasso(
             out,
             counterexample(alloc, game.forward(), player, given, strategy)?,
         ),
+    }
+}
+
+/// Puts an answer, or `?` if there is none.
+fn put_said(out: &mut Vec<u8>, said: Option<bool>) -> Result<(), Refusal> {
+    match said {
+        Some(said) => put_answer(out, said),
+        None => Ok(out.push(b'?')?),
     }
 }
 

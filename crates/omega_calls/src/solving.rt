@@ -1,5 +1,7 @@
 //! Games solved: by lifting, over each table and each schedule, in an order of their own, and by the search.
-use crate::lists::{put, put_all, put_answer};
+use crate::choices::player_of;
+use crate::lists::{numbers, put, put_all, put_answer};
+use crate::quiet::runs;
 use omega_budget::{Found, NoObserver, Reordered};
 use omega_game::{Game, Player, Refusal};
 use omega_judged_search::solve_by_search;
@@ -25,32 +27,83 @@ pub(crate) fn of_game(
     alloc: Global,
     call: &str,
     game: &Game,
-    runs: bool,
+    other: &[u8],
 ) -> Result<Vec<u8>, Refusal> {
     match call {
-        "plain sweep" => lifted::<PlainTable, Sweep>(alloc, game, runs),
-        "plain worklist" => lifted::<PlainTable, Worklist>(alloc, game, runs),
-        "plain nested" => lifted::<PlainTable, Nested>(alloc, game, runs),
-        "packed sweep" => lifted::<PackedTable, Sweep>(alloc, game, runs),
-        "packed worklist" => lifted::<PackedTable, Worklist>(alloc, game, runs),
-        "packed nested" => lifted::<PackedTable, Nested>(alloc, game, runs),
-        "Reordered" => in_order(alloc, game),
+        "plain sweep" => lifted::<PlainTable, Sweep>(alloc, game, other),
+        "plain worklist" => lifted::<PlainTable, Worklist>(alloc, game, other),
+        "plain nested" => lifted::<PlainTable, Nested>(alloc, game, other),
+        "packed sweep" => lifted::<PackedTable, Sweep>(alloc, game, other),
+        "packed worklist" => lifted::<PackedTable, Worklist>(alloc, game, other),
+        "packed nested" => lifted::<PackedTable, Nested>(alloc, game, other),
+        "Reordered" if other.is_empty() => in_order(alloc, game),
+        "Reordered" => in_order_within(alloc, game, other),
         "solve_by_search" => found_by_search(alloc, game),
         "search" => suggestion(alloc, game),
         _ => order(alloc, game),
     }
 }
 
-/// Returns what two solvers find; one of them takes the places in the game's order. All of the text's room is requested
-/// before they are made, and neither runs unless `runs`.
+/// Returns what two solvers find, or one of them within the budgets of a text. Of the two, one takes the places in the
+/// game's order. All of the text's room is requested before they are made, and neither runs unless the text says so.
 fn lifted<T: MeasureTable, S: Schedule>(
     alloc: Global,
     game: &Game,
-    runs: bool,
+    other: &[u8],
 ) -> Result<Vec<u8>, Refusal> {
+    if !other.is_empty() && !runs(other) {
+        return lifted_within::<T, S>(alloc, game, numbers(alloc, other)?.as_slice());
+    }
     let mut out = Vec::with_capacity(alloc, 4096)?;
-    lift_in_order::<T, S>(alloc, game, runs, &mut out)?;
+    lift_in_order::<T, S>(alloc, game, runs(other), &mut out)?;
     Ok(out)
+}
+
+/// Returns what the solver for the player of the first number finds in runs with the other numbers as budgets.
+fn lifted_within<T: MeasureTable, S: Schedule>(
+    alloc: Global,
+    game: &Game,
+    numbers: &[u32],
+) -> Result<Vec<u8>, Refusal> {
+    let Some((number, budgets)) = numbers.split_first() else {
+        return Err(Refusal::Io);
+    };
+    match Solver::<'_, T, S>::prepare(alloc, game, player_of(*number)) {
+        Ok(mut solver) => lift_within(alloc, &mut solver, budgets),
+        Err(refusal) => Err(refusal),
+    }
+}
+
+fn lift_within<T: MeasureTable, S: Schedule>(
+    alloc: Global,
+    solver: &mut Solver<'_, T, S>,
+    budgets: &[u32],
+) -> Result<Vec<u8>, Refusal> {
+    let mut out = Vec::new(alloc);
+    put_answer(&mut out, solver.answer().is_some())?;
+    for budget in budgets {
+        put_run(solver, u64::from(*budget), &mut out)?;
+    }
+    if let Some(answer) = solver.answer() {
+        put_found(&mut out, answer.won, answer.choice)?;
+    }
+    Ok(out)
+}
+
+/// Runs a solver. Puts whether it says that it is done, whether it has an answer, its lifts, and its attempts.
+fn put_run<T: MeasureTable, S: Schedule>(
+    solver: &mut Solver<'_, T, S>,
+    budget: u64,
+    out: &mut Vec<u8>,
+) -> Result<(), Refusal> {
+    if budget > solver.room() {
+        return Err(Refusal::Io);
+    }
+    let outcome = solver.run(budget);
+    put_answer(out, outcome == Outcome::Done)?;
+    put_answer(out, solver.answer().is_some())?;
+    put(out, u128::from(solver.lifts()))?;
+    put(out, u128::from(solver.attempts()))
 }
 
 fn lift_in_order<T: MeasureTable, S: Schedule>(
@@ -117,17 +170,57 @@ fn put_found(out: &mut Vec<u8>, won: &[bool], choices: &[Option<u32>]) -> Result
 }
 
 fn in_order(alloc: Global, game: &Game) -> Result<Vec<u8>, Refusal> {
+    match Reordered::of(alloc, game.forward()) {
+        Ok(reordered) => found_for_both(alloc, &reordered),
+        Err(refusal) => Err(refusal),
+    }
+}
+
+fn found_for_both(alloc: Global, reordered: &Reordered<'_>) -> Result<Vec<u8>, Refusal> {
     let mut out = Vec::new(alloc);
-    let reordered = Reordered::of(alloc, game.forward())?;
-    let zero = reordered.solve(alloc, Player::Zero, MOST_LIFTS, &NoObserver, &mut ());
-    put_solved(&mut out, zero)?;
-    let one = reordered.solve(alloc, Player::One, MOST_LIFTS, &NoObserver, &mut ());
-    put_solved(&mut out, one)?;
+    put_found_for(alloc, reordered, Player::Zero, MOST_LIFTS, &mut out)?;
+    put_found_for(alloc, reordered, Player::One, MOST_LIFTS, &mut out)?;
     Ok(out)
 }
 
-fn put_solved(out: &mut Vec<u8>, found: Result<Found, Refusal>) -> Result<(), Refusal> {
-    match found {
+/// Returns what is found for the player of the first number of a text within the budget of the second.
+fn in_order_within(alloc: Global, game: &Game, text: &[u8]) -> Result<Vec<u8>, Refusal> {
+    let numbers = numbers(alloc, text)?;
+    match numbers.as_slice() {
+        [number, budget] => within(alloc, game, player_of(*number), u64::from(*budget)),
+        _ => Err(Refusal::Io),
+    }
+}
+
+fn within(alloc: Global, game: &Game, player: Player, budget: u64) -> Result<Vec<u8>, Refusal> {
+    match Reordered::of(alloc, game.forward()) {
+        Ok(reordered) => found_within(alloc, &reordered, player, budget),
+        Err(refusal) => Err(refusal),
+    }
+}
+
+fn found_within(
+    alloc: Global,
+    reordered: &Reordered<'_>,
+    player: Player,
+    budget: u64,
+) -> Result<Vec<u8>, Refusal> {
+    let mut out = Vec::new(alloc);
+    put_found_for(alloc, reordered, player, budget, &mut out)?;
+    Ok(out)
+}
+
+fn put_found_for(
+    alloc: Global,
+    reordered: &Reordered<'_>,
+    player: Player,
+    budget: u64,
+    out: &mut Vec<u8>,
+) -> Result<(), Refusal> {
+    if budget > MOST_LIFTS {
+        return Err(Refusal::Io);
+    }
+    match reordered.solve(alloc, player, budget, &NoObserver, &mut ()) {
         Ok(found) => put_lifted(out, &found),
         Err(refusal) => Err(refusal),
     }

@@ -1,4 +1,5 @@
 //! Streams of automata, whole and in pieces.
+use crate::lists::put;
 use omega_canon::write_canonical;
 use omega_hoa::{Item, Stream, read_stream};
 use omega_text::Refusal;
@@ -6,7 +7,7 @@ use std::alloc::Global;
 
 pub(crate) fn has(call: &str) -> bool {
     match call {
-        "read_stream" | "feed" => true,
+        "read_stream" | "feed" | "pieces" => true,
         _ => false,
     }
 }
@@ -14,6 +15,7 @@ pub(crate) fn has(call: &str) -> bool {
 pub(crate) fn called(alloc: Global, call: &str, text: &[u8]) -> Result<Vec<u8>, Refusal> {
     match call {
         "read_stream" => whole(alloc, text),
+        "pieces" => answered(alloc, text),
         _ => in_pieces(alloc, text),
     }
 }
@@ -56,4 +58,43 @@ fn written(alloc: Global, items: &[Item]) -> Result<Vec<u8>, Refusal> {
         }
     }
     Ok(out)
+}
+
+/// Returns what a stream answers to each of the pieces of a text, between which stands `~`, and to its end, and the
+/// items.
+fn answered(alloc: Global, text: &[u8]) -> Result<Vec<u8>, Refusal> {
+    let Ok(text) = std::str::from_utf8(text) else {
+        return Err(Refusal::Io);
+    };
+    let mut items = Vec::new(alloc);
+    let mut out = Vec::new(alloc);
+    put_answers(Stream::new(alloc), text, &mut items, &mut out)?;
+    out.extend_from_slice(written(alloc, items.as_slice())?.as_slice())?;
+    Ok(out)
+}
+
+fn put_answers(
+    mut stream: Stream,
+    text: &str,
+    items: &mut Vec<Item>,
+    out: &mut Vec<u8>,
+) -> Result<(), Refusal> {
+    for piece in text.split('~') {
+        put_reported(out, stream.feed(piece.as_bytes(), items))?;
+    }
+    put_reported(out, stream.finish())
+}
+
+/// Puts the number of a refusal, or 0, its place, if it has one, and `;`.
+fn put_reported(out: &mut Vec<u8>, answer: Result<(), Refusal>) -> Result<(), Refusal> {
+    match answer {
+        Ok(()) => put(out, 0)?,
+        Err(refusal) => {
+            put(out, u128::from(refusal.number()))?;
+            if let Some(at) = refusal.at() {
+                put(out, at as u128)?;
+            }
+        }
+    }
+    Ok(out.push(b';')?)
 }

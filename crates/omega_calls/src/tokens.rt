@@ -1,39 +1,59 @@
-//! Numbers, tokens, short lists, and names in drawings.
-use crate::lists::{put, put_all};
+//! Numbers, tokens, lists, and names in drawings.
+use crate::kinds::{put_hoa, put_pg};
+use crate::lists::{numbers, only_number, put, put_all, put_answer};
 use omega_dot::{write_escaped, write_name_line};
 use omega_text::{
-    ByteString, Numbers, Refusal, Token, TokenKind, hoa_tokens, pg_tokens, write_number,
+    ByteString, Numbers, PgKind, Refusal, Seq, TextFault, Token, hoa_tokens, next_pg_number,
+    next_pg_token, pg_tokens, write_number,
 };
 use std::alloc::Global;
 
 pub(crate) fn has(call: &str) -> bool {
     match call {
         "write_number" | "pg_tokens" | "hoa_tokens" | "ByteString" | "Numbers" => true,
-        "write_escaped" | "write_name_line" => true,
+        "write_escaped" | "write_name_line" | "Seq" | "next_pg_token" | "next_pg_number" => true,
         _ => false,
     }
 }
 
-pub(crate) fn called(alloc: Global, call: &str, text: &[u8]) -> Result<Vec<u8>, Refusal> {
+pub(crate) fn called(
+    alloc: Global,
+    call: &str,
+    text: &[u8],
+    other: &[u8],
+) -> Result<Vec<u8>, Refusal> {
     match call {
-        "write_number" => number(alloc),
+        "write_number" => number(alloc, value_of(text)),
+        "Seq" => lists(alloc, text, other),
+        "next_pg_token" | "next_pg_number" => token_at(alloc, call, text, other),
         "pg_tokens" => pg_places(alloc, text),
         "hoa_tokens" => hoa_places(alloc, text),
-        "ByteString" => string(alloc, text),
-        "Numbers" => numbers(alloc),
+        "ByteString" => strings(alloc, text, other),
+        "Numbers" => short_list(alloc),
         "write_escaped" => escaped(alloc, text),
         _ => name_line(alloc, text),
     }
 }
 
-/// Returns the greatest number after `<`. A refused request leaves `<` alone, and the number is written once more.
-fn number(alloc: Global) -> Result<Vec<u8>, Refusal> {
+/// Returns the number of decimal digits, which may have as many as the greatest.
+fn value_of(digits: &[u8]) -> u128 {
+    let mut value = 0u128;
+    for digit in digits {
+        value = value
+            .wrapping_mul(10)
+            .wrapping_add(u128::from(digit.wrapping_sub(b'0')));
+    }
+    value
+}
+
+/// Returns a number after `<`. A refused request leaves `<` alone, and the number is written once more.
+fn number(alloc: Global, value: u128) -> Result<Vec<u8>, Refusal> {
     let mut out = Vec::from_slice(alloc, b"<")?;
-    match write_number(u128::MAX, &mut out) {
+    match write_number(value, &mut out) {
         Ok(()) => Ok(out),
         Err(_) if out.as_slice() != b"<".as_slice() => Err(Refusal::Io),
         Err(_) => {
-            write_number(u128::MAX, &mut out)?;
+            write_number(value, &mut out)?;
             Ok(out)
         }
     }
@@ -41,31 +61,80 @@ fn number(alloc: Global) -> Result<Vec<u8>, Refusal> {
 
 fn pg_places(alloc: Global, text: &[u8]) -> Result<Vec<u8>, Refusal> {
     let tokens = pg_tokens(alloc, text)?;
-    places(alloc, tokens.as_slice())
-}
-
-fn hoa_places(alloc: Global, text: &[u8]) -> Result<Vec<u8>, Refusal> {
-    let tokens = hoa_tokens(alloc, text)?;
-    places(alloc, tokens.as_slice())
-}
-
-/// Returns the places at which tokens begin and end.
-fn places<K: TokenKind>(alloc: Global, tokens: &[Token<'_, K>]) -> Result<Vec<u8>, Refusal> {
     let mut out = Vec::new(alloc);
-    for token in tokens {
-        put(&mut out, token.span.start as u128)?;
-        put(&mut out, token.span.end as u128)?;
+    for token in &tokens {
+        put_pg(&mut out, token)?;
     }
     Ok(out)
 }
 
-fn string(alloc: Global, text: &[u8]) -> Result<Vec<u8>, Refusal> {
+fn hoa_places(alloc: Global, text: &[u8]) -> Result<Vec<u8>, Refusal> {
+    let tokens = hoa_tokens(alloc, text)?;
+    let mut out = Vec::new(alloc);
+    for token in &tokens {
+        put_hoa(&mut out, token)?;
+    }
+    Ok(out)
+}
+
+/// Returns what a call gives from the place of a text on that is the only number of another, if it gives a token.
+fn token_at(alloc: Global, call: &str, text: &[u8], other: &[u8]) -> Result<Vec<u8>, Refusal> {
+    let at = only_number(alloc, other)? as usize;
+    if at > text.len() {
+        return Err(Refusal::Io);
+    }
+    let found = match call {
+        "next_pg_token" => next_pg_token(text, at),
+        _ => Ok(next_pg_number(text, at)),
+    };
+    found_written(alloc, found)
+}
+
+fn found_written(
+    alloc: Global,
+    found: Result<Option<Token<'_, PgKind>>, TextFault>,
+) -> Result<Vec<u8>, Refusal> {
+    let mut out = Vec::new(alloc);
+    match found {
+        Ok(Some(token)) => put_pg(&mut out, &token)?,
+        Ok(None) => {}
+        Err(fault) => return Err(Refusal::Text(fault)),
+    }
+    Ok(out)
+}
+
+/// Returns the bytes of a text as a string keeps them, how many they are, and whether the string is that of another
+/// text, and the one of no bytes.
+fn strings(alloc: Global, text: &[u8], other: &[u8]) -> Result<Vec<u8>, Refusal> {
     let string = ByteString::from_slice(alloc, text)?;
-    Ok(Vec::from_slice(alloc, string.as_slice())?)
+    let other = ByteString::from_slice(alloc, other)?;
+    let mut out = Vec::from_slice(alloc, string.as_slice())?;
+    out.push(b' ')?;
+    put(&mut out, string.len() as u128)?;
+    put_answer(&mut out, string == other)?;
+    put_answer(&mut out, string == ByteString::new())?;
+    Ok(out)
+}
+
+/// Returns whether the lists of the numbers of two texts are equal, how many the first has, and these.
+fn lists(alloc: Global, text: &[u8], other: &[u8]) -> Result<Vec<u8>, Refusal> {
+    let mut out = Vec::new(alloc);
+    put_list(alloc, text, other, &mut out)?;
+    let list = Seq::from_vec(numbers(alloc, text)?);
+    put_all(&mut out, list.into_vec().as_slice())?;
+    Ok(out)
+}
+
+fn put_list(alloc: Global, text: &[u8], other: &[u8], out: &mut Vec<u8>) -> Result<(), Refusal> {
+    let list = Seq::from_vec(numbers(alloc, text)?);
+    let other = Seq::from_vec(numbers(alloc, other)?);
+    put_answer(out, list == other)?;
+    put(out, list.len() as u128)?;
+    put_all(out, list.as_slice())
 }
 
 /// Returns some numbers from a list, and as many one by one. A refused request leaves the list as it was.
-fn numbers(alloc: Global) -> Result<Vec<u8>, Refusal> {
+fn short_list(alloc: Global) -> Result<Vec<u8>, Refusal> {
     let mut list = Numbers::from_slice(alloc, &[3, 1, 4, 1, 5])?;
     for number in 0..20u32 {
         push_again(alloc, &mut list, number)?;

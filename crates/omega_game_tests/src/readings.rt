@@ -1,7 +1,6 @@
 //! What the reading calls are to answer.
 ghost use Rattle.std.specs.Prelude.{◌<◌, length};
 
-use omega_game::Player::{One, Zero};
 use omega_game::{Game, Player};
 
 /// What is read at a place: identifier, priority, owner, name, and the places of the successors and the predecessors.
@@ -13,13 +12,6 @@ pub(crate) type Reading = (
     &'static [u32],
     &'static [u32],
 );
-
-/// What is read of the three nodes of the samples.
-pub(crate) const THREE: [Reading; 3] = [
-    (0, 0, Zero, None, &[1, 2], &[1, 2]),
-    (1, 1, One, None, &[0], &[0]),
-    (2, 2, One, None, &[0], &[0]),
-];
 
 /// Whether a game has `edges` listed successors and at its places the nodes that are read there, and no others.
 pub(crate) fn reads(game: &Game, edges: usize, readings: &[Reading]) -> bool {

@@ -2,14 +2,12 @@
 //!
 //! A test here is proved before it runs, which takes long for a message that is put together and for a game that is
 //! owned over a `?`. So tests are tables, with one step that says whether a row holds.
-ghost use Rattle.std.specs.Prelude.{◌<◌, ◌≤◌, length, All, IfOk, IfSome, IsOk, IsTrue};
+ghost use Rattle.std.specs.Prelude.{◌<◌, ◌≤◌, length, All, IfOk, IfSome, IsTrue};
 ghost use Rattle.omega_parity_game.specs.Building.{IsWellFormed};
 ghost use Rattle.omega_parity_game.specs.Game.{IsNameByte};
-ghost use Rattle.omega_parity_game.specs.Winning.{IsStrategy};
 ghost use Rattle.omega_text.specs.Limits.{most_number};
 
-use omega_game::Player::{One, Zero};
-use omega_game::{Game, GameBuilder, MOST_NUMBER, NodeSpec, Player, Refusal, Seq, Strategy};
+use omega_game::{Game, GameBuilder, MOST_NUMBER, NodeSpec, Player, Refusal, Seq};
 use std::alloc::Global;
 use std::process::Abort;
 
@@ -20,24 +18,6 @@ pub(crate) fn assert_row(rt: &impl Abort, row: usize, holds: bool) {
 
 /// Identifier, priority, owner, the identifiers of the successors, and the name or none.
 pub(crate) type Row = (u32, u32, Player, &'static [u32], Option<&'static [u8]>);
-
-pub(crate) const THREE: [Row; 3] = [
-    (0, 0, Zero, &[1, 2], None),
-    (1, 1, One, &[0], None),
-    (2, 2, One, &[0], None),
-];
-
-pub(crate) const GAP: [Row; 2] = [(9, 3, One, &[4], None), (4, 2, Zero, &[9, 4], Some(b"a"))];
-
-pub(crate) const REPEATS: [Row; 2] = [(0, 0, Zero, &[1, 1, 0], None), (1, 1, One, &[0, 0], None)];
-
-pub(crate) const NAMES: [Row; 3] = [
-    (5, 0, Zero, &[5], Some(b"")),
-    (1, 0, Zero, &[1], None),
-    (3, 0, Zero, &[3], Some(b"b c")),
-];
-
-pub(crate) const GREATEST: [Row; 1] = [(2_147_483_647, 0, Zero, &[2_147_483_647], None)];
 
 /// Returns the game of the rows by `Game::build`, or [Refusal::Io] if no row is given or one is not well formed.
 pub(crate) fn game_of(alloc: Global, rows: &[Row]) -> Result<Game, Refusal> {
@@ -54,14 +34,6 @@ pub(crate) fn finish(builder: GameBuilder) -> Result<Game, Refusal> {
         return Err(Refusal::Io);
     }
     builder.finish()
-}
-
-/// Whether a call gave what it should.
-pub(crate) fn is_given(given: Result<bool, Refusal>, wanted: bool) -> bool {
-    match given {
-        Ok(given) => given == wanted,
-        Err(_) => false,
-    }
 }
 
 /// Adds a node, or answers [Refusal::Io] if a number is too great.
@@ -145,25 +117,4 @@ fn are_name_bytes(bytes: &[u8]) -> bool
     bytes
         .iter()
         .all(|byte| 32 <= *byte && *byte <= 126 && *byte != 34)
-}
-
-/// Returns the strategy of these choices, or [Refusal::Io] if a place is not there or the choices do not fit.
-pub(crate) fn strategy_for(
-    alloc: Global,
-    game: &Game,
-    player: Player,
-    places: &[u32],
-    choices: &[Option<u32>],
-) -> Result<Strategy, Refusal>
-    ensures fits { IfOk result (λ strategy. IsStrategy game.now player strategy.choice) }
-    ensures places { IsOk result → All (λ place. place < length game.now) places.now }
-{
-    let choice = Seq::from_vec(Vec::from_slice(alloc, choices)?);
-    let strategy = Strategy { choice };
-    let count = game.len();
-    let inside = places.iter().all(|place| (*place as usize) < count);
-    if !inside || !strategy.fits(game.forward(), player) {
-        return Err(Refusal::Io);
-    }
-    Ok(strategy)
 }

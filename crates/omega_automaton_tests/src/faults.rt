@@ -1,3 +1,4 @@
+//! An automaton that is put together part by part, and that no text says.
 use crate::outcomes::number_of;
 use omega_acc::RawAcc;
 use omega_automaton::{ByteString, Marks, Numbers, RawAutomaton, Refusal, Seq, automaton_of};

@@ -1,2 +1,0 @@
-//! The search, and what it suggests.
-mod rows;

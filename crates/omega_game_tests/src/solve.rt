@@ -1,3 +1,0 @@
-//! The solver over each table and each schedule.
-mod schedules;
-mod solving;
