@@ -1,4 +1,4 @@
-ghost use Rattle.std.specs.Prelude.{IfErr, IfOk};
+ghost use Rattle.std.specs.Prelude.{false, IfErr, IfOk};
 ghost use Rattle.omega_empty_answers.specs.empty.Answer.{IsEmptySearchAnswer, IsEmptySearchRefusal};
 ghost use Rattle.omega_text.specs.Cases.{or_memory};
 ghost use Rattle.omega.specs.Giving.{IsOneRefused, IsTextOutcome};
@@ -8,7 +8,7 @@ use crate::giving::{copied, give};
 use crate::solving::asks;
 use crate::text::Text;
 use crate::text_outcome::TextOutcome;
-use omega_empty_answers::search_emptiness;
+use omega_empty_answers::{Lines, search_emptiness};
 use omega_text::Refusal;
 use std::alloc::Global;
 
@@ -19,20 +19,24 @@ use std::alloc::Global;
 /// [TaskFault::UniversalBranch], [TaskFault::TooManyPropositions] or [Refusal::Memory]. Unless it is 0, `out` stays.
 #[unsafe(no_mangle)]
 pub extern "C" fn omega_empty(alloc: Global, text: &[u8], word: u8, out: &mut Text) -> TextOutcome
-    ensures { IsTextOutcome (IsEmptySearchAnswer text.now (asks word)) (IsOneRefused (IsEmptySearchRefusal text.now))
-        result out.old out.new }
+    ensures { IsTextOutcome (IsEmptySearchAnswer text.now (record { word = asks word; run = false }))
+        (IsOneRefused (IsEmptySearchRefusal text.now)) result out.old out.new }
 {
-    match searched(alloc, text, asks(word)) {
+    let lines = Lines {
+        word: asks(word),
+        run: false,
+    };
+    match searched(alloc, text, lines) {
         Ok(output) => give(alloc, output, out),
         Err(refusal) => TextOutcome::of_one(refusal),
     }
 }
 
 /// Searches as [search_emptiness] does, in a copy of `text`.
-fn searched(alloc: Global, text: &[u8], word: bool) -> Result<Vec<u8>, Refusal>
-    ensures answer { IfOk result (λ output. IsEmptySearchAnswer text.now word output.items) }
+fn searched(alloc: Global, text: &[u8], lines: Lines) -> Result<Vec<u8>, Refusal>
+    ensures answer { IfOk result (λ output. IsEmptySearchAnswer text.now lines output.items) }
     ensures refused { IfErr result (or_memory (IsEmptySearchRefusal text.now)) }
 {
     let copy = copied(alloc, text)?;
-    search_emptiness(alloc, copy, word)
+    search_emptiness(alloc, copy, lines)
 }

@@ -1,5 +1,5 @@
 -- `omega_empty`: the text of the call that it hands on, or its refusal.
-use Rattle.std.proofs.Common.{Bool, inr, refl, subst}
+use Rattle.std.proofs.Common.{Bool, false, inr, refl, subst}
 use Rattle.omega_empty_answers.specs.empty.Answer.{IsEmptySearchAnswer, IsEmptySearchRefusal}
 use Rattle.omega.specs.Giving.{IsOneRefused}
 use Rattle.omega.specs.Solving.{asks}
@@ -9,8 +9,8 @@ use Rattle.omega.proofs.emptiness.omega_empty.Goals as goal
 
 pub returns-in-Ok : goal.returns-in-Ok
 returns-in-Ok c =
-    text_given (IsEmptySearchAnswer c.args.text.now (asks c.args.word)) (IsOneRefused (IsEmptySearchRefusal c.args.text.now)) c.give.result c.args.out.now c.give.new.out
-    c.in-Ok.output.items (subst (λ (b : Bool). IsEmptySearchAnswer c.args.text.now b c.in-Ok.output.items) c.asks.ensures c.in-Ok.ensures.answer) refl c.give.ensures
+    text_given (IsEmptySearchAnswer c.args.text.now (record { word = asks c.args.word; run = false })) (IsOneRefused (IsEmptySearchRefusal c.args.text.now)) c.give.result c.args.out.now c.give.new.out
+    c.in-Ok.output.items (subst (λ (b : Bool). IsEmptySearchAnswer c.args.text.now (record { word = b; run = false }) c.in-Ok.output.items) c.asks.ensures c.in-Ok.ensures.answer) refl c.give.ensures
 
 pub returns-in-Err : goal.returns-in-Err
 returns-in-Err c =

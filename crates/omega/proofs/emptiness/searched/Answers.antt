@@ -6,7 +6,7 @@ use Rattle.omega.proofs.emptiness.searched.Goals as goal
 
 pub returns-clause-answer : goal.returns-clause-answer
 returns-clause-answer c =
-    subst (λ (xs : List ℕ). IfOk c.search_emptiness.result (λ output. IsEmptySearchAnswer xs c.args.word output.items)) c.in_ok-copy.ensures.text
+    subst (λ (xs : List ℕ). IfOk c.search_emptiness.result (λ output. IsEmptySearchAnswer xs c.args.lines output.items)) c.in_ok-copy.ensures.text
     c.search_emptiness.ensures.answer
 
 pub returns-clause-refused : goal.returns-clause-refused
