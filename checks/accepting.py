@@ -15,6 +15,7 @@ from functools import partial
 from typing import TypeVar
 
 from automata import Automaton, Tree, read_one
+from causes import line_at
 from containing import after, dual, formula_of, with_letters
 from emptiness import Move, has_accepting_walk
 from product_checks import INFINITELY, LANGUAGES, NO_STARTS, NO_STATES, SETLESS, Paired
@@ -133,9 +134,11 @@ def read_fault(word: bytes) -> Fault:
     ran = run_of(["accepts", "-v", "--word=" + word.decode()], LANGUAGES[1][0])
     if is_word:
         return None if ran.returncode in (0, 6) and not ran.stderr else f"a word: {told(ran)}"
-    refused = re.fullmatch(rb"omega: (?:1 Lex|2 Number|3 Syntax) at (\d+)\nomega: in the word\n", ran.stderr)
+    refused = re.match(rb"omega: (?:1 Lex|2 Number|3 Syntax) at (\d+)\nomega: in the word\n", ran.stderr)
     if ran.returncode != 1 or ran.stdout or refused is None or int(refused.group(1)) > len(word):
         return f"no word: {told(ran)}"
+    if ran.stderr[refused.end():] != line_at(word, int(refused.group(1))).encode():
+        return f"another place: {told(ran)}"
     return None
 
 

@@ -217,14 +217,14 @@ def refusal_checks() -> Cases:
     branching = good.replace(b"[0] 0", b"[0] 0&0")
     for words in (["contained", "--in"], ["equal", "--to"]):
         command, told_more = words[0], [*words[:1], "-v", *words[1:]]
-        for one, other, line, place in ((good, bad, b"20 Version", b"the other automaton"),
-                                        (bad, good, b"20 Version", b"the automaton"),
-                                        (worse, bad, b"20 Version", b"the other automaton"),
-                                        (worse, good, b"3 Syntax at 0", b"the automaton"),
-                                        (branching, bad, b"20 Version", b"the other automaton")):
+        for one, other, line, place, cause in (
+                (good, bad, b"20 Version", b"the other automaton", b""), (bad, good, b"20 Version", b"the automaton", b""),
+                (worse, bad, b"20 Version", b"the other automaton", b""),
+                (worse, good, b"3 Syntax at 0", b"the automaton", b"\nomega: line 1, column 1: 'x'"),
+                (branching, bad, b"20 Version", b"the other automaton", b"")):
             yield f"{command} of {shown(one)} and {shown(other)}", partial(refused_fault, words, one, other, line)
             yield f"{command} -v of {shown(one)} and {shown(other)}", partial(
-                refused_fault, told_more, one, other, line + b"\nomega: in " + place)
+                refused_fault, told_more, one, other, line + b"\nomega: in " + place + cause)
         for one, other in ((branching, good), (good, branching)):
             yield f"{command} of {shown(one)} and {shown(other)}", partial(
                 refused_fault, words, one, other, b"41 UniversalBranch")

@@ -1,12 +1,14 @@
 """What `contained` and `equal` of the libraries answer, against a plain judge of words. Five known languages are
 compared with one another on all words of up to 3 letters of 2 propositions, both ways. 1,000 random pairs follow, half
 of them contained by construction. Each counterexample admits words that the one accepts and the other does not. What is
-not deterministic is refused 56.
+not deterministic is refused 56. Where a label of the product would be too deep, so that `product` is refused 55, a
+counterexample is found all the same.
 
 The program `omega_calls` makes one call a run. An automaton contained by construction is the other one with more sets
 to be visited, with edges left out, or with fewer starts.
 """
 import random
+import re
 import subprocess
 from functools import partial
 
@@ -19,11 +21,39 @@ from words import NoWord, admitted, read_word
 
 ALL_NAMES = [b"a", b"b"]
 NOT_DETERMINISTIC: Left = (56, b"", b"")
+TOO_LARGE: Left = (55, b"", b"")
+
+# `a & (b | (a & (b | ..)))`: as it is written 256 deep, and so no text has it as a part of a conjunction.
+DEEPEST = b"0&(1|" * 85 + b"0" + b")" * 85
+DEEP = b"""HOA: v1
+States: 1
+Start: 0
+AP: 2 "a" "b"
+acc-name: all
+Acceptance: 0 t
+--BODY--
+State: 0
+[%s] 0
+--END--
+""" % DEEPEST
+ALWAYS_B = b"""HOA: v1
+States: 1
+Start: 0
+AP: 1 "b"
+acc-name: all
+Acceptance: 0 t
+--BODY--
+State: 0
+[0] 0
+--END--
+"""
 
 
 def called(call: str, one: bytes, other: bytes) -> Left:
+    """What a call leaves; the line of a refusal, whose number is the status, is passed over."""
     ran = subprocess.run([CALLS, call, one, other], capture_output=True, check=False)
-    return ran.returncode, ran.stdout, ran.stderr
+    line = re.fullmatch(rb"omega: (\d+) \w+(?: at \d+)?\n", ran.stderr)
+    return ran.returncode, ran.stdout, b"" if line and int(line[1]) == ran.returncode else ran.stderr
 
 
 def example_fault(one: Automaton, other: Automaton, example: bytes) -> Fault:
@@ -106,6 +136,17 @@ def known_checks() -> Cases:
             yield f"{shown(other)} in {shown(text)}", partial(contained_fault, other, text, WORDS)
 
 
+def too_deep_fault() -> Fault:
+    """What is wrong where the labels of the two automata together are too deep for a text; or nothing."""
+    came = called("product", DEEP, ALWAYS_B)
+    return None if came == TOO_LARGE else f"the product: status {came[0]}: {shown(came[1])}"
+
+
+def deep_checks() -> Cases:
+    yield "the product with the deepest label", too_deep_fault
+    yield "the deepest label in the words of b", partial(contained_fault, DEEP, ALWAYS_B, [], False)
+
+
 def random_checks() -> Cases:
     maker = Narrowed(2028)
     for number in range(500):
@@ -125,4 +166,5 @@ def random_checks() -> Cases:
 def containment_checks() -> Cases:
     build()
     yield from known_checks()
+    yield from deep_checks()
     yield from random_checks()

@@ -17,9 +17,10 @@ from functools import partial
 
 from automata import BINDS, Aliases, Automaton, Edge, State, Tree, bare, binds, read_one, written
 from automaton_texts import ABORTED, ALIAS, BUCHI, EVERYTHING, Maker
+from causes import game_cause, solution_cause
 from emptiness import judge_search, read_lasso
 from games import Game, Refused, Solution, read_game, read_solution
-from parts import made_at_random, part_of, solution_at_random
+from parts import made_at_random, part_of, solution_at_random, told_of_game
 from parts import written as solution_text
 from program import ROOT, SECONDS, Cases, Fault, fault_of, fault_with_file, output_of, shown
 
@@ -75,6 +76,9 @@ def name_line(quoted: bytes | None) -> bytes:
 LEGEND = b"""\
   subgraph cluster_legend {
     label="legend";
+    owner0 [shape=diamond, label="player 0"];
+    owner1 [shape=box, label="player 1"];
+    owner0 -> owner1 [style=invis];
     legend0 [shape=plaintext, label="player 0 wins", style=filled, fillcolor=lightblue];
     legend1 [shape=plaintext, label="player 1 wins", style=filled, fillcolor=orange];
     legend0 -> legend1 [style=invis];
@@ -231,7 +235,9 @@ def solution_fault(text: bytes, solution: bytes, legend: bool = False) -> Fault:
         judged = "solution"
         read = read_solution(nodes, solution)
     except Refused as refused:
-        return fault_with_file(words, solution, text, 1, b"", f"omega: {refused}\nomega: in the {judged}\n".encode())
+        cause = game_cause(text, refused) if judged == "game" else solution_cause(nodes, solution, refused)
+        lines = f"omega: {refused}\nomega: in the {judged}\n{cause}"
+        return fault_with_file(words, solution, text, 1, b"", lines.encode())
     return fault_with_file(words, solution, text, 0, game_drawing(nodes, read, legend=legend))
 
 
@@ -258,7 +264,9 @@ def part_solution_fault(text: bytes, solution: bytes, start: int, depth: int | N
         judged = "solution"
         read = read_solution(part, solution)
     except Refused as refused:
-        return fault_with_file(words, solution, text, 1, b"", f"omega: {refused}\nomega: in the {judged}\n".encode())
+        cause = told_of_game(text, refused) if judged == "game" else solution_cause(part, solution, refused)
+        lines = f"omega: {refused}\nomega: in the {judged}\n{cause}"
+        return fault_with_file(words, solution, text, 1, b"", lines.encode())
     return fault_with_file(words, solution, text, 0, game_drawing(nodes, read, start, depth, legend))
 
 
@@ -320,12 +328,12 @@ def drawing_checks() -> Cases:
     for text in texts_of_automata():
         yield f"the drawing of {shown(text)}", partial(automaton_fault, text)
         yield f"the drawing of {shown(text)} with a lasso", partial(lasso_fault, text)
-    for held, status, line in ((b"0 0 0 0;" + b" " * 16_777_216, 1, b"omega: 4 TooLong\n"),
-                               (b"\xff", 1, b"omega: 1 Lex at 0\n")):
+    for held, line, cause in ((b"0 0 0 0;" + b" " * 16_777_216, b"omega: 4 TooLong\n", b""),
+                              (b"\xff", b"omega: 1 Lex at 0\n", b"omega: line 1, column 1: '\\xff'\n")):
         words = ["draw", "-v", "--format", "pg", "--solution"]
         yield f"a solution file of {len(held)} bytes", partial(
             fault_with_file,
-            words, held, GAMES[0], status, b"", line + b"omega: in the solution\n")
+            words, held, GAMES[0], 1, b"", line + b"omega: in the solution\n" + cause)
     missing = os.path.join(ROOT, "no", "such", "solution")
     said = f"omega: 61 Io\nomega: cannot read '{missing}'\n".encode()
     yield "a solution file that is not there", partial(

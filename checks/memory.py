@@ -1,6 +1,7 @@
 """Every request for memory refused, one by one and each together with all after it, in some hundred runs. A run ends
-with the line `omega: 60 Memory`, status 4 and no output, or exactly as with ample memory. Runs that differ in nothing
-but their lifts make as many requests: a solver that was made requests none.
+with the line `omega: 60 Memory`, status 4 and no output, or exactly as with ample memory; or with `-v`, without the
+last line of a refusal, which says where or what. Runs that differ in nothing but their lifts make as many requests: a
+solver that was made requests none.
 """
 import contextlib
 import os
@@ -53,7 +54,7 @@ RUNS: list[Run] = [
       for name in ("show", "check", "canon")),
     *((words, text, None) for text in (BUCHI, TWO_SETS, WRITTEN)
       for words in (["game"], ["empty"], ["empty", "--search"], ["empty", "--budget", "1"], ["empty", "--word"],
-                    ["empty", "--search", "--word"], ["complement"], ["trim"])),
+                    ["empty", "--search", "--word"], ["empty", "--search", "--names"], ["complement"], ["trim"])),
     *(([*words, "--stream"], BUCHI + ABORTED, None)
       for words in (["empty"], ["empty", "--search", "--word"], ["complement"], ["trim"])),
     *((["contained", *more, "--stream", "--in"], BUCHI + ABORTED, OFTEN) for more in (NONE, ["--explain"])),
@@ -68,6 +69,7 @@ RUNS: list[Run] = [
     (["check", "--format", "hoa"], b"HOA: v1 --BODY-- --END--", None),
     (["verify", "--game"], b"paritysol 2; 0 0 2; 1 0; 2 0;", CHOICE),
     (["verify", "--game"], b"paritysol 2; 0 0 1; 1 0; 2 0;", CHOICE),
+    (["verify", "--explain", "--names", "--game"], b"paritysol 2; 0 0 1; 1 0; 2 0;", CHOICE.replace(b" 0;", b' 0 "n";')),
     *((["verify", *more, "--game"], b"paritysol 2; 0 0;", CHOICE) for more in (NONE, ["-v"])),
     *((["verify", "--explain", "--automaton"], text, TWO_SETS)
       for text in (b"stem cycle 1 2 0", b"stem 0 cycle 2", b"stem")),
@@ -93,6 +95,7 @@ RUNS: list[Run] = [
     (["draw", "--format", "pg", "--solution"], CHOICE, b"paritysol 2; 0 0 1; 1 0; 2 0;"),
     (["draw", "--format", "pg", "--from", "2", "--legend", "--solution"], CHOICE, b"paritysol 2; 0 0 1; 1 0; 2 0;"),
     (["draw", "-v", "--format", "pg", "--solution"], CHOICE, b"paritysol 2; 0 0;"),
+    *((["draw", "-v", "--format", "pg", "--legend", "--walk"], CHOICE, text) for text in (b"stem\ncycle 0 1\n", b"stem 0")),
     *((["draw", "--format", "hoa", *more], text, None)
       for text in (BUCHI, TWO_SETS, WRITTEN) for more in (NONE, ["--lasso"])),
     (["verify", "--from", "1", "--game"], b"paritysol 1; 1 1 1;", PARTED),
@@ -100,6 +103,11 @@ RUNS: list[Run] = [
     (["verify", "--from", "5", "--game"], b"paritysol 1; 1 0;", PARTED),
     *((["canon", "--format", "pg", "--from", start], PARTED, None) for start in ("0", "1", "5")),
     (["check", "--format", "pg"], b"0 0 0;", None),
+    *((["check", "-v", "--format", "pg"], text, None) for text in (b"0 0 0;", b"0 0 0 1;", b"0 0 0 0; 0 0 0 0;", TWO)),
+    (["solve", "-v", "--progress"], b"parity 0; 1 0 0 1;", None),
+    *((["empty", "-v", "--search"], text, None) for text in (b"HOA: v1", b"HOA: v1 Acceptance: 0 Inf(0) --BODY-- --END--")),
+    (["solve", "-v", "--lenient"], b"0 0 0 7; // seven", None),
+    (["verify", "-v", "--lenient", "--game"], b"paritysol 1; # x\n0 0;", LENIENT),
     (["check", "--format", "pg"], b"", None),
     (["solve", "--from", "7"], CHOICE, None),
     (["solve"], b"", CHOICE),
@@ -148,8 +156,15 @@ class Shimmed:
             return (ran.returncode, ran.stdout, ran.stderr), int(file.read())
 
 
-def fault_in(came: Left, ample: Left) -> Fault:
-    if came in (ample, REFUSED):
+def untold(ample: Left) -> Left:
+    """The same without the last line of a refusal that says where or what, if it has one."""
+    lines = ample[2].splitlines(keepends=True)
+    is_told = len(lines) > 1 and not lines[-1].startswith((b"omega: in the ", b"omega: cannot read "))
+    return (ample[0], ample[1], b"".join(lines[:-1])) if is_told else ample
+
+
+def fault_in(words: list[str], came: Left, ample: Left) -> Fault:
+    if came in (ample, REFUSED) or "-v" in words and came == untold(ample):
         return None
     return f"status {came[0]}, {shown(came[1])}, {shown(came[2])}"
 
@@ -157,7 +172,7 @@ def fault_in(came: Left, ample: Left) -> Fault:
 def refused_fault(shimmed: Shimmed, words: list[str], text: bytes, held: bytes | None, ample: Left, first: int,
                   last: int) -> Fault:
     """What is wrong with a run whose requests from a first one to a last one are refused, or nothing."""
-    return fault_in(shimmed.run(words, text, held, first, last)[0], ample)
+    return fault_in(words, shimmed.run(words, text, held, first, last)[0], ample)
 
 
 def refused_runs(shimmed: Shimmed, words: list[str], text: bytes, held: bytes | None) -> Cases:

@@ -5,6 +5,7 @@ and of random solutions what a slow judge says of them for the part.
 import random
 from functools import partial
 
+from causes import game_cause, solution_cause
 from games import (Game, Refused, Solution, canonical, random_game, reached, read_game, read_solution, text_of,
                    wins)
 from program import Cases, Fault, fault_of, fault_with_file, output_of, shown
@@ -49,6 +50,11 @@ def solution_at_random(maker: random.Random, part: Game) -> Solution:
     return made
 
 
+def told_of_game(game: bytes, refused: Refused) -> str:
+    """The line about a refused game text, or nothing if only a node is not known."""
+    return "" if str(refused).startswith("54 ") else game_cause(game, refused)
+
+
 def judged(game: bytes, start: int, text: bytes) -> Fault:
     """The fault of `verify --from`, which must say what the slow judge says of the part."""
     words = ["verify", "-v", "--from", str(start), "--game"]
@@ -58,7 +64,9 @@ def judged(game: bytes, start: int, text: bytes) -> Fault:
         judged_text = "solution"
         solution = read_solution(part, text)
     except Refused as refused:
-        return fault_with_file(words, game, text, 1, b"", f"omega: {refused}\nomega: in the {judged_text}\n".encode())
+        cause = solution_cause(part, text, refused) if judged_text == "solution" else told_of_game(game, refused)
+        lines = f"omega: {refused}\nomega: in the {judged_text}\n{cause}"
+        return fault_with_file(words, game, text, 1, b"", lines.encode())
     right = all(wins(part, solution, player) for player in (0, 1))
     return fault_with_file(words, game, text, 0 if right else 6, b"yes\n" if right else b"no\n")
 
@@ -73,7 +81,8 @@ def refused_checks() -> Cases:
             yield f"canon --from of {shown(game)}", partial(fault_of, words, game, 1, b"", wanted)
             yield f"verify --from of {shown(game)}", partial(
                 fault_with_file,
-                ["verify", "-v", "--from", "0", "--game"], game, b"nonsense", 1, b"", wanted + b"omega: in the game\n")
+                ["verify", "-v", "--from", "0", "--game"], game, b"nonsense", 1, b"",
+                wanted + b"omega: in the game\n" + told_of_game(game, refused).encode())
 
 
 def game_checks(maker: random.Random, game: bytes) -> Cases:

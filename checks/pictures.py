@@ -36,7 +36,8 @@ def drawn_in(drawing: str) -> Counter[Drawn]:
         if attributes.get("style") != "invis" and not title.startswith("start"):
             colour = attributes.get("fillcolor") or attributes.get("color") or ""
             lines = lines_of(attributes.get("label", '""'))
-            seen[title.replace(" ", ""), colour, attributes.get("style") == "bold", lines] += 1
+            bold = attributes.get("style") == "bold" or "penwidth" in attributes
+            seen[title.replace(" ", ""), colour, bold, lines] += 1
     return seen
 
 

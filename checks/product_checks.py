@@ -6,7 +6,8 @@ have names that Spot reads as something else. Two products and two unions are at
 The products and unions of the five are made in both orders; the stem and the cycle of a word have up to 3 letters
 together. The random pairs are deterministic and not, with propositions in the same order and in another, labels of
 states and of edges, edges without labels, sets that no edge is in, several starts and none. The states of a product are
-the pairs that a slow search reaches, in its order; those of a union are those of both texts, with their names, and it
+the pairs that a slow search reaches, in its order, with both names if both have one, and no label of its edges has a
+conjunct twice; those of a union are those of both texts, with their names, and it
 has their edges. What is not deterministic is refused 56. The line `word` is that of a slow writer; read back, it admits
 words, four of which are tried and accepted. Of two products, and of two unions, one is at the limit of states, and one
 past it.
@@ -17,9 +18,10 @@ from collections.abc import Callable
 from functools import partial
 
 from automata import Automaton, Refused, read_one
-from emptiness import branches, read_lasso
+from emptiness import branches, moves_of, read_lasso
 from emptiness_checks import Emptied
-from products import Word, accepts, is_deterministic, names_of, pairs_reached, valuations, word_line, words_over
+from products import (Word, accepts, conjuncts, is_deterministic, names_of, pairs_reached, valuations, word_line,
+                      words_over)
 from program import Cases, Fault, Ran, fault_of, fault_with_file, run_of, shown
 from words import NoWord, admitted, read_word
 
@@ -70,11 +72,12 @@ class Paired(Emptied):
         lines = []
         for number in range(count):
             marks, choice = self.marks(sets), self.some(0, 5)
+            named = b"%d" % number + self.random.choice([b"", b' "s%d"' % number, b' "it is \\"%d\\""' % number])
             if choice == 0:
                 edges = b"".join(b" " + self.states(count) + self.marks(sets) for _ in range(4))
-                lines.append(b"State: %d%s%s\n" % (number, marks, edges))
+                lines.append(b"State: %s%s%s\n" % (named, marks, edges))
             elif deterministic:
-                lines.append(b"State: %d%s%s\n" % (number, marks, self.parted(count, sets)))
+                lines.append(b"State: %s%s%s\n" % (named, marks, self.parted(count, sets)))
             else:
                 lines.append(self.edged(number, count, sets))
         return b"".join(lines)
@@ -147,11 +150,23 @@ def meet_fault(one: bytes, other: bytes, words: list[tuple[Word, Word]]) -> Faul
         return product
     pairs, edges = pairs_reached(first, second)
     named = [state.name for state in product.states]
-    if named != [b'"%d,%d"' % pair for pair in pairs] or sum(len(state.edges) for state in product.states) != edges:
+    if named != paired_names(first, second, pairs) or sum(len(state.edges) for state in product.states) != edges:
         return f"its states are {named}, and not {pairs}"
+    for label in (move.label for move in moves_of(product) if move.label is not None):
+        parts = conjuncts(label)
+        if len({repr(part) for part in parts}) != len(parts) or label[0] == "&" and ("t",) in label[1:]:
+            return f"a conjunct stands twice in {label}"
     if names_of(product) != joined_names(first, second):
         return f"its propositions are {names_of(product)}"
     return word_fault(product, words, lambda *word: accepts(first, *word) and accepts(second, *word))
+
+
+def paired_names(first: Automaton, second: Automaton, pairs: list[tuple[int, int]]) -> list[bytes]:
+    """The names of pairs of states: those of both, if both have one, else their numbers."""
+    names = [{state.number: state.name for state in automaton.states} for automaton in (first, second)]
+    both = [(names[0].get(one), names[1].get(other)) for one, other in pairs]
+    return [b'"%s,%s"' % (one[1:-1], other[1:-1]) if one and other else b'"%d,%d"' % pair
+            for (one, other), pair in zip(both, pairs)]
 
 
 def joined_names(first: Automaton, second: Automaton) -> list[bytes]:

@@ -102,7 +102,19 @@ def letter_of(move: Move, names: list[bytes]) -> bytes:
     if move.label is None:
         held = [(b"" if (move.place >> number) % 2 else b"!") + named(name) for number, name in enumerate(names)]
         return b" & ".join(held) or b"1"
-    return labelled(move.label, names, 0)
+    parts: list[Tree] = []
+    for part in conjuncts(move.label):
+        parts += [part] * (part not in parts)
+    return b" & ".join(labelled(part, names, int(len(parts) > 1)) for part in parts) or b"1"
+
+
+def conjuncts(tree: Tree) -> list[Tree]:
+    """What the outer `&` of a label join, but for `t`, and without `!` in pairs."""
+    if tree[0] == "&":
+        return conjuncts(tree[1]) + conjuncts(tree[2])
+    if tree[0] == "!" and tree[1][0] == "!":
+        return conjuncts(tree[1][1])
+    return [] if tree[0] == "t" else [tree]
 
 
 def labelled(tree: Tree, names: list[bytes], tight: int) -> bytes:

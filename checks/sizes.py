@@ -94,7 +94,7 @@ def most_nodes() -> Cases:
     yield "verify of a solution without its last line", partial(
         fault_with_file,
         ["verify", "-v", "--game"], text, missing.encode(), 1, b"",
-        b"omega: 53 BadSolution\nomega: in the solution\n")
+        b"omega: 53 BadSolution\nomega: in the solution\nomega: node %d is missing\n" % max(node[0] for node in nodes))
 
 
 def too_many_nodes() -> Cases:

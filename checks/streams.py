@@ -115,10 +115,11 @@ def broken_streams() -> Cases:
         good = (came.returncode, came.stdout, came.stderr) == (status, b"", error)
         yield f"a closed stream, {closed}", None if good else f"{came}"
     long = b"0 0 0 0;" + b" " * 16_777_216
-    for held, line in ((long, b"omega: 4 TooLong\n"), (b"\xff\xfe", b"omega: 1 Lex at 0\n"),
-                       (b"", b"omega: 3 Syntax at 0\n")):
+    for held, line, cause in ((long, b"omega: 4 TooLong\n", b""),
+                              (b"\xff\xfe", b"omega: 1 Lex at 0\n", b"omega: line 1, column 1: '\\xff\\xfe'\n"),
+                              (b"", b"omega: 3 Syntax at 0\n", b"omega: line 1, column 1: end of the text\n")):
         yield f"a game file of {len(held)} bytes", fault_with_file(
-            ["verify", "-v", "--game"], held, SOLUTION, 1, b"", line + b"omega: in the game\n")
+            ["verify", "-v", "--game"], held, SOLUTION, 1, b"", line + b"omega: in the game\n" + cause)
         yield f"an operand of {len(held)} bytes", fault_with_file(["check", "--format", "pg"], held, b"", 1, b"", line)
 
 

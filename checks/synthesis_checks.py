@@ -193,6 +193,9 @@ VERIFY_FAULTS: list[tuple[bytes, str, tuple[bytes, bytes]]] = [
     (OTHER, "56 NotDeterministic at 3", REALIZE_FAULTS["56 NotDeterministic at 3"]),
     (OTHER, "56 NotDeterministic at 2", TWO_EDGES),
 ]
+# What `--verbose` says is to be mended, of those whose line it is. The edges are numbered through the body.
+CAUSES = {"56 NotDeterministic at 3": b"there are 2 starts",
+          "56 NotDeterministic at 2": b"state 2: edges 3 and 4 can be taken together"}
 ITS_CONTROLLER = re.sub(rb"acc-name: .* Inf\(0\)|\{0\} ", lambda it: b"Acceptance: 0 t" if it[0][:1] == b"a" else b"",
                         SOUND)
 
@@ -229,7 +232,7 @@ def refusal_checks() -> Cases:
         held, text = SOUND, ITS_CONTROLLER
         for whose, _, fault in (first_of, other_of) if first_of != other_of else (first_of,):
             held, text = (held.replace(*fault), text) if whose == OTHER else (held, text.replace(*fault))
-        lines = [first_of[1].encode(), b"in " + first_of[0]]
+        lines = [first_of[1].encode(), b"in " + first_of[0], *([CAUSES[first_of[1]]] if first_of[1] in CAUSES else [])]
         label = f"verify --specification with {first_of[:2]} and {other_of[:2]}"
         yield label, partial(refusal_fault, ["verify", "--specification"], held, text, lines[:1])
         yield f"{label}, -v", partial(refusal_fault, ["verify", "-v", "--specification"], held, text, lines)

@@ -4,6 +4,7 @@ Each text is read, or refused by its refusal at its place, as a slow reader in P
 from collections.abc import Iterator
 from functools import partial
 
+from causes import game_cause, solution_cause
 from games import Game, Refused, canonical, read_game, read_solution, wins
 from program import Cases, Fault, fault_of, fault_with_file, refusal_fault, shown
 
@@ -28,7 +29,9 @@ def game_fault(text: bytes) -> Fault:
     try:
         wanted = canonical(read_game(text))
     except Refused as refused:
-        return refusal_fault(["canon", "--format", "pg"], text, refused)
+        lines = f"omega: {refused}\n{game_cause(text, refused)}".encode()
+        return (refusal_fault(["canon", "--format", "pg"], text, refused)
+                or fault_of(["canon", "-v", "--format", "pg"], text, 1, b"", lines))
     return fault_of(["canon", "--format", "pg"], text, 0, wanted)
 
 
@@ -37,7 +40,8 @@ def solution_fault(nodes: Game, text: bytes) -> Fault:
     try:
         solution = read_solution(nodes, text)
     except Refused as refused:
-        return fault_with_file(words, CHOICE, text, 1, b"", f"omega: {refused}\nomega: in the solution\n".encode())
+        lines = f"omega: {refused}\nomega: in the solution\n{solution_cause(nodes, text, refused)}"
+        return fault_with_file(words, CHOICE, text, 1, b"", lines.encode())
     if wins(nodes, solution, 0) and wins(nodes, solution, 1):
         return fault_with_file(words, CHOICE, text, 0, b"yes\n")
     return fault_with_file(words, CHOICE, text, 6, b"no\n")
