@@ -21,7 +21,8 @@ use Rattle.omega_raw.specs.declared.raw_automaton.RawAutomaton.{RawAutomaton}
 use Rattle.omega_complement.specs.Complement.{AreExclusiveBelow, AreFittingBelow}
 use Rattle.omega_complement.specs.Dual.{dual}
 use Rattle.omega_complement.specs.Judged.{HasLargeEdge, HasLargeRest, IsBoth, IsJudgedLabel, IsWrittenLabel}
-use Rattle.omega_complement.specs.Labels.{is_full, is_full_at, labels_at, state_at}
+use Rattle.omega_complement.specs.Labels.{is_full_at, labels_at, state_at}
+use Rattle.omega_edge_labels.specs.Labels.{is_full}
 use Rattle.omega_complement.specs.Refusing.{AreUnjudged, HasStart, IsClashFault, IsComplementFault, IsFirstFault, IsStateFault, IsStatesFault, IsUncomplemented}
 use Rattle.omega_complement.specs.Written.{IsWrittenComplement}
 use Rattle.omega_complement.specs.private.Turned.{AreRefused, IsPartialFault, IsStateRefusal, IsUnformed, IsUnjudgedAt}

@@ -1,4 +1,3 @@
-pub mod Bits
 pub mod Depths
 pub mod Faults
 pub mod Full

@@ -7,7 +7,8 @@ use Rattle.omega_automaton.specs.Automaton.{Description}
 use Rattle.omega_raw.specs.declared.raw_state.RawState.{RawState}
 use Rattle.omega_complement.specs.Complement.{AreExclusiveBelow}
 use Rattle.omega_complement.specs.Judged.{AreFitting}
-use Rattle.omega_complement.specs.Labels.{is_full, labels_at, state_at}
+use Rattle.omega_complement.specs.Labels.{labels_at, state_at}
+use Rattle.omega_edge_labels.specs.Labels.{is_full}
 use Rattle.omega_complement.specs.Letters.{AreExclusive, LacksLetter}
 use Rattle.omega_complement.specs.Written.{IsTurned}
 use Rattle.omega_complement.specs.private.Turned.{AreTurned}

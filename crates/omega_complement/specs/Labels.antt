@@ -1,11 +1,10 @@
 -- The labels of the edges of a state, and the states of an automaton by their numbers.
-use Rattle.std.specs.Prelude.{ℕ, ◌+◌, ◌^◌, ◌==◌, ◌&&◌, Bool, if◌then◌else◌, List, [], ◌∷◌, length, map, is_none, None}
-use Rattle.std.specs.List.{list_all}
+use Rattle.std.specs.Prelude.{ℕ, ◌+◌, ◌==◌, Bool, if◌then◌else◌, List, [], ◌∷◌, length, map, None}
 use Rattle.omega_label.specs.Label.{LabelTree}
 use Rattle.omega_automaton.specs.Automaton.{Description}
 use Rattle.omega_automaton.specs.declared.edge.Edge.{Edge}
 use Rattle.omega_automaton.specs.declared.state.State.{State}
-use Rattle.omega_edge_labels.specs.Labels.{label_at}
+use Rattle.omega_edge_labels.specs.Labels.{is_full, label_at}
 
 -- the results of `given` for each edge of a list and its index, counted from the first index
 abbrev pub each_by_index : {X : Type 0} → (ℕ → Edge → X) → ℕ → List Edge → List X
@@ -15,11 +14,6 @@ each_by_index given index (edge ∷ edges) = given index edge ∷ each_by_index 
 -- the labels of the edges of a state, over `count` propositions
 abbrev pub labels_of : ℕ → State → List LabelTree
 labels_of count state = each_by_index (label_at count state) 0 state.edges
-
--- whether a state and its edges have no labels, and there is an edge for each valuation of `count` propositions
-abbrev pub is_full : ℕ → State → Bool
-is_full count state =
-    is_none state.label && list_all (λ edge. is_none edge.label) state.edges && length state.edges == 2 ^ count
 
 -- a state that the body does not define
 abbrev pub undefined : ℕ → State

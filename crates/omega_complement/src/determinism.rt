@@ -12,9 +12,9 @@ use crate::labels::labels_of;
 use crate::places::places_of;
 use crate::state_labels::StateLabels;
 use crate::states::{state_of, undefined};
-use crate::turning::is_full;
 use indexmap::IndexSet;
 use omega_automaton::{Automaton, State};
+use omega_edge_labels::is_full;
 use omega_text::{Refusal, TaskFault};
 use std::alloc::Global;
 

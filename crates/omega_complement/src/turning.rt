@@ -1,21 +1,22 @@
 //! A state of a complement.
 
-ghost use Rattle.std.specs.Prelude.{◌≡◌, ◌↔◌, ◌++◌, ◌==◌, IsTrue, is_none, IfErr, IfOk, OnOk, Some, IsOkUnless};
-ghost use Rattle.std.specs.List.{All, list_all};
+ghost use Rattle.std.specs.Prelude.{◌≡◌, ◌↔◌, ◌++◌, IsTrue, IfErr, IfOk, OnOk, Some, IsOkUnless};
+ghost use Rattle.std.specs.List.{All};
 ghost use Rattle.omega_label.specs.Shape.{FitsALabel};
 ghost use Rattle.omega_complement.specs.Judged.{JudgedFit, RestFitsAText};
-ghost use Rattle.omega_complement.specs.Labels.{is_full as has_all_edges, labels_of as labels_of_state};
+ghost use Rattle.omega_complement.specs.Labels.{labels_of as labels_of_state};
 ghost use Rattle.omega_complement.specs.Letters.{AreExclusive, LacksLetter};
 ghost use Rattle.omega_complement.specs.Written.{IsMissing, IsTurned, further_edges, turned_edges as edges_turned, turned_with};
 ghost use Rattle.omega_complement.specs.private.Turned.{AreFittingOf, IsRefusalOf, IsStateRefusal};
 ghost use Rattle.omega_edge_labels.specs.Fitting.{FitsAText, IsLarge};
+ghost use Rattle.omega_edge_labels.specs.Labels.{is_full as has_all_edges};
 
 use crate::judging::judge_apart;
 use crate::labels::labels_of;
 use crate::rest::missing;
 use crate::state_labels::StateLabels;
 use omega_automaton::{EdgeRef, State, StateName};
-use omega_edge_labels::written_form;
+use omega_edge_labels::{is_full, written_form};
 use omega_label::{Label, RawLabel};
 use omega_raw::{RawEdge, RawEdges, RawState};
 use omega_text::{ByteString, Marks, Numbers, Refusal};
@@ -85,35 +86,6 @@ fn judged(
     };
     judge_apart(alloc, &state)?;
     missing(alloc, &state)
-}
-
-/// Whether `state` has an edge for each valuation of `count` propositions, and no labels.
-pub(crate) fn is_full(count: usize, state: &State) -> bool
-    ensures { result ≡ has_all_edges count state.now }
-{
-    let edges = state.edges.len();
-    if state.label.is_some() {
-        return false;
-    }
-    if count >= 64 {
-        return false;
-    }
-    if !has_no_labels(state) {
-        return false;
-    }
-    edges == 1 << count
-}
-
-/// Whether no edge of `state` has a label.
-fn has_no_labels(state: &State) -> bool
-    ensures { result ≡ list_all (λ edge. is_none edge.label) state.now.edges }
-{
-    for at in 0..state.edges.len() {
-        if state.edges.edge(at).label().is_some() {
-            return false;
-        }
-    }
-    true
 }
 
 /// Returns the edges of `state`, with its label and its marks moved to them. Fails with [TaskFault::TooLarge] if a

@@ -17,7 +17,7 @@ use Rattle.omega_runs.specs.Lasso.{IsStart, IsStep, Leads, label_of}
 use Rattle.omega_runs.specs.Words.{Allows, CanBeTaken, has_bit, index_in}
 use Rattle.omega_runs.proofs.Taken.{edges_are_taken_where_true}
 use Rattle.omega_edge_labels.specs.Labels.{label_at, valuation_label}
-use Rattle.omega_complement.proofs.Bits.{valuation_held, valuation_true}
+use Rattle.omega_edge_labels.proofs.Bits.{valuation_held, valuation_true}
 use Rattle.omega_word_laws.proofs.parting.Numbered.{edge_found}
 use Rattle.omega_winner_text.specs.Reaching.{TellsReached, begins, goes_on}
 use Rattle.omega_winner_text.specs.Winner.{is_kept_edge, number_of, winner}

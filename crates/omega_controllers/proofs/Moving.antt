@@ -12,7 +12,7 @@ use Rattle.omega_runs.specs.Words.{CanBeTaken, index_in}
 use Rattle.omega_runs.proofs.Taken.{edges_are_taken_where_true}
 use Rattle.omega_complement.specs.Labels.{each_by_index, labels_at, state_among, state_at}
 use Rattle.omega_complement.specs.Letters.{AreExclusive}
-use Rattle.omega_complement.proofs.Bits.{both_true, valuation_held, valuation_true}
+use Rattle.omega_edge_labels.proofs.Bits.{both_true, valuation_held, valuation_true}
 use Rattle.omega_complement.proofs.Rows.{each_get}
 use Rattle.omega_controllers.proofs.Numbers.{IsFound, edge_found, never_some, same_some, state_is}
 

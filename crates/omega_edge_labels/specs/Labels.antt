@@ -1,6 +1,7 @@
 -- The labels of edges (HOA v1, semantics of labels and implicit labels). An edge that is written without one has that
 -- of its state or of its valuation.
-use Rattle.std.specs.Prelude.{ℕ, zero, suc, true, ◌/◌, ◌%◌, ◌^◌, ◌==◌, if◌then◌else◌}
+use Rattle.std.specs.Prelude.{ℕ, zero, suc, Bool, true, ◌/◌, ◌%◌, ◌^◌, ◌==◌, ◌&&◌, if◌then◌else◌, is_none, length}
+use Rattle.std.specs.List.{list_all}
 use Rattle.std.specs.Option.{option_or, unwrap_or}
 use Rattle.omega_label.specs.Label.{LabelTree, conjunction, constant, negation, proposition}
 use Rattle.omega_automaton.specs.declared.edge.Edge.{Edge}
@@ -19,3 +20,8 @@ valuation_label index (suc (suc p)) = conjunction (valuation_label index (suc p)
 -- the label of an edge by its index within its state: that of the state, or else its own, or else that of its valuation
 abbrev pub label_at : ℕ → State → ℕ → Edge → LabelTree
 label_at count state index edge = unwrap_or (option_or state.label edge.label) (valuation_label index count)
+
+-- whether a state and its edges have no labels, and there is an edge for each valuation of `count` propositions
+abbrev pub is_full : ℕ → State → Bool
+is_full count state =
+    is_none state.label && list_all (λ edge. is_none edge.label) state.edges && length state.edges == 2 ^ count

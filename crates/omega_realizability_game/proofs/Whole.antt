@@ -11,7 +11,7 @@ use Rattle.omega_automaton.specs.declared.edge.Edge.{Edge}
 use Rattle.omega_automaton.specs.declared.state.State.{State}
 use Rattle.omega_edge_labels.specs.Fitting.{IsUnfit}
 use Rattle.omega_edge_labels.specs.Labels.{label_at, valuation_label}
-use Rattle.omega_complement.proofs.Bits.{valuation_held, valuation_true}
+use Rattle.omega_edge_labels.proofs.Bits.{valuation_held, valuation_true}
 use Rattle.omega_runs.specs.Laws.{EdgesAreTakenWhereTrue, IsIndexLabel}
 use Rattle.omega_runs.specs.Places.{EdgeStandsAt}
 use Rattle.omega_runs.specs.Words.{index_in}

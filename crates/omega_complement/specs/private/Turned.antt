@@ -11,7 +11,8 @@ use Rattle.omega_raw.specs.declared.raw_automaton.RawAutomaton.{RawAutomaton}
 use Rattle.omega_raw.specs.declared.raw_state.RawState.{RawState}
 use Rattle.omega_complement.specs.Complement.{AreExclusiveBelow, AreFittingBelow}
 use Rattle.omega_complement.specs.Judged.{AreFitting}
-use Rattle.omega_complement.specs.Labels.{is_full, is_full_at, labels_at, labels_of}
+use Rattle.omega_complement.specs.Labels.{is_full_at, labels_at, labels_of}
+use Rattle.omega_edge_labels.specs.Labels.{is_full}
 use Rattle.omega_complement.specs.Refusing.{BreaksLimit, IsClashFault, IsFirstFault, IsStateFault}
 use Rattle.omega_complement.specs.Written.{IsTurnedAt, SomeLacksLetter}
 use Rattle.omega_complement.specs.declared.state_labels.StateLabels.{StateLabels}

@@ -4,7 +4,8 @@ use Rattle.std.specs.Prelude.{IfErr, OnOk}
 use Rattle.std.proofs.lemmas.Result.{IfErr-weaker}
 use Rattle.omega_label.specs.Label.{LabelTree}
 use Rattle.omega_text.specs.Cases.{never, or_memory, or_task}
-use Rattle.omega_complement.specs.Labels.{is_full, labels_of}
+use Rattle.omega_complement.specs.Labels.{labels_of}
+use Rattle.omega_edge_labels.specs.Labels.{is_full}
 use Rattle.omega_complement.specs.Letters.{AreExclusive}
 use Rattle.omega_complement.specs.Refusing.{IsClashFault}
 use Rattle.omega_complement.proofs.Faults.{clash_partial, edge_partial}

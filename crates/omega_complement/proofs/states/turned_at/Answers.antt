@@ -3,7 +3,8 @@ use Rattle.std.proofs.Common.{◌↔◌, ℕ, List, length, subst}
 use Rattle.std.specs.Prelude.{IfErr, IfOk, IsTrue, OnOk}
 use Rattle.omega_automaton.specs.declared.state.State.{State}
 use Rattle.omega_complement.specs.Judged.{AreFitting}
-use Rattle.omega_complement.specs.Labels.{is_full, labels_at, labels_of, state_at}
+use Rattle.omega_complement.specs.Labels.{labels_at, labels_of, state_at}
+use Rattle.omega_edge_labels.specs.Labels.{is_full}
 use Rattle.omega_complement.specs.Letters.{AreExclusive, LacksLetter}
 use Rattle.omega_complement.specs.declared.turning.Turned.{Turned}
 use Rattle.omega_complement.specs.private.Turned.{IsStateRefusal}

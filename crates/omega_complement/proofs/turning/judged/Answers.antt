@@ -3,7 +3,7 @@ use Rattle.std.proofs.Common.{List, subst, sym, ◌∙◌, true≢false}
 use Rattle.std.proofs.lemmas.Result.{on_ok_weaker}
 use Rattle.omega_label.specs.Label.{LabelTree}
 use Rattle.omega_complement.specs.Letters.{HasClash, LacksLetter}
-use Rattle.omega_complement.specs.Labels.{is_full}
+use Rattle.omega_edge_labels.specs.Labels.{is_full}
 use Rattle.omega_complement.proofs.Faults.{clash_refused}
 use Rattle.omega_complement.proofs.Full.{full_apart, full_lacks_none}
 use Rattle.omega_complement.proofs.Judged.{judged_fit}
