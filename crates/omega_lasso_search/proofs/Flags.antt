@@ -3,10 +3,12 @@ use Rattle.std.proofs.Common.{◌≡◌, ℕ, zero, suc, ◌+◌, ◌<◌, Bool,
 use Rattle.std.proofs.lemmas.Bool.{cases_lt, false≢true}
 use Rattle.std.proofs.lemmas.List.Elements.{Contains-append_left, Contains-get_or, Contains-push, Contains-push_cases}
 use Rattle.std.proofs.lemmas.Option.{slice_get_within}
+use Rattle.std.specs.List.Sorted.{IsStrictlyIncreasing}
 use Rattle.std.specs.Prelude.{slice_get}
 use Rattle.omega_automaton.specs.Automaton.{Description, edge_count, edges_of}
 use Rattle.omega_runs.specs.Judging.{AreUsable}
 use Rattle.omega_lasso_search.specs.Tabled.{AreUsableEdges}
+use Rattle.omega_lasso_search.proofs.Rising.{above_rises}
 
 -- a flag that is read with `false` past the end
 flag_from : (flags : List Bool) (number : ℕ) → slice_get flags number ≡ Some true → get_or flags number false ≡ true
@@ -52,6 +54,12 @@ chosen_more flags numbers after bound false is grown chosen = (
         absurd (false≢true (is ∙ ap (λ n. get_or flags n false) same ∙ set))
   ],
 )
+
+-- a rising list, and maybe a number above all of its numbers
+pub rising_more : (numbers after : List ℕ) (bound : ℕ) (flag : Bool) → after ≡ (if flag then numbers ++ bound ∷ [] else numbers)
+    → ((number : ℕ) → Contains numbers number → number < bound) → IsStrictlyIncreasing numbers → IsStrictlyIncreasing after
+rising_more numbers after bound false grown below rising = subst IsStrictlyIncreasing (sym grown) rising
+rising_more numbers after bound true grown below rising = subst IsStrictlyIncreasing (sym grown) (above_rises numbers bound rising below)
 
 -- the numbers of the flags that are set are those of the usable edges
 pub chosen_usable : (a : Description) (flags : List Bool) (numbers : List ℕ) → AreUsable a flags → Chosen flags numbers (edge_count a) → AreUsableEdges a numbers

@@ -1,7 +1,8 @@
--- Lemmas of the search for a lasso: flags and numbers, the graph of an automaton, walks in it and lassos.
+-- Lemmas of the search for a lasso: flags and numbers, lists that rise, the graph of an automaton, walks and lassos.
 pub mod Names
 pub mod Numbers
 pub mod Kept
+pub mod Rising
 pub mod Flags
 pub mod Listed
 pub mod Edges

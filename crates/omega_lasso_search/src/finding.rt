@@ -9,8 +9,9 @@ ghost use Rattle.omega_lasso_search.specs.Searching.{IsSearchRefusal, IsSearchab
 ghost use Rattle.omega_lasso_search.specs.Tabled.{AllAreUsable, AreUsableEdges, IsTabled};
 ghost use Rattle.omega_lasso_search.specs.private.Searched.{IsAcceptingCycle, IsGiven, IsGivenOf, IsSearch, IsVerdictOf, Reaches, beginning, edges_leaving};
 
-use crate::edge_table::edge_table;
+use crate::ends::edge_ends;
 use crate::given::Given;
+use crate::marks::edge_marks;
 use crate::numbering::{first_states, number_states};
 use crate::search::Search;
 use crate::turning::turned;
@@ -97,12 +98,13 @@ fn found_by(alloc: Global, automaton: &Automaton, edges: &[u32]) -> Result<Verdi
     ensures memory { IsOkUnless result Refusal.Memory }
 {
     automaton.keeps_limits();
-    let table = edge_table(alloc, automaton)?;
+    let ends = edge_ends(alloc, automaton)?;
+    let marks = edge_marks(alloc, automaton)?;
     let starts = first_states(alloc, automaton.starts())?;
     let given = Given {
         starts: starts.as_slice(),
-        ends: table.ends.as_slice(),
-        marks: table.marks.as_slice(),
+        ends: ends.as_slice(),
+        marks: marks.as_slice(),
         edges,
         formula: automaton.acceptance(),
     };

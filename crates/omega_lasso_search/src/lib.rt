@@ -4,14 +4,17 @@
 //! docs/formats.md says when each refusal comes.
 #![tactic(auto)]
 
-mod edge_table;
+mod ends;
 mod finding;
 mod given;
+mod marks;
 mod numbering;
 mod search;
 mod turning;
 mod usable;
 
 pub use finding::{lasso, lasso_in_table};
+pub use marks::edge_marks;
 pub use omega_automaton::{Automaton, Refusal};
 pub use omega_runs::Verdict;
+pub use usable::usable_edges;

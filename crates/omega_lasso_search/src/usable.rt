@@ -1,5 +1,6 @@
 //! Which edges of an automaton are usable.
 ghost use Rattle.std.specs.Prelude.{◌≡◌, ◌++◌, ◌↔◌, [], ◌∷◌, if◌then◌else◌, IfErr, IfOk, IfSome, IsOkUnless, IsTrue, OnOk};
+ghost use Rattle.std.specs.List.Sorted.{IsStrictlyIncreasing};
 ghost use Rattle.omega_satisfying.specs.Satisfiable.{IsSatisfiable};
 ghost use Rattle.omega_automaton.specs.Automaton.{edges_from};
 ghost use Rattle.omega_runs.specs.Judging.{AreUsable, GivesUpOn, HasHard, HasHardLabel, IsHard};
@@ -14,8 +15,9 @@ use std::alloc::Global;
 /// Returns the numbers of the usable edges, in ascending order. A label of a state is judged once, and then those of
 /// its edges are not. Fails with [TaskFault::TooManyPropositions] if a label mentions over `MOST_MENTIONED`
 /// propositions and is given up.
-pub(crate) fn usable_edges(alloc: Global, automaton: &Automaton) -> Result<Vec<u32>, Refusal>
+pub fn usable_edges(alloc: Global, automaton: &Automaton) -> Result<Vec<u32>, Refusal>
     ensures usable { IfOk result (λ edges. AreUsableEdges automaton.now edges.items) }
+    ensures rising { IfOk result (λ edges. IsStrictlyIncreasing edges.items) }
     ensures refused { IfErr result (GivesUpOn (HasHardLabel automaton.now)) }
 {
     let flags = judged(alloc, automaton)?;
@@ -73,6 +75,7 @@ fn is_usable(
 fn chosen(alloc: Global, automaton: &Automaton, flags: &[bool]) -> Result<Vec<u32>, Refusal>
     requires { AreUsable automaton.now flags.now }
     ensures usable { IfOk result (λ edges. AreUsableEdges automaton.now edges.items) }
+    ensures rising { IfOk result (λ edges. IsStrictlyIncreasing edges.items) }
     ensures memory { IsOkUnless result Refusal.Memory }
 {
     let mut edges = Vec::with_capacity(alloc, automaton.edge_count() as usize)?;

@@ -16,8 +16,7 @@ use Rattle.omega_accepting_walk.proofs.Listing.{listed_from, listed_has}
 use Rattle.omega_runs.specs.Lasso.{IsStart, IsStep, Leads}
 use Rattle.omega_runs.proofs.Flat.{IsListed, listed_flat}
 use Rattle.omega_runs.proofs.SingleTargets.{enters_one, none_passes}
-use Rattle.omega_lasso_search.specs.private.Numbering.{first_of}
-use Rattle.omega_lasso_search.specs.private.Searched.{AreUsableEdges}
+use Rattle.omega_lasso_search.specs.Tabled.{AreUsableEdges, first_of}
 use Rattle.omega_trim.specs.private.Placed.{defined_numbers, place_of, placed_in, shape_of, sources_of}
 use Rattle.omega_trim.proofs.Among.{IsImage, contains_from_map, contains_map, place_bound, place_one}
 

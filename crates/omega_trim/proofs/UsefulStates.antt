@@ -9,7 +9,7 @@ use Rattle.omega_walk_laws.specs.Walks.{IsEdgeWalk, MarkedGraph, marks_on}
 use Rattle.omega_walk_laws.proofs.Walking.{joined}
 use Rattle.omega_accepting_walk.specs.Rows.{row_at}
 use Rattle.omega_runs.specs.Lasso.{Leads, marks_at}
-use Rattle.omega_lasso_search.specs.private.Searched.{AreUsableEdges}
+use Rattle.omega_lasso_search.specs.Tabled.{AreUsableEdges}
 use Rattle.omega_lasso_search.proofs.Walks.{same_marks}
 use Rattle.omega_trim.specs.Useful.{AreUsefulStates, IsReached, StartsLasso}
 use Rattle.omega_trim.specs.private.Placed.{HasBoth, HaveBoth, LeadsToLoop, LeadsToOne, LoopsAt, TellLive, defined_numbers, flag_at, graph_of, place_of, reversed, rows_of, shape_of, sources_of}

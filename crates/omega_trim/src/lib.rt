@@ -11,15 +11,14 @@ mod header;
 mod keeping;
 mod labels;
 mod live;
-mod marks;
 mod names;
 mod numbers;
 mod occurring;
 mod places;
 mod states;
 mod trimming;
-mod usable;
 mod useful;
 
+pub use names::copied_acc_name;
 pub use omega_automaton::{Automaton, Refusal};
 pub use trimming::trim;

@@ -1,14 +1,14 @@
 //! The states in which accepting lassos start.
 
 ghost use Rattle.std.specs.Prelude.{◌≡◌, IfOk, IsOkUnless, vec_len};
-ghost use Rattle.omega_lasso_search.specs.private.Searched.{AreUsableEdges};
+ghost use Rattle.omega_lasso_search.specs.Tabled.{AreUsableEdges};
 ghost use Rattle.omega_trim.specs.private.Placed.{HasGoals, TellLive, shape_of};
 
 use crate::goals::goals;
 use crate::graph::reversed;
-use crate::marks::edge_marks;
 use omega_automaton::{Automaton, Refusal};
 use omega_components::{Graph, reached};
+use omega_lasso_search::edge_marks;
 use std::alloc::Global;
 
 /// Returns for each state of `graph` whether `edges` lead from it to an accepting closed walk.

@@ -20,7 +20,7 @@ pub(crate) fn copied_names(alloc: Global, names: &[ByteString]) -> Result<Vec<By
 }
 
 /// Copies the name of an acceptance.
-pub(crate) fn copied_acc_name(alloc: Global, name: &AccName) -> Result<AccName, Refusal>
+pub fn copied_acc_name(alloc: Global, name: &AccName) -> Result<AccName, Refusal>
     ensures same { IfOk result (λ same. same ≡ name.now) }
     ensures memory { IsOkUnless result Refusal.Memory }
 {

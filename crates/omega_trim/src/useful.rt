@@ -6,17 +6,17 @@ ghost use Rattle.indexmap.specs.IndexSet.{insert_key};
 ghost use Rattle.omega_automaton.specs.Branching.{has_universal_branching};
 ghost use Rattle.omega_components.specs.Reaching.{TellReached};
 ghost use Rattle.omega_runs.specs.Judging.{GivesUpOn, HasHardLabel};
-ghost use Rattle.omega_lasso_search.specs.private.Searched.{AreUsableEdges};
+ghost use Rattle.omega_lasso_search.specs.Tabled.{AreUsableEdges};
 ghost use Rattle.omega_trim.specs.Useful.{AreUsefulStates};
 ghost use Rattle.omega_trim.specs.private.Placed.{HaveBoth, IsFew, defined_numbers, flag_at, shape_of, sources_of};
 
 use crate::graph::{graph_of, sources_of};
 use crate::live::live_states;
 use crate::places::{place_in, places_of};
-use crate::usable::usable_edges;
 use indexmap::IndexSet;
 use omega_automaton::{Automaton, Refusal};
 use omega_components::{Graph, reached};
+use omega_lasso_search::usable_edges;
 use std::alloc::Global;
 
 /// For each state of a graph whether it is reached, and whether an accepting lasso starts in it.

@@ -10,7 +10,7 @@ use Rattle.omega_components.specs.declared.edge.Edge.{Edge}
 use Rattle.omega_walk_laws.specs.Walks.{EdgeSet, HasAccepting, IsEdgeWalk, MarkedGraph, marks_on}
 use Rattle.omega_accepting_walk.specs.Rows.{graph_with}
 use Rattle.omega_runs.specs.Lasso.{marks_of}
-use Rattle.omega_lasso_search.specs.private.Numbering.{first_of}
+use Rattle.omega_lasso_search.specs.Tabled.{first_of}
 
 -- the numbers of the states that the body defines, in the order written
 abbrev pub defined_numbers : Description → List ℕ

@@ -1,4 +1,4 @@
--- the table is that of the automaton
+-- the ends and the marks are those of the automaton
 use Rattle.std.proofs.Common.{◌<◌, ℕ, List, length, map, All, sym, ap, subst, ◌∙◌}
 use Rattle.std.proofs.lemmas.List.Elements.{All-weaker}
 use Rattle.omega_automaton.specs.Automaton.{AreTargets}
@@ -19,8 +19,8 @@ returns-clause-verdict c =
       tabled = record {
         single = lists_one a c.keeps_limits.ensures c.requires.plain;
         starts_are = sym (c.as_slice.ensures.value ∙ c.in_ok-starts.ensures.states ∙ ap (map first_of) c.starts.ensures);
-        ends_are = sym (c.as_slice-2.ensures.value ∙ c.in_ok-table.ensures.ends);
-        marks_are = subst (HasMarks a) (sym (c.as_slice-3.ensures.value ∙ c.in_ok-table.ensures.marks)) (own_marks a);
+        ends_are = sym (c.as_slice-2.ensures.value ∙ c.in_ok-ends.ensures.ends);
+        marks_are = subst (HasMarks a) (sym (c.as_slice-3.ensures.value ∙ c.in_ok-marks.ensures.marks)) (own_marks a);
         formula_is = sym c.acceptance.ensures;
       };
       usable = c.requires.usable;

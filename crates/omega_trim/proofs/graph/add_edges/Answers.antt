@@ -6,7 +6,7 @@ use Rattle.omega_automaton.specs.declared.edge.Edge as automata
 use Rattle.omega_components.specs.Graph.{edge_of}
 use Rattle.omega_components.specs.declared.edge.Edge.{Edge}
 use Rattle.omega_runs.proofs.Edges.{edges_take}
-use Rattle.omega_lasso_search.specs.private.Numbering.{first_of}
+use Rattle.omega_lasso_search.specs.Tabled.{first_of}
 use Rattle.omega_lasso_search.proofs.Names.{first_is}
 use Rattle.omega_trim.specs.private.Placed.{placed_in}
 use Rattle.omega_trim.proofs.Among.{place_among, place_bound}

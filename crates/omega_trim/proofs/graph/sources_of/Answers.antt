@@ -1,6 +1,6 @@
 -- one start more
 use Rattle.std.proofs.Common.{◌≡◌, ◌<◌, ℕ, List, get_or, length, ap, ◌∙◌, arith}
-use Rattle.omega_lasso_search.specs.private.Numbering.{first_of}
+use Rattle.omega_lasso_search.specs.Tabled.{first_of}
 use Rattle.omega_lasso_search.proofs.Names.{first_is}
 use Rattle.omega_trim.proofs.Among.{mapped_more, place_among}
 use Rattle.omega_trim.proofs.graph.sources_of.Goals as goal

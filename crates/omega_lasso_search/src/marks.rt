@@ -1,17 +1,16 @@
 //! The marks of edges: those of the state that they leave and their own.
 
 ghost use Rattle.std.specs.Prelude.{◌≡◌, ◌++◌, map, IfOk, IsOkUnless, OnOk};
-ghost use Rattle.omega_automaton.specs.Automaton.{edges_from};
+ghost use Rattle.omega_automaton.specs.Automaton.{edges_from, edges_of};
 ghost use Rattle.omega_runs.specs.Lasso.{marks_of};
-ghost use Rattle.omega_trim.specs.private.Placed.{rows_of};
 
 use omega_automaton::{Automaton, Refusal, State};
 use omega_text::Numbers;
 use std::alloc::Global;
 
-/// Returns for each edge of `automaton` the marks of the state that it leaves and its own.
-pub(crate) fn edge_marks(alloc: Global, automaton: &Automaton) -> Result<Vec<Numbers>, Refusal>
-    ensures marks { IfOk result (λ marks. marks.items ≡ rows_of automaton.now) }
+/// Returns for each edge of `automaton`, by number, the marks of the state that it leaves and then its own.
+pub fn edge_marks(alloc: Global, automaton: &Automaton) -> Result<Vec<Numbers>, Refusal>
+    ensures marks { IfOk result (λ marks. marks.items ≡ map marks_of (edges_of automaton.now)) }
     ensures memory { IsOkUnless result Refusal.Memory }
 {
     let mut marks = Vec::with_capacity(alloc, automaton.edge_count() as usize)?;

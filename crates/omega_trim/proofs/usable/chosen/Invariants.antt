@@ -1,6 +1,0 @@
--- the numbers of the flags before that are set
-use Rattle.omega_lasso_search.proofs.Flags.{Chosen}
-use Rattle.omega_trim.proofs.usable.chosen.Given as goal
-
-abbrev pub invariant-loop-number : goal.invariant-loop-number
-invariant-loop-number l = Chosen l.flags l.edges.items l.number
