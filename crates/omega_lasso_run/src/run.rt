@@ -1,8 +1,9 @@
 ghost use Rattle.std.specs.Prelude.{◌≡◌, ◌++◌, IfOk, IsOkUnless, OnOk, option_map};
 ghost use Rattle.omega_runs.specs.Places.{ArePlaces};
-ghost use Rattle.omega_lasso_run.specs.RunText.{cycle_text, name_after, others_text, run_text, state_text, stem_text, visit_text};
+ghost use Rattle.omega_lasso_run.specs.RunText.{name_after, run_text, state_text, visit_text};
 
 use omega_automaton::{Automaton, State};
+use omega_lasso_form::{EdgeText, lasso_form};
 use omega_runs::{EdgePlace, edge_of, edge_places};
 use omega_text::{Refusal, write_number};
 use std::alloc::Global;
@@ -25,82 +26,30 @@ pub fn run_of(
     ensures memory { IsOkUnless result Refusal.Memory }
 {
     let places = edge_places(alloc, automaton)?;
-    let mut out = Vec::new(alloc);
-    write_stem(automaton, places.as_slice(), stem, &mut out)?;
-    out.extend_from_slice(b"cycle{")?;
-    write_cycle(automaton, places.as_slice(), cycle, &mut out)?;
-    out.push(b'}')?;
-    Ok(out)
+    let visits = Visits {
+        automaton,
+        places: places.as_slice(),
+    };
+    lasso_form(alloc, &visits, stem, cycle)
 }
 
-/// Appends the states that the edges of `stem` leave, a semicolon after each.
-fn write_stem(
-    automaton: &Automaton,
-    places: &[EdgePlace],
-    stem: &[u32],
-    out: &mut Vec<u8>,
-) -> Result<(), Refusal>
-    requires { ArePlaces automaton.now places.now }
-    ensures text { OnOk result (out.new.items ≡ out.old.items ++ stem_text automaton.now stem.now) }
-    ensures memory { IsOkUnless result Refusal.Memory }
-{
-    for number in stem {
-        write_visit(automaton, places, *number, out)?;
-        out.extend_from_slice(b"; ")?;
-    }
-    Ok(())
+/// The states that an automaton's edges leave, which are found by their places.
+#[derive(Clone, Copy)]
+struct Visits<'a> {
+    automaton: &'a Automaton,
+    places: &'a [EdgePlace],
 }
 
-/// Appends the states that the edges of `cycle` leave, a semicolon between each two.
-fn write_cycle(
-    automaton: &Automaton,
-    places: &[EdgePlace],
-    cycle: &[u32],
-    out: &mut Vec<u8>,
-) -> Result<(), Refusal>
-    requires { ArePlaces automaton.now places.now }
-    ensures text { OnOk result (out.new.items ≡ out.old.items ++ cycle_text automaton.now cycle.now) }
-    ensures memory { IsOkUnless result Refusal.Memory }
-{
-    if let [first, others @ ..] = cycle {
-        write_visit(automaton, places, *first, out)?;
-        write_others(automaton, places, others, out)?;
-    }
-    Ok(())
-}
+impl<'a> EdgeText for Visits<'a> {
+    ghost can_tell = { λ visits. ArePlaces visits.automaton.now visits.places.now };
 
-/// Appends the states that the edges of `others` leave, a semicolon before each.
-fn write_others(
-    automaton: &Automaton,
-    places: &[EdgePlace],
-    others: &[u32],
-    out: &mut Vec<u8>,
-) -> Result<(), Refusal>
-    requires { ArePlaces automaton.now places.now }
-    ensures text { OnOk result (out.new.items ≡ out.old.items ++ others_text automaton.now others.now) }
-    ensures memory { IsOkUnless result Refusal.Memory }
-{
-    for number in others {
-        out.extend_from_slice(b"; ")?;
-        write_visit(automaton, places, *number, out)?;
-    }
-    Ok(())
-}
+    ghost told = { λ visits. visit_text visits.automaton.now };
 
-/// Appends the state that the edge with this `number` leaves.
-fn write_visit(
-    automaton: &Automaton,
-    places: &[EdgePlace],
-    number: u32,
-    out: &mut Vec<u8>,
-) -> Result<(), Refusal>
-    requires { ArePlaces automaton.now places.now }
-    ensures text { OnOk result (out.new.items ≡ out.old.items ++ visit_text automaton.now number) }
-    ensures memory { IsOkUnless result Refusal.Memory }
-{
-    match edge_of(automaton, places, number) {
-        None => Ok(()),
-        Some(found) => write_state(found.state, out),
+    fn tell(&self, number: u32, out: &mut Vec<u8>) -> Result<(), Refusal> {
+        match edge_of(self.automaton, self.places, number) {
+            None => Ok(()),
+            Some(found) => write_state(found.state, out),
+        }
     }
 }
 

@@ -1,14 +1,15 @@
 -- The letters of edges are true where the edges can be taken, and words that fit are accepted.
 use Rattle.std.proofs.Common.{◌≡◌, ℕ, zero, suc, Bool, true, ◌↔◌, List, [], ◌∷◌, ◌++◌, map, codes, Option, Some, None, refl, sym, ap, ap₂, ◌∙◌, subst, unwrap_or}
-use Rattle.std.specs.List.{AllByRecursion, flat_map}
+use Rattle.std.specs.List.{AllByRecursion}
 use Rattle.omega_label.specs.Label.{LabelTree, truth}
 use Rattle.omega_automaton.specs.Automaton.{BodyEdge, Description, edge_at}
 use Rattle.omega_runs.specs.Lasso.{IsAcceptingLasso, Leads, label_of}
 use Rattle.omega_runs.specs.Words.{Allows, CanBeTaken, index_in}
+use Rattle.omega_lasso_form.specs.Form.{others_form, stem_form}
 use Rattle.omega_lasso_word.specs.Formulas.{HasTruth, formula}
 use Rattle.omega_lasso_word.specs.Fitting.{Fits, along, text_of_letters}
 use Rattle.omega_lasso_word.specs.Letters.{letter_at, letter_text, text_of_letter}
-use Rattle.omega_lasso_word.specs.WordText.{others_text, stem_text, word_text}
+use Rattle.omega_lasso_word.specs.WordText.{word_text}
 use Rattle.omega_lasso_word.specs.Laws.{FittingWordsAreAccepted, HasStrings, LettersAreTrueWhereEdgesCanBeTaken, WordsFitWhereEdgesCanBeTaken, by_number}
 use Rattle.omega_lasso_word.proofs.Admitted.{admitted_words_are_accepted}
 use Rattle.omega_lasso_word.proofs.Lines.{IsLetter, IsSomeLetter, all_along, along_map, first_along, letters_same, others_along}
@@ -70,11 +71,11 @@ each_along P first others (x ∷ stem) all here rest zero = all.0
 each_along P first others (x ∷ stem) all here rest (suc i) = each_along P first others stem all.1 here rest i
 
 module _ (a : Description) where
-  stem_letters : (stem : List ℕ) → stem_text a stem ≡ flat_map (λ (letter : List ℕ). letter ++ codes "; ") (map (letter_text a) stem)
+  stem_letters : (stem : List ℕ) → stem_form (letter_text a) stem ≡ stem_form (λ (letter : List ℕ). letter) (map (letter_text a) stem)
   stem_letters [] = refl
   stem_letters (number ∷ stem) = ap (λ (t : List ℕ). (letter_text a number ++ codes "; ") ++ t) (stem_letters stem)
 
-  others_letters : (others : List ℕ) → others_text a others ≡ flat_map (λ (letter : List ℕ). codes "; " ++ letter) (map (letter_text a) others)
+  others_letters : (others : List ℕ) → others_form (letter_text a) others ≡ others_form (λ (letter : List ℕ). letter) (map (letter_text a) others)
   others_letters [] = refl
   others_letters (number ∷ others) = ap (λ (t : List ℕ). (codes "; " ++ letter_text a number) ++ t) (others_letters others)
 

@@ -1,7 +1,8 @@
 -- The text of a word is that of one list of letters.
 use Rattle.std.proofs.Common.{◌≡◌, ℕ, zero, suc, Bool, true, false, List, [], ◌∷◌, ◌++◌, drop, map, codes, arith, refl, sym, ap, ap₂, ◌∙◌, subst, append_assoc}
-use Rattle.std.specs.List.{AllByRecursion, flat_map}
+use Rattle.std.specs.List.{AllByRecursion}
 use Rattle.std.proofs.lemmas.List.{append_cancel_right}
+use Rattle.omega_lasso_form.specs.Form.{others_form, stem_form}
 use Rattle.omega_lasso_word.specs.Formulas.{HasTruth, formula}
 use Rattle.omega_lasso_word.specs.Fitting.{along, text_of_letters}
 use Rattle.omega_lasso_word.proofs.Reader.{run, stuck, wanted}
@@ -41,10 +42,10 @@ begins_cycle letter rest tail some same =
     not_nil (ap (λ (r : Bool × List ℕ). r.1) (sym read ∙ ap (λ (t : List ℕ). run held (wanted false true false []) t) same ∙ no_letter held tail))
 
 abbrev stem_of : List (List ℕ) → List ℕ
-stem_of stem = flat_map (λ letter. letter ++ codes "; ") stem
+stem_of stem = stem_form (λ letter. letter) stem
 
 abbrev others_of : List (List ℕ) → List ℕ
-others_of others = flat_map (λ letter. codes "; " ++ letter) others
+others_of others = others_form (λ letter. letter) others
 
 -- a stem of letters is one
 stems_same : (stem other : List (List ℕ)) (tail other_tail : List ℕ) → AllByRecursion IsLetter stem → AllByRecursion IsSomeLetter other

@@ -1,13 +1,11 @@
 -- Words over names that fit the text of a word.
-use Rattle.std.specs.Prelude.{◌≡◌, ℕ, zero, suc, Bool, true, List, [], ◌∷◌, ◌++◌, codes}
-use Rattle.std.specs.List.{flat_map}
+use Rattle.std.specs.Prelude.{◌≡◌, ℕ, zero, suc, Bool, true, List, [], ◌∷◌}
+use Rattle.omega_lasso_form.specs.Form.{word_form}
 use Rattle.omega_lasso_word.specs.Formulas.{HasTruth, formula}
 
 -- the text of a word with these letters: those of the stem, and those of the cycle, `first` and the others, in braces
 abbrev pub text_of_letters : List (List ℕ) → List ℕ → List (List ℕ) → List ℕ
-text_of_letters stem first others =
-    flat_map (λ letter. letter ++ codes "; ") stem
-    ++ (codes "cycle{" ++ ((first ++ flat_map (λ letter. codes "; " ++ letter) others) ++ codes "}"))
+text_of_letters stem first others = word_form (λ letter. letter) stem (first ∷ others)
 
 -- what stands at an index of an infinite sequence: a stem, and then `first` and `others` for ever
 abbrev pub along : {A : Type 0} → A → List A → List A → ℕ → A

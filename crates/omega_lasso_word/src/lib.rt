@@ -10,6 +10,6 @@ mod signs;
 mod word;
 
 pub use letters::write_conjuncts;
-pub use names::write_name;
+pub use names::{stands_bare, write_name};
 pub use omega_automaton::{Automaton, Refusal};
 pub use word::word_of;

@@ -6,12 +6,12 @@ ghost use Rattle.omega_lasso_word.specs.Names as written;
 use omega_edge_labels::is_identifier;
 use omega_text::Refusal;
 
-/// Appends `name`, in quotes unless it is an identifier that Spot reads as a name (tl.pdf, atomic propositions).
+/// Appends `name`, in quotes unless `stands_bare` says that it needs none.
 pub fn write_name(name: &[u8], out: &mut Vec<u8>) -> Result<(), Refusal>
     ensures text { OnOk result (out.new.items ≡ out.old.items ++ written.name_text name.now) }
     ensures memory { IsOkUnless result Refusal.Memory }
 {
-    if is_identifier(name) && !is_reserved(name) {
+    if stands_bare(name) {
         out.extend_from_slice(name)?;
         return Ok(());
     }
@@ -21,7 +21,15 @@ pub fn write_name(name: &[u8], out: &mut Vec<u8>) -> Result<(), Refusal>
     Ok(())
 }
 
-/// Whether Spot reads something else than a name, though `name` is an identifier (Spot's tl.pdf, atomic propositions).
+/// Whether Spot reads `name` without quotes as a name: an identifier that is not reserved (Spot's tl.pdf, atomic
+/// propositions).
+pub fn stands_bare(name: &[u8]) -> bool
+    ensures { result ≡ written.stands_bare name.now }
+{
+    is_identifier(name) && !is_reserved(name)
+}
+
+/// Whether Spot reads something else than a name, though `name` is an identifier.
 fn is_reserved(name: &[u8]) -> bool
     ensures { result ≡ written.is_reserved name.now }
 {

@@ -2,10 +2,11 @@ ghost use Rattle.std.specs.Prelude.{◌≡◌, ◌++◌, IfOk, IsOkUnless, OnOk}
 ghost use Rattle.omega_runs.specs.Lasso.{label_of};
 ghost use Rattle.omega_runs.specs.Places.{ArePlaces};
 ghost use Rattle.omega_lasso_word.specs.Letters.{letter_text, text_of_letter};
-ghost use Rattle.omega_lasso_word.specs.WordText.{cycle_text, others_text, stem_text, word_text};
+ghost use Rattle.omega_lasso_word.specs.WordText.{word_text};
 
 use crate::letters::{write_label, write_valuation};
 use omega_automaton::{Automaton, EdgeRef, State};
+use omega_lasso_form::{EdgeText, lasso_form};
 use omega_runs::{EdgePlace, edge_of, edge_places};
 use omega_text::{ByteString, Refusal};
 use std::alloc::Global;
@@ -29,96 +30,44 @@ pub fn word_of(
     ensures memory { IsOkUnless result Refusal.Memory }
 {
     let places = edge_places(alloc, automaton)?;
-    let mut out = Vec::new(alloc);
-    write_stem(automaton, places.as_slice(), stem, &mut out)?;
-    out.extend_from_slice(b"cycle{")?;
-    write_cycle(automaton, places.as_slice(), cycle, &mut out)?;
-    out.push(b'}')?;
-    Ok(out)
+    let letters = Letters {
+        automaton,
+        places: places.as_slice(),
+    };
+    lasso_form(alloc, &letters, stem, cycle)
 }
 
-/// Appends the letters of `stem`, a semicolon after each.
-fn write_stem(
-    automaton: &Automaton,
-    places: &[EdgePlace],
-    stem: &[u32],
-    out: &mut Vec<u8>,
-) -> Result<(), Refusal>
-    requires { ArePlaces automaton.now places.now }
-    ensures text { OnOk result (out.new.items ≡ out.old.items ++ stem_text automaton.now stem.now) }
-    ensures memory { IsOkUnless result Refusal.Memory }
-{
-    for number in stem {
-        write_letter(automaton, places, *number, out)?;
-        out.extend_from_slice(b"; ")?;
-    }
-    Ok(())
+/// The letters of an automaton's edges, which are found by their places.
+#[derive(Clone, Copy)]
+struct Letters<'a> {
+    automaton: &'a Automaton,
+    places: &'a [EdgePlace],
 }
 
-/// Appends the letters of `cycle`, a semicolon between each two.
-fn write_cycle(
-    automaton: &Automaton,
-    places: &[EdgePlace],
-    cycle: &[u32],
-    out: &mut Vec<u8>,
-) -> Result<(), Refusal>
-    requires { ArePlaces automaton.now places.now }
-    ensures text { OnOk result (out.new.items ≡ out.old.items ++ cycle_text automaton.now cycle.now) }
-    ensures memory { IsOkUnless result Refusal.Memory }
-{
-    if let [first, others @ ..] = cycle {
-        write_letter(automaton, places, *first, out)?;
-        write_others(automaton, places, others, out)?;
-    }
-    Ok(())
-}
+impl<'a> EdgeText for Letters<'a> {
+    ghost can_tell = { λ letters. ArePlaces letters.automaton.now letters.places.now };
 
-/// Appends the letters of `others`, a semicolon before each.
-fn write_others(
-    automaton: &Automaton,
-    places: &[EdgePlace],
-    others: &[u32],
-    out: &mut Vec<u8>,
-) -> Result<(), Refusal>
-    requires { ArePlaces automaton.now places.now }
-    ensures text { OnOk result (out.new.items ≡ out.old.items ++ others_text automaton.now others.now) }
-    ensures memory { IsOkUnless result Refusal.Memory }
-{
-    for number in others {
-        out.extend_from_slice(b"; ")?;
-        write_letter(automaton, places, *number, out)?;
-    }
-    Ok(())
-}
+    ghost told = { λ letters. letter_text letters.automaton.now };
 
-/// Appends the letter of the edge with this `number`.
-fn write_letter(
-    automaton: &Automaton,
-    places: &[EdgePlace],
-    number: u32,
-    out: &mut Vec<u8>,
-) -> Result<(), Refusal>
-    requires { ArePlaces automaton.now places.now }
-    ensures text { OnOk result (out.new.items ≡ out.old.items ++ letter_text automaton.now number) }
-    ensures memory { IsOkUnless result Refusal.Memory }
-{
-    match edge_of(automaton, places, number) {
-        None => Ok(()),
-        Some(found) => {
-            let edge = found.state.edges.edge(found.index);
-            write_letter_of(
-                automaton.propositions(),
-                found.state,
-                &edge,
-                found.index,
-                out,
-            )
+    fn tell(&self, number: u32, out: &mut Vec<u8>) -> Result<(), Refusal> {
+        match edge_of(self.automaton, self.places, number) {
+            None => Ok(()),
+            Some(found) => {
+                let edge = found.state.edges.edge(found.index);
+                write_letter(
+                    self.automaton.propositions(),
+                    found.state,
+                    &edge,
+                    found.index,
+                    out,
+                )
+            }
         }
     }
 }
 
 /// Appends the letter of `edge`, which is at this `index` among the edges of `state`.
-fn write_letter_of(
+fn write_letter(
     names: &[ByteString],
     state: &State,
     edge: &EdgeRef<'_>,

@@ -5,7 +5,6 @@
 
 pub mod laws;
 mod letters;
-mod names;
 mod reading;
 mod token;
 mod tokens;

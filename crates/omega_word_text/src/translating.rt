@@ -7,8 +7,8 @@ ghost use Rattle.omega_text.specs.Lexeme.{lexeme_of};
 ghost use Rattle.omega_word_text.specs.Reading.{IsReadAs, kind_as, name_of, names_of, number_as, word_as};
 ghost use Rattle.omega_word_text.specs.private.Names.{names_in, with_name, with_some};
 
-use crate::names::stands_bare;
 use indexmap::IndexSet;
+use omega_lasso_word::stands_bare;
 use omega_text::{ByteString, HoaKind, Refusal, Token};
 use std::alloc::Global;
 
