@@ -3,7 +3,7 @@ use Rattle.std.proofs.Common.{◌≡◌, ℕ, ◌+◌, ◌<◌, ◌≤◌, ◌�
 use Rattle.std.specs.Prelude.{sum_by}
 use Rattle.std.specs.List.{flat_map}
 use Rattle.std.proofs.lemmas.Grind.{flat_map-append}
-use Rattle.std.proofs.lemmas.List.{get_or-append-add, get_or_append_left, length-append, length-map, take_all}
+use Rattle.std.proofs.lemmas.List.{get_or-append-add, get_or_append_left, get_or_default, length-append, length-map, take_all}
 use Rattle.indexmap.specs.IndexSet.{insert_all}
 use Rattle.omega_components.specs.Graph.{edge_of}
 use Rattle.omega_automaton.specs.Automaton.{Description}
@@ -13,7 +13,10 @@ use Rattle.omega_product.specs.PairGraph.{joints_at, joints_of}
 use Rattle.omega_product.specs.Pairs.{Pair, same_pair, start_pairs, targets_of}
 use Rattle.omega_product.specs.Refusing.{HasManyEdges}
 use Rattle.omega_product.specs.private.Adding.{AddsAmong}
+use Rattle.omega_product.specs.private.Explored.{HaveRowsOf}
+use Rattle.omega_product.specs.private.Operands.{HaveRows, Reaches}
 use Rattle.omega_product.specs.declared.joint_edges.JointEdges.{JointEdges}
+use Rattle.omega_product.specs.declared.tables.Tables.{Tables}
 use Rattle.omega_product.proofs.Crossing.{all_edges}
 use Rattle.omega_product.proofs.Reaching.{Extended, IsUnderWay, append_nil, begun, extends_by, found_so_far, gone_on, taken_before, taken_more}
 
@@ -129,3 +132,25 @@ module _ (one other : Description) where
 
     pub counted_all : (k : ℕ) → k < length pairs → get_or past k 0 ≡ sum_by leaving (take (k + 1) pairs)
     counted_all k below = so_far.counted.each k (omega (arith, below, past_all))
+
+-- the edges of the pairs so far are made, those of a pair more too
+pub reached_more : (one other : Description) (pairs more : List Pair) (before after : Tables) (at : ℕ) (pair : Pair) → Extended pairs more → at < length pairs → pair ≡ get_or pairs at pair
+    → HaveRowsOf before pairs at → Reaches one other pair before after → HaveRowsOf after more (at + 1)
+reached_more one other pairs more before after at pair extended below here so_far reaches k least = go (last k least)
+  where
+    last : (k : ℕ) → k < at + 1 → (k < at) ⊎ (k ≡ at)
+    last k least = grind arith
+
+    same : (k : ℕ) → k < length pairs → get_or more k (0, 0) ≡ get_or pairs k (0, 0)
+    same k inside = ap (λ (ps : List Pair). get_or ps k (0, 0)) extended.is ∙ get_or_append_left pairs extended.extra (0, 0) k inside
+
+    go : (k < at) ⊎ (k ≡ at) → HaveRows after (get_or more k (0, 0))
+    go (inl earlier) =
+        subst (HaveRows after) (sym (same k (omega (arith, earlier, below)))) (reaches.kept (get_or pairs k (0, 0)) (so_far k earlier))
+    go (inr now) =
+        let inside : k < length pairs = omega (arith, now, below) in
+        let is : pair ≡ get_or pairs k (0, 0) = here ∙ ap (λ i. get_or pairs i pair) (sym now) ∙ get_or_default pairs k pair (0, 0) inside in
+        subst (HaveRows after) (is ∙ sym (same k inside)) reaches.made
+
+pub reached_all : (pairs : List Pair) (tables : Tables) (at : ℕ) → length pairs ≤ at → HaveRowsOf tables pairs at → HaveRowsOf tables pairs (length pairs)
+reached_all pairs tables at past so_far k below = so_far k (omega (arith, below, past))

@@ -9,7 +9,7 @@ use Rattle.omega_product.proofs.Membership.{Contains-cases, Contains-here, Conta
 use Rattle.omega_product.specs.Transitions.{can_hold, is_true_under_some, with_value}
 
 -- only the propositions of a label count
-truth_same : (held held' : ℕ → Bool) (label : LabelTree) → ((p : ℕ) → Contains (propositions label) p → held p ≡ held' p)
+pub truth_same : (held held' : ℕ → Bool) (label : LabelTree) → ((p : ℕ) → Contains (propositions label) p → held p ≡ held' p)
     → truth held label ≡ truth held' label
 truth_same held held' (constant value) same = refl
 truth_same held held' (proposition number) same = same number (Contains-here number [])
@@ -29,7 +29,7 @@ and_both false b e = absurd (true≢false (sym e))
 pub both_and : (a b : Bool) → a ≡ true → b ≡ true → (a && b) ≡ true
 both_and a b ea eb = ap₂ ◌&&◌ ea eb
 
-or_either : (a b : Bool) → (a || b) ≡ true → (a ≡ true) ⊎ (b ≡ true)
+pub or_either : (a b : Bool) → (a || b) ≡ true → (a ≡ true) ⊎ (b ≡ true)
 or_either true b e = inl refl
 or_either false b e = inr e
 

@@ -5,6 +5,7 @@ pub mod Accepted
 pub mod Conjoined
 pub mod Holding
 pub mod Rows
+pub mod Made
 pub mod Reaching
 pub mod Steps
 pub mod Meaning
@@ -15,3 +16,5 @@ pub mod Joints
 pub mod Crossing
 pub mod Finding
 pub mod Labelled
+pub mod Alone
+pub mod Valuations

@@ -1,15 +1,15 @@
--- The edges of a state, one more at a time, and the table of those of all states.
+-- The edges of a state, one more at a time, and the numbers of states and of their first edges in a table.
 use Rattle.std.proofs.Common.{◌≡◌, ◌==◌, ℕ, zero, suc, ◌+◌, ◌<◌, ◌≤◌, ◌⊎◌, inl, inr, Bool, true, false, not, cond, nat_eq, nat_lt, if◌then◌else◌, List, [], ◌∷◌, ◌++◌, length, map, take, get_or, Option, Some, None, position, Contains, refl, sym, ap, subst, ◌∙◌, arith, eqb-true, eq-eqb, ltb-true, true≢false}
 use Rattle.std.specs.List.{position_or_len}
 use Rattle.std.proofs.lemmas.Bool.{cases_lt, lt-ltb}
-use Rattle.std.proofs.lemmas.List.{length-map, length-take, take_more}
+use Rattle.std.proofs.lemmas.List.{length-map, length-take, map-append, take_more}
 use Rattle.std.proofs.lemmas.List.Sums.{sum_by-cons, sum_by_push}
 use Rattle.omega_automaton.specs.declared.edge.Edge.{Edge}
 use Rattle.omega_automaton.specs.declared.state.State.{State}
 use Rattle.omega_product.specs.PairGraph.{edges_before}
 use Rattle.omega_product.specs.Pairs.{name_at}
 use Rattle.omega_product.specs.Transitions.{View, transition_of, transitions_at, transitions_from}
-use Rattle.omega_product.specs.private.Tables.{AreRows, edges_in, firsts_from, row_of}
+use Rattle.omega_product.specs.private.Tables.{AreNumbered, edges_in, firsts_from, row_of}
 use Rattle.omega_product.specs.declared.transition.Transition.{Transition}
 use Rattle.omega_product.proofs.Membership.{Contains-here, Contains-there}
 
@@ -115,15 +115,14 @@ row_first : (view : View) (states : List State) (number : ℕ) → transitions_a
 row_first view [] number = refl
 row_first view (state ∷ states) number = ap (λ (rest : List Transition). if state.number == number then row_of view state else rest) (row_first view states number)
 
-pub row_found : (view : View) (states : List State) (numbers : List ℕ) (rows : List (List Transition)) (firsts : List ℕ) (number place : ℕ) → AreRows view states numbers rows firsts
-    → position (nat_eq number) numbers ≡ Some place → transitions_at view states number ≡ get_or rows place []
-row_found view states numbers rows firsts number place are found =
+pub row_found : (view : View) (states : List State) (numbers firsts : List ℕ) (number place : ℕ) → AreNumbered states numbers firsts
+    → position (nat_eq number) numbers ≡ Some place → transitions_at view states number ≡ get_or (map (row_of view) states) place []
+row_found view states numbers firsts number place are found =
     row_first view states number ∙ found_first (row_of view) [] states numbers number are.numbers_are place found
-    ∙ ap (λ (rs : List (List Transition)). get_or rs place []) (sym are.rows_are)
 
-pub row_missing : (view : View) (states : List State) (numbers : List ℕ) (rows : List (List Transition)) (firsts : List ℕ) (number : ℕ) → AreRows view states numbers rows firsts
+pub row_missing : (view : View) (states : List State) (numbers firsts : List ℕ) (number : ℕ) → AreNumbered states numbers firsts
     → position (nat_eq number) numbers ≡ None → transitions_at view states number ≡ []
-row_missing view states numbers rows firsts number are missing =
+row_missing view states numbers firsts number are missing =
     row_first view states number ∙ missing_first (row_of view) [] states numbers number are.numbers_are missing
 
 -- the name of a state is at its place
@@ -173,9 +172,9 @@ at_first (state ∷ states) number count below = go (state.number == number) ref
         ∙ rest (omega (arith, below, here))
         ∙ sum ∙ ap (λ b. count + (if b then 0 else length state.edges + edges_before states number)) (sym e)
 
-pub first_found : (view : View) (states : List State) (numbers : List ℕ) (rows : List (List Transition)) (firsts : List ℕ) (number place : ℕ) → AreRows view states numbers rows firsts
+pub first_found : (states : List State) (numbers firsts : List ℕ) (number place : ℕ) → AreNumbered states numbers firsts
     → position (nat_eq number) numbers ≡ Some place → get_or firsts place 0 ≡ edges_before states number
-first_found view states numbers rows firsts number place are found =
+first_found states numbers firsts number place are found =
     let p : position_or_len (nat_eq number) numbers ≡ place = some_place (nat_lt (position_or_len (nat_eq number) numbers) (length numbers)) (position_or_len (nat_eq number) numbers) place found in
     let below : position_or_len (nat_eq number) numbers < length numbers =
     ltb-true (position_or_len (nat_eq number) numbers) (length numbers) (some_below (nat_lt (position_or_len (nat_eq number) numbers) (length numbers)) (position_or_len (nat_eq number) numbers) place found) in
@@ -202,22 +201,17 @@ edges_more states at state below here =
     ap edges_in (take_more states at state below ∙ ap (λ (s : State). take at states ++ s ∷ []) (sym here))
     ∙ sum_by_push (λ (s : State). length s.edges) (take at states) state
 
-pub rows_more : (view : View) (states : List State) (at : ℕ) (state : State) (numbers : List ℕ) (rows : List (List Transition)) (firsts : List ℕ) (first : ℕ)
-    → at < length states → state ≡ get_or states at state → AreRows view (take at states) numbers rows firsts → first ≡ edges_in (take at states)
-    → AreRows view (take (at + 1) states) (numbers ++ state.number ∷ []) (rows ++ row_of view state ∷ []) (firsts ++ first ∷ [])
-rows_more view states at state numbers rows firsts first below here are counted =
+pub numbered_more : (states : List State) (at : ℕ) (state : State) (numbers firsts : List ℕ) (first : ℕ)
+    → at < length states → state ≡ get_or states at state → AreNumbered (take at states) numbers firsts → first ≡ edges_in (take at states)
+    → AreNumbered (take (at + 1) states) (numbers ++ state.number ∷ []) (firsts ++ first ∷ [])
+numbered_more states at state numbers firsts first below here are counted =
     let more : take (at + 1) states ≡ take at states ++ state ∷ [] = take_more states at state below ∙ ap (λ (s : State). take at states ++ s ∷ []) (sym here) in
     let next : first ≡ 0 + edges_in (take at states) = omega (arith, counted) in
     record {
-      numbers_are = ap (λ (ns : List ℕ). ns ++ state.number ∷ []) are.numbers_are ∙ sym (map_push (λ (s : State). s.number) (take at states) state) ∙ ap (map (λ (s : State). s.number)) (sym more);
-      rows_are = ap (λ (rs : List (List Transition)). rs ++ row_of view state ∷ []) are.rows_are ∙ sym (map_push (row_of view) (take at states) state) ∙ ap (map (row_of view)) (sym more);
+      numbers_are = ap (λ (ns : List ℕ). ns ++ state.number ∷ []) are.numbers_are ∙ sym (map-append (λ (s : State). s.number) (take at states) (state ∷ [])) ∙ ap (map (λ (s : State). s.number)) (sym more);
       firsts_are = ap (λ (fs : List ℕ). fs ++ first ∷ []) are.firsts_are ∙ ap (λ n. firsts_from 0 (take at states) ++ n ∷ []) next
           ∙ sym (firsts_more 0 (take at states) state) ∙ ap (firsts_from 0) (sym more);
     }
-  where
-    map_push : {X Y : Type 0} (f : X → Y) (xs : List X) (x : X) → map f (xs ++ x ∷ []) ≡ map f xs ++ f x ∷ []
-    map_push f [] x = refl
-    map_push {Y = Y} f (y ∷ ys) x = ap (λ (rest : List Y). f y ∷ rest) (map_push f ys x)
 
 -- an edge is among those of its state
 row_from : (view : View) (state : State) (first : ℕ) (edges : List Edge) (k : ℕ) (edge : Edge) → k < length edges → edge ≡ get_or edges k edge

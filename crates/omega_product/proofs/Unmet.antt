@@ -9,11 +9,13 @@ use Rattle.omega_label.specs.Shape.{FitsALabel}
 use Rattle.omega_satisfying.specs.Undecided.{IsHardLabel}
 use Rattle.omega_automaton.specs.Automaton.{Description}
 use Rattle.omega_edge_labels.specs.Fitting.{IsUnjudged}
-use Rattle.omega_product.specs.Pairs.{AreFound, Pair, first_leaving, second_leaving}
-use Rattle.omega_product.specs.Refusing.{AreMet, IsJoinFault, unfit_meeting}
+use Rattle.omega_product.specs.Pairs.{AreFound, Pair, first_leaving, first_view, second_leaving, second_view}
+use Rattle.omega_product.specs.Refusing.{AreMet, IsJoinFault, IsProductTooLarge, unfit_first, unfit_meeting, unfit_second}
 use Rattle.omega_product.specs.private.Meeting.{HasUnmet, HasUnmetPartner, IsUnmet}
+use Rattle.omega_product.specs.private.Operands.{HasUnfitAt}
 use Rattle.omega_product.specs.declared.transition.Transition.{Transition}
 use Rattle.omega_edge_labels.proofs.Refusals.{task_weaker}
+use Rattle.omega_product.proofs.Made.{unfit_listed}
 
 -- an element of a list by its index
 pub listed_at : {X : Type 0} (xs : List X) (i : ℕ) (x : X) → i < length xs → x ≡ get_or xs i x → Contains xs x
@@ -57,6 +59,11 @@ module _ (one other : Description) (pairs : List Pair) (done : ℕ) (found : Are
       → or_task (IsJoinFault one other) (or_memory never) refusal
   join_refused refusal h =
       task_weaker (HasUnmet (first_leaving one other pair) (second_leaving one other pair)) (IsJoinFault one other) join_fault refusal h
+
+-- an edge that leaves a state of a pair and has a label that is too deep or too large
+pub unfit_pair : (one other : Description) (pair : Pair) → HasUnfitAt one other pair → IsProductTooLarge one other
+unfit_pair one other pair (inl first) = unfit_first (unfit_listed (first_view one other) one.defined pair.0 first)
+unfit_pair one other pair (inr second) = unfit_second (unfit_listed (second_view one other) other.defined pair.1 second)
 
 -- two edges whose labels together are not judged
 pub unjudged_unmet : (transition other : Transition) (label : LabelTree) → label ≡ conjunction transition.label other.label → (refusal : Refusal)

@@ -1,11 +1,11 @@
 //! The joint edges of a pair of states, without labels, and the pairs that they lead to.
 
-ghost use Rattle.std.specs.Prelude.{◌≡◌, ◌∷◌, [], ◌++◌, IfErr, IfOk, IsOkUnless, OnOk};
+ghost use Rattle.std.specs.Prelude.{◌≡◌, ◌∷◌, [], ◌++◌, true, IfErr, IfOk, IsOkUnless, OnOk};
 ghost use Rattle.omega_text.specs.Cases.{never, or_memory, or_task};
 ghost use Rattle.omega_product.specs.JointEdges.{joint_of, joints_between, joints_with};
 ghost use Rattle.omega_product.specs.Pairs.{targets_between, targets_with, with_pairs};
 ghost use Rattle.omega_product.specs.private.Adding.{AddsAmong, numbered_edge, numbered_in};
-ghost use Rattle.omega_product.specs.private.Meeting.{HasUnmet, HasUnmetPartner};
+ghost use Rattle.omega_product.specs.private.Meeting.{HasUnmet, HasUnmetPartner, MeetByIndex};
 
 use crate::joint_edges::JointEdges;
 use crate::numbers::number_after;
@@ -16,9 +16,9 @@ use omega_text::{Numbers, Refusal};
 use std::alloc::Global;
 
 /// Appends the joint edges of the pair with the number `from`, one for each two edges of `firsts` and `seconds` that
-/// can be taken together, and adds the pairs that they lead to. Each two edges are judged once. Fails with
-/// [TaskFault::TooManyPropositions] if it is undecided whether some two can be taken together, and with
-/// [TaskFault::TooLarge] if their labels are too deep or too large to be judged.
+/// can be taken together, and adds the pairs that they lead to. Each two edges are judged once; with `by_index` only
+/// those of one index. Fails with [TaskFault::TooManyPropositions] if it is undecided whether some two can be taken
+/// together, and with [TaskFault::TooLarge] if their labels are too deep or too large to be judged.
 pub(crate) fn add_joints(
     alloc: Global,
     pairs: &mut IndexSet<(u32, u32)>,
@@ -26,7 +26,9 @@ pub(crate) fn add_joints(
     from: u32,
     firsts: &Row<'_>,
     seconds: &Row<'_>,
+    by_index: bool,
 ) -> Result<(), Refusal>
+    requires { by_index ≡ true → MeetByIndex firsts.now.edges.now seconds.now.edges.now }
     ensures pairs { OnOk result (pairs.new.keys ≡
         with_pairs pairs.old.keys (targets_between firsts.now.edges.now seconds.now.edges.now)) }
     ensures edges { OnOk result (AddsAmong pairs.new.keys
@@ -39,7 +41,8 @@ pub(crate) fn add_joints(
             number,
             edge: &firsts.edges[at],
         };
-        add_joints_with(alloc, pairs, edges, from, &first, seconds)?;
+        let partners = seconds.partners_of(&first, at, by_index)?;
+        add_joints_with(alloc, pairs, edges, from, &first, &partners)?;
     }
     Ok(())
 }

@@ -1,44 +1,58 @@
 //! The reachable pairs of states, found by breadth-first search, and the edges between them.
 
-ghost use Rattle.std.specs.Prelude.{◌≡◌, ◌<◌, ◌≤◌, Contains, get_or, length, IfErr, IfOk, IsOkUnless, OnOk};
+ghost use Rattle.std.specs.Prelude.{◌≡◌, ◌<◌, ◌≤◌, true, Contains, length, IfErr, IfOk, IsOkUnless, OnOk};
 ghost use Rattle.omega_text.specs.Cases.{never, or_memory, or_task};
 ghost use Rattle.omega_edge_labels.specs.Limits.{most_states};
 ghost use Rattle.omega_product.specs.PairGraph.{joints_at};
-ghost use Rattle.omega_product.specs.Pairs.{start_state as first_listed, starts_between, starts_with, with_pairs};
+ghost use Rattle.omega_product.specs.Pairs.{first_leaving, second_leaving, start_state as first_listed, starts_between, starts_with, with_pairs};
 ghost use Rattle.omega_product.specs.private.Adding.{AddsAmong};
-ghost use Rattle.omega_product.specs.private.Explored.{IsExplored};
-ghost use Rattle.omega_product.specs.private.Operands.{AreTabled, HasUnmetAt, IsFaultIn, targets_in};
+ghost use Rattle.omega_product.specs.Refusing.{IsJoinFault};
+ghost use Rattle.omega_product.specs.private.Explored.{AreMade, IsExplored};
+ghost use Rattle.omega_product.specs.private.Meeting.{MeetByIndex};
+ghost use Rattle.omega_product.specs.private.Operands.{AreTables, AreTabled, HasUnmetAt, HaveRows, targets_in};
 
 use crate::adding::add_joints;
 use crate::explored::Explored;
 use crate::joint_edges::JointEdges;
 use crate::operands::Operands;
 use crate::pairs::{number_of, pair_at};
+use crate::tables::Tables;
 use indexmap::IndexSet;
+use omega_automaton::Automaton;
 use omega_edge_labels::{MOST_EDGES, MOST_STATES};
 use omega_text::{Numbers, Refusal, TaskFault};
 use std::alloc::Global;
 
 /// Finds the reachable pairs of states by breadth-first search, in the order in which they are found, and the edges
-/// between them. Each two edges are judged once. Fails with [TaskFault::TooManyPropositions] if it is undecided whether
-/// two edges can be taken together. Fails with [TaskFault::TooLarge] if there are too many pairs or edges, or if the
-/// labels of two edges are too deep or too large to be judged.
-pub(crate) fn explore(alloc: Global, operands: &Operands<'_>) -> Result<Explored, Refusal>
-    requires { AreTabled operands.now }
-    ensures explored { IfOk result (IsExplored operands.now) }
-    ensures err { IfErr result (or_task (IsFaultIn operands.now) (or_memory never)) }
+/// between them. Makes in `tables`, which are those of both automata, the edges of the states that are reached. Each
+/// two edges are judged at most once. Fails with [TaskFault::TooManyPropositions] if it is undecided whether two edges
+/// can be taken together. Fails with [TaskFault::TooLarge] if there are too many pairs or edges, or if a label or the
+/// labels of two edges are too deep or too large.
+pub(crate) fn explore(
+    alloc: Global,
+    one: &Automaton,
+    other: &Automaton,
+    tables: &mut Tables,
+) -> Result<Explored, Refusal>
+    requires { AreTables one.now other.now tables.old }
+    ensures tables { OnOk result (AreTables one.now other.now tables.new) }
+    ensures explored { IfOk result (IsExplored one.now other.now) }
+    ensures made { IfOk result (AreMade tables.new) }
+    ensures err { IfErr result (or_task (IsJoinFault one.now other.now) (or_memory never)) }
 {
     let mut pairs = IndexSet::new(alloc);
     let mut edges = JointEdges::new(alloc);
     let mut past = Vec::new(alloc);
-    add_starts(&mut pairs, operands.one.starts(), operands.other.starts())?;
+    add_starts(&mut pairs, one.starts(), other.starts())?;
     let mut at = 0;
     while at < pairs.len() {
         if MOST_STATES < pairs.len() {
             return Err(Refusal::Task(TaskFault::TooLarge));
         }
         let pair = pair_at(&pairs, at);
-        expand(alloc, operands, &mut pairs, &mut edges, pair)?;
+        tables.reach(alloc, one, other, pair)?;
+        let operands = Operands { one, other, tables };
+        expand(alloc, &operands, &mut pairs, &mut edges, pair)?;
         if MOST_EDGES < edges.ends.len() {
             return Err(Refusal::Task(TaskFault::TooLarge));
         }
@@ -48,7 +62,8 @@ pub(crate) fn explore(alloc: Global, operands: &Operands<'_>) -> Result<Explored
     Ok(Explored { pairs, edges, past })
 }
 
-/// Expands `pair`, which is among `pairs`: appends the edges that leave it, and adds the pairs that they lead to.
+/// Expands `pair`, which is among `pairs`: appends the edges that leave it, and adds the pairs that they lead to. The
+/// edges of both of its states are made.
 fn expand(
     alloc: Global,
     operands: &Operands<'_>,
@@ -57,6 +72,7 @@ fn expand(
     pair: (u32, u32),
 ) -> Result<(), Refusal>
     requires tabled { AreTabled operands.now }
+    requires made { HaveRows operands.now.tables.now pair }
     requires few { length pairs.old.keys ≤ most_states }
     requires found { Contains pairs.old.keys pair }
     ensures pairs { OnOk result (pairs.new.keys ≡ with_pairs pairs.old.keys (targets_in operands.now pair)) }
@@ -64,10 +80,26 @@ fn expand(
         (λ all. joints_at operands.now.one.now operands.now.other.now all pair) edges.old edges.new) }
     ensures err { IfErr result (or_task (HasUnmetAt operands.now pair) (or_memory never)) }
 {
-    let firsts = operands.firsts.row_of(pair.0);
-    let seconds = operands.seconds.row_of(pair.1);
+    let firsts = operands.tables.firsts.row_of(pair.0);
+    let seconds = operands.tables.seconds.row_of(pair.1);
     let from = number_of(pairs, pair);
-    add_joints(alloc, pairs, edges, from, &firsts, &seconds)
+    let by_index = meet_by_index(operands, pair);
+    add_joints(alloc, pairs, edges, from, &firsts, &seconds, by_index)
+}
+
+/// Whether of the edges that leave the states of `pair` only those of one index can be taken together, as far as their
+/// automata and states tell: both have the same propositions, and both states an edge for each valuation and no labels.
+fn meet_by_index(operands: &Operands<'_>, pair: (u32, u32)) -> bool
+    requires { AreTabled operands.now }
+    ensures { result ≡ true → MeetByIndex (first_leaving operands.now.one.now operands.now.other.now pair)
+        (second_leaving operands.now.one.now operands.now.other.now pair) }
+{
+    let firsts = &operands.tables.firsts;
+    let seconds = &operands.tables.seconds;
+    if firsts.places.as_slice() != seconds.places.as_slice() {
+        return false;
+    }
+    firsts.is_full_at(operands.one, pair.0) && seconds.is_full_at(operands.other, pair.1)
 }
 
 /// Adds the pairs of a start of `starts` and one of `others`.

@@ -7,19 +7,17 @@ ghost use Rattle.omega_product.specs.Limits.{IsWithin};
 ghost use Rattle.omega_edge_labels.specs.Limits.{most_edges, most_states};
 ghost use Rattle.omega_product.specs.Product.{IsProduct};
 ghost use Rattle.omega_product.specs.Refusing.{HaveNoBranch, IsJoinFault, IsProductRefusal};
-ghost use Rattle.omega_product.specs.private.Operands.{AreJoined, IsFirstTable, IsSecondTable, IsUnfitFirst, IsUnfitSecond};
 ghost use Rattle.omega_edge_labels.specs.Fitting.{IsLarge};
 ghost use Rattle.omega_product.specs.Written.{IsWritten, IsWrittenProduct, raw_of};
 
 use crate::acceptance::joint_acceptance;
 use crate::exploring::explore;
 use crate::header::items_of;
-use crate::names::{joined_names, places_among};
-use crate::operands::{Joining, Operands};
-use crate::renumbering::Renumbering;
+use crate::names::joined_names;
+use crate::operands::Operands;
 use crate::starts::Starts;
 use crate::states::states_of;
-use crate::table::Table;
+use crate::tables::Tables;
 use omega_acc::{written_formulas_mean, written_labels_mean};
 use omega_automaton::{Automaton, MOST_PROPOSITIONS, automaton_of, has_universal_branching};
 use omega_raw::{RawAutomaton, RawItem, RawState};
@@ -44,8 +42,10 @@ use std::alloc::Global;
 ///   limit of automata. Those are `MOST_PROPOSITIONS` propositions, `MOST_NUMBER` sets, and the depth and size of
 ///   labels and of the acceptance.
 ///
-/// Takes time proportional to the number of pairs of edges, summed over the reachable pairs of states. Each two edges
-/// are judged once, and labels are made only for those that can be taken together.
+/// Takes time proportional to the number of pairs of edges, summed over the reachable pairs of states, and to the
+/// states and edges of both. Each two edges are judged once, but of two states with an edge for each valuation and no
+/// labels, over the same propositions, only those of one index. Labels are made only for edges that can be taken
+/// together. Labels of states that no pair reaches are not looked at.
 pub fn product(alloc: Global, first: &Automaton, second: &Automaton) -> Result<Automaton, Refusal>
     ensures product { IfOk result (IsProduct first.now second.now) }
     ensures written { IfOk result (IsWritten first.now second.now) }
@@ -101,20 +101,13 @@ fn written_product(
 {
     let sets = sets_of_both(one, other)?;
     let names = names_of(alloc, one, other)?;
-    let joining = Joining {
-        one,
-        other,
-        names: names.as_slice(),
-    };
-    let firsts = first_table(alloc, &joining)?;
-    let seconds = second_table(alloc, &joining)?;
+    let mut tables = Tables::of(alloc, one, other, names.as_slice())?;
+    let explored = explore(alloc, one, other, &mut tables)?;
     let operands = Operands {
         one,
         other,
-        firsts: &firsts,
-        seconds: &seconds,
+        tables: &tables,
     };
-    let explored = explore(alloc, &operands)?;
     let states = states_of(alloc, &operands, &explored)?;
     let acceptance = joint_acceptance(alloc, one, other)?;
     let starts = Starts {
@@ -173,36 +166,4 @@ fn assembled(
         items: Seq::from_vec(items),
         states: Seq::from_vec(states),
     })
-}
-
-/// Returns the edges of `joining.one` within the product. Fails with [TaskFault::TooLarge] if a label is too deep or
-/// too large.
-pub(crate) fn first_table(alloc: Global, joining: &Joining<'_>) -> Result<Table, Refusal>
-    requires named { AreJoined joining.now }
-    requires few { length joining.now.names.now < 2 ^ 32 }
-    ensures ok { IfOk result (IsFirstTable joining.now) }
-    ensures err { IfErr result (IsUnfitFirst joining.now) }
-{
-    let places = places_among(alloc, joining.names, joining.one.propositions())?;
-    let renumbering = Renumbering {
-        places: places.as_slice(),
-        before: 0,
-    };
-    Table::of(alloc, joining.one, &renumbering)
-}
-
-/// Returns the edges of `joining.other` within the product, with its sets numbered after those of `joining.one`. Fails
-/// with [TaskFault::TooLarge] if a label is too deep or too large.
-pub(crate) fn second_table(alloc: Global, joining: &Joining<'_>) -> Result<Table, Refusal>
-    requires named { AreJoined joining.now }
-    requires few { length joining.now.names.now < 2 ^ 32 }
-    ensures ok { IfOk result (IsSecondTable joining.now) }
-    ensures err { IfErr result (IsUnfitSecond joining.now) }
-{
-    let places = places_among(alloc, joining.names, joining.other.propositions())?;
-    let renumbering = Renumbering {
-        places: places.as_slice(),
-        before: joining.one.set_count(),
-    };
-    Table::of(alloc, joining.other, &renumbering)
 }

@@ -11,11 +11,11 @@ ghost use Rattle.omega_product.specs.private.Starts.{pairs_of};
 use crate::conjoining::joint_formula;
 use crate::explored::Explored;
 use crate::exploring::{explore, start_state};
-use crate::forming::{branches, first_table, names_of, second_table};
+use crate::forming::{branches, names_of};
 use crate::graph::PairGraph;
-use crate::operands::{Joining, Operands};
 use crate::pairs::number_of;
 use crate::starts::Starts;
+use crate::tables::Tables;
 use omega_automaton::Automaton;
 use omega_text::{Refusal, TaskFault};
 use std::alloc::Global;
@@ -25,8 +25,9 @@ use std::alloc::Global;
 ///
 /// Refusals: those of `product`, but for limits that only the labels or the number of sets of the product break.
 ///
-/// Takes time proportional to the number of pairs of edges, summed over the reachable pairs of states. Each two edges
-/// are judged once.
+/// Takes time proportional to the number of pairs of edges, summed over the reachable pairs of states, and to the
+/// states and edges of both. Each two edges are judged once, or fewer, as `product` says. Labels of states that no pair
+/// reaches are not looked at.
 pub fn pair_graph(
     alloc: Global,
     first: &Automaton,
@@ -53,20 +54,8 @@ fn graph_of(alloc: Global, one: &Automaton, other: &Automaton) -> Result<PairGra
     ensures refused { IfErr result (or_task (IsJoinFault one.now other.now) (or_memory never)) }
 {
     let names = names_of(alloc, one, other)?;
-    let joining = Joining {
-        one,
-        other,
-        names: names.as_slice(),
-    };
-    let firsts = first_table(alloc, &joining)?;
-    let seconds = second_table(alloc, &joining)?;
-    let operands = Operands {
-        one,
-        other,
-        firsts: &firsts,
-        seconds: &seconds,
-    };
-    let explored = explore(alloc, &operands)?;
+    let mut tables = Tables::of(alloc, one, other, names.as_slice())?;
+    let explored = explore(alloc, one, other, &mut tables)?;
     let acceptance = joint_formula(alloc, one, other)?;
     let starts = Starts {
         firsts: one.starts(),

@@ -10,7 +10,7 @@ ghost use Rattle.omega_product.specs.JointEdges.{Joint};
 ghost use Rattle.omega_product.specs.Product.{joint_edges_of};
 ghost use Rattle.omega_product.specs.Refusing.{HasDeepMeeting};
 ghost use Rattle.omega_product.specs.Written.{raw_edge};
-ghost use Rattle.omega_product.specs.private.Explored.{IsExplored};
+ghost use Rattle.omega_product.specs.private.Explored.{AreMade, IsExplored};
 ghost use Rattle.omega_product.specs.private.Labelling.{AreJointsFrom, HasDeepLabel, IsDeep, IsJointAt, labelled};
 ghost use Rattle.omega_product.specs.private.Operands.{AreTabled};
 
@@ -35,7 +35,8 @@ pub(crate) fn edges_leaving(
     at: usize,
 ) -> Result<RawEdges, Refusal>
     requires tabled { AreTabled operands.now }
-    requires explored { IsExplored operands.now explored.now }
+    requires explored { IsExplored operands.now.one.now operands.now.other.now explored.now }
+    requires made { AreMade operands.now.tables.now explored.now }
     requires below { at < length explored.now.pairs.keys }
     ensures ok { IfOk result (λ edges. edges ≡ map raw_edge (joint_edges_of
         operands.now.one.now operands.now.other.now explored.now.pairs.keys
@@ -43,8 +44,8 @@ pub(crate) fn edges_leaving(
     ensures err { IfErr result (IsLarge (HasDeepMeeting operands.now.one.now operands.now.other.now)) }
 {
     let pair = pair_at(&explored.pairs, at);
-    let firsts = operands.firsts.row_of(pair.0);
-    let seconds = operands.seconds.row_of(pair.1);
+    let firsts = operands.tables.firsts.row_of(pair.0);
+    let seconds = operands.tables.seconds.row_of(pair.1);
     let start = explored.past_before(at);
     let end = explored.past_before(at + 1);
     edges_between(alloc, &explored.edges, &firsts, &seconds, start, end)

@@ -8,8 +8,8 @@ ghost use Rattle.omega_product.specs.Joining.{joined_names as names_of_both, pla
 use omega_text::{ByteString, Refusal};
 use std::alloc::Global;
 
-/// Returns `names`, and then those `others` that are not among them.
-pub(crate) fn joined_names(
+/// Returns `names`, and then those `others` that are not among them. Takes the time of comparing each two.
+pub fn joined_names(
     alloc: Global,
     names: &[ByteString],
     others: &[ByteString],
@@ -27,7 +27,7 @@ pub(crate) fn joined_names(
 }
 
 /// Copies `names`.
-pub(crate) fn copied(alloc: Global, names: &[ByteString]) -> Result<Vec<ByteString>, Refusal>
+fn copied(alloc: Global, names: &[ByteString]) -> Result<Vec<ByteString>, Refusal>
     ensures ok { IfOk result (λ same. same.items ≡ names.now) }
     ensures memory { IsOkUnless result Refusal.Memory }
 {

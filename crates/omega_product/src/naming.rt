@@ -22,8 +22,8 @@ pub(crate) fn name_of(
     ensures ok { IfOk result (λ name. name ≡ Some (pair_name operands.now.one.now operands.now.other.now pair)) }
     ensures memory { IsOkUnless result Refusal.Memory }
 {
-    let first = name_in(operands.one, operands.firsts, pair.0);
-    let second = name_in(operands.other, operands.seconds, pair.1);
+    let first = name_in(operands.one, &operands.tables.firsts, pair.0);
+    let second = name_in(operands.other, &operands.tables.seconds, pair.1);
     let bytes = text_of(alloc, first, second, pair)?;
     let name = StateName::of(alloc, bytes)?;
     Ok(name)

@@ -4,7 +4,7 @@ ghost use Rattle.std.specs.Prelude.{◌≡◌, ◌<◌, ◌≤◌, get_or, lengt
 ghost use Rattle.omega_edge_labels.specs.Fitting.{IsLarge};
 ghost use Rattle.omega_edge_labels.specs.Limits.{most_edges};
 ghost use Rattle.omega_product.specs.Refusing.{HasDeepMeeting};
-ghost use Rattle.omega_product.specs.private.Explored.{IsExplored};
+ghost use Rattle.omega_product.specs.private.Explored.{AreMade, IsExplored};
 ghost use Rattle.omega_product.specs.private.Operands.{AreTabled, state_in, states_in};
 
 use crate::explored::Explored;
@@ -23,7 +23,8 @@ pub(crate) fn states_of(
     explored: &Explored,
 ) -> Result<Vec<RawState>, Refusal>
     requires tabled { AreTabled operands.now }
-    requires explored { IsExplored operands.now explored.now }
+    requires explored { IsExplored operands.now.one.now operands.now.other.now explored.now }
+    requires made { AreMade operands.now.tables.now explored.now }
     ensures states { IfOk result (λ states. states.items ≡ states_in operands.now explored.now.pairs.keys) }
     ensures edges { IfOk result (λ states. sum_by (λ state. length state.edges) states.items ≤ most_edges) }
     ensures err { IfErr result (IsLarge (HasDeepMeeting operands.now.one.now operands.now.other.now)) }
@@ -44,7 +45,8 @@ fn state_of(
     at: usize,
 ) -> Result<RawState, Refusal>
     requires tabled { AreTabled operands.now }
-    requires explored { IsExplored operands.now explored.now }
+    requires explored { IsExplored operands.now.one.now operands.now.other.now explored.now }
+    requires made { AreMade operands.now.tables.now explored.now }
     requires below { at < length explored.now.pairs.keys }
     ensures ok { IfOk result (λ state.
         state ≡ state_in operands.now explored.now.pairs.keys (get_or explored.now.pairs.keys at (0, 0))) }

@@ -1,8 +1,11 @@
-ghost use Rattle.std.specs.Prelude.{◌≡◌, ◌∷◌, [], ◌++◌, false, get_or, nat_eq, IfErr, IfOk, IsOkUnless, OnOk};
+ghost use Rattle.std.specs.Prelude.{◌≡◌, ◌<◌, None, get_or, length, IfErr, IfOk, IfSome, IsOkUnless, OnOk};
+ghost use Rattle.std.specs.Prelude.{ℕ, ◌∷◌, [], ◌++◌, false, nat_eq, true};
 ghost use Rattle.std.specs.List.{list_any};
-ghost use Rattle.omega_product.specs.Refusing.{HasUnfitLabel};
-ghost use Rattle.omega_product.specs.private.Tables.{IsRowIn, IsTableOf, view_of};
 ghost use Rattle.omega_edge_labels.specs.Fitting.{IsLarge};
+ghost use Rattle.omega_product.specs.Refusing.{HasUnfitEdge};
+ghost use Rattle.omega_product.specs.Transitions.{View, transitions_at};
+ghost use Rattle.omega_product.specs.private.Meeting.{AreByValuation};
+ghost use Rattle.omega_product.specs.private.Tables.{HasRow, IsRowIn, IsTableOf, row_of as edges_of, view_at, view_in};
 
 use crate::numbers::number_after;
 use crate::renumbering::Renumbering;
@@ -10,62 +13,120 @@ use crate::row::Row;
 use crate::tabled::Tabled;
 use crate::transitions::transitions_of;
 use indexmap::IndexSet;
-use omega_automaton::Automaton;
+use omega_automaton::{Automaton, State};
+use omega_edge_labels::is_full;
 use omega_text::{Refusal, Seq};
 use std::alloc::Global;
 
-/// The edges of the states of an automaton, by the numbers of the states.
+/// The edges of the states of an automaton as a product sees them, by the numbers of the states. Those of a state are
+/// made when a pair first reaches it.
 #[derive(Drop)]
 pub(crate) struct Table {
+    /// The joined number of each proposition of the automaton.
+    pub(crate) places: Vec<u32>,
+    /// How many sets are numbered before those of the automaton.
+    pub(crate) before: u32,
     pub(crate) numbers: IndexSet<u32>,
-    pub(crate) rows: Vec<Seq<Tabled>>,
     /// For each state, the number of its first edge.
     pub(crate) firsts: Vec<u32>,
+    /// For each state, its edges, if they are made.
+    pub(crate) rows: Vec<Option<Seq<Tabled>>>,
 }
 
 impl Table {
-    /// Makes the table of `automaton` within the product. Fails with [TaskFault::TooLarge] if a label is too deep or
-    /// too large.
+    /// Makes the table of `automaton`, in which no edges are made yet. Its propositions have the joined numbers
+    /// `places`, and its sets are numbered after `before` others.
     pub(crate) fn of(
         alloc: Global,
         automaton: &Automaton,
-        renumbering: &Renumbering<'_>,
+        places: Vec<u32>,
+        before: u32,
     ) -> Result<Table, Refusal>
-        ensures ok { IfOk result (IsTableOf (view_of renumbering.now) automaton.now.defined) }
-        ensures err { IfErr result (IsLarge (HasUnfitLabel (view_of renumbering.now) automaton.now.defined)) }
+        ensures ok { IfOk result (IsTableOf (view_at places.items before) automaton.now.defined) }
+        ensures memory { IsOkUnless result Refusal.Memory }
     {
-        let mut table = Table {
-            numbers: IndexSet::new(alloc),
-            rows: Vec::new(alloc),
-            firsts: Vec::new(alloc),
-        };
+        let count = automaton.defined().len();
+        let mut numbers = IndexSet::with_capacity(alloc, count)?;
+        let mut firsts = Vec::with_capacity(alloc, count)?;
+        let mut rows = Vec::with_capacity(alloc, count)?;
         automaton.keeps_limits();
         let mut first = 0;
         for state in automaton.defined() {
-            let row = transitions_of(alloc, state, renumbering)?;
-            table.add(state.number, row, first)?;
+            add_number(&mut numbers, state.number)?;
+            firsts.push(first)?;
+            rows.push(None)?;
             first = number_after(first, state.edges.len())?;
         }
-        Ok(table)
+        Ok(Table {
+            places,
+            before,
+            numbers,
+            firsts,
+            rows,
+        })
     }
 
-    /// Appends the edges of a state, of whose number the table has none yet, and the number of the first of them.
-    fn add(&mut self, number: u32, row: Seq<Tabled>, first: u32) -> Result<(), Refusal>
-        requires further { list_any (nat_eq number) self.old.numbers.keys ≡ false }
-        ensures numbers { OnOk result (self.new.numbers.keys ≡ self.old.numbers.keys ++ number ∷ []) }
-        ensures rows { OnOk result (self.new.rows.items ≡ self.old.rows.items ++ row ∷ []) }
-        ensures firsts { OnOk result (self.new.firsts.items ≡ self.old.firsts.items ++ first ∷ []) }
-        ensures memory { IsOkUnless result Refusal.Memory }
+    /// Makes the edges of the state with the number `number`, if there is such a state and they are not made.
+    /// `automaton` is that of the table. Fails with [TaskFault::TooLarge] if a label of these edges is too deep or too
+    /// large.
+    pub(crate) fn reach(
+        &mut self,
+        alloc: Global,
+        automaton: &Automaton,
+        number: u32,
+    ) -> Result<(), Refusal>
+        requires { (view : View) × IsTableOf view automaton.now.defined self.old }
+        ensures table { OnOk result ((view : View)
+            → IsTableOf view automaton.now.defined self.old → IsTableOf view automaton.now.defined self.new) }
+        ensures made { OnOk result (HasRow self.new number) }
+        ensures kept { OnOk result ((earlier : ℕ) → HasRow self.old earlier → HasRow self.new earlier) }
+        ensures err { IfErr result (λ refusal. (view : View) → IsTableOf view automaton.now.defined self.old
+            → IsLarge (HasUnfitEdge (transitions_at view automaton.now.defined number)) refusal) }
     {
-        self.numbers.insert(number)?;
-        self.rows.push(row)?;
-        self.firsts.push(first)?;
+        let Some(place) = self.numbers.get_index_of(&number) else {
+            return Ok(());
+        };
+        if self.rows[place].is_some() {
+            return Ok(());
+        }
+        let row = self.made(alloc, &automaton.defined()[place])?;
+        self.rows[place] = Some(row);
         Ok(())
+    }
+
+    /// Returns the edges of `state` as the product sees them. Fails with [TaskFault::TooLarge] if a label is too deep
+    /// or too large.
+    fn made(&self, alloc: Global, state: &State) -> Result<Seq<Tabled>, Refusal>
+        ensures ok { IfOk result (λ row. row ≡ edges_of (view_in self.now) state.now) }
+        ensures err { IfErr result (IsLarge (HasUnfitEdge (edges_of (view_in self.now) state.now))) }
+    {
+        let renumbering = Renumbering {
+            places: self.places.as_slice(),
+            before: self.before,
+        };
+        transitions_of(alloc, state, &renumbering)
+    }
+
+    /// Whether the state with the number `number` has an edge for each valuation of the propositions of `automaton`,
+    /// which is that of the table, and no labels.
+    pub(crate) fn is_full_at(&self, automaton: &Automaton, number: u32) -> bool
+        requires { (view : View) × IsTableOf view automaton.now.defined self.now }
+        ensures { result ≡ true
+            → AreByValuation self.now.places.items (transitions_at (view_in self.now) automaton.now.defined number) }
+    {
+        match self.numbers.get_index_of(&number) {
+            Some(place) => {
+                let places = self.places.as_slice();
+                is_full(places.len(), &automaton.defined()[place])
+            }
+            None => false,
+        }
     }
 
     /// Returns the edges of the state with the number `number` and the number of the first of them, no edges if there
     /// is no such state.
     pub(crate) fn row_of(&self, number: u32) -> Row<'_>
+        requires { HasRow self.now number }
         ensures { IsRowIn self.now number result }
     {
         match self.numbers.get_index_of(&number) {
@@ -87,14 +148,24 @@ impl Table {
         self.firsts.get(place).copied().unwrap_or(0)
     }
 
-    /// Returns the edges at `place`, empty past the last.
+    /// Returns the edges of the state at `place`, empty if they are not made.
     fn row(&self, place: usize) -> &[Tabled]
-        ensures { result.now ≡ get_or self.now.rows.items place [] }
+        requires { place < length self.now.rows.items }
+        ensures { IfSome (get_or self.now.rows.items place None) (λ row. result.now ≡ row) }
     {
-        if place < self.rows.len() {
-            self.rows[place].as_slice()
-        } else {
-            &[]
+        match &self.rows[place] {
+            Some(row) => row.as_slice(),
+            None => &[],
         }
     }
+}
+
+/// Adds a number, which is not among `numbers` yet.
+fn add_number(numbers: &mut IndexSet<u32>, number: u32) -> Result<(), Refusal>
+    requires { list_any (nat_eq number) numbers.old.keys ≡ false }
+    ensures ok { OnOk result (numbers.new.keys ≡ numbers.old.keys ++ number ∷ []) }
+    ensures memory { IsOkUnless result Refusal.Memory }
+{
+    numbers.insert(number)?;
+    Ok(())
 }

@@ -1,10 +1,17 @@
 -- Edges of two automata that are taken together, and why the two may be refused.
-use Rattle.std.specs.Prelude.{List, Contains}
+use Rattle.std.specs.Prelude.{◌≡◌, ◌≢◌, ◌<◌, ◌^◌, ℕ, false, List, Contains, Some, length, slice_get}
 use Rattle.omega_text.specs.declared.refusal.task.TaskFault.{TaskFault}
 use Rattle.omega_text.specs.declared.refusal.task.TaskFault.TheVariants.{BadSolution, Budget, Controllable, NotDeterministic, NotParity, TooLarge, TooManyPropositions, TooWide, UniversalBranch, UnknownNode}
+use Rattle.omega_edge_labels.specs.Labels.{valuation_label}
 use Rattle.omega_label.specs.Label.{conjunction}
+use Rattle.omega_label.specs.Renumbering.{relabelled}
 use Rattle.omega_satisfying.specs.Undecided.{IsHardLabel}
+use Rattle.omega_product.specs.JointEdges.{numbered_partners}
+use Rattle.omega_product.specs.Pairs.{can_meet, partners}
+use Rattle.omega_product.specs.declared.row.Row.{Row}
+use Rattle.omega_product.specs.declared.row.RowEdge.{RowEdge}
 use Rattle.omega_product.specs.declared.transition.Transition.{Transition}
+use Rattle.omega_product.specs.private.Adding.{numbered_edge, numbered_in}
 use Rattle.omega_label.specs.Shape.{FitsALabel}
 
 -- `TooManyPropositions` if it may be undecided whether they can be taken together, `TooLarge` if their labels are
@@ -32,3 +39,26 @@ pub record HasUnmet (transitions others : List Transition) (fault : TaskFault) :
   pub transition : Transition
   pub listed : Contains transitions transition
   pub partner : HasUnmetPartner transition others fault
+
+-- there is an edge for each valuation of propositions that have these places, with its label
+pub record AreByValuation (places : List ℕ) (transitions : List Transition) : Type 0 where
+  pub many : length transitions ≡ 2 ^ length places
+  pub labels : (index : ℕ) (transition : Transition) → slice_get transitions index ≡ Some transition
+      → transition.label ≡ relabelled places (valuation_label index (length places))
+
+-- of these edges only the one with this index can be taken together with an edge
+pub record MeetsAlone (transition : Transition) (index : ℕ) (others : List Transition) : Type 0 where
+  pub there : index < length others
+  pub apart : (place : ℕ) (other : Transition) → slice_get others place ≡ Some other → index ≢ place
+      → can_meet transition other ≡ false
+
+-- of the edges of two states only those of one index can be taken together
+abbrev pub MeetByIndex : List Transition → List Transition → Type 0
+MeetByIndex transitions others =
+    (index : ℕ) (transition : Transition) → slice_get transitions index ≡ Some transition → MeetsAlone transition index others
+
+-- a row has all edges of another that can be taken together with an edge, and none that the other has not
+pub record HasPartners (edge : RowEdge) (all row : Row) : Type 0 where
+  pub transitions : partners edge.edge.now row.edges.now ≡ partners edge.edge.now all.edges.now
+  pub numbered : numbered_partners (numbered_edge edge) (numbered_in row) ≡ numbered_partners (numbered_edge edge) (numbered_in all)
+  pub listed : (other : Transition) → Contains row.edges.now other → Contains all.edges.now other

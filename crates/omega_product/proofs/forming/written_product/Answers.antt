@@ -5,7 +5,7 @@ use Rattle.omega_raw.specs.declared.raw_automaton.RawAutomaton.{RawAutomaton}
 use Rattle.omega_raw.specs.declared.raw_state.RawState.{RawState}
 use Rattle.omega_text.specs.Limits.{most_number}
 use Rattle.omega_edge_labels.specs.Limits.{most_edges}
-use Rattle.omega_product.specs.Refusing.{HasDeepAcceptance, HasDeepMeeting, HasUnfitFirst, HasUnfitSecond, IsJoinFault, deep_acceptance, deep_meeting, many_sets, unfit_first, unfit_second}
+use Rattle.omega_product.specs.Refusing.{HasDeepAcceptance, HasDeepMeeting, IsJoinFault, deep_acceptance, deep_meeting, many_sets}
 use Rattle.omega_product.specs.Written.{raw_of, raw_state_of}
 use Rattle.omega_product.proofs.Formulas.{items_are}
 use Rattle.omega_product.proofs.Refused.{large_join}
@@ -16,16 +16,6 @@ pub returns-in_err-sets-clause-refused : goal.returns-in_err-sets-clause-refused
 returns-in_err-sets-clause-refused c =
     passed_on c.from_residual.result _ _ c.from_residual.ensures.1
     (large_join c.args.one.now c.args.other.now (most_number < c.args.one.now.sets + c.args.other.now.sets) many_sets _ c.in_err-sets.ensures.err)
-
-pub returns-in_err-firsts-clause-refused : goal.returns-in_err-firsts-clause-refused
-returns-in_err-firsts-clause-refused c =
-    passed_on c.from_residual-in_err-firsts.result _ _ c.from_residual-in_err-firsts.ensures.1
-    (large_join c.args.one.now c.args.other.now (HasUnfitFirst c.args.one.now c.args.other.now) unfit_first _ c.in_err-firsts.ensures.err)
-
-pub returns-in_err-seconds-clause-refused : goal.returns-in_err-seconds-clause-refused
-returns-in_err-seconds-clause-refused c =
-    passed_on c.from_residual-in_err-seconds.result _ _ c.from_residual-in_err-seconds.ensures.1
-    (large_join c.args.one.now c.args.other.now (HasUnfitSecond c.args.one.now c.args.other.now) unfit_second _ c.in_err-seconds.ensures.err)
 
 pub returns-in_err-states-clause-refused : goal.returns-in_err-states-clause-refused
 returns-in_err-states-clause-refused c =

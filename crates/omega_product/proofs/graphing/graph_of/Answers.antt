@@ -1,20 +1,10 @@
 -- the refusals of the steps, and the graph
 use Rattle.std.proofs.Common.{map, ap₂, ◌∙◌, ap}
 use Rattle.omega_product.specs.Pairs.{pair_number, starts_between}
-use Rattle.omega_product.specs.Refusing.{HasDeepAcceptance, HasUnfitFirst, HasUnfitSecond, IsJoinFault, deep_acceptance, unfit_first, unfit_second}
+use Rattle.omega_product.specs.Refusing.{HasDeepAcceptance, IsJoinFault, deep_acceptance}
 use Rattle.omega_product.proofs.Refused.{large_join}
 use Rattle.omega_edge_labels.proofs.Refusals.{memory_task, passed_on}
 use Rattle.omega_product.proofs.graphing.graph_of.Goals as goal
-
-pub returns-in_err-firsts-clause-refused : goal.returns-in_err-firsts-clause-refused
-returns-in_err-firsts-clause-refused c =
-    passed_on c.from_residual-in_err-firsts.result _ _ c.from_residual-in_err-firsts.ensures.1
-    (large_join c.args.one.now c.args.other.now (HasUnfitFirst c.args.one.now c.args.other.now) unfit_first _ c.in_err-firsts.ensures.err)
-
-pub returns-in_err-seconds-clause-refused : goal.returns-in_err-seconds-clause-refused
-returns-in_err-seconds-clause-refused c =
-    passed_on c.from_residual-in_err-seconds.result _ _ c.from_residual-in_err-seconds.ensures.1
-    (large_join c.args.one.now c.args.other.now (HasUnfitSecond c.args.one.now c.args.other.now) unfit_second _ c.in_err-seconds.ensures.err)
 
 pub returns-in_err-acceptance-clause-refused : goal.returns-in_err-acceptance-clause-refused
 returns-in_err-acceptance-clause-refused c =

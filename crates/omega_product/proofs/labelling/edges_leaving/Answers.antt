@@ -1,15 +1,28 @@
 -- the joint edges of the rows of both states
-use Rattle.std.proofs.Common.{◌≡◌, get_or, map, ap, sym, ◌∙◌}
+use Rattle.std.proofs.Common.{◌≡◌, get_or, map, ap, sym, subst, ◌∙◌}
 use Rattle.std.proofs.lemmas.Result.{IfErr-weaker, IfOk-weaker}
 use Rattle.omega_edge_labels.proofs.Refusals.{large_weaker}
 use Rattle.omega_product.specs.PairGraph.{joints_at}
-use Rattle.omega_product.specs.Pairs.{first_view, second_view}
+use Rattle.omega_product.specs.Pairs.{Pair, first_view, second_view}
 use Rattle.omega_product.specs.Refusing.{HasDeepMeeting}
 use Rattle.omega_product.specs.Written.{raw_edge}
 use Rattle.omega_product.specs.private.Labelling.{HasDeepLabel}
+use Rattle.omega_product.specs.private.Tables.{HasRow}
 use Rattle.omega_product.proofs.Formulas.{same_default}
 use Rattle.omega_product.proofs.Labelled.{deep_meeting_of, edges_labelled, joints_leaving}
 use Rattle.omega_product.proofs.labelling.edges_leaving.Goals as goal
+
+pub row_of-firsts-requires : goal.row_of-firsts-requires
+row_of-firsts-requires c =
+    let pairs = c.args.explored.now.pairs.keys in
+    let here : c.pair_at-pair.result ≡ get_or pairs c.args.at (0, 0) = c.pair_at-pair.ensures ∙ same_default pairs c.args.at c.pair_at-pair.result (0, 0) c.requires.below in
+    subst (λ (pair : Pair). HasRow c.args.operands.now.tables.now.firsts pair.0) (sym here) (c.requires.made c.args.at c.requires.below).first
+
+pub row_of-seconds-requires : goal.row_of-seconds-requires
+row_of-seconds-requires c =
+    let pairs = c.args.explored.now.pairs.keys in
+    let here : c.pair_at-pair.result ≡ get_or pairs c.args.at (0, 0) = c.pair_at-pair.ensures ∙ same_default pairs c.args.at c.pair_at-pair.result (0, 0) c.requires.below in
+    subst (λ (pair : Pair). HasRow c.args.operands.now.tables.now.seconds pair.1) (sym here) (c.requires.made c.args.at c.requires.below).second
 
 pub edges_between-requires : goal.edges_between-requires
 edges_between-requires c =

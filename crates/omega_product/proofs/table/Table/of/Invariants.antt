@@ -1,9 +1,9 @@
--- the rows of the states so far, and how many edges they have
-use Rattle.std.proofs.Common.{◌≡◌, take}
-use Rattle.omega_product.specs.private.Tables.{AreRows, edges_in, view_of}
+-- the numbers of the states so far, how many edges these have, and no edges
+use Rattle.std.proofs.Common.{◌≡◌, None, replicate, take}
+use Rattle.omega_product.specs.private.Tables.{AreNumbered, edges_in}
 use Rattle.omega_product.proofs.table.Table.of.Given as goal
 
 abbrev pub invariant-loop-state : goal.invariant-loop-state
 invariant-loop-state l =
     let states = take l.state-index l.automaton.defined in
-    AreRows (view_of l.renumbering) states l.table.numbers.keys l.table.rows.items l.table.firsts.items × (l.first ≡ edges_in states)
+    AreNumbered states l.numbers.keys l.firsts.items × (l.rows.items ≡ replicate l.state-index None) × (l.first ≡ edges_in states)
