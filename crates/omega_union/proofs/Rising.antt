@@ -1,15 +1,15 @@
 -- The marks of a union rise, since those of both automata do and a guard is above them.
-use Rattle.std.proofs.Common.{◌≡◌, ◌⊎◌, ℕ, ◌+◌, ◌<◌, ◌≤◌, inl, inr, Bool, true, false, cond, Option, Some, None, List, [], ◌∷◌, ◌++◌, length, get_or, Contains, append-nil, refl, sym, subst, arith}
+use Rattle.std.proofs.Common.{◌≡◌, ℕ, ◌+◌, ◌<◌, ◌≤◌, inl, inr, Bool, true, false, cond, Option, Some, None, List, [], ◌∷◌, ◌++◌, length, get_or, Contains, append-nil, sym, subst, arith}
 use Rattle.std.specs.Prelude.{IfSome}
 use Rattle.std.specs.List.{AllByRecursion}
 use Rattle.std.specs.List.Sorted.{IsStrictlyIncreasing}
-use Rattle.std.proofs.lemmas.Bool.{cases_lt}
-use Rattle.std.proofs.lemmas.List.{get_or-map, get_or_append_left, get_or_default, length-append, length-map}
+use Rattle.std.proofs.lemmas.List.{get_or-map, get_or_default, length-map}
 use Rattle.std.proofs.lemmas.List.Elements.{All-contains, recursion_from_All}
 use Rattle.omega_automaton.specs.Automaton.{AreMarks, Description, IsAutomaton}
 use Rattle.omega_automaton.specs.Automaton as automaton
 use Rattle.omega_automaton.specs.declared.edge.Edge.{Edge}
 use Rattle.omega_automaton.specs.declared.state.State.{State}
+use Rattle.omega_lasso_search.proofs.Rising.{above_rises}
 use Rattle.omega_trim.proofs.Meant.{HasRisingMarks}
 use Rattle.omega_union.specs.Parts.{Part, edges_in, moved, states_in}
 use Rattle.omega_union.specs.Sharing.{IsSharing, guard_sets, holds_unmarked, separate_sets}
@@ -25,31 +25,6 @@ moved_rises before xs rising k within =
     let first : get_or (moved before xs) k 0 ≡ before + get_or xs k 0 = get_or-map (λ n. before + n) xs k 0 0 here in
     let second : get_or (moved before xs) (k + 1) 0 ≡ before + get_or xs (k + 1) 0 = get_or-map (λ n. before + n) xs (k + 1) 0 0 below in
     omega (arith, first, second, rising k below)
-
-at_end : (xs : List ℕ) (x : ℕ) → get_or (xs ++ x ∷ []) (length xs) 0 ≡ x
-at_end [] x = refl
-at_end (y ∷ ys) x = at_end ys x
-
--- and with a number above all of them
-above_rises : (xs : List ℕ) (x : ℕ) → IsStrictlyIncreasing xs → ((m : ℕ) → Contains xs m → m < x) → IsStrictlyIncreasing (xs ++ x ∷ [])
-above_rises xs x rising above k within = go (cases_lt (k + 1) (length xs))
-  where
-    long : length (xs ++ x ∷ []) ≡ length xs + 1
-    long = length-append xs (x ∷ [])
-
-    go : (k + 1 < length xs) ⊎ (length xs ≤ k + 1) → get_or (xs ++ x ∷ []) k 0 < get_or (xs ++ x ∷ []) (k + 1) 0
-    go (inl inside) =
-        let here : k < length xs = omega arith in
-        let first : get_or (xs ++ x ∷ []) k 0 ≡ get_or xs k 0 = get_or_append_left xs (x ∷ []) 0 k here in
-        let second : get_or (xs ++ x ∷ []) (k + 1) 0 ≡ get_or xs (k + 1) 0 = get_or_append_left xs (x ∷ []) 0 (k + 1) inside in
-        omega (arith, first, second, rising k inside)
-    go (inr past) =
-        let last : k + 1 ≡ length xs = omega (arith, long, within, past) in
-        let here : k < length xs = omega (arith, last) in
-        let first : get_or (xs ++ x ∷ []) k 0 ≡ get_or xs k 0 = get_or_append_left xs (x ∷ []) 0 k here in
-        let low : get_or xs k 0 < x = above (get_or xs k 0) (k, here, get_or_default xs k (get_or xs k 0) 0 here) in
-        let second : get_or (xs ++ x ∷ []) (k + 1) 0 ≡ x = subst (λ (n : ℕ). get_or (xs ++ x ∷ []) n 0 ≡ x) (sym last) (at_end xs x) in
-        omega (arith, first, second, low)
 
 -- a guard is above the sets of its automaton
 abbrev pub IsAbove : Part → ℕ → Type 0

@@ -11,13 +11,13 @@ ghost use Rattle.omega_union.specs.Parts.{moved as moved_after};
 ghost use Rattle.omega_union.specs.Sharing.{union_acceptance, union_name};
 ghost use Rattle.omega_union.specs.Union.{united};
 
-use crate::names::copied_acc_name;
 use crate::numbers::moved;
 use crate::sharing::Sharing;
 use omega_automaton::Automaton;
 use omega_formula::{AccName, RawAcc};
 use omega_raw::RawItem;
 use omega_text::{ByteString, Numbers, Refusal, Seq};
+use omega_trim::copied_acc_name;
 use std::alloc::Global;
 
 /// Returns the header: the joined `names`, the acceptance `formula`, and the starts of both.

@@ -10,7 +10,6 @@ mod acceptance;
 mod edges;
 mod header;
 mod labels;
-mod names;
 mod numbers;
 mod operand;
 mod sets;

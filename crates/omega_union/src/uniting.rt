@@ -17,7 +17,6 @@ ghost use Rattle.omega_union.specs.private.Operands.{AreLarge};
 
 use crate::acceptance::written_acceptance;
 use crate::header::header;
-use crate::names::{joined_names, places_among};
 use crate::operand::Operand;
 use crate::sets::sharing_of;
 use crate::sharing::Sharing;
@@ -25,6 +24,7 @@ use crate::states::push_states;
 use omega_acc::{written_formulas_mean, written_labels_mean};
 use omega_automaton::{Automaton, MOST_PROPOSITIONS, automaton_of, has_universal_branching};
 use omega_edge_labels::{MOST_EDGES, MOST_STATES};
+use omega_product::{joined_names, places_among};
 use omega_raw::{RawAutomaton, RawState};
 use omega_text::{ByteString, Refusal, Seq, TaskFault};
 use std::alloc::Global;
