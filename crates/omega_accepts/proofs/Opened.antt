@@ -15,7 +15,7 @@ use Rattle.omega_automaton.specs.declared.state.State.{State}
 use Rattle.omega_product.proofs.Membership.{Contains-here}
 use Rattle.omega_symbolic_word.specs.Admitted.{holds}
 use Rattle.omega_symbolic_word.specs.declared.symbolic_word.SymbolicWord.{SymbolicWord}
-use Rattle.omega_word_laws.proofs.meeting.Labels.{and_both, both_and, truth_same}
+use Rattle.omega_product.proofs.Holding.{and_both, both_and, truth_same}
 use Rattle.omega_word_laws.proofs.naming.Named.{own_place}
 use Rattle.omega_accepts.specs.OneWord.{Fixes, HasOpenLetter, IsOneWordFor, LeavesOpen}
 use Rattle.omega_accepts.specs.Opening.{CanBeBoth, HasOpenName, first_label, literal_of, number_among}

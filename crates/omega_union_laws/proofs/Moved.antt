@@ -14,7 +14,7 @@ use Rattle.omega_runs.specs.Lasso.{IsStep, marks_at}
 use Rattle.omega_runs.proofs.Kept.{edge_kept}
 use Rattle.omega_union.specs.Parts.{Part, edge_in, moved, state_in}
 use Rattle.omega_union.specs.Sharing.{guard_sets}
-use Rattle.omega_word_laws.proofs.meeting.Labels.{truth_relabelled}
+use Rattle.omega_product.proofs.Valuations.{truth_relabelled}
 use Rattle.omega_word_laws.proofs.parting.Moves.{IsMove, IsMoveOf, IsTakenStep, move_steps}
 use Rattle.omega_union_laws.proofs.Edges.{IsEdgeFrom, edge_from, edge_there, label_same}
 

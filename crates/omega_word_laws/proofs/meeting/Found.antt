@@ -8,7 +8,7 @@ use Rattle.indexmap.specs.IndexSet.{insert_all, insert_key}
 use Rattle.indexmap.proofs.CallerLemmas.{Contains-insert_key}
 use Rattle.omega_automaton.specs.Automaton.{Description}
 use Rattle.omega_product.specs.Pairs.{AreReached, Pair, pair_number, same_pair, start_pairs, targets_of}
-use Rattle.omega_word_laws.proofs.meeting.Labels.{and_both, both_and}
+use Rattle.omega_product.proofs.Holding.{and_both, both_and}
 use Rattle.omega_word_laws.proofs.meeting.Lists.{contains_flat_map}
 
 -- pairs that the test says are the same are

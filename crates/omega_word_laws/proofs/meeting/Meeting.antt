@@ -27,7 +27,7 @@ use Rattle.omega_word_laws.specs.Products.{ProductsMeet}
 use Rattle.omega_word_laws.proofs.meeting.Buchi.{both_buchi, buchi_both}
 use Rattle.omega_word_laws.proofs.meeting.Conjoined.{both_satisfied, satisfied_both}
 use Rattle.omega_word_laws.proofs.meeting.Found.{number_below, number_tells, starts_found, targets_found}
-use Rattle.omega_word_laws.proofs.meeting.Labels.{and_both, both_and, can_hold_iff}
+use Rattle.omega_product.proofs.Holding.{and_both, both_and, can_hold_iff}
 use Rattle.omega_word_laws.proofs.meeting.Lists.{beside_left, beside_right, contains_at, contains_filter, contains_flat_map, contains_map, filter_contains, flat_map_contains, index_of, map_contains, passes_nowhere, same_some}
 use Rattle.omega_word_laws.proofs.meeting.Marks.{first_holds, moved_nowhere, moved_satisfies, satisfies_moved, second_holds}
 use Rattle.omega_word_laws.proofs.meeting.Transitions.{IsTransition, found_transition, listed_transition}

@@ -24,7 +24,8 @@ use Rattle.omega_product.specs.PairGraph.{edges_before}
 use Rattle.omega_product.specs.Transitions.{View, transition_of, transitions_at, transitions_from}
 use Rattle.omega_edge_labels.specs.Labels.{valuation_label}
 use Rattle.omega_product.specs.declared.transition.Transition.{Transition}
-use Rattle.omega_word_laws.proofs.meeting.Labels.{truth_relabelled, valuation_true}
+use Rattle.omega_product.proofs.Valuations.{truth_relabelled}
+use Rattle.omega_word_laws.proofs.meeting.Labels.{valuation_true}
 use Rattle.omega_word_laws.proofs.meeting.Lists.{at_left, at_right, contains_at, contains_map, passes_nowhere, same_some}
 
 module _ (view : View) where

@@ -14,7 +14,7 @@ use Rattle.omega_runs.specs.Lasso.{label_of}
 use Rattle.omega_runs.specs.Words.{Allows, IsAccepted}
 use Rattle.omega_runs.proofs.Kept.{edge_kept}
 use Rattle.omega_word_laws.specs.NamedWords.{NamedWord, WordsAreNamed, part_of}
-use Rattle.omega_word_laws.proofs.meeting.Labels.{truth_same}
+use Rattle.omega_product.proofs.Holding.{truth_same}
 use Rattle.omega_word_laws.proofs.meeting.Lists.{passes_nowhere}
 use Rattle.omega_word_laws.proofs.parting.Plain.{or_parts}
 

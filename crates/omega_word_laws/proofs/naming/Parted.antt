@@ -17,7 +17,7 @@ use Rattle.omega_product.specs.Product.{IsProduct}
 use Rattle.omega_product.proofs.Membership.{Contains-here, Contains-there}
 use Rattle.omega_word_laws.specs.NamedWords.{NamedWord, part_of}
 use Rattle.omega_word_laws.specs.Products.{ProductsMeet}
-use Rattle.omega_word_laws.proofs.meeting.Labels.{or_either}
+use Rattle.omega_product.proofs.Holding.{or_either}
 use Rattle.omega_word_laws.proofs.meeting.Lists.{contains_filter}
 use Rattle.omega_word_laws.proofs.naming.Named.{AgreeBelow, accepted_same, contained_at}
 

@@ -21,7 +21,7 @@ use Rattle.omega_complement.specs.Labels.{labels_at, state_at}
 use Rattle.omega_edge_labels.specs.Labels.{label_at}
 use Rattle.omega_complement.specs.Letters.{AreExclusive}
 use Rattle.omega_complement.specs.Written.{IsWrittenComplement}
-use Rattle.omega_complement.proofs.Bits.{both_true}
+use Rattle.omega_edge_labels.proofs.Bits.{both_true}
 use Rattle.omega_complement.proofs.Full.{any_at}
 use Rattle.omega_complement.proofs.Rows.{each_there}
 use Rattle.omega_word_laws.proofs.parting.Formulas.{AreSame, no_both}

@@ -22,7 +22,7 @@ use Rattle.omega_complement.specs.Complement.{IsDeterministic}
 use Rattle.omega_complement.specs.Labels.{labels_at, state_at}
 use Rattle.omega_complement.specs.Letters.{IsAnyOf, IsRestLabel, alone, halves}
 use Rattle.omega_complement.specs.Written.{IsMissing, IsTurned, IsWrittenComplement, further_edges, one_if, sink_state, sinks, turned_edge, turned_edges}
-use Rattle.omega_complement.proofs.Bits.{both_true}
+use Rattle.omega_edge_labels.proofs.Bits.{both_true}
 use Rattle.omega_complement.proofs.Rows.{each_at}
 use Rattle.omega_complement.proofs.StateNumbers.{state_number}
 use Rattle.omega_edge_labels.specs.Labels.{label_at, literal, valuation_label}
