@@ -7,7 +7,7 @@ use Rattle.omega_automaton.specs.Automaton.{Description, sets_of}
 use Rattle.omega_product.specs.Acceptance.{IsJointAcceptance, both_formulas, moved_after}
 use Rattle.omega_product.proofs.Conjoined.{conjoined_cases}
 use Rattle.omega_product.proofs.Membership.{Contains-here}
-use Rattle.omega_word_laws.proofs.meeting.Labels.{and_both}
+use Rattle.omega_product.proofs.Holding.{and_both}
 
 -- marks that hold the same sets below a count, one by one
 abbrev pub HoldSame : ℕ → List (List ℕ) → List (List ℕ) → Type 0

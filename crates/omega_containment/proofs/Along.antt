@@ -9,7 +9,7 @@ use Rattle.omega_lasso_word.specs.Fitting.{along}
 use Rattle.omega_containment.specs.Containing.{GoesAlong}
 use Rattle.omega_word_laws.specs.NamedWords.{NamedWord, part_of}
 use Rattle.omega_word_laws.proofs.naming.Named.{AgreeBelow, named_by, part_named}
-use Rattle.omega_word_laws.proofs.meeting.Labels.{truth_same}
+use Rattle.omega_product.proofs.Holding.{truth_same}
 use Rattle.omega_containment.specs.private.Named.{IsNamed}
 
 -- an edge that words which agree allow is allowed by both

@@ -9,7 +9,7 @@ use Rattle.omega_label.specs.Label.{LabelTree, conjunction, constant, disjunctio
 use Rattle.omega_conjuncts.specs.Conjuncts.{all_of, conjuncts, each_once, joined, same_label}
 use Rattle.omega_conjuncts.proofs.Meaning.{joined_mentions}
 use Rattle.omega_product.proofs.Membership.{Contains-cases, Contains-here, Contains-nothing, Contains-there}
-use Rattle.omega_word_laws.proofs.meeting.Labels.{and_both}
+use Rattle.omega_product.proofs.Holding.{and_both}
 use Rattle.omega_containment.proofs.Strings.{all_both}
 
 -- what is inserted, each once: it is inserted again as it is

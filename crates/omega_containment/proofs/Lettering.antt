@@ -9,8 +9,9 @@ use Rattle.omega_automaton.specs.Automaton.{BodyEdge, Description, edge_at}
 use Rattle.omega_edge_labels.specs.Labels.{label_at}
 use Rattle.omega_runs.specs.Lasso.{IsAcceptingLasso, Leads}
 use Rattle.omega_runs.specs.Words.{index_in}
+use Rattle.omega_lasso_form.specs.Form.{cycle_form, others_form, stem_form}
 use Rattle.omega_lasso_word.specs.Letters.{conjunction_words, letter_at, letter_text, text_of_letter}
-use Rattle.omega_lasso_word.specs.WordText.{cycle_text, others_text, stem_text, word_text}
+use Rattle.omega_lasso_word.specs.WordText.{word_text}
 use Rattle.omega_product.specs.Joining.{joined_names, places_among, relabelled}
 use Rattle.omega_product.specs.JointEdges.{numbered_from}
 use Rattle.omega_product.specs.PairGraph.{IsPairGraph, edges_before}
@@ -20,7 +21,7 @@ use Rattle.omega_product.specs.declared.graph.PairGraph.{PairGraph}
 use Rattle.omega_product.specs.declared.transition.Transition.{Transition}
 use Rattle.omega_word_laws.specs.Graphs.{IsGraphOf}
 use Rattle.omega_word_laws.proofs.meeting.Transitions.{numbered_found}
-use Rattle.omega_containment.specs.private.Letters.{cycle_letters, joint_conjuncts, joint_letter, joint_word, label_in, moved_label, others_letters, stem_letters}
+use Rattle.omega_containment.specs.private.Letters.{joint_conjuncts, joint_letter, joint_word, label_in, moved_label}
 use Rattle.omega_containment.proofs.Conjuncts.{joined_conjuncts}
 use Rattle.omega_containment.proofs.Standing.{Row, first_is, label_is, row, second_is}
 
@@ -80,17 +81,17 @@ module _ (one other : Description) (graph : PairGraph) (is : IsPairGraph one oth
       ∙ ap (conjunction_words graph.propositions.items) (sym (conjuncts_alike number edge r))
 
   -- the word of a lasso
-  stem_alike : (q : ℕ) (numbers : List ℕ) (q' : ℕ) → Leads a q numbers q' → stem_text a numbers ≡ stem_letters one other graph numbers
+  stem_alike : (q : ℕ) (numbers : List ℕ) (q' : ℕ) → Leads a q numbers q' → stem_form (letter_text a) numbers ≡ stem_form (joint_letter one other graph) numbers
   stem_alike q [] q' leads = refl
   stem_alike q (n ∷ ns) q' leads =
       ap₂ ◌++◌ (ap (λ (letter : List ℕ). letter ++ codes "; ") (letter_alike n leads.1.edge leads.1.numbered)) (stem_alike leads.0 ns q' leads.2)
 
-  others_alike : (q : ℕ) (numbers : List ℕ) (q' : ℕ) → Leads a q numbers q' → others_text a numbers ≡ others_letters one other graph numbers
+  others_alike : (q : ℕ) (numbers : List ℕ) (q' : ℕ) → Leads a q numbers q' → others_form (letter_text a) numbers ≡ others_form (joint_letter one other graph) numbers
   others_alike q [] q' leads = refl
   others_alike q (n ∷ ns) q' leads =
       ap₂ ◌++◌ (ap (λ (letter : List ℕ). codes "; " ++ letter) (letter_alike n leads.1.edge leads.1.numbered)) (others_alike leads.0 ns q' leads.2)
 
-  cycle_alike : (q : ℕ) (numbers : List ℕ) (q' : ℕ) → Leads a q numbers q' → cycle_text a numbers ≡ cycle_letters one other graph numbers
+  cycle_alike : (q : ℕ) (numbers : List ℕ) (q' : ℕ) → Leads a q numbers q' → cycle_form (letter_text a) numbers ≡ cycle_form (joint_letter one other graph) numbers
   cycle_alike q [] q' leads = refl
   cycle_alike q (n ∷ ns) q' leads = ap₂ ◌++◌ (letter_alike n leads.1.edge leads.1.numbered) (others_alike leads.0 ns q' leads.2)
 

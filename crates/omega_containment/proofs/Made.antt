@@ -25,7 +25,9 @@ use Rattle.omega_word_laws.specs.Graphs.{IsGraphOf}
 use Rattle.omega_word_laws.specs.NamedWords.{NamedWord, part_of}
 use Rattle.omega_word_laws.proofs.naming.Named.{named_by, part_named}
 use Rattle.omega_word_laws.proofs.meeting.Found.{number_below, number_tells}
-use Rattle.omega_word_laws.proofs.meeting.Labels.{and_both, truth_relabelled, truth_same, valuation_true}
+use Rattle.omega_product.proofs.Holding.{and_both, truth_same}
+use Rattle.omega_product.proofs.Valuations.{truth_relabelled}
+use Rattle.omega_word_laws.proofs.meeting.Labels.{valuation_true}
 use Rattle.omega_word_laws.proofs.meeting.Lists.{flat_map_contains, map_contains}
 use Rattle.omega_word_laws.proofs.meeting.Meeting.{first_moved, one_start, usable_of}
 use Rattle.omega_word_laws.proofs.meeting.Transitions.{IsListedAt, numbered_found}

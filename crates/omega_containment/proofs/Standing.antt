@@ -27,7 +27,7 @@ use Rattle.omega_product.specs.Transitions.{transitions_at}
 use Rattle.omega_product.specs.declared.transition.Transition.{Transition}
 use Rattle.omega_product.specs.declared.graph.PairGraph.{PairGraph}
 use Rattle.omega_word_laws.specs.Graphs.{IsGraphOf, TakesTogether}
-use Rattle.omega_word_laws.proofs.meeting.Labels.{can_hold_iff}
+use Rattle.omega_product.proofs.Holding.{can_hold_iff}
 use Rattle.omega_word_laws.proofs.meeting.Lists.{index_of, map_contains, same_some}
 use Rattle.omega_word_laws.proofs.meeting.Marks.{contains_holds, holds_contains, same_truth}
 use Rattle.omega_word_laws.proofs.meeting.Transitions.{numbered_found}

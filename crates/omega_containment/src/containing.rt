@@ -9,9 +9,10 @@ ghost use Rattle.omega_containment.specs.private.Telling.{IsDifference, IsLassoO
 
 use crate::containment::{Containment, Counterexample};
 use crate::joints::Joints;
-use crate::letters::{joint_word_of, number_at};
+use crate::letters::number_at;
 use omega_automaton::{Automaton, Refusal};
 use omega_complement::complement;
+use omega_lasso_form::lasso_form;
 use omega_lasso_search::lasso_in_table;
 use omega_product::{PairGraph, pair_graph, places_among};
 use omega_runs::{Verdict, edge_places};
@@ -134,8 +135,7 @@ fn word_along(
         numbers: numbers.as_slice(),
         other_numbers: other_numbers.as_slice(),
     };
-    let word = joint_word_of(alloc, &joints, stem, cycle)?;
-    Ok(word)
+    lasso_form(alloc, &joints, stem, cycle)
 }
 
 /// Returns the number at each of `places`, 0 past the last.

@@ -1,114 +1,32 @@
-//! The word of a lasso of a product, of which only the graph is made.
+//! The letters of the edges of a product, of which only the graph is made.
 
-ghost use Rattle.std.specs.Prelude.{◌≡◌, ◌++◌, get_or, IfOk, IsOkUnless, OnOk};
+ghost use Rattle.std.specs.Prelude.{◌≡◌, get_or, IfOk, IsOkUnless};
 ghost use Rattle.omega_runs.specs.Places.{ArePlaces};
-ghost use Rattle.omega_containment.specs.private.Letters.{FindsLabels, cycle_letters, joint_conjuncts as conjuncts_of_joint, joint_letter, joint_word, label_in, others_letters, stem_letters};
+ghost use Rattle.omega_containment.specs.private.Letters.{FindsLabels, joint_conjuncts as conjuncts_of_joint, joint_letter, label_in};
 
 use crate::joints::Joints;
 use omega_automaton::{Automaton, Refusal};
 use omega_conjuncts::conjuncts_of_both;
 use omega_edge_labels::edge_label;
 use omega_label::Label;
+use omega_lasso_form::EdgeText;
 use omega_lasso_word::write_conjuncts;
 use omega_runs::{EdgePlace, edge_of};
 use std::alloc::Global;
 
-/// Returns the word of a lasso of the product, by the numbers of the edges of its `stem` and `cycle`, as `word_of`
-/// writes it.
-pub(crate) fn joint_word_of(
-    alloc: Global,
-    joints: &Joints<'_>,
-    stem: &[u32],
-    cycle: &[u32],
-) -> Result<Vec<u8>, Refusal>
-    requires { FindsLabels joints.now }
-    ensures text { IfOk result (λ text. text.items ≡ joint_word
-        joints.now.one.now joints.now.other.now joints.now.graph.now stem.now cycle.now) }
-    ensures memory { IsOkUnless result Refusal.Memory }
-{
-    let mut out = Vec::new(alloc);
-    write_stem(alloc, joints, stem, &mut out)?;
-    out.extend_from_slice(b"cycle{")?;
-    write_cycle(alloc, joints, cycle, &mut out)?;
-    out.push(b'}')?;
-    Ok(out)
-}
+impl<'a> EdgeText for Joints<'a> {
+    ghost can_tell = { FindsLabels };
 
-/// Appends the letters of `stem`, a semicolon after each.
-fn write_stem(
-    alloc: Global,
-    joints: &Joints<'_>,
-    stem: &[u32],
-    out: &mut Vec<u8>,
-) -> Result<(), Refusal>
-    requires { FindsLabels joints.now }
-    ensures text { OnOk result (out.new.items ≡ out.old.items ++ stem_letters
-        joints.now.one.now joints.now.other.now joints.now.graph.now stem.now) }
-    ensures memory { IsOkUnless result Refusal.Memory }
-{
-    for number in stem {
-        write_letter(alloc, joints, *number, out)?;
-        out.extend_from_slice(b"; ")?;
+    ghost told = { λ joints. joint_letter joints.one.now joints.other.now joints.graph.now };
+
+    fn tell(&self, number: u32, out: &mut Vec<u8>) -> Result<(), Refusal> {
+        let conjuncts = joint_conjuncts(*out.allocator(), self, number)?;
+        write_conjuncts(
+            self.graph.propositions.as_slice(),
+            conjuncts.as_slice(),
+            out,
+        )
     }
-    Ok(())
-}
-
-/// Appends the letters of `cycle`, a semicolon between each two.
-fn write_cycle(
-    alloc: Global,
-    joints: &Joints<'_>,
-    cycle: &[u32],
-    out: &mut Vec<u8>,
-) -> Result<(), Refusal>
-    requires { FindsLabels joints.now }
-    ensures text { OnOk result (out.new.items ≡ out.old.items ++ cycle_letters
-        joints.now.one.now joints.now.other.now joints.now.graph.now cycle.now) }
-    ensures memory { IsOkUnless result Refusal.Memory }
-{
-    if let [first, others @ ..] = cycle {
-        write_letter(alloc, joints, *first, out)?;
-        write_others(alloc, joints, others, out)?;
-    }
-    Ok(())
-}
-
-/// Appends the letters of `others`, a semicolon before each.
-fn write_others(
-    alloc: Global,
-    joints: &Joints<'_>,
-    others: &[u32],
-    out: &mut Vec<u8>,
-) -> Result<(), Refusal>
-    requires { FindsLabels joints.now }
-    ensures text { OnOk result (out.new.items ≡ out.old.items ++ others_letters
-        joints.now.one.now joints.now.other.now joints.now.graph.now others.now) }
-    ensures memory { IsOkUnless result Refusal.Memory }
-{
-    for number in others {
-        out.extend_from_slice(b"; ")?;
-        write_letter(alloc, joints, *number, out)?;
-    }
-    Ok(())
-}
-
-/// Appends the letter of the edge `number` of the product.
-fn write_letter(
-    alloc: Global,
-    joints: &Joints<'_>,
-    number: u32,
-    out: &mut Vec<u8>,
-) -> Result<(), Refusal>
-    requires { FindsLabels joints.now }
-    ensures text { OnOk result (out.new.items ≡ out.old.items ++ joint_letter
-        joints.now.one.now joints.now.other.now joints.now.graph.now number) }
-    ensures memory { IsOkUnless result Refusal.Memory }
-{
-    let conjuncts = joint_conjuncts(alloc, joints, number)?;
-    write_conjuncts(
-        joints.graph.propositions.as_slice(),
-        conjuncts.as_slice(),
-        out,
-    )
 }
 
 /// Returns the conjuncts of the labels of the two edges that the edge `number` of the product takes, each once.

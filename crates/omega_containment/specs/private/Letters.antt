@@ -1,11 +1,11 @@
 -- The words along a lasso of a product, of which only the graph is made.
-use Rattle.std.specs.Prelude.{◌≡◌, ℕ, false, List, [], ◌∷◌, ◌++◌, length, codes, get_or, Option, None, Some}
-use Rattle.std.specs.List.{flat_map}
+use Rattle.std.specs.Prelude.{◌≡◌, ℕ, false, List, ◌++◌, length, get_or, Option, None, Some}
 use Rattle.omega_automaton.specs.Automaton.{BodyEdge, Description, edge_at}
 use Rattle.omega_edge_labels.specs.Labels.{label_at}
 use Rattle.omega_conjuncts.specs.Conjuncts.{conjuncts, each_once}
 use Rattle.omega_label.specs.Label.{LabelTree, constant}
 use Rattle.omega_label.specs.Renumbering.{relabelled}
+use Rattle.omega_lasso_form.specs.Form.{word_form}
 use Rattle.omega_lasso_word.specs.Letters.{conjunction_words}
 use Rattle.omega_product.specs.Joining.{places_among}
 use Rattle.omega_product.specs.declared.graph.PairGraph.{PairGraph}
@@ -44,21 +44,6 @@ abbrev pub joint_letter : Description → Description → PairGraph → ℕ → 
 joint_letter one other graph number =
     conjunction_words graph.propositions.items (joint_conjuncts one other graph number)
 
--- the letters of a stem, `;` after each
-abbrev pub stem_letters : Description → Description → PairGraph → List ℕ → List ℕ
-stem_letters one other graph numbers = flat_map (λ number. joint_letter one other graph number ++ codes "; ") numbers
-
--- the letters of the others of a cycle, `;` before each
-abbrev pub others_letters : Description → Description → PairGraph → List ℕ → List ℕ
-others_letters one other graph numbers = flat_map (λ number. codes "; " ++ joint_letter one other graph number) numbers
-
--- the letters of a cycle, `;` between each two
-abbrev pub cycle_letters : Description → Description → PairGraph → List ℕ → List ℕ
-cycle_letters one other graph [] = []
-cycle_letters one other graph (first ∷ others) =
-    joint_letter one other graph first ++ others_letters one other graph others
-
 -- the word of a lasso
 abbrev pub joint_word : Description → Description → PairGraph → List ℕ → List ℕ → List ℕ
-joint_word one other graph stem cycle =
-    stem_letters one other graph stem ++ (codes "cycle{" ++ (cycle_letters one other graph cycle ++ codes "}"))
+joint_word one other graph stem cycle = word_form (joint_letter one other graph) stem cycle
