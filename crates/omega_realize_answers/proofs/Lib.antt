@@ -1,3 +1,5 @@
 -- Lemmas by theme.
+mod Stated
 mod Refused
 mod Observed
+mod Winning

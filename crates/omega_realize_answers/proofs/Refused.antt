@@ -1,12 +1,16 @@
--- Why `realize` is refused: the text, or else its automaton.
+-- Why `realize` is refused: the text or its item, or else the question.
 use Rattle.std.proofs.Common.{List, ℕ, inl, inr}
 use Rattle.omega_text.specs.Cases.{or_memory}
 use Rattle.omega_text.specs.declared.refusal.Refusal.{Refusal}
 use Rattle.omega_text.specs.declared.refusal.Refusal.TheVariants.{Automaton, Game, Io, Memory, Task, Text}
 use Rattle.omega_automaton.specs.Automaton.{Description}
+use Rattle.omega_controllable.specs.Controllable.{HasControlled, IsControlled, IsMisstated}
 use Rattle.omega_hoa.specs.Alone.{IsAutomatonRefusal, IsAutomatonText}
-use Rattle.omega_realize_answers.specs.Game.{IsGameRefusal, IsUngamedAutomaton}
-use Rattle.omega_realize_answers.specs.Refusing.{IsRealizeRefusal, IsUndecided}
+use Rattle.omega_realize.specs.Gaming.{IsUngamed}
+use Rattle.omega_realize.specs.Refusing.{IsUnrealized}
+use Rattle.omega_realize_answers.specs.Game.{IsGameRefusal}
+use Rattle.omega_realize_answers.specs.Refusing.{IsRealizeRefusal}
+use Rattle.omega_realize_answers.specs.private.Question.{IsUnasked}
 
 -- what holds of a refusal, or memory
 or_memory_of : (P : Refusal → Type 0) (refusal : Refusal) → P refusal → or_memory P refusal
@@ -26,23 +30,44 @@ wider P Q more (Automaton fault) h = more (Automaton fault) h
 wider P Q more (Task fault) h = more (Task fault) h
 wider P Q more Io h = more Io h
 
--- the refusal of the text
-pub text_refused : (text : List ℕ) (budget : ℕ) (refusal : Refusal) → or_memory (IsAutomatonRefusal text) refusal
+-- no question is stated: by the text
+pub text_unasked : (text : List ℕ) (refusal : Refusal) → or_memory (IsAutomatonRefusal text) refusal → or_memory (IsUnasked text) refusal
+text_unasked text refusal h = wider (IsAutomatonRefusal text) (IsUnasked text) (λ other is. inl is) refusal h
+
+-- or by the item of its automaton
+pub item_unasked : (text : List ℕ) (automaton : Description) (refusal : Refusal) → IsAutomatonText text automaton
+    → IsMisstated (HasControlled automaton) refusal → or_memory (IsUnasked text) refusal
+item_unasked text automaton refusal read misstated =
+    or_memory_of (IsUnasked text) refusal (inr (record { automaton = automaton; read = read; misstated = misstated }))
+
+-- the answer is refused if no question is stated
+pub unasked_refused : (text : List ℕ) (budget : ℕ) (refusal : Refusal) → or_memory (IsUnasked text) refusal
     → or_memory (IsRealizeRefusal text budget) refusal
-text_refused text budget refusal h = wider (IsAutomatonRefusal text) (IsRealizeRefusal text budget) (λ other is. inl is) refusal h
+unasked_refused text budget refusal h = wider (IsUnasked text) (IsRealizeRefusal text budget)
+    (λ other is. elim is [
+      | inl unread ↦ inl unread
+      | inr item ↦ inr (record { automaton = item.automaton; read = item.read; refused = inl item.misstated })
+    ])
+    refusal h
 
--- and that of its automaton
-pub automaton_refused : (text : List ℕ) (budget : ℕ) (automaton : Description) (refusal : Refusal) → IsAutomatonText text automaton
-    → IsUndecided automaton budget refusal → or_memory (IsRealizeRefusal text budget) refusal
-automaton_refused text budget automaton refusal read refused =
-    or_memory_of (IsRealizeRefusal text budget) refusal (inr (record { automaton = automaton; read = read; refused = refused }))
+-- and if the question is refused
+pub question_refused : (text : List ℕ) (automaton : Description) (controlled : List ℕ) (budget : ℕ) (refusal : Refusal)
+    → IsAutomatonText text automaton → IsControlled automaton controlled → IsUnrealized automaton controlled budget refusal
+    → or_memory (IsRealizeRefusal text budget) refusal
+question_refused text automaton controlled budget refusal read stated refused = or_memory_of (IsRealizeRefusal text budget) refusal
+    (inr (record { automaton = automaton; read = read; refused = inr (record { controlled = controlled; stated = stated; refused = refused }) }))
 
--- the game is refused by the text
-pub text_ungamed : (text : List ℕ) (refusal : Refusal) → or_memory (IsAutomatonRefusal text) refusal → or_memory (IsGameRefusal text) refusal
-text_ungamed text refusal h = wider (IsAutomatonRefusal text) (IsGameRefusal text) (λ other is. inl is) refusal h
+-- so is the game
+pub unasked_ungamed : (text : List ℕ) (refusal : Refusal) → or_memory (IsUnasked text) refusal → or_memory (IsGameRefusal text) refusal
+unasked_ungamed text refusal h = wider (IsUnasked text) (IsGameRefusal text)
+    (λ other is. elim is [
+      | inl unread ↦ inl unread
+      | inr item ↦ inr (record { automaton = item.automaton; read = item.read; refused = inl item.misstated })
+    ])
+    refusal h
 
--- and by its automaton
-pub automaton_ungamed : (text : List ℕ) (automaton : Description) (refusal : Refusal) → IsAutomatonText text automaton
-    → IsUngamedAutomaton automaton refusal → or_memory (IsGameRefusal text) refusal
-automaton_ungamed text automaton refusal read refused =
-    or_memory_of (IsGameRefusal text) refusal (inr (record { automaton = automaton; read = read; refused = refused }))
+pub question_ungamed : (text : List ℕ) (automaton : Description) (controlled : List ℕ) (refusal : Refusal)
+    → IsAutomatonText text automaton → IsControlled automaton controlled → IsUngamed automaton controlled refusal
+    → or_memory (IsGameRefusal text) refusal
+question_ungamed text automaton controlled refusal read stated refused = or_memory_of (IsGameRefusal text) refusal
+    (inr (record { automaton = automaton; read = read; refused = inr (record { controlled = controlled; stated = stated; refused = refused }) }))

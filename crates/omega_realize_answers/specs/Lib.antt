@@ -1,4 +1,4 @@
--- What `realize` answers and refuses of one automaton.
+-- What `realize` answers and refuses of one automaton, and in `private` what private contracts alone cite.
 pub use Rattle.omega_text.specs.Cases
 pub use Rattle.omega_text.specs.Refusal
 pub mod Decide
@@ -6,3 +6,4 @@ pub mod Game
 pub mod Observing
 pub mod Refusing
 pub mod Winner
+pub mod private

@@ -3,9 +3,10 @@
 //! docs/formats.md says when each refusal comes.
 #![tactic(auto)]
 
-mod automaton_text;
 mod decide;
+mod decided;
 mod game;
+mod question;
 mod winner;
 
 pub use decide::{decide_realizability, decide_realizability_by_lifting};

@@ -1,0 +1,4 @@
+-- What private contracts alone cite.
+pub mod Decided
+pub mod Game
+pub mod Question
