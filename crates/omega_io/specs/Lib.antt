@@ -6,6 +6,7 @@ pub mod Exit
 pub mod Failures
 pub mod Lines
 pub mod Reading
+pub mod Reason
 pub mod RefusalLine
 pub mod Refused
 pub mod Writing
