@@ -1,5 +1,5 @@
 -- What `omega_run` leaves: what the program leaves that obeys the words over these texts.
-use Rattle.std.specs.Prelude.{◌≡◌, ◌<◌, ◌==◌, ◌⊎◌, ◌∷◌, ◌++◌, [], Bool, ℕ, List, Option, Some, Result, Ok, Err, codes, length, string_bytes}
+use Rattle.std.specs.Prelude.{◌≡◌, ◌<◌, ◌==◌, ◌⊎◌, ◌∷◌, ◌++◌, [], Bool, ℕ, List, Option, None, Some, Result, Ok, Err, codes, length, string_bytes}
 use Rattle.std.specs.List.{slice_split}
 use Rattle.std.specs.Str.{IsUtf8}
 use Rattle.omega_text.specs.declared.refusal.Refusal.{Refusal}
@@ -7,6 +7,8 @@ use Rattle.omega_text.specs.declared.refusal.Refusal.TheVariants.{Memory}
 use Rattle.omega_command.specs.declared.line.Line.{Line}
 use Rattle.omega_command.specs.declared.line.Line.TheVariants.{Fault}
 use Rattle.omega_io.specs.Writing.{Tells}
+use Rattle.omega_io.specs.declared.reason.Reason.{Reason}
+use Rattle.omega_io.specs.declared.unread.Unread.{Unread}
 use Rattle.omega_run.specs.Obey.{IsObeyed}
 use Rattle.omega_run.specs.World.{Streams, World, streams}
 use Rattle.omega_command_line.specs.Words.{IsLineAsked}
@@ -50,18 +52,20 @@ abbrev pub IsAsked : List ℕ → Result Line Refusal → Type 0
 IsAsked words (Ok line) = IsLineOfWords words line
 IsAsked words (Err refusal) = refusal ≡ Memory
 
--- the program obeyed the command line, whatever is left of the input, and however many reads and writes failed
-pub record IsObeyedSomehow (reads : List ℕ → List ℕ → Type 0) (refuses : List ℕ → Refusal → Type 0) (asked : Result Line Refusal) (status : ℕ)
+-- the program obeyed the command line, whatever is left of the input, however many reads and writes failed, and why
+pub record IsObeyedSomehow (reads : List ℕ → List ℕ → Type 0) (refuses : List ℕ → Unread → Type 0) (asked : Result Line Refusal) (status : ℕ)
     (reported reported' : Option (List ℕ)) (failed_tells : ℕ) (before : Streams) (held : Option (List ℕ)) : Type 0 where
   pub unread : Option (List ℕ)
   pub failed_reads : ℕ
+  pub read_reason : Option Reason
   pub failed_writes : ℕ
+  pub write_reason : Option Reason
   pub failed_tells' : ℕ
   pub obeyed : IsObeyed asked status (record {
     reads = reads;
     refuses = refuses;
     before = before;
-    after = streams unread failed_reads held failed_writes;
+    after = streams unread failed_reads read_reason held failed_writes write_reason;
     tells = Tells reported reported' failed_tells failed_tells';
   })
 
@@ -69,8 +73,8 @@ pub record IsObeyedSomehow (reads : List ℕ → List ℕ → Type 0) (refuses :
 pub record IsProgramRun (words input file : List ℕ) (status : ℕ) (output errors : List ℕ) : Type 0 where
   pub asked : Result Line Refusal
   pub read : IsAsked words asked
-  pub obeyed : IsObeyedSomehow (λ name text. text ≡ file) (λ name refusal. refusal ≡ Memory) asked status (Some []) (Some errors) 0
-      (streams (Some input) 0 (Some []) 0) (Some output)
+  pub obeyed : IsObeyedSomehow (λ name text. text ≡ file) (λ name unread. unread.refusal ≡ Memory) asked status (Some []) (Some errors) 0
+      (streams (Some input) 0 None (Some []) 0 None) (Some output)
 
 -- what `omega_run` leaves: as much of the output and of the errors as there was room for, and how long they are
 pub record IsRunOutcome (words input file : List ℕ) (ran : Ran) (output output' errors errors' : List ℕ) : Type 0 where

@@ -84,8 +84,8 @@ fn left_by(alloc: Global, words: &[u8], input: &[u8], file: &[u8]) -> Left
     }
 }
 
-/// Obeys a command line and returns its status. The contract leaves out the rest of the input and the count of
-/// failures.
+/// Obeys a command line and returns its status. The contract leaves out the rest of the input, and how often and why
+/// reads and writes failed.
 fn status_of<F: InputFiles, R: Input, W: Output, E: Output>(
     alloc: Global,
     asked: Result<Line, Refusal>,

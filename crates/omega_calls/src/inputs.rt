@@ -2,7 +2,7 @@
 use crate::lists::put;
 use omega_canon::write_canonical;
 use omega_hoa::Item;
-use omega_io::{FromRead, file_lines, lines_in, read_all, read_piece};
+use omega_io::{FromRead, Reason, file_lines, lines_in, read_all, read_piece};
 use omega_stream_reading::{ItemText, tell_stream};
 use omega_text::{PgKind, Refusal, TextFault, Token, TokenReader, read_text};
 use std::alloc::Global;
@@ -98,10 +98,10 @@ fn named(alloc: Global, name: &[u8]) -> Result<Vec<u8>, Refusal> {
     }
 }
 
-/// Returns the lines of a refusal of a file of the given name.
+/// Returns the lines of a refusal of a file of the given name, of which there is none.
 fn named_as_file(alloc: Global, name: &[u8]) -> Result<Vec<u8>, Refusal> {
     match std::str::from_utf8(name) {
-        Ok(name) => file_lines(alloc, name, Refusal::Io),
+        Ok(name) => file_lines(alloc, name, Some(Reason::NotFound), Refusal::Io),
         Err(_) => Err(Refusal::Io),
     }
 }

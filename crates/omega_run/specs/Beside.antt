@@ -18,12 +18,15 @@ use Rattle.omega_stream_questions.specs.Contained as stream
 use Rattle.omega_trim_answers.specs.Meet.{IsTrimRefused}
 use Rattle.omega_union_answers.specs.Join.{IsUnionRefused}
 use Rattle.omega_walk_answers.specs.Draw.{RefusesWalk}
+use Rattle.omega_io.specs.declared.failure.Failure.{Failure}
+use Rattle.omega_io.specs.declared.reason.Reason.{Reason}
 use Rattle.omega_io.specs.declared.refused.Which.{Which}
 use Rattle.omega_io.specs.declared.refused.Which.TheVariants.{File, Input}
+use Rattle.omega_io.specs.declared.unread.Unread.{Unread}
 use Rattle.omega_io.specs.Failures.{IsTransferRefusal}
 use Rattle.omega_io.specs.Reading.{ReadsText}
 use Rattle.omega_io.specs.RefusalLine.{line_of}
-use Rattle.omega_io.specs.Lines.{file_lines, lines_in}
+use Rattle.omega_io.specs.Lines.{file_lines, lines_in, stream_lines}
 use Rattle.omega_io.specs.Refused.{IsAbout}
 use Rattle.omega_word_text.specs.Text.{IsWordRefusal}
 use Rattle.omega_run.specs.Causes.{IsCauseAbout, IsNoCause, texts}
@@ -31,7 +34,7 @@ use Rattle.omega_run.specs.Held.{IsHeld}
 use Rattle.omega_run.specs.Perform.{Performs}
 use Rattle.omega_run.specs.Report.{ReportsBy, ReportsCause}
 use Rattle.omega_run.specs.Respond.{AnswersBeside}
-use Rattle.omega_run.specs.World.{Streams, World}
+use Rattle.omega_run.specs.World.{Streams, World, failure_in}
 
 -- what each of the two texts is called
 abbrev pub name_of : Beside → Which → List ℕ
@@ -127,35 +130,36 @@ abbrev pub text_lines : (verbose : Bool) → List ℕ → Refusal → List ℕ
 text_lines false name refusal = line_of refusal
 text_lines true name refusal = lines_in name refusal
 
--- the lines for a refusal that is about this text, or about none: a refusal about none has one line
-abbrev pub lines_about : (verbose : Bool) → Beside → Option Which → Refusal → List ℕ
-lines_about verbose asked None refusal = line_of refusal
-lines_about verbose asked (Some which) refusal = text_lines verbose (name_of asked which) refusal
+-- the lines for a refusal that is about this text, or about none: with `--verbose` a refusal about none has a second
+-- line only if a stream failed, with this failure
+abbrev pub lines_about : (verbose : Bool) → Failure → Beside → Option Which → Refusal → List ℕ
+lines_about verbose failure asked None refusal = stream_lines verbose failure refusal
+lines_about verbose failure asked (Some which) refusal = text_lines verbose (name_of asked which) refusal
 
 -- the lines for the refusal of the file of this name: one line, and with `--verbose`, if the file could not be read, a
--- second one, which names it
-abbrev pub lines_of_file : (verbose : Bool) → List ℕ → Refusal → List ℕ
-lines_of_file false name refusal = line_of refusal
-lines_of_file true name refusal = file_lines name refusal
+-- second one, which names it, and the reason of the system, if it tells one
+abbrev pub lines_of_file : (verbose : Bool) → List ℕ → Option Reason → Refusal → List ℕ
+lines_of_file false name reason refusal = line_of refusal
+lines_of_file true name reason refusal = file_lines name reason refusal
 
 -- the texts were answered, or refused with lines that name the text that the refusal is about, and with its cause
 abbrev pub IsAnswered : (Option Which → Refusal → List ℕ → Type 0) → (verbose : Bool) → Beside → (file : List ℕ) → ℕ → (List ℕ → Type 0) → Streams → Streams → Type 0
 IsAnswered IsReason verbose asked file status tells before after =
     (outcome : Result Exit Refusal) × (which : Option Which) × Performs (AnswersBeside asked file) outcome before after
     × IfErr outcome (IsRefusalAbout asked file before.unread after.unread which)
-    × ReportsCause (lines_about verbose asked which) (IsReason which) outcome status tells
+    × ReportsCause (lines_about verbose (failure_in after) asked which) (IsReason which) outcome status tells
 
 -- the text of the file was answered beside that of the input, which is held with `--verbose`, so that causes are told
 abbrev pub IsRunBeside : (verbose : Bool) → Beside → (file : List ℕ) → ℕ → (List ℕ → Type 0) → Streams → Streams → Type 0
 IsRunBeside false asked file status tells = IsAnswered (λ which. IsNoCause) false asked file status tells
 IsRunBeside true asked file status tells =
-    IsHeld (λ input. IsAnswered (IsCauseAbout asked (texts file input) (texts file input)) true asked file status tells) status tells
+    IsHeld true (λ input. IsAnswered (IsCauseAbout asked (texts file input) (texts file input)) true asked file status tells) status tells
 
 -- the file of this name was refused, and the lines for that were written; nothing else was read or written
 abbrev pub IsFileRefused : (verbose : Bool) → List ℕ → ℕ → World → Type 0
 IsFileRefused verbose name status world =
-    (refusal : Refusal) × world.refuses name refusal × ReportsBy (lines_of_file verbose name) (Err refusal) status world.tells
-    × (world.after ≡ world.before)
+    (unread : Unread) × world.refuses name unread
+    × ReportsBy (lines_of_file verbose name unread.reason) (Err unread.refusal) status world.tells × (world.after ≡ world.before)
 
 -- the file of this name was read as some text, which was answered to beside that of the input; or the file was refused
 abbrev pub IsRunWithFile : (verbose : Bool) → Beside → List ℕ → ℕ → World → Type 0

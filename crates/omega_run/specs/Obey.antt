@@ -18,7 +18,6 @@ use Rattle.omega_command.specs.declared.line.Task.TheVariants.{Beside, Given, Ru
 use Rattle.omega_io.specs.declared.exit.Exit.{Exit}
 use Rattle.omega_io.specs.declared.exit.Exit.TheVariants.{Done}
 use Rattle.omega_io.specs.Exit.{fault_status}
-use Rattle.omega_io.specs.RefusalLine.{line_of}
 use Rattle.omega_io.specs.Writing.{WritesBeginning}
 use Rattle.omega_io.specs.declared.refused.Refused.{Refused}
 use Rattle.omega_io.specs.declared.refused.Which.TheVariants as which
@@ -32,39 +31,39 @@ use Rattle.omega_run.specs.Held.{IsHeld}
 use Rattle.omega_run.specs.Lenient.{IsGameCauseTold, IsReadAs, IsUnread}
 use Rattle.omega_run.specs.Perform.{Performs}
 use Rattle.omega_run.specs.Progress.{AreProgressLines, CountsLines}
-use Rattle.omega_run.specs.Report.{Reports, ReportsCause}
+use Rattle.omega_run.specs.Report.{Reports, ReportsCause, lines_after}
 use Rattle.omega_run.specs.Respond.{Answers}
 use Rattle.omega_run.specs.Formats.{IsFormatOf}
-use Rattle.omega_run.specs.World.{Streams, World, over}
+use Rattle.omega_run.specs.World.{Streams, World, failure_in, over}
 
 -- the command was run
-abbrev pub IsCommandRun : (Refusal → List ℕ → Type 0) → Command → ℕ → ℕ → (List ℕ → Type 0) → Streams → Streams → Type 0
-IsCommandRun IsReason command budget status tells before after =
+abbrev pub IsCommandRun : (verbose : Bool) → (Refusal → List ℕ → Type 0) → Command → ℕ → ℕ → (List ℕ → Type 0) → Streams → Streams → Type 0
+IsCommandRun verbose IsReason command budget status tells before after =
     (outcome : Result Exit Refusal) × Performs (Answers command budget) outcome before after
-    × ReportsCause line_of IsReason outcome status tells
+    × ReportsCause (lines_after verbose after) IsReason outcome status tells
 
 -- the command was run and observed: the lines of its progress come before those of its outcome, and both are one text;
 -- its answer counts the lifts of these lines
-abbrev pub IsObservedRun : (Refusal → List ℕ → Type 0) → Command → ℕ → ℕ → (List ℕ → Type 0) → Streams → Streams → Type 0
-IsObservedRun IsReason command budget status tells before after =
+abbrev pub IsObservedRun : (verbose : Bool) → (Refusal → List ℕ → Type 0) → Command → ℕ → ℕ → (List ℕ → Type 0) → Streams → Streams → Type 0
+IsObservedRun verbose IsReason command budget status tells before after =
     (outcome : Result Exit Refusal) × (lines : List ℕ) × Performs (Answers command budget) outcome before after
     × AreProgressLines command (refusal_in outcome) lifts_between_reports budget before.unread after.unread lines
     × CountsLines command outcome lifts_between_reports budget before.unread after.unread before.held after.held lines
-    × ReportsCause line_of IsReason outcome status (λ text. tells (lines ++ text))
+    × ReportsCause (lines_after verbose after) IsReason outcome status (λ text. tells (lines ++ text))
 
 -- the command was run so, on its input, and no cause is told; with `--verbose` the input is held, and the cause of a
 -- refusal of its text is told
 abbrev pub IsRunTelling : (verbose : Bool) → Command → ((Refusal → List ℕ → Type 0) → Streams → Streams → Type 0) → ℕ → (List ℕ → Type 0) → Streams → Streams → Type 0
 IsRunTelling false command IsRun status tells = IsRun IsNoCause
-IsRunTelling true command IsRun status tells = IsHeld (λ text. IsRun (IsCause (kind_for command) text text [])) status tells
+IsRunTelling true command IsRun status tells = IsHeld true (λ text. IsRun (IsCause (kind_for command) text text [])) status tells
 
 -- the task was done with the text of the input; a refusal has one line, and with `--verbose` others with what it is
--- about
+-- about, or what failed
 abbrev pub IsPerformed : (verbose : Bool) → Task → ℕ → World → Type 0
 IsPerformed verbose (Run command budget) status world =
-    IsRunTelling verbose command (λ IsReason. IsCommandRun IsReason command budget status world.tells) status world.tells world.before world.after
+    IsRunTelling verbose command (λ IsReason. IsCommandRun verbose IsReason command budget status world.tells) status world.tells world.before world.after
 IsPerformed verbose (Observed command budget) status world =
-    IsRunTelling verbose command (λ IsReason. IsObservedRun IsReason command budget status world.tells) status world.tells world.before world.after
+    IsRunTelling verbose command (λ IsReason. IsObservedRun verbose IsReason command budget status world.tells) status world.tells world.before world.after
 IsPerformed verbose (Beside file asked) status world = IsRunWithFile verbose asked (string_bytes file) status world
 IsPerformed verbose (Given text asked) status world =
     IsRunBeside verbose asked (string_bytes text) status world.tells world.before world.after
@@ -79,12 +78,13 @@ IsDoneOfText verbose task source status world =
     ((game : List ℕ) × (rest : Option (List ℕ)) × IsStrictGameText source game
     × IsPerformed verbose task status (record world { before = over (Some game) world.before; after = over rest world.after }))
     ⊎ ((refusal : Refusal) × IsLenientReadRefusal source refusal
-    × ReportsCause line_of (IsGameCauseTold verbose source) (Err refusal) status world.tells × KeepsOutput world.before world.after)
+    × ReportsCause (lines_after verbose world.after) (IsGameCauseTold verbose source) (Err refusal) status world.tells
+    × KeepsOutput world.before world.after)
 
 -- the input was read, and the task was done with the canonical text of its game
 abbrev pub IsDoneOfGame : (verbose : Bool) → Task → ℕ → World → Type 0
 IsDoneOfGame verbose task status world =
-    IsHeld (λ source before after. IsDoneOfText verbose task source status (record world { before = before; after = after }))
+    IsHeld verbose (λ source before after. IsDoneOfText verbose task source status (record world { before = before; after = after }))
     status world.tells world.before world.after
 
 -- what is read in place of these two texts was answered; or one of the two was refused
@@ -95,7 +95,7 @@ IsRunOfTexts verbose asked source written status tells before after =
     × IsAnswered (IsCauseTold verbose asked (texts source written) (texts file input)) verbose asked file status tells
     (over (Some input) before) (over rest after))
     ⊎ ((refused : Refused) × IsRefusedOf (IsUnread (kind_beside asked which.File) source) (IsUnread (kind_beside asked which.Input) written) refused
-    × ReportsCause (lines_about verbose asked refused.text) (IsCauseTold verbose asked (texts source written) (texts source written) refused.text)
+    × ReportsCause (lines_about verbose (failure_in after) asked refused.text) (IsCauseTold verbose asked (texts source written) (texts source written) refused.text)
     (Err refused.refusal) status tells × KeepsOutput before after)
 
 -- the file of this name was read, and then the input, and what is read in place of their texts was answered; or the
@@ -103,7 +103,7 @@ IsRunOfTexts verbose asked source written status tells before after =
 abbrev pub IsRunOfFiles : (verbose : Bool) → two.Beside → List ℕ → ℕ → World → Type 0
 IsRunOfFiles verbose asked name status world =
     ((source : List ℕ) × world.reads name source
-    × IsHeld (λ written. IsRunOfTexts verbose asked source written status world.tells) status world.tells world.before world.after)
+    × IsHeld verbose (λ written. IsRunOfTexts verbose asked source written status world.tells) status world.tells world.before world.after)
     ⊎ IsFileRefused verbose name status world
 
 -- the task was done, with games, and solutions of them, read as other tools write them
@@ -120,7 +120,8 @@ IsPerformedReading true verbose task status world = IsPerformedLeniently verbose
 
 -- nothing was read from standard input, and no read of it failed
 abbrev pub KeepsInput : Streams → Streams → Type 0
-KeepsInput before after = (after.unread ≡ before.unread) × (after.failed_reads ≡ before.failed_reads)
+KeepsInput before after =
+    (after.unread ≡ before.unread) × (after.failed_reads ≡ before.failed_reads) × (after.read_reason ≡ before.read_reason)
 
 -- the file of this name was read as some text, the task was done with that as its input, and standard input was left
 -- alone; or the file was refused
@@ -160,7 +161,7 @@ IsObeyed (Ok (ByText asked name verbose)) status world = IsDoneByText verbose as
 IsObeyed (Ok (Help text)) status world =
     (outcome : Result Exit Refusal)
     × Prints (string_bytes text) outcome world.before.held world.after.held world.before.failed_writes world.after.failed_writes
-    × KeepsInput world.before world.after × Reports outcome status world.tells
+    × KeepsInput world.before world.after × Reports false world.after outcome status world.tells
 IsObeyed (Ok (Fault text)) status world =
     (status ≡ fault_status) × world.tells (string_bytes text) × (world.after ≡ world.before)
-IsObeyed (Err refusal) status world = Reports (Err refusal) status world.tells × (world.after ≡ world.before)
+IsObeyed (Err refusal) status world = Reports false world.after (Err refusal) status world.tells × (world.after ≡ world.before)

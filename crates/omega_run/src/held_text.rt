@@ -1,6 +1,6 @@
-ghost use Rattle.std.specs.Prelude.{◌≡◌, Some};
+ghost use Rattle.std.specs.Prelude.{◌≡◌, None, Some};
 
-use omega_io::{Input, Refusal};
+use omega_io::{Input, Reason, Refusal};
 use std::io::Read;
 
 /// A text in memory as an input. Its reads do not fail.
@@ -13,6 +13,7 @@ impl<'a> HeldText<'a> {
     pub(crate) fn new(text: &'a [u8]) -> HeldText<'a>
         ensures bytes { ⟦<HeldText<'a> as Input>⟧.remaining result ≡ Some text.now }
         ensures failures { ⟦<HeldText<'a> as Input>⟧.failed result ≡ 0 }
+        ensures reason { ⟦<HeldText<'a> as Input>⟧.reason result ≡ None }
     {
         HeldText { rest: text }
     }
@@ -23,6 +24,8 @@ impl<'a> Input for HeldText<'a> {
 
     ghost failed = { λ s. 0 };
 
+    ghost reason = { λ s. None };
+
     fn read(&mut self, into: &mut [u8]) -> Result<usize, Refusal> {
         match self.rest.read(into) {
             Ok(count) => Ok(count),
@@ -32,5 +35,9 @@ impl<'a> Input for HeldText<'a> {
 
     fn failures(&self) -> u64 {
         0
+    }
+
+    fn reason(&self) -> Option<Reason> {
+        None
     }
 }

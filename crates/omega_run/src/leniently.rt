@@ -2,7 +2,7 @@
 ghost use Rattle.std.specs.Prelude.{◌≡◌, ◌-◌, ◌^◌, ◌<◌, ◌⊎◌, ℕ, List, Option, Err, IfErr, IfOk};
 ghost use Rattle.omega_text.specs.declared.refusal.Refusal.TheVariants.{Memory};
 ghost use Rattle.omega_command.specs.Line.{IsRunnableTask};
-ghost use Rattle.omega_io.specs.RefusalLine.{line_of};
+ghost use Rattle.omega_io.specs.Lines.{stream_lines};
 ghost use Rattle.omega_io.specs.Refused.{IsRefusedOf};
 ghost use Rattle.omega_io.specs.declared.refused.Which.TheVariants as which;
 ghost use Rattle.omega_run.specs.Causes.{kind_beside};
@@ -11,7 +11,7 @@ ghost use Rattle.omega_run.specs.Lenient.{IsGameCauseTold, IsReadAs, IsUnread};
 ghost use Rattle.omega_run.specs.Obey.{IsDoneOfGame, IsDoneOfText, IsPerformedLeniently, IsPerformedReading};
 ghost use Rattle.omega_run.specs.Obey.{IsRunOfFiles, IsRunOfTexts};
 ghost use Rattle.omega_run.specs.Report.{ReportsCause};
-ghost use Rattle.omega_run.specs.World.{streams, streams_of, tells_of, world_of};
+ghost use Rattle.omega_run.specs.World.{streams_of, streams_over, tells_of, world_of};
 
 use crate::causes::{Texts, cause_about, cause_after};
 use crate::held_text::HeldText;
@@ -20,7 +20,7 @@ use crate::task::run;
 use crate::text_kind::{TextKind, kind_beside};
 use crate::two_texts::run_texts;
 use omega_command::{Beside, Task};
-use omega_io::{Input, InputFiles, Output, Refusal, Refused, Which, read_all};
+use omega_io::{Failure, Input, InputFiles, Output, Refusal, Refused, Which, failure_of, read_all};
 use omega_lenient::{bare_text, strict_game_text};
 use std::alloc::Global;
 
@@ -123,7 +123,10 @@ fn run_game<F: InputFiles, R: Input, W: Output, E: Output>(
             output,
             errors,
         ),
-        Err(refusal) => report(alloc, Err(refusal), errors),
+        Err(refusal) => {
+            let failure = failure_of(input.reason(), output);
+            report(alloc, Err(refusal), verbose, failure, errors)
+        }
     }
 }
 
@@ -142,15 +145,15 @@ fn run_source<F: InputFiles, W: Output, E: Output>(
     requires tells { E.failed errors.old < 2 ^ 64 - 1 }
     ensures { (before after : Option (List ℕ)) → IsDoneOfText verbose task source.now result
         (world_of F.InputFiles E.Output files.now errors.old errors.new
-        (streams before 0 (W.contents output.old) (W.failed output.old))
-        (streams after 0 (W.contents output.new) (W.failed output.new))) }
+        (streams_over W.Output before output.old) (streams_over W.Output after output.new)) }
 {
+    let failure = failure_of(None, output);
     match strict_game_text(alloc, source) {
         Ok(text) => {
             let mut held = HeldText::new(text.as_slice());
             run(alloc, task, verbose, files, &mut held, output, errors)
         }
-        Err(refusal) => report_game(alloc, source, refusal, verbose, errors),
+        Err(refusal) => report_game(alloc, source, refusal, verbose, failure, errors),
     }
 }
 
@@ -161,18 +164,19 @@ fn report_game<E: Output>(
     source: &[u8],
     refusal: Refusal,
     verbose: bool,
+    failure: Failure,
     errors: &mut E,
 ) -> u8
     requires { E.failed errors.old < 2 ^ 64 - 1 }
-    ensures { ReportsCause line_of (IsGameCauseTold verbose source.now) (Err refusal) result
+    ensures { ReportsCause (stream_lines verbose failure) (IsGameCauseTold verbose source.now) (Err refusal) result
         (tells_of E.Output errors.old errors.new) }
 {
     let outcome = Err(refusal);
     if !verbose {
-        return report_with(alloc, outcome, b"", errors);
+        return report_with(alloc, outcome, verbose, failure, b"", errors);
     }
     let cause = cause_after(alloc, TextKind::Game, source, &outcome);
-    report_with(alloc, outcome, cause.as_slice(), errors)
+    report_with(alloc, outcome, verbose, failure, cause.as_slice(), errors)
 }
 
 /// Reads the file of this name and then the input, and writes the answer to what is read in place of their texts, or
@@ -204,7 +208,7 @@ fn run_files<F: InputFiles, R: Input, W: Output, E: Output>(
             output,
             errors,
         ),
-        Err(refusal) => report_file(alloc, name, refusal, verbose, errors),
+        Err(unread) => report_file(alloc, name, unread, verbose, errors),
     }
 }
 
@@ -221,7 +225,7 @@ fn run_with<R: Input, W: Output, E: Output>(
     requires reads { R.failed input.old < 2 ^ 64 - 1 }
     requires writes { W.failed output.old < 2 ^ 64 - 1 }
     requires tells { E.failed errors.old < 2 ^ 64 - 1 }
-    ensures { IsHeld (λ written. IsRunOfTexts verbose asked source.now written result
+    ensures { IsHeld verbose (λ written. IsRunOfTexts verbose asked source.now written result
         (tells_of E.Output errors.old errors.new)) result (tells_of E.Output errors.old errors.new)
         (streams_of R.Input W.Output input.old output.old) (streams_of R.Input W.Output input.new output.new) }
 {
@@ -233,7 +237,10 @@ fn run_with<R: Input, W: Output, E: Output>(
             };
             run_written(alloc, asked, verbose, written, output, errors)
         }
-        Err(refusal) => report(alloc, Err(refusal), errors),
+        Err(refusal) => {
+            let failure = failure_of(input.reason(), output);
+            report(alloc, Err(refusal), verbose, failure, errors)
+        }
     }
 }
 
@@ -250,8 +257,7 @@ fn run_written<W: Output, E: Output>(
     requires tells { E.failed errors.old < 2 ^ 64 - 1 }
     ensures { (before after : Option (List ℕ)) → IsRunOfTexts verbose asked written.entry.file.now written.entry.input.now
         result (tells_of E.Output errors.old errors.new)
-        (streams before 0 (W.contents output.old) (W.failed output.old))
-        (streams after 0 (W.contents output.new) (W.failed output.new)) }
+        (streams_over W.Output before output.old) (streams_over W.Output after output.new) }
 {
     match texts_for(alloc, asked, written.file, written.input) {
         Ok((file, input)) => {
@@ -264,7 +270,16 @@ fn run_written<W: Output, E: Output>(
         Err(refused) => {
             let outcome = Err(refused);
             let cause = cause_about(alloc, verbose, asked, written, written, &outcome);
-            report_about(alloc, outcome, asked, verbose, cause.as_slice(), errors)
+            let failure = failure_of(None, output);
+            report_about(
+                alloc,
+                outcome,
+                asked,
+                verbose,
+                failure,
+                cause.as_slice(),
+                errors,
+            )
         }
     }
 }

@@ -30,6 +30,7 @@ pub use observing::run_observed;
 pub use omega_budget::{NoObserver, Progress, Reporter};
 pub use omega_command::{Beside, Command, Format, Line, OfEach, OfEither, Player, Source, Task};
 pub use omega_io::{
-    Exit, FromRead, HostFiles, Input, InputFiles, Output, Refusal, ToWrite, exit_code, refusal_line,
+    Exit, FromRead, HostFiles, Input, InputFiles, Output, Reason, Refusal, ToWrite, Unread,
+    exit_code, refusal_line,
 };
 pub use run::run_command;

@@ -1,6 +1,7 @@
 ghost use Rattle.std.specs.Prelude.{◌≡◌, ◌-◌, ◌^◌, ◌<◌, ℕ, IfOk, List, Option};
 ghost use Rattle.omega_command.specs.Line.{IsRunnable, IsRunnableTask};
 ghost use Rattle.omega_run.specs.Obey.{IsDone, IsDoneByText, IsDoneWithFile, IsObeyed, Prints};
+ghost use Rattle.omega_io.specs.declared.reason.Reason.{Reason};
 ghost use Rattle.omega_run.specs.World.{streams, streams_of, world_of};
 
 use crate::format::format_of;
@@ -9,7 +10,7 @@ use crate::leniently::run_reading;
 use crate::reporting::{report, report_file};
 use crate::task::run;
 use omega_command::{Line, MOST_BUDGET, OfEither, Source, Task};
-use omega_io::{Exit, Input, InputFiles, Output, Refusal, tell, write_text};
+use omega_io::{Exit, Input, InputFiles, Output, Refusal, failure_of, tell, write_text};
 use std::alloc::Global;
 
 /// The status after a fault of the command line.
@@ -17,8 +18,9 @@ const FAULT: u8 = 2;
 
 /// Does what a command line requests, and returns the status to end with.
 ///
-/// A refusal, also one that came in place of the command line, is written in one line on standard error. If the command
-/// line says `verbose`, a second line names the refused one of two texts, or the file that cannot be read. If there is
+/// A refusal, also one that came in place of the command line, is written in one line on standard error; but nothing is
+/// written if nobody reads the pipe that is the output. If the command line says `verbose`, a second line names the
+/// refused one of two texts, or the file or stream that failed, with the system's reason if it tells one. If there is
 /// no memory for the lines, that of [Refusal::Memory] is written in their place. The file that the operand names is
 /// read before any other.
 pub fn obey<F: InputFiles, R: Input, W: Output, E: Output>(
@@ -57,13 +59,17 @@ pub fn obey<F: InputFiles, R: Input, W: Output, E: Output>(
         ) => by_text(alloc, asked, file.as_str(), verbose, files, output, errors),
         Ok(Line::Help(text)) => {
             let outcome = print(text.as_bytes(), output);
-            report(alloc, outcome, errors)
+            let failure = failure_of(input.reason(), output);
+            report(alloc, outcome, false, failure, errors)
         }
         Ok(Line::Fault(text)) => {
             tell(errors, text.as_bytes());
             FAULT
         }
-        Err(refusal) => report(alloc, Err(refusal), errors),
+        Err(refusal) => {
+            let failure = failure_of(input.reason(), output);
+            report(alloc, Err(refusal), false, failure, errors)
+        }
     }
 }
 
@@ -116,10 +122,11 @@ fn with_file<F: InputFiles, W: Output, E: Output>(
     requires runnable { IsRunnableTask task }
     requires writes { W.failed output.old < 2 ^ 64 - 1 }
     requires tells { E.failed errors.old < 2 ^ 64 - 1 }
-    ensures { (unread : Option (List ℕ)) → (failed_reads : ℕ) → IsDoneWithFile lenient verbose task name.now result
+    ensures { (unread : Option (List ℕ)) → (failed_reads : ℕ) → (reason : Option Reason)
+        → IsDoneWithFile lenient verbose task name.now result
         (world_of F.InputFiles E.Output files.now errors.old errors.new
-        (streams unread failed_reads (W.contents output.old) (W.failed output.old))
-        (streams unread failed_reads (W.contents output.new) (W.failed output.new))) }
+        (streams unread failed_reads reason (W.contents output.old) (W.failed output.old) (W.reason output.old))
+        (streams unread failed_reads reason (W.contents output.new) (W.failed output.new) (W.reason output.new))) }
 {
     match files.read_file(alloc, name) {
         Ok(text) => {
@@ -128,7 +135,7 @@ fn with_file<F: InputFiles, W: Output, E: Output>(
                 alloc, task, lenient, verbose, files, &mut input, output, errors,
             )
         }
-        Err(refusal) => report_file(alloc, name, refusal, verbose, errors),
+        Err(unread) => report_file(alloc, name, unread, verbose, errors),
     }
 }
 
@@ -145,10 +152,11 @@ fn by_text<F: InputFiles, W: Output, E: Output>(
 ) -> u8
     requires writes { W.failed output.old < 2 ^ 64 - 1 }
     requires tells { E.failed errors.old < 2 ^ 64 - 1 }
-    ensures { (unread : Option (List ℕ)) → (failed_reads : ℕ) → IsDoneByText verbose asked file.now result
+    ensures { (unread : Option (List ℕ)) → (failed_reads : ℕ) → (reason : Option Reason)
+        → IsDoneByText verbose asked file.now result
         (world_of F.InputFiles E.Output files.now errors.old errors.new
-        (streams unread failed_reads (W.contents output.old) (W.failed output.old))
-        (streams unread failed_reads (W.contents output.new) (W.failed output.new))) }
+        (streams unread failed_reads reason (W.contents output.old) (W.failed output.old) (W.reason output.old))
+        (streams unread failed_reads reason (W.contents output.new) (W.failed output.new) (W.reason output.new))) }
 {
     match files.read_file(alloc, file) {
         Ok(text) => {
@@ -157,7 +165,7 @@ fn by_text<F: InputFiles, W: Output, E: Output>(
             let mut held = HeldText::new(text.as_slice());
             run(alloc, task, verbose, files, &mut held, output, errors)
         }
-        Err(refused) => report_file(alloc, file, refused, verbose, errors),
+        Err(unread) => report_file(alloc, file, unread, verbose, errors),
     }
 }
 

@@ -1,9 +1,9 @@
 //! Commands of one input, whose refusals are written to standard error; with `--verbose` the input is held, so that the
 //! cause of a refusal of its text can be told.
-ghost use Rattle.std.specs.Prelude.{◌≡◌, ◌-◌, ◌^◌, ◌<◌, ◌≤◌, ℕ, [], List, Option, Some};
+ghost use Rattle.std.specs.Prelude.{◌≡◌, ◌-◌, ◌^◌, ◌<◌, ◌≤◌, ℕ, [], true, false, List, Option, Some};
 ghost use Rattle.omega_run.specs.Causes.{IsCause, IsNoCause, kind_for};
 ghost use Rattle.omega_run.specs.Obey.{IsCommandRun, IsObservedRun, IsRunTelling};
-ghost use Rattle.omega_run.specs.World.{streams, streams_of, tells_of};
+ghost use Rattle.omega_run.specs.World.{streams_of, streams_over, tells_of};
 ghost use Rattle.omega_solve.specs.Limits.{most_lifts};
 
 use crate::causes::cause_after;
@@ -14,7 +14,7 @@ use crate::run::run_command;
 use crate::text_kind::kind_for;
 use omega_budget::{LIFTS_BETWEEN_REPORTS, NoObserver};
 use omega_command::Command;
-use omega_io::{Input, Output, read_all};
+use omega_io::{Input, Output, failure_of, read_all};
 use std::alloc::Global;
 
 /// Runs a command, writes the lines of a refusal, and returns the status to end with. If `verbose` is set, the input is
@@ -33,17 +33,21 @@ pub(crate) fn run_telling<R: Input, W: Output, E: Output>(
     requires writes { W.failed output.old < 2 ^ 64 - 1 }
     requires tells { E.failed errors.old < 2 ^ 64 - 1 }
     ensures { IsRunTelling verbose command
-        (λ IsReason. IsCommandRun IsReason command budget result (tells_of E.Output errors.old errors.new))
+        (λ IsReason. IsCommandRun verbose IsReason command budget result (tells_of E.Output errors.old errors.new))
         result (tells_of E.Output errors.old errors.new)
         (streams_of R.Input W.Output input.old output.old) (streams_of R.Input W.Output input.new output.new) }
 {
     if !verbose {
         let outcome = run_command(alloc, command, input, output, budget, &NoObserver, &mut ());
-        return report_with(alloc, outcome, b"", errors);
+        let failure = failure_of(input.reason(), output);
+        return report_with(alloc, outcome, false, failure, b"", errors);
     }
     match read_all(alloc, input) {
         Ok(text) => run_held(alloc, command, budget, text.as_slice(), output, errors),
-        Err(refusal) => report(alloc, Err(refusal), errors),
+        Err(refusal) => {
+            let failure = failure_of(input.reason(), output);
+            report(alloc, Err(refusal), true, failure, errors)
+        }
     }
 }
 
@@ -60,10 +64,9 @@ fn run_held<W: Output, E: Output>(
     requires budget { budget ≤ most_lifts }
     requires writes { W.failed output.old < 2 ^ 64 - 1 }
     requires tells { E.failed errors.old < 2 ^ 64 - 1 }
-    ensures { (rest : Option (List ℕ)) × IsCommandRun (IsCause (kind_for command) text.now text.now []) command budget
+    ensures { (rest : Option (List ℕ)) × IsCommandRun true (IsCause (kind_for command) text.now text.now []) command budget
         result (tells_of E.Output errors.old errors.new)
-        (streams (Some text.now) 0 (W.contents output.old) (W.failed output.old))
-        (streams rest 0 (W.contents output.new) (W.failed output.new)) }
+        (streams_over W.Output (Some text.now) output.old) (streams_over W.Output rest output.new) }
 {
     let kind = kind_for(&command);
     let mut held = HeldText::new(text);
@@ -77,7 +80,8 @@ fn run_held<W: Output, E: Output>(
         &mut (),
     );
     let cause = cause_after(alloc, kind, text, &outcome);
-    report_with(alloc, outcome, cause.as_slice(), errors)
+    let failure = failure_of(None, output);
+    report_with(alloc, outcome, true, failure, cause.as_slice(), errors)
 }
 
 /// Runs a command that is observed, writes the lines of a refusal after the lines of its progress, and returns the
@@ -97,7 +101,7 @@ pub(crate) fn observe<R: Input, W: Output, E: Output>(
     requires writes { W.failed output.old < 2 ^ 64 - 1 }
     requires tells { E.failed errors.old < 2 ^ 64 - 1 }
     ensures { IsRunTelling verbose command
-        (λ IsReason. IsObservedRun IsReason command budget result (tells_of E.Output errors.old errors.new))
+        (λ IsReason. IsObservedRun verbose IsReason command budget result (tells_of E.Output errors.old errors.new))
         result (tells_of E.Output errors.old errors.new)
         (streams_of R.Input W.Output input.old output.old) (streams_of R.Input W.Output input.new output.new) }
 {
@@ -106,7 +110,10 @@ pub(crate) fn observe<R: Input, W: Output, E: Output>(
     }
     match read_all(alloc, input) {
         Ok(text) => observe_held(alloc, command, budget, text.as_slice(), output, errors),
-        Err(refusal) => report(alloc, Err(refusal), errors),
+        Err(refusal) => {
+            let failure = failure_of(input.reason(), output);
+            report(alloc, Err(refusal), true, failure, errors)
+        }
     }
 }
 
@@ -123,7 +130,7 @@ fn observe_input<R: Input, W: Output, E: Output>(
     requires reads { R.failed input.old < 2 ^ 64 - 1 }
     requires writes { W.failed output.old < 2 ^ 64 - 1 }
     requires tells { E.failed errors.old < 2 ^ 64 - 1 }
-    ensures { IsObservedRun IsNoCause command budget result (tells_of E.Output errors.old errors.new)
+    ensures { IsObservedRun false IsNoCause command budget result (tells_of E.Output errors.old errors.new)
         (streams_of R.Input W.Output input.old output.old) (streams_of R.Input W.Output input.new output.new) }
 {
     let sound = errors.failures();
@@ -136,7 +143,8 @@ fn observe_input<R: Input, W: Output, E: Output>(
         budget,
         LIFTS_BETWEEN_REPORTS,
     );
-    report_after(alloc, outcome, b"", sound, errors)
+    let failure = failure_of(input.reason(), output);
+    report_after(alloc, outcome, false, failure, b"", sound, errors)
 }
 
 /// Runs a command that is observed on a text in memory, and writes the lines of a refusal with its cause.
@@ -151,10 +159,9 @@ fn observe_held<W: Output, E: Output>(
     requires budget { budget ≤ most_lifts }
     requires writes { W.failed output.old < 2 ^ 64 - 1 }
     requires tells { E.failed errors.old < 2 ^ 64 - 1 }
-    ensures { (rest : Option (List ℕ)) × IsObservedRun (IsCause (kind_for command) text.now text.now []) command budget
+    ensures { (rest : Option (List ℕ)) × IsObservedRun true (IsCause (kind_for command) text.now text.now []) command budget
         result (tells_of E.Output errors.old errors.new)
-        (streams (Some text.now) 0 (W.contents output.old) (W.failed output.old))
-        (streams rest 0 (W.contents output.new) (W.failed output.new)) }
+        (streams_over W.Output (Some text.now) output.old) (streams_over W.Output rest output.new) }
 {
     let kind = kind_for(&command);
     let sound = errors.failures();
@@ -169,5 +176,14 @@ fn observe_held<W: Output, E: Output>(
         LIFTS_BETWEEN_REPORTS,
     );
     let cause = cause_after(alloc, kind, text, &outcome);
-    report_after(alloc, outcome, cause.as_slice(), sound, errors)
+    let failure = failure_of(None, output);
+    report_after(
+        alloc,
+        outcome,
+        true,
+        failure,
+        cause.as_slice(),
+        sound,
+        errors,
+    )
 }

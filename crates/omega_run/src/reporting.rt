@@ -2,55 +2,59 @@
 ghost use Rattle.std.specs.Prelude.{◌≡◌, ◌++◌, ◌-◌, ◌^◌, ◌<◌, ◌≤◌, ℕ, List, Err, IfErr, IfOk, IsOkUnless};
 ghost use Rattle.omega_text.specs.declared.refusal.Refusal.TheVariants.{Memory};
 ghost use Rattle.omega_io.specs.Exit.{status_of};
+ghost use Rattle.omega_io.specs.Lines.{stream_lines};
 ghost use Rattle.omega_io.specs.RefusalLine.{line_of};
 ghost use Rattle.omega_run.specs.Beside.{lines_about, lines_of_file, name_of, text_lines};
-ghost use Rattle.omega_run.specs.Report.{IsRefusalReported, Reports, ReportsBy};
+ghost use Rattle.omega_run.specs.Report.{IsRefusalReported, ReportsBy};
 ghost use Rattle.omega_run.specs.World.{tells_of};
 ghost use Rattle.omega_run.specs.private.steps.Beside.{plain, text_in};
 ghost use Rattle.omega_run.specs.private.steps.Telling.{IsToldOf, ReportsWith, TellsLast};
 
 use omega_command::Beside;
 use omega_io::{
-    Exit, Output, Refusal, Refused, Which, exit_code, file_lines, lines_in, refusal_line, tell,
+    Exit, Failure, Output, Refusal, Refused, Unread, Which, exit_code, file_lines, lines_in,
+    refusal_line, stream_lines, tell,
 };
 use std::alloc::Global;
 
-/// Writes the line of a refusal, and returns the status after the outcome.
-pub(crate) fn report<E: Output>(alloc: Global, outcome: Result<Exit, Refusal>, errors: &mut E) -> u8
+/// Writes the lines of a refusal, and returns the status after the outcome. If `verbose` is set, the second line of
+/// [Refusal::Io] says what the `failure` was. If nobody reads the output, there is no line.
+pub(crate) fn report<E: Output>(
+    alloc: Global,
+    outcome: Result<Exit, Refusal>,
+    verbose: bool,
+    failure: Failure,
+    errors: &mut E,
+) -> u8
     requires { E.failed errors.old < 2 ^ 64 - 1 }
-    ensures { Reports outcome result (tells_of E.Output errors.old errors.new) }
+    ensures { ReportsBy (stream_lines verbose failure) outcome result (tells_of E.Output errors.old errors.new) }
 {
     let Err(refusal) = outcome else {
         return exit_code(&outcome);
     };
-    let mut line = Vec::new(alloc);
-    match refusal_line(&refusal, &mut line) {
-        Ok(()) => {
-            tell(errors, line.as_slice());
-            exit_code(&outcome)
-        }
-        Err(wanting) => {
-            tell(errors, b"omega: 60 Memory\n");
-            exit_code(&Err(wanting))
-        }
-    }
+    let lines = stream_lines(alloc, verbose, failure, refusal);
+    report_lines(refusal, lines, b"", errors)
 }
 
-/// Writes the line of a refusal and after it that of its `cause`, and returns the status after the outcome. If there is
-/// no memory for the cause, it is left out.
+/// Writes the lines of a refusal and after them that of its `cause`, and returns the status after the outcome. If there
+/// is no memory for the cause, it is left out.
 pub(crate) fn report_with<E: Output>(
     alloc: Global,
     outcome: Result<Exit, Refusal>,
+    verbose: bool,
+    failure: Failure,
     cause: &[u8],
     errors: &mut E,
 ) -> u8
     requires { E.failed errors.old < 2 ^ 64 - 1 }
-    ensures { ReportsWith line_of cause.now outcome result (tells_of E.Output errors.old errors.new) }
+    ensures { ReportsWith (stream_lines verbose failure) cause.now outcome result
+        (tells_of E.Output errors.old errors.new) }
 {
     let Err(refusal) = outcome else {
         return exit_code(&outcome);
     };
-    report_lines(refusal, line_in(alloc, refusal), cause, errors)
+    let lines = stream_lines(alloc, verbose, failure, refusal);
+    report_lines(refusal, lines, cause, errors)
 }
 
 /// Returns the line of a refusal.
@@ -63,49 +67,53 @@ fn line_in(alloc: Global, refusal: Refusal) -> Result<Vec<u8>, Refusal>
     Ok(line)
 }
 
-/// Writes the line of a refusal and that of its `cause` after lines of progress, unless a write of those failed, and
+/// Writes the lines of a refusal and that of its `cause` after lines of progress, unless a write of those failed, and
 /// returns the status after the outcome.
 pub(crate) fn report_after<E: Output>(
     alloc: Global,
     outcome: Result<Exit, Refusal>,
+    verbose: bool,
+    failure: Failure,
     cause: &[u8],
     sound: u64,
     errors: &mut E,
 ) -> u8
     requires sound { sound < 2 ^ 64 - 1 }
     requires since { sound ≤ E.failed errors.old }
-    ensures { ReportsWith line_of cause.now outcome result (TellsLast sound
+    ensures { ReportsWith (stream_lines verbose failure) cause.now outcome result (TellsLast sound
         (E.contents errors.old) (E.contents errors.new) (E.failed errors.old) (E.failed errors.new)) }
 {
     if errors.failures() == sound {
-        report_with(alloc, outcome, cause, errors)
+        report_with(alloc, outcome, verbose, failure, cause, errors)
     } else {
         exit_code(&outcome)
     }
 }
 
 /// Writes the lines for a refusal of one of two texts, and returns the status after the outcome. If `verbose` is set, a
-/// line names the text that the refusal is about, if there is one. The last line is that of the `cause`.
+/// line names the text that the refusal is about, if there is one, or says what the `failure` was of [Refusal::Io].
+/// The last line is that of the `cause`.
 pub(crate) fn report_about<E: Output>(
     alloc: Global,
     outcome: Result<Exit, Refused>,
     asked: Beside,
     verbose: bool,
+    failure: Failure,
     cause: &[u8],
     errors: &mut E,
 ) -> u8
     requires { E.failed errors.old < 2 ^ 64 - 1 }
-    ensures { ReportsWith (lines_about verbose asked (text_in outcome)) cause.now (plain outcome) result
+    ensures { ReportsWith (lines_about verbose failure asked (text_in outcome)) cause.now (plain outcome) result
         (tells_of E.Output errors.old errors.new) }
 {
     match outcome {
-        Ok(exit) => report_with(alloc, Ok(exit), cause, errors),
+        Ok(exit) => report_with(alloc, Ok(exit), verbose, failure, cause, errors),
         Err(
             Refused {
                 refusal,
                 text: None,
             },
-        ) => report_with(alloc, Err(refusal), cause, errors),
+        ) => report_with(alloc, Err(refusal), verbose, failure, cause, errors),
         Err(
             Refused {
                 refusal,
@@ -139,27 +147,29 @@ fn report_text<E: Output>(
     if verbose {
         report_lines(refusal, lines_in(alloc, name, refusal), cause, errors)
     } else {
-        report_with(alloc, Err(refusal), cause, errors)
+        report_lines(refusal, line_in(alloc, refusal), cause, errors)
     }
 }
 
-/// Writes the lines for the refusal of the file of this name, and returns the status. The second line is written only
-/// if the file could not be read and `verbose` is set.
+/// Writes the lines for the refusal of the file of this name, and returns the status. The second line has the name and
+/// the system's reason, and is written only if the file could not be read and `verbose` is set.
 pub(crate) fn report_file<E: Output>(
     alloc: Global,
     name: &str,
-    refusal: Refusal,
+    unread: Unread,
     verbose: bool,
     errors: &mut E,
 ) -> u8
     requires { E.failed errors.old < 2 ^ 64 - 1 }
-    ensures { ReportsBy (lines_of_file verbose name.now) (Err refusal) result
+    ensures { ReportsBy (lines_of_file verbose name.now unread.reason) (Err unread.refusal) result
         (tells_of E.Output errors.old errors.new) }
 {
+    let Unread { refusal, reason } = unread;
     if !verbose {
-        return report(alloc, Err(refusal), errors);
+        return report_lines(refusal, line_in(alloc, refusal), b"", errors);
     }
-    report_lines(refusal, file_lines(alloc, name, refusal), b"", errors)
+    let lines = file_lines(alloc, name, reason, refusal);
+    report_lines(refusal, lines, b"", errors)
 }
 
 /// Returns what one of the two texts is called.

@@ -5,7 +5,7 @@ ghost use Rattle.omega_run.specs.Beside.{IsAnswered, IsRefusalAbout, IsRunBeside
 ghost use Rattle.omega_run.specs.Causes.{IsCauseTold, IsNoCause, texts};
 ghost use Rattle.omega_run.specs.Perform.{Performs};
 ghost use Rattle.omega_run.specs.Respond.{AnswersBeside};
-ghost use Rattle.omega_run.specs.World.{streams, streams_of, tells_of, world_of};
+ghost use Rattle.omega_run.specs.World.{streams_of, streams_over, tells_of, world_of};
 ghost use Rattle.omega_run.specs.private.steps.Beside.{plain, text_in};
 
 use crate::beside::write_beside;
@@ -13,7 +13,7 @@ use crate::causes::{Texts, cause_about};
 use crate::held_text::HeldText;
 use crate::reporting::{report, report_about, report_file};
 use omega_command::Beside;
-use omega_io::{Exit, Input, InputFiles, Output, Refusal, Refused, read_all};
+use omega_io::{Exit, Input, InputFiles, Output, Refusal, Refused, failure_of, read_all};
 use std::alloc::Global;
 
 /// Reads the file of this name and then the input, writes the answer to both, or the lines of a refusal, and returns
@@ -37,7 +37,7 @@ pub(crate) fn run_beside<F: InputFiles, R: Input, W: Output, E: Output>(
 {
     match files.read_file(alloc, name) {
         Ok(file) => run_both(alloc, file, asked, verbose, input, output, errors),
-        Err(refusal) => report_file(alloc, name, refusal, verbose, errors),
+        Err(unread) => report_file(alloc, name, unread, verbose, errors),
     }
 }
 
@@ -88,7 +88,8 @@ fn run_both<R: Input, W: Output, E: Output>(
 {
     if !verbose {
         let outcome = write_beside(alloc, asked, file, input, output);
-        return report_about(alloc, outcome, asked, false, b"", errors);
+        let failure = failure_of(input.reason(), output);
+        return report_about(alloc, outcome, asked, false, failure, b"", errors);
     }
     match read_all(alloc, input) {
         Ok(text) => {
@@ -98,7 +99,10 @@ fn run_both<R: Input, W: Output, E: Output>(
             };
             run_texts(alloc, asked, true, texts, texts, output, errors)
         }
-        Err(refusal) => report(alloc, Err(refusal), errors),
+        Err(refusal) => {
+            let failure = failure_of(input.reason(), output);
+            report(alloc, Err(refusal), true, failure, errors)
+        }
     }
 }
 
@@ -118,12 +122,20 @@ pub(crate) fn run_texts<W: Output, E: Output>(
     ensures { (rest : Option (List ℕ)) × IsAnswered (IsCauseTold verbose asked
         (texts written.entry.file.now written.entry.input.now) (texts read.entry.file.now read.entry.input.now))
         verbose asked read.entry.file.now result (tells_of E.Output errors.old errors.new)
-        (streams (Some read.entry.input.now) 0 (W.contents output.old) (W.failed output.old))
-        (streams rest 0 (W.contents output.new) (W.failed output.new)) }
+        (streams_over W.Output (Some read.entry.input.now) output.old) (streams_over W.Output rest output.new) }
 {
     let outcome = write_texts(alloc, asked, read, output);
     let cause = cause_about(alloc, verbose, asked, written, read, &outcome);
-    report_about(alloc, outcome, asked, verbose, cause.as_slice(), errors)
+    let failure = failure_of(None, output);
+    report_about(
+        alloc,
+        outcome,
+        asked,
+        verbose,
+        failure,
+        cause.as_slice(),
+        errors,
+    )
 }
 
 /// Writes the answer to two texts in memory.
@@ -135,8 +147,7 @@ fn write_texts<W: Output>(
 ) -> Result<Exit, Refused>
     requires { W.failed output.old < 2 ^ 64 - 1 }
     ensures { (rest : Option (List ℕ)) × Performs (AnswersBeside asked read.entry.file.now) (plain result)
-        (streams (Some read.entry.input.now) 0 (W.contents output.old) (W.failed output.old))
-        (streams rest 0 (W.contents output.new) (W.failed output.new))
+        (streams_over W.Output (Some read.entry.input.now) output.old) (streams_over W.Output rest output.new)
         × IfErr (plain result) (IsRefusalAbout asked read.entry.file.now (Some read.entry.input.now) rest (text_in result)) }
 {
     let Ok(file) = Vec::from_slice(alloc, read.file) else {

@@ -222,7 +222,7 @@ static RUNS: [(&str, &str, &str, u8, &str, &str); 38] = [
         CHOICE,
         5,
         "",
-        "omega: 61 Io\nomega: cannot read 'h'\n",
+        "omega: 61 Io\nomega: cannot read 'h': no such file or directory\n",
     ),
     (
         "omega draw --format pg --solution g",
@@ -280,7 +280,7 @@ static RUNS: [(&str, &str, &str, u8, &str, &str); 38] = [
         "",
         5,
         "",
-        "omega: 61 Io\nomega: cannot read 'h'\n",
+        "omega: 61 Io\nomega: cannot read 'h': no such file or directory\n",
     ),
     ("omega meet --with g", ALWAYS, TURNS, 0, TURNS_ALWAYS, ""),
     ("omega complement g", OFTEN, "", 0, NOT_OFTEN, ""),

@@ -1,5 +1,5 @@
 //! Which file of the machine is opened.
-use omega_run::{HostFiles, InputFiles};
+use omega_run::{HostFiles, InputFiles, Reason};
 use std::alloc::Allocator;
 use std::fs::{Metadata, OpenOptions};
 use std::io;
@@ -68,6 +68,10 @@ fn opens_the_file_of_that_name(rt: HostRuntime) -> Result<(), Fail> {
     let machine = OneName { rt: &rt };
     let files = HostFiles::new(&machine);
     assert!(rt; files.read_file(alloc, "game")?.is_empty());
-    assert!(rt; files.read_file(alloc, "gam").is_err());
+    let reason = match files.read_file(alloc, "gam") {
+        Ok(_) => None,
+        Err(unread) => unread.reason,
+    };
+    assert!(rt; reason == Some(Reason::NotFound));
     Ok(())
 }

@@ -129,7 +129,7 @@ static RUNS: [(&str, &str, &str, u8, &str, &str); 15] = [
         DEAD_END,
         5,
         "",
-        "omega: 61 Io\nomega: cannot read 'h'\n",
+        "omega: 61 Io\nomega: cannot read 'h': no such file or directory\n",
     ),
 ];
 

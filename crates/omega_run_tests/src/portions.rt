@@ -3,12 +3,12 @@ use std::alloc::Global;
 use std::io;
 use std::io::{Read, Write};
 
-/// A reader that gives at most `most` bytes at a time, and at last nothing, or an error.
+/// A reader that gives at most `most` bytes at a time, and at last nothing, or an error of a kind.
 #[derive(Drop)]
 pub(crate) struct Portions<'a> {
     rest: &'a [u8],
     most: usize,
-    fails: bool,
+    fault: Option<io::ErrorKind>,
 }
 
 impl<'a> Portions<'a> {
@@ -22,24 +22,26 @@ impl<'a> Portions<'a> {
         Portions {
             rest: text.as_bytes(),
             most,
-            fails: false,
+            fault: None,
         }
     }
 
-    /// Returns a reader that gives these bytes, one at a time, and then an error.
-    pub(crate) fn failing(front: &'a [u8]) -> Portions<'a> {
+    /// Returns a reader that gives these bytes, one at a time, and then an error of this kind.
+    pub(crate) fn failing(front: &'a [u8], fault: io::ErrorKind) -> Portions<'a> {
         Portions {
             rest: front,
             most: 1,
-            fails: true,
+            fault: Some(fault),
         }
     }
 }
 
 impl Read for Portions<'_> {
     fn read(&mut self, buf: &mut [u8]) -> io::Result<usize> {
-        if self.rest.is_empty() && self.fails {
-            return Err(io::Error::from(io::ErrorKind::Interrupted));
+        if self.rest.is_empty() {
+            if let Some(kind) = self.fault {
+                return Err(io::Error::from(kind));
+            }
         }
         let count = self.rest.len().min(self.most).min(buf.len());
         buf[..count].copy_from_slice(&self.rest[..count]);
@@ -48,14 +50,14 @@ impl Read for Portions<'_> {
     }
 }
 
-/// A writer that takes a limited number of bytes at a time while it has room, and then gives an error, or takes
-/// nothing.
+/// A writer that takes a limited number of bytes at a time while it has room, and then gives an error of a kind, or
+/// takes nothing.
 #[derive(Drop)]
 pub(crate) struct Filling {
     pub(crate) taken: Vec<u8>,
     most: usize,
     room: usize,
-    fails: bool,
+    fault: Option<io::ErrorKind>,
 }
 
 impl Filling {
@@ -65,25 +67,27 @@ impl Filling {
             taken: Vec::new(alloc),
             most: usize::MAX,
             room: usize::MAX,
-            fails: false,
+            fault: None,
         }
     }
 
-    /// Returns a writer that takes `room` bytes, one at a time.
-    pub(crate) fn with_room(alloc: Global, room: usize, fails: bool) -> Filling {
+    /// Returns a writer that takes `room` bytes, one at a time, and then gives an error of this kind, or takes nothing.
+    pub(crate) fn with_room(alloc: Global, room: usize, fault: Option<io::ErrorKind>) -> Filling {
         Filling {
             taken: Vec::new(alloc),
             most: 1,
             room,
-            fails,
+            fault,
         }
     }
 }
 
 impl Write for Filling {
     fn write(&mut self, buf: &[u8]) -> io::Result<usize> {
-        if self.room == 0 && self.fails {
-            return Err(io::Error::from(io::ErrorKind::BrokenPipe));
+        if self.room == 0 {
+            if let Some(kind) = self.fault {
+                return Err(io::Error::from(kind));
+            }
         }
         let count = buf.len().min(self.most).min(self.room);
         self.taken.extend_from_slice(&buf[..count])?;

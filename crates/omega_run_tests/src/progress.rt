@@ -2,6 +2,7 @@ use crate::portions::{Filling, Portions};
 use crate::running::{Asked, Left, expect};
 use omega_run::{Command, Exit, FromRead, Output, Refusal, ToWrite, run_observed};
 use std::alloc::Global;
+use std::io;
 use std::test::Fail;
 
 /// A game that takes eight lifts for player 0, of at most 32, and none for player 1.
@@ -88,7 +89,12 @@ fn the_budget_is_reported_where_it_is_less_than_the_bound(rt: HostRuntime) -> Re
 #[test]
 fn a_failed_line_stops_no_run(rt: HostRuntime) -> Result<(), Fail> {
     let alloc = rt.alloc();
-    let left = solved(alloc, 1000, 1, Filling::with_room(alloc, 12, true));
+    let left = solved(
+        alloc,
+        1000,
+        1,
+        Filling::with_room(alloc, 12, Some(io::ErrorKind::BrokenPipe)),
+    );
     assert!(rt; left.ended.is_ok() && left.output.as_slice() == WON.as_bytes());
     assert!(rt; left.error.as_slice() == b"player 0: 1 ".as_slice() && left.failures == 1);
     Ok(())

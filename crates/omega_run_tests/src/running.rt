@@ -4,7 +4,9 @@ ghost use Rattle.omega_command.specs.Line.{IsRunnable};
 
 use crate::portions::{Filling, Portions};
 use omega_command_line::read_words;
-use omega_run::{FromRead, Input, InputFiles, Line, Output, Refusal, ToWrite, obey};
+use omega_run::{
+    FromRead, Input, InputFiles, Line, Output, Reason, Refusal, ToWrite, Unread, obey,
+};
 use std::alloc::{AllocError, Global};
 use std::test::Fail;
 
@@ -62,11 +64,19 @@ impl<'a> InputFiles for OneFile<'a> {
 
     ghost refuses = { λ _ _ _. Unit {0} };
 
-    fn read_file(&self, alloc: Global, name: &str) -> Result<Vec<u8>, Refusal> {
-        if name == "g" {
-            Ok(Vec::from_slice(alloc, self.text)?)
-        } else {
-            Err(Refusal::Io)
+    fn read_file(&self, alloc: Global, name: &str) -> Result<Vec<u8>, Unread> {
+        if name != "g" {
+            return Err(Unread {
+                refusal: Refusal::Io,
+                reason: Some(Reason::NotFound),
+            });
+        }
+        match Vec::from_slice(alloc, self.text) {
+            Ok(text) => Ok(text),
+            Err(_) => Err(Unread {
+                refusal: Refusal::Memory,
+                reason: None,
+            }),
         }
     }
 }

@@ -1,7 +1,7 @@
 ghost use Rattle.std.specs.Prelude.{◌≡◌};
 ghost use Rattle.omega_text.specs.declared.refusal.Refusal.TheVariants.{Memory};
 
-use omega_run::{InputFiles, Refusal};
+use omega_run::{InputFiles, Refusal, Unread};
 use std::alloc::Global;
 
 /// A text in memory, in the place of each file.
@@ -21,9 +21,15 @@ impl<'a> OneFile<'a> {
 impl<'a> InputFiles for OneFile<'a> {
     ghost reads = { λ s _ text. text ≡ s.text.now };
 
-    ghost refuses = { λ _ _ refusal. refusal ≡ Memory };
+    ghost refuses = { λ _ _ unread. unread.refusal ≡ Memory };
 
-    fn read_file(&self, alloc: Global, _name: &str) -> Result<Vec<u8>, Refusal> {
-        Ok(Vec::from_slice(alloc, self.text)?)
+    fn read_file(&self, alloc: Global, _name: &str) -> Result<Vec<u8>, Unread> {
+        match Vec::from_slice(alloc, self.text) {
+            Ok(text) => Ok(text),
+            Err(_) => Err(Unread {
+                refusal: Refusal::Memory,
+                reason: None,
+            }),
+        }
     }
 }

@@ -7,4 +7,4 @@ returns-in-Err g c = search rules
 
 pub returns-in-Ok-ByText : goal.returns-in-Ok-ByText
 returns-in-Ok-ByText g c =
-    rw (c.in-Ok-ByText.is, c.in-Ok-ByText.field-0-is) (rw c.as_str.ensures.value at c.by_text.ensures _ _)
+    rw (c.in-Ok-ByText.is, c.in-Ok-ByText.field-0-is) (rw c.as_str.ensures.value at c.by_text.ensures _ _ _)

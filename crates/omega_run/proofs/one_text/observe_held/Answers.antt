@@ -1,6 +1,5 @@
 -- `observe_held`: the lines of the outcome are written after the lines of progress.
 use Rattle.std.proofs.Common.{◌++◌, []}
-use Rattle.omega_io.specs.RefusalLine.{line_of}
 use Rattle.omega_run.specs.Causes.{IsCause, kind_for}
 use Rattle.omega_run.specs.World.{tells_of}
 use Rattle.omega_run.specs.private.steps.Telling.{TellsLast}
@@ -23,15 +22,15 @@ returns g c =
         performed,
         reported.1,
         reported.2,
-        explained line_of (IsCause (kind_for c.args.command) text text []) cause outcome status
+        explained _ (IsCause (kind_for c.args.command) text text []) cause outcome status
             (λ more. tells_of g.E.Output c.args.errors.now c.report_after.new.errors (reported.0 ++ more))
             (rw c.kind_for-kind.ensures at c.cause_after-cause.ensures)
-            (told_as line_of cause outcome status
+            (told_as _ cause outcome status
             (TellsLast (g.E.Output.failed c.args.errors.now) (g.E.Output.contents c.run_observed-outcome.new.errors)
             (g.E.Output.contents c.report_after.new.errors) (g.E.Output.failed c.run_observed-outcome.new.errors)
             (g.E.Output.failed c.report_after.new.errors))
             (λ more. tells_of g.E.Output c.args.errors.now c.report_after.new.errors (reported.0 ++ more))
             (λ more last. reported_at_last _ _ _ _ _ _ _ _ reported.3 last)
-            (rw (c.as_slice.ensures.value, c.failures-sound.ensures) at c.report_after.ensures)),
+            (rw (c.as_slice.ensures.value, c.failures-sound.ensures, c.failure_of-failure.ensures) at c.report_after.ensures)),
       ),
     )

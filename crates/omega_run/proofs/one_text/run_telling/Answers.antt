@@ -1,6 +1,5 @@
 -- `run_telling`: without `--verbose` the command is run on its input, and no cause is told.
 use Rattle.std.proofs.Common.{[]}
-use Rattle.omega_io.specs.RefusalLine.{line_of}
 use Rattle.omega_run.specs.Causes.{IsNoCause}
 use Rattle.omega_run.specs.Respond.{Answers}
 use Rattle.omega_run.specs.World.{tells_of}
@@ -16,6 +15,6 @@ returns-then-not-verbose g c =
       outcome,
       performs (Answers c.args.command c.args.budget) outcome _ _ ran.completed ran.refused ran.unwritten ran.broken_off ran.counted
           ran.reads_kept ran.writes_kept,
-      explained line_of IsNoCause [] outcome c.report_with.result (tells_of g.E.Output c.args.errors.now c.report_with.new.errors)
-          (unexplained outcome) c.report_with.ensures,
+      explained _ IsNoCause [] outcome c.report_with.result (tells_of g.E.Output c.args.errors.now c.report_with.new.errors)
+          (unexplained outcome) (rw (c.failure_of-failure.ensures, c.reason.ensures) at c.report_with.ensures),
     )

@@ -1,6 +1,6 @@
 -- `report_after`: if no write of the lines failed, the lines of the refusal are written after them, and else nothing.
 use Rattle.std.proofs.Common.{◌∙◌, arith, refl}
-use Rattle.omega_io.specs.RefusalLine.{line_of}
+use Rattle.omega_io.specs.Lines.{stream_lines}
 use Rattle.omega_run.specs.World.{tells_of}
 use Rattle.omega_run.specs.private.steps.Telling.{TellsLast}
 use Rattle.omega_run.proofs.Explaining.{told_any, told_as}
@@ -8,7 +8,7 @@ use Rattle.omega_run.proofs.reporting.report_after.Goals as goal
 
 pub returns-then-failures-sound : goal.returns-then-failures-sound
 returns-then-failures-sound g c =
-    told_as line_of c.args.cause.now c.args.outcome c.report_with.result
+    told_as (stream_lines c.args.verbose c.args.failure) c.args.cause.now c.args.outcome c.report_with.result
     (tells_of g.E.Output c.args.errors.now c.report_with.new.errors)
     (TellsLast c.args.sound (g.E.Output.contents c.args.errors.now) (g.E.Output.contents c.report_with.new.errors)
     (g.E.Output.failed c.args.errors.now) (g.E.Output.failed c.report_with.new.errors))
@@ -20,7 +20,7 @@ returns-then-failures-sound g c =
 
 pub returns-else-failures-sound : goal.returns-else-failures-sound
 returns-else-failures-sound g c =
-    told_any line_of c.args.cause.now c.args.outcome c.exit_code.result
+    told_any (stream_lines c.args.verbose c.args.failure) c.args.cause.now c.args.outcome c.exit_code.result
     (TellsLast c.args.sound (g.E.Output.contents c.args.errors.now) (g.E.Output.contents c.args.errors.now)
     (g.E.Output.failed c.args.errors.now) (g.E.Output.failed c.args.errors.now))
     c.exit_code.ensures

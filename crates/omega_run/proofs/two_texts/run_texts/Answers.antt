@@ -12,6 +12,6 @@ returns g c =
         text_in c.write_texts-outcome.result,
         wrote.1,
         wrote.2,
-        explained _ _ _ _ _ _ c.cause_about-cause.ensures (rw c.as_slice.ensures.value at c.report_about.ensures),
+        explained _ _ _ _ _ _ c.cause_about-cause.ensures (rw (c.as_slice.ensures.value, c.failure_of-failure.ensures) at c.report_about.ensures),
       ),
     )
