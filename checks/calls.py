@@ -162,7 +162,7 @@ RUNS: list[tuple[str, bytes, bytes, int, bytes]] = [
     ("tell_stream", STREAM, b"", 0, b"HOA: v1\n"),
     ("tell_stream", BUCHI + b"x", b"", 3, b""),
     ("lines_in", b"second text", b"", 0, b"omega: 3 Syntax at 12\nomega: in the second text\n"),
-    ("file_lines", b"a.pg", b"", 0, b"omega: 61 Io\nomega: cannot read 'a.pg'\n"),
+    ("file_lines", b"a.pg", b"", 0, b"omega: 61 Io\nomega: cannot read 'a.pg': no such file or directory\n"),
 ]
 
 SOLVERS = [f"{table} {order}" for table in ("plain", "packed") for order in ("sweep", "worklist", "nested")]

@@ -335,7 +335,7 @@ def drawing_checks() -> Cases:
             fault_with_file,
             words, held, GAMES[0], 1, b"", line + b"omega: in the solution\n" + cause)
     missing = os.path.join(ROOT, "no", "such", "solution")
-    said = f"omega: 61 Io\nomega: cannot read '{missing}'\n".encode()
+    said = f"omega: 61 Io\nomega: cannot read '{missing}': no such file or directory\n".encode()
     yield "a solution file that is not there", partial(
         fault_of,
         ["draw", "-v", "--format", "pg", "--solution", missing], GAMES[0], 5, b"", said)

@@ -159,7 +159,7 @@ class Shimmed:
 def untold(ample: Left) -> Left:
     """The same without the last line of a refusal that says where or what, if it has one."""
     lines = ample[2].splitlines(keepends=True)
-    is_told = len(lines) > 1 and not lines[-1].startswith((b"omega: in the ", b"omega: cannot read "))
+    is_told = len(lines) > 1 and not lines[-1].startswith((b"omega: in the ", b"omega: cannot "))
     return (ample[0], ample[1], b"".join(lines[:-1])) if is_told else ample
 
 

@@ -1,12 +1,14 @@
 """Which status a run ends with, and what stands on which stream. Tried are faults of the command line, words that are
 no text, files that cannot be read or are no texts, named by an option or by the operand, streams that fail or are
-closed, and a pipe that nobody reads. Help names the limits as they are.
+closed, with the reasons that are told of them, and a pipe that nobody reads, of which nothing is told. Help names the
+limits as they are.
 
 This is what `main` adds to what is proved of `obey`.
 """
 import os
 import subprocess
 import tempfile
+from collections.abc import Iterator
 from typing import Any
 
 from program import OMEGA, SECONDS, Cases, Ran, fault_of, fault_with_file, shown, subcommands
@@ -14,6 +16,7 @@ from program import OMEGA, SECONDS, Cases, Ran, fault_of, fault_with_file, shown
 CHOICE = b"0 0 0 1,2; 1 1 1 0; 2 2 1 0;"
 SOLUTION = b"paritysol 2; 0 0 2; 1 0; 2 0;"
 MISSING = os.path.join(tempfile.gettempdir(), "no", "such", "file")
+ABSENT, FOLDER = "no such file or directory", "is a directory"
 NO_TEXT = b"error: the command line is not UTF-8\n\nFor more information, try '--help'.\n"
 LIMITS = {
     "check": ("16777216", "1048576", "8388608"),
@@ -31,9 +34,15 @@ def left(came: Ran) -> str:
     return f"{came.returncode} {shown(came.stdout)} {shown(came.stderr)}"
 
 
-def unread(name: str) -> bytes:
+def unread(name: str, reason: str) -> bytes:
     """What is told with `--verbose` of a file that can't be read."""
-    return f"omega: 61 Io\nomega: cannot read '{name}'\n".encode()
+    return f"omega: 61 Io\nomega: cannot read '{name}': {reason}\n".encode()
+
+
+def told_of(stream: bytes) -> Iterator[tuple[list[str], bytes]]:
+    """Further words of a command line, and what is told of a stream that fails: its line comes with `--verbose`."""
+    yield [], b"omega: 61 Io\n"
+    yield ["-v"], b"omega: 61 Io\n" + stream
 
 
 def statuses() -> Cases:
@@ -45,14 +54,19 @@ def statuses() -> Cases:
     yield "a refused text of automata", fault_of(["check", "--format", "hoa"], b"x", 1, b"", b"omega: 3 Syntax at 0\n")
     yield "a solution verified", fault_with_file(["verify", "--game"], CHOICE, SOLUTION, 0, b"yes\n")
     yield "a game file that is not there", fault_of(
-        ["verify", "-v", "--game", MISSING], SOLUTION, 5, b"", unread(MISSING))
+        ["verify", "-v", "--game", MISSING], SOLUTION, 5, b"", unread(MISSING, ABSENT))
     yield "a game file that is a folder", fault_of(
-        ["verify", "-v", "--game", tempfile.gettempdir()], SOLUTION, 5, b"", unread(tempfile.gettempdir()))
+        ["verify", "-v", "--game", tempfile.gettempdir()], SOLUTION, 5, b"", unread(tempfile.gettempdir(), FOLDER))
     yield "an operand", fault_with_file(["check", "--format", "pg"], CHOICE, b"", 0, b"accepted\n")
     yield "an operand that is not there", fault_of(
-        ["check", "-v", "--format", "pg", MISSING], CHOICE, 5, b"", unread(MISSING))
+        ["check", "-v", "--format", "pg", MISSING], CHOICE, 5, b"", unread(MISSING, ABSENT))
     yield "an operand that is a folder", fault_of(
-        ["check", "-v", "--format", "hoa", tempfile.gettempdir()], b"", 5, b"", unread(tempfile.gettempdir()))
+        ["check", "-v", "--format", "hoa", tempfile.gettempdir()], b"", 5, b"", unread(tempfile.gettempdir(), FOLDER))
+    yield "an operand under a file", fault_of(
+        ["check", "-v", "--format", "pg", f"{os.devnull}/x"], CHOICE, 5, b"",
+        unread(f"{os.devnull}/x", "not a directory"))
+    yield "an operand with a name that is too long", fault_of(
+        ["check", "-v", "--format", "pg", "x" * 256], CHOICE, 5, b"", unread("x" * 256, "file name too long"))
 
 
 def command_lines() -> Cases:
@@ -79,16 +93,18 @@ def help_texts() -> Cases:
 
 def closed_streams() -> Cases:
     """Standard output that takes nothing, and standard input that can't be read."""
-    with open("/dev/full", "wb") as full:
-        came = subprocess.run([OMEGA, "check", "--format", "pg"], input=CHOICE, stdout=full, stderr=subprocess.PIPE,
-                              timeout=SECONDS)
-    good = came.returncode == 5 and came.stderr == b"omega: 61 Io\n"
-    yield "standard output is full", None if good else f"{came.returncode} {shown(came.stderr)}"
-    with open(os.devnull, "wb") as written:
-        came = subprocess.run([OMEGA, "check", "--format", "pg"], stdin=written, stdout=subprocess.PIPE,
-                              stderr=subprocess.PIPE, timeout=SECONDS)
-    good = came.returncode == 5 and not came.stdout and came.stderr == b"omega: 61 Io\n"
-    yield "standard input can't be read", None if good else left(came)
+    for words, told in told_of(b"omega: cannot write standard output: no space left on device\n"):
+        with open("/dev/full", "wb") as full:
+            came = subprocess.run([OMEGA, "check", "--format", "pg", *words], input=CHOICE, stdout=full,
+                                  stderr=subprocess.PIPE, timeout=SECONDS)
+        good = came.returncode == 5 and came.stderr == told
+        yield f"standard output is full {words}", None if good else f"{came.returncode} {shown(came.stderr)}"
+    for words, told in told_of(b"omega: cannot read standard input\n"):
+        with open(os.devnull, "wb") as written:
+            came = subprocess.run([OMEGA, "check", "--format", "pg", *words], stdin=written, stdout=subprocess.PIPE,
+                                  stderr=subprocess.PIPE, timeout=SECONDS)
+        good = came.returncode == 5 and not came.stdout and came.stderr == told
+        yield f"standard input can't be read {words}", None if good else left(came)
     with open("/dev/full", "wb") as full:
         came = subprocess.run([OMEGA, "check", "--format", "pg"], input=b"", stdout=subprocess.PIPE, stderr=full,
                               timeout=SECONDS)
@@ -98,22 +114,29 @@ def closed_streams() -> Cases:
 def broken_streams() -> Cases:
     """Streams that are closed, a pipe that nobody reads, a folder for input, and files that are no good texts."""
     words = [OMEGA, "check", "--format", "pg"]
-    taken, given = os.pipe()
-    os.close(taken)
-    came = subprocess.run(words, input=CHOICE, stdout=given, stderr=subprocess.PIPE, timeout=SECONDS)
-    os.close(given)
-    yield "a pipe that nobody reads", None if (came.returncode, came.stderr) == (5, b"omega: 61 Io\n") else f"{came}"
-    folder = os.open(tempfile.gettempdir(), os.O_RDONLY)
-    came = subprocess.run(words, stdin=folder, capture_output=True, timeout=SECONDS)
-    os.close(folder)
-    good = (came.returncode, came.stdout, came.stderr) == (5, b"", b"omega: 61 Io\n")
-    yield "standard input is a folder", None if good else f"{came}"
-    for closed, text, status, error in (("<&-", b"", 5, b"omega: 61 Io\n"), (">&-", CHOICE, 5, b"omega: 61 Io\n"),
-                                        ("2>&-", b"", 1, b"")):
-        came = subprocess.run(["sh", "-c", f'"$0" "$@" {closed}', *words], input=text, capture_output=True,
-                              timeout=SECONDS)
-        good = (came.returncode, came.stdout, came.stderr) == (status, b"", error)
-        yield f"a closed stream, {closed}", None if good else f"{came}"
+    asked: list[list[str]] = [[], ["-v"], ["--lenient"], ["--lenient", "-v"], ["--help"]]
+    for more in asked:
+        taken, given = os.pipe()
+        os.close(taken)
+        came = subprocess.run(words + more, input=CHOICE, stdout=given, stderr=subprocess.PIPE, timeout=SECONDS)
+        os.close(given)
+        yield f"a pipe that nobody reads {more}", None if (came.returncode, came.stderr) == (5, b"") else f"{came}"
+    for more, told in told_of(b"omega: cannot read standard input: is a directory\n"):
+        folder = os.open(tempfile.gettempdir(), os.O_RDONLY)
+        came = subprocess.run(words + more, stdin=folder, capture_output=True, timeout=SECONDS)
+        os.close(folder)
+        good = (came.returncode, came.stdout, came.stderr) == (5, b"", told)
+        yield f"standard input is a folder {more}", None if good else f"{came}"
+    for closed, text, stream in (("<&-", b"", b"omega: cannot read standard input\n"),
+                                 (">&-", CHOICE, b"omega: cannot write standard output\n")):
+        for more, told in told_of(stream):
+            came = subprocess.run(["sh", "-c", f'"$0" "$@" {closed}', *words, *more], input=text, capture_output=True,
+                                  timeout=SECONDS)
+            good = (came.returncode, came.stdout, came.stderr) == (5, b"", told)
+            yield f"a closed stream {closed} {more}", None if good else f"{came}"
+    came = subprocess.run(["sh", "-c", '"$0" "$@" 2>&-', *words], input=b"", capture_output=True, timeout=SECONDS)
+    good = (came.returncode, came.stdout, came.stderr) == (1, b"", b"")
+    yield "standard error is closed", None if good else f"{came}"
     long = b"0 0 0 0;" + b" " * 16_777_216
     for held, line, cause in ((long, b"omega: 4 TooLong\n", b""),
                               (b"\xff\xfe", b"omega: 1 Lex at 0\n", b"omega: line 1, column 1: '\\xff\\xfe'\n"),
