@@ -32,7 +32,7 @@ static TOLD: [(&str, &str, &str); 6] = [
         "0 0 0 0",
         "paritysol 0; 0 0 0;",
     ),
-    ("omega accepts --word cycle{t}", "", CANONICAL),
+    ("omega accepts --word cycle{1}", "", CANONICAL),
 ];
 
 /// How a read fails, and what a verbose run tells of it in its second line.
