@@ -9,7 +9,7 @@ use std::alloc::Global;
 /// The text has what `edges` tells of those of the stem, a semicolon after each, and of those of the cycle in
 /// `cycle{..}`.
 ///
-/// Asks once for each edge.
+/// What `edges` needs to tell of an edge has to hold (`can_tell`). Each edge is told once.
 pub fn lasso_form<T: EdgeText>(
     alloc: Global,
     edges: &T,
