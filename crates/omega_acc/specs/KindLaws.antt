@@ -1,9 +1,10 @@
 -- Parity formulas hold exactly if the greatest priority is even, and generalized Büchi formulas exactly if every set
 -- occurs.
 use Rattle.std.specs.Prelude.{◌≡◌, ℕ, ◌<◌, ◌%◌, ◌↔◌, false, IsTrue, All, List, length, map}
+use Rattle.omega_parity_kind.specs.Priority.{greatest_number, priority_of}
+use Rattle.omega_parity_kind.specs.declared.kind.ParityKind.{ParityKind}
 use Rattle.omega_formula.specs.Acceptance.{accepts, occurs}
-use Rattle.omega_formula.specs.Kind.{buchi_formula, greatest_number, parity_formula, priority_of}
-use Rattle.omega_formula.specs.declared.kind.ParityKind.{ParityKind}
+use Rattle.omega_formula.specs.Kind.{buchi_formula, parity_formula}
 
 -- for each kind and each list of mark sets that is not empty,
 -- the parity formula holds exactly if the greatest priority is even

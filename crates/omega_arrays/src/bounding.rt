@@ -11,7 +11,8 @@ ghost use Rattle.omega_arrays.specs.Solving.{or_shape};
 use crate::arrays::Arrays;
 use crate::building::built;
 use crate::fault::ArrayFault;
-use omega_game::{ForwardGame, Player, bound};
+use omega_game::{ForwardGame, Player};
+use omega_measure::bound;
 use std::alloc::Global;
 
 /// A bound on lifts, in two halves.

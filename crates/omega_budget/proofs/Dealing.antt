@@ -7,8 +7,8 @@ use Rattle.omega_parity_game.specs.Game.{Node, priorities}
 use Rattle.omega_lift_laws.specs.Laws.{RunsAreBounded}
 use Rattle.omega_lift_laws.specs.Measure.{Measure, zero_measure}
 use Rattle.omega_lift_laws.specs.Run.{IsDue, IsLiftingRun, IsStable, zero_table}
+use Rattle.omega_schedules.specs.Schedule.{all_pending}
 use Rattle.omega_solve.specs.Headline.{DealsOut, Headline, Runs}
-use Rattle.omega_solve.specs.Schedule.{all_pending}
 use Rattle.omega_solve.specs.Solver.{SolverState, solver_state, start_of}
 use Rattle.omega_budget.specs.declared.found.Found.{Found}
 use Rattle.omega_budget.specs.Laws.{HeadlineByPlace, IsAnswerOfSolver}

@@ -15,8 +15,8 @@ use Rattle.omega_parity_game.specs.Building.{IsBuildRefusal, IsGameOf, specified
 use Rattle.omega_parity_game.specs.Game.{Node, IsGame, IsWithinLimits, IsWritableNode, identifiers, no_node, node_at, owner_at, priority_at, successors_at}
 use Rattle.omega_parity_game.specs.Laws.{GamesHaveNoFault, SpecificationsHaveOneGame}
 use Rattle.omega_parity_game.proofs.elements.Membership.{map-Contains, map_same}
-use Rattle.omega_parity_game.proofs.parts.PartGames.{memory_alone}
-use Rattle.omega_parity_game.proofs.parts.Specifying.{with_last-push}
+use Rattle.omega_parity_game.proofs.building.Refusals.{memory_alone}
+use Rattle.omega_parity_game.proofs.building.Collecting.{with_last-push}
 use Rattle.omega_order.specs.Permutation.{AreInverse}
 use Rattle.omega_budget.specs.private.steps.Building.{spec_of, specs_below}
 use Rattle.omega_budget.specs.Reordering.{IsMoved, IsReordering}

@@ -6,10 +6,10 @@ use Rattle.omega_parity_game.specs.Bound.{bound_of}
 use Rattle.omega_parity_game.specs.Game.{IsGame, Node, priorities}
 use Rattle.omega_lift_laws.specs.Answer.{won_in}
 use Rattle.omega_lift_laws.specs.Laws.{RunsAreBounded}
+use Rattle.omega_schedules.specs.Schedule.{all_pending}
 use Rattle.omega_solve.specs.declared.outcome.Outcome.TheVariants.{Done}
 use Rattle.omega_solve.specs.declared.turns.TurnsAnswer.{TurnsAnswer}
 use Rattle.omega_solve.specs.Headline.{Headline}
-use Rattle.omega_solve.specs.Schedule.{all_pending}
 use Rattle.omega_solve.specs.Solver.{SolverState, solver_state}
 use Rattle.omega_solve.specs.Turns.{IsAnswerOfRun, IsTurnsRefusal}
 use Rattle.omega_budget.specs.declared.found.Found.{Found}

@@ -1,8 +1,8 @@
 -- Counters, which degeneralize generalized Büchi acceptance: the set that is waited for, and the priorities of marks
 -- meanwhile.
 use Rattle.std.specs.Prelude.{ℕ, ◌+◌, ◌==◌, ◌&&◌, if◌then◌else◌, List}
+use Rattle.omega_parity_kind.specs.Priority.{priority_of}
 use Rattle.omega_formula.specs.Acceptance.{holds}
-use Rattle.omega_formula.specs.Kind.{priority_of}
 use Rattle.omega_formula.specs.declared.kind.AccKind.{AccKind}
 use Rattle.omega_formula.specs.declared.kind.AccKind.TheVariants.{Parity, GenBuchi}
 

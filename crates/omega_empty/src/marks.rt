@@ -1,6 +1,6 @@
 ghost use Rattle.std.specs.Prelude.{◌≡◌, ◌++◌, ◌<◌, ◌≤◌, All};
+ghost use Rattle.omega_parity_kind.specs.Priority.{priority_of};
 ghost use Rattle.omega_formula.specs.Acceptance.{holds};
-ghost use Rattle.omega_formula.specs.Kind.{priority_of};
 ghost use Rattle.omega_expression.specs.Limits.{most_depth};
 ghost use Rattle.omega_text.specs.Limits.{most_number};
 ghost use Rattle.omega_empty.specs.Counters.{counter_after, counters, priority_at_counter};

@@ -1,14 +1,15 @@
 -- Parity and generalized Büchi formulas in postfix order: what stands at their ends.
 use Rattle.std.proofs.Common.{◌≡◌, ◌↔◌, ℕ, suc, Bool, true, false, cond, List, [], ◌∷◌, ◌++◌, ap, append_assoc, refl, subst, sym, ◌∙◌}
 use Rattle.std.proofs.lemmas.List.{append_cancel_right}
+use Rattle.omega_parity_kind.specs.Priority.{has_parity}
+use Rattle.omega_parity_kind.specs.declared.kind.Order.{Order}
+use Rattle.omega_parity_kind.specs.declared.kind.Parity.{Parity}
 use Rattle.omega_formula.specs.Acceptance.{AccTree, conjunction, disjunction, fin, inf}
-use Rattle.omega_formula.specs.Kind.{buchi_formula, first_left, formula_of, has_parity, sets_left}
+use Rattle.omega_formula.specs.Kind.{buchi_formula, first_left, formula_of, sets_left}
 use Rattle.omega_formula.specs.private.layout.Acceptance.{acc_postfix}
 use Rattle.omega_formula.specs.private.layout.Chain.{atom_node, joining_node}
 use Rattle.omega_formula.specs.declared.formula.AccNode.{AccNode}
 use Rattle.omega_formula.specs.declared.formula.AccNode.TheVariants.{And, Fin, Inf, Or}
-use Rattle.omega_formula.specs.declared.kind.Order.{Order}
-use Rattle.omega_formula.specs.declared.kind.Parity.{Parity}
 
 joined-ends : (has : Bool) (set : ℕ) (others : AccTree)
     → acc_postfix (cond has (disjunction (inf false set) others) (conjunction (fin false set) others))

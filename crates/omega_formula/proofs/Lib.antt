@@ -6,9 +6,7 @@ pub mod BelowLemmas
 pub mod ChainLemmas
 pub mod Equality
 pub mod JudgedLemmas
-pub mod Parities
 pub mod PlainLemmas
-pub mod PriorityLemmas
 pub mod RawLemmas
 pub mod ReadingLemmas
 pub mod ReadingUniqueness

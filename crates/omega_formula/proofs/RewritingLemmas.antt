@@ -1,15 +1,14 @@
 -- The nodes of a formula that is made of another are those of its tree.
-use Rattle.std.proofs.Common.{◌≡◌, ℕ, ◌+◌, List, [], ◌∷◌, ◌++◌, ap, map, refl, sym, ◌∙◌, max}
+use Rattle.std.proofs.Common.{◌≡◌, ℕ, ◌+◌, List, [], ◌∷◌, ◌++◌, ap, map, refl, ◌∙◌, max}
 use Rattle.std.proofs.lemmas.List.{map-append}
 use Rattle.omega_formula.specs.Acceptance.{AccTree, acc_depth}
 use Rattle.omega_formula.specs.Acceptance as acc
 use Rattle.omega_formula.specs.Dual.{dual}
 use Rattle.omega_formula.specs.Moving.{moved_after}
-use Rattle.omega_formula.specs.private.layout.Acceptance.{IsAcc, acc_postfix, acc_tree_of}
+use Rattle.omega_formula.specs.private.layout.Acceptance.{acc_postfix}
 use Rattle.omega_formula.specs.private.layout.Rewriting.{dual_node, moved_node}
 use Rattle.omega_formula.specs.declared.formula.AccNode.{AccNode}
 use Rattle.omega_formula.specs.declared.formula.AccNode.TheVariants.{And, Or}
-use Rattle.omega_formula.proofs.AccLemmas.{IsAcc-of, acc_tree-is}
 
 -- two parts and an operator, node by node
 map-joined : (f : AccNode → AccNode) (left right : List AccNode) (last : AccNode)

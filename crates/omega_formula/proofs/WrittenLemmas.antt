@@ -1,5 +1,5 @@
 -- The nodes of a formula as its canonical text has it, and their names and depth, are those of its tree.
-use Rattle.std.proofs.Common.{◌≡◌, ℕ, ◌+◌, ◌≤◌, length, Bool, true, false, List, [], ◌∷◌, ◌++◌, codes, max, min, nat_le, nat_lt, reverse, ap, append-nil, append_assoc, arith, refl, sym, ◌∙◌}
+use Rattle.std.proofs.Common.{◌≡◌, ℕ, ◌+◌, ◌≤◌, length, Bool, true, false, List, [], ◌∷◌, ◌++◌, max, min, nat_le, nat_lt, reverse, ap, append-nil, append_assoc, arith, refl, sym, ◌∙◌}
 use Rattle.std.proofs.lemmas.List.{reverse-append, reverse-reverse}
 use Rattle.omega_expression.specs.Depth.{counted}
 use Rattle.omega_expression.specs.Depths.{depths_below, top_depth}
@@ -12,7 +12,7 @@ use Rattle.omega_formula.specs.Raw as raw_acc
 use Rattle.omega_formula.specs.Writing.{acc_grouped, acc_text, acc_written}
 use Rattle.omega_formula.specs.private.layout.Acceptance.{acc_postfix}
 use Rattle.omega_formula.specs.private.layout.Raw.{atom_names, raw_acc_postfix}
-use Rattle.omega_formula.specs.private.layout.Written.{closing, node_name, node_names, raw_depths_after, ranks_after, written_back}
+use Rattle.omega_formula.specs.private.layout.Written.{closing, node_names, raw_depths_after, written_back}
 use Rattle.omega_formula.specs.declared.formula.AccNode.{AccNode}
 use Rattle.omega_formula.specs.declared.formula.AccNode.TheVariants as plain
 use Rattle.omega_formula.specs.declared.raw.RawAccNode.{RawAccNode}

@@ -4,6 +4,11 @@ use Rattle.std.specs.Str.{bytes_eq}
 use Rattle.omega_text.specs.Cases.{never, or_task}
 use Rattle.omega_text.specs.declared.refusal.Refusal.{Refusal}
 use Rattle.omega_text.specs.declared.refusal.task.TaskFault.TheVariants.{NotParity}
+use Rattle.omega_parity_kind.specs.declared.kind.Order.{Order}
+use Rattle.omega_parity_kind.specs.declared.kind.Order.TheVariants.{Max, Min}
+use Rattle.omega_parity_kind.specs.declared.kind.Parity.{Parity}
+use Rattle.omega_parity_kind.specs.declared.kind.Parity.TheVariants.{Even, Odd}
+use Rattle.omega_parity_kind.specs.declared.kind.ParityKind.{ParityKind}
 use Rattle.omega_formula.specs.Acceptance.{AccTree}
 use Rattle.omega_formula.specs.Kind.{buchi_formula, parity_formula}
 use Rattle.omega_expression.specs.Limits.{most_buchi_sets}
@@ -12,11 +17,6 @@ use Rattle.omega_formula.specs.declared.name.Parameter.{Parameter}
 use Rattle.omega_formula.specs.declared.name.Parameter.TheVariants.{Number, Word}
 use Rattle.omega_formula.specs.declared.kind.AccKind.{AccKind}
 use Rattle.omega_formula.specs.declared.kind.AccKind.TheVariants as kind
-use Rattle.omega_formula.specs.declared.kind.Order.{Order}
-use Rattle.omega_formula.specs.declared.kind.Order.TheVariants.{Max, Min}
-use Rattle.omega_formula.specs.declared.kind.Parity.{Parity}
-use Rattle.omega_formula.specs.declared.kind.Parity.TheVariants.{Even, Odd}
-use Rattle.omega_formula.specs.declared.kind.ParityKind.{ParityKind}
 
 -- the kind of a name without parameters
 abbrev pub short_named : List ℕ → Option ParityKind

@@ -1,5 +1,5 @@
-//! Acceptance formulas of omega-automata: read, with their meaning, taken apart and written; acceptance kinds and
-//! priorities.
+//! Acceptance formulas of omega-automata: read, with their meaning, taken apart and written; and the kind that a name
+//! and its formula have. Hands on parity kinds and their priorities, which `omega_parity_kind` has.
 //!
 //! docs/formats.md says when each `Refusal` comes.
 #![tactic(auto)]
@@ -10,7 +10,6 @@ mod kind;
 mod laws;
 mod name;
 mod plain;
-mod priorities;
 mod raw;
 mod reading;
 mod recognition;
@@ -24,10 +23,10 @@ mod written;
 
 pub use formula::{Acc, AccNode};
 pub use judging::AtomJudge;
-pub use kind::{AccKind, Order, Parity, ParityKind};
+pub use kind::AccKind;
 pub use laws::{equal_formulas_are_equal_trees, formulas_are_one};
 pub use name::{AccName, Parameter};
-pub use priorities::priority;
+pub use omega_parity_kind::{Order, Parity, ParityKind, priority};
 pub use raw::RawAcc;
 pub use reading::{read_acc, read_raw_acc};
 pub use recognition::{acceptance_kind, is_buchi, parity_of};

@@ -1,18 +1,19 @@
 //! The acceptance kind of a name, a count of sets and a formula.
 
 ghost use Rattle.std.specs.Prelude.{◌≡◌, ◌<◌, ◌≤◌, ◌↔◌, List, [], ◌∷◌, ◌++◌, IfErr, IfNone, IfOk, IfSome, IsTrue};
+ghost use Rattle.omega_parity_kind.specs.declared.kind.ParityKind.{ParityKind};
 ghost use Rattle.omega_formula.specs.Kind.{buchi_formula, first_left, parity_formula, without_sets};
 ghost use Rattle.omega_formula.specs.Names.{IsAcceptanceRow, IsNotParity, IsParityRow, buchi_named, oddness_named, order_named, parity_named, short_named};
 ghost use Rattle.omega_formula.specs.declared.formula.AccNode.{AccNode};
 ghost use Rattle.omega_formula.specs.declared.kind.AccKind.{AccKind};
-ghost use Rattle.omega_formula.specs.declared.kind.ParityKind.{ParityKind};
 ghost use Rattle.omega_formula.specs.private.layout.Acceptance.{acc_postfix};
 ghost use Rattle.omega_formula.specs.private.layout.Chain.{atom_node, joining_node};
 
 use crate::formula::{Acc, AccNode};
-use crate::kind::{AccKind, Order, Parity, ParityKind};
+use crate::kind::AccKind;
 use crate::name::{AccName, Parameter};
 use omega_expression::MOST_BUCHI_SETS;
+use omega_parity_kind::{Order, Parity, ParityKind};
 use omega_text::{Refusal, TaskFault};
 
 /// Returns the parity kind of `name`, `count` sets and `formula`: `all`, `none`, `Buchi`, `co-Buchi` or `parity` with

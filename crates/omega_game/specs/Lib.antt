@@ -8,9 +8,9 @@ pub use Rattle.omega_parity_game.specs.Game
 pub use Rattle.omega_parity_game.specs.Winning
 pub use Rattle.omega_parity_game.specs.Solution
 pub use Rattle.omega_parity_game.specs.Bound
-pub use Rattle.omega_parity_game.specs.Part
 pub use Rattle.omega_parity_game.specs.Building
 pub use Rattle.omega_parity_game.specs.Laws
+pub use Rattle.omega_reaching.specs.Part
 pub mod Checking
 pub mod Counterexample
 pub mod private

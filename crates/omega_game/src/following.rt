@@ -1,9 +1,10 @@
 //! The places that a strategy reaches.
 ghost use Rattle.std.specs.Prelude.{◌≡◌, ◌<◌, length, vec_len, All, IfOk, IsTrue};
-ghost use Rattle.omega_parity_game.specs.Reaching.{LeadsInside};
+ghost use Rattle.omega_reaching.specs.Reaching.{LeadsInside};
 ghost use Rattle.omega_game.specs.private.checking.Following.{AreClosed, AreFollowed, AreMarked, LeadsToMarked};
 
-use omega_parity_game::{ForwardGame, edges_left, reached_from};
+use omega_parity_game::ForwardGame;
+use omega_reaching::{edges_left, reached_from};
 use std::alloc::{AllocError, Global};
 
 /// Marks the places that are reached from the given ones. If no edge leads out of these, as out of what a strategy

@@ -1,4 +1,5 @@
-//! Whether a strategy wins a parity game, and if not, why. Hands on `omega_parity_game`, for those who use both.
+//! Whether a strategy wins a parity game, and if not, why. Hands on `omega_parity_game`, and the parts of games, for
+//! those who use them too.
 //!
 //! A search suggests an order of the places, or a place at which the player loses (`checking::top_nodes`,
 //! `checking::nesting`). Only its safety is proved: a proved pass judges what it suggests (`checking::deciding`). A
@@ -18,8 +19,9 @@ pub use checking::{
 pub use lasso::Lasso;
 pub use omega_parity_game::{
     ForwardGame, Game, GameBuilder, GameFault, MOST_NODES, MOST_NUMBER, MOST_SUCCESSORS, NodeSpec,
-    Player, PriorityCount, Refusal, Seq, Solution, Strategy, TaskFault, bound, choices_are_entries,
-    game_limits_are_stated, games_exist, games_have_no_fault, games_keep_limits, parts_are_games,
-    parts_keep_nodes, specifications_have_one_game,
+    Player, PriorityCount, Refusal, Seq, Solution, Strategy, TaskFault, choices_are_entries,
+    game_limits_are_stated, games_exist, games_have_no_fault, games_keep_limits,
+    specifications_have_one_game,
 };
+pub use omega_reaching::{forward_part, part, parts_are_games, parts_keep_nodes};
 pub use refuting::counterexample;

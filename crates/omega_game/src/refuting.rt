@@ -1,7 +1,7 @@
 //! Why a strategy does not win, without a solver.
 ghost use Rattle.std.specs.Prelude.{◌↔◌, ◌<◌, length, All, IfOk, IfSome, IsNone, IsOkUnless};
 ghost use Rattle.omega_parity_game.specs.Winning.{IsStrategy};
-ghost use Rattle.omega_parity_game.specs.Reaching.{LeadsInside};
+ghost use Rattle.omega_reaching.specs.Reaching.{LeadsInside};
 ghost use Rattle.omega_game.specs.Checking.{WinsFrom};
 ghost use Rattle.omega_game.specs.Counterexample.{IsCounterexample};
 ghost use Rattle.omega_game.specs.private.checking.Recurring.{Recurs};
@@ -14,7 +14,8 @@ use crate::checking::deciding::decide;
 use crate::checking::decision::Decision;
 use crate::following::followed_from;
 use crate::lasso::Lasso;
-use omega_parity_game::{ForwardGame, Player, Strategy, edges_left};
+use omega_parity_game::{ForwardGame, Player, Strategy};
+use omega_reaching::edges_left;
 use omega_text::{Refusal, Seq};
 use std::alloc::{AllocError, Global};
 use ways::way_to;

@@ -5,7 +5,7 @@ use Rattle.std.proofs.lemmas.List.{get_or_default}
 use Rattle.omega_components.specs.Components.{AreAmong, AreConnectedIn, HoldClosedWalksIn, ShareNoEdge, edge_component_at}
 use Rattle.omega_components.specs.Graph.{AreEdges, Shape}
 use Rattle.omega_parity_game.specs.Game.{IsGame, Node}
-use Rattle.omega_parity_game.specs.Part.{IsPath, Reaches}
+use Rattle.omega_parity_game.specs.Paths.{IsPath, Reaches}
 use Rattle.omega_parity_game.specs.Winning.{end_of}
 use Rattle.omega_game_components.specs.Components.{AreConnected, AreLeaders, leader_at}
 use Rattle.omega_game_components.specs.private.Groups.{AreLed, IsAlone, IsEntered, IsLedIn}

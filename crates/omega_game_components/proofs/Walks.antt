@@ -5,7 +5,7 @@ use Rattle.std.proofs.lemmas.Bool.{eqb-true, false≢true, or_cases, or_left, or
 use Rattle.omega_walk_laws.specs.Walks.{IsEdgeWalk, MarkedGraph}
 use Rattle.omega_components.specs.Graph.{listed, marked}
 use Rattle.omega_parity_game.specs.Game.{HasEdge, IsGame, Node}
-use Rattle.omega_parity_game.specs.Part.{IsPath, Reaches}
+use Rattle.omega_parity_game.specs.Paths.{IsPath, Reaches}
 use Rattle.omega_parity_game.specs.Winning.{end_of}
 use Rattle.omega_parity_game.proofs.elements.Membership.{Contains-cases, Contains-here, Contains-nothing, Contains-there}
 use Rattle.omega_game_components.specs.private.Table.{shape_of}

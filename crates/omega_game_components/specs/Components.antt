@@ -2,7 +2,7 @@
 use Rattle.std.specs.Prelude.{◌≡◌, ◌==◌, ℕ, ◌<◌, ◌≤◌, List, count_by, length, slice_index}
 use Rattle.std.specs.List.{range_with_len}
 use Rattle.omega_parity_game.specs.Game.{Node}
-use Rattle.omega_parity_game.specs.Part.{Reaches}
+use Rattle.omega_parity_game.specs.Paths.{Reaches}
 
 -- two places are in one component: each leads to the other along listed edges
 pub record AreConnected (nodes : List Node) (v w : ℕ) : Type 0 where

@@ -4,7 +4,7 @@ use Rattle.std.proofs.lemmas.Bool.{cases_eq}
 use Rattle.std.proofs.lemmas.List.{length-set, length_push, take_more}
 use Rattle.std.proofs.lemmas.List.Elements.{Contains-append_left, Contains-push, Contains-push_cases}
 use Rattle.omega_parity_game.specs.Game.{Node, HasEdge, successors_at}
-use Rattle.omega_parity_game.proofs.walks.Marking.{mark_kept, mark_other, mark_set, one_fewer}
+use Rattle.omega_reaching.proofs.Marking.{mark_kept, mark_other, mark_set, one_fewer}
 use Rattle.omega_game_drawing.specs.Extent.{is_drawn}
 use Rattle.omega_game_drawing.specs.private.Entering.{AreEntered, IsAfter}
 

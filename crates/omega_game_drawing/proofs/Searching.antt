@@ -6,7 +6,7 @@ use Rattle.std.proofs.lemmas.List.Elements.{Contains-get_or}
 use Rattle.std.specs.Option.{option_eq}
 use Rattle.omega_parity_game.specs.Game.{Node, IsGame, HasEdge}
 use Rattle.omega_parity_game.proofs.elements.Membership.{Contains-cases, Contains-here, Contains-nothing}
-use Rattle.omega_parity_game.proofs.walks.Marking.{marked_below, unmarked}
+use Rattle.omega_reaching.proofs.Marking.{marked_below, unmarked}
 use Rattle.omega_game_drawing.specs.Extent.{IsNear, ReachesWithin, is_drawn}
 use Rattle.omega_game_drawing.specs.private.Entering.{AreEntered, IsAfter}
 use Rattle.omega_game_drawing.proofs.Walks.{IsLed, all_along, near_reached, none_within, within_back, within_none, within_on}

@@ -2,7 +2,7 @@
 use Rattle.std.proofs.Common.{◌≡◌, ◌⊎◌, inl, inr, ℕ, ◌+◌, ◌<◌, ◌≤◌, List, [], ◌∷◌, ◌++◌, length, Option, None, Some, refl, sym, subst, arith}
 use Rattle.std.proofs.lemmas.List.{length_push}
 use Rattle.omega_parity_game.specs.Game.{Node, IsGame, HasEdge}
-use Rattle.omega_parity_game.specs.Part.{IsPath, Reaches}
+use Rattle.omega_parity_game.specs.Paths.{IsPath, Reaches}
 use Rattle.omega_parity_game.specs.Winning.{end_of}
 use Rattle.omega_game_drawing.specs.Extent.{IsNear, ReachesWithin}
 

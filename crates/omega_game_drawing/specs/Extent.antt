@@ -1,7 +1,7 @@
 -- The nodes of a game that are drawn: all, or those that a place reaches, with a depth by at most `depth` edges.
 use Rattle.std.specs.Prelude.{◌≡◌, ◌↔◌, ◌<◌, ◌≤◌, ℕ, Bool, false, IsTrue, Option, None, Some, List, length, slice_index_or}
 use Rattle.omega_parity_game.specs.Game.{Node}
-use Rattle.omega_parity_game.specs.Part.{Reaches}
+use Rattle.omega_parity_game.specs.Paths.{Reaches}
 use Rattle.omega_game_drawing.specs.declared.extent.Extent.{Extent}
 use Rattle.omega_game_drawing.specs.declared.extent.Extent.TheVariants.{Part, Whole}
 

@@ -1,4 +1,6 @@
--- The lemmas of tables of measures.
+-- The lemmas of the bound on lifts and of tables of measures.
+pub mod Products
+pub mod Factors
 pub mod Falling
 pub mod Listed
 pub mod Raising

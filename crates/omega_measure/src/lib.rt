@@ -1,8 +1,9 @@
-//! Tables of small progress measures (Jurdziński 2000), one measure for each node of a game.
+//! Tables of small progress measures (Jurdziński 2000), one measure for each node of a game, and the bound on lifts.
 //!
 //! docs/formats.md says when each refusal comes.
 #![tactic(auto)]
 
+mod bounds;
 mod cells;
 mod due;
 mod field;
@@ -17,6 +18,7 @@ mod shape;
 mod table;
 mod words;
 
+pub use bounds::bound;
 pub use cells::fits;
 pub use limits::{MOST_CELLS, measure_limits_are_stated};
 pub use omega_parity_game::{Game, Player, Refusal, TaskFault};

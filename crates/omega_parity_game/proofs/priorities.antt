@@ -1,5 +1,4 @@
--- Priorities in use, counted, and their products.
+-- Priorities in use, and counted.
+pub mod Greatest
 pub mod Tallies
 pub mod InUse
-pub mod Products
-pub mod Factors

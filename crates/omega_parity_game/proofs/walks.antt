@@ -1,3 +1,2 @@
--- Strategies' choices, and searches along the edges that they leave possible.
+-- Strategies' choices.
 pub mod Choosing
-pub mod Marking

@@ -1,26 +1,14 @@
--- What holds of strategies, of parts and of building, whatever the code does.
+-- What holds of strategies and of building, whatever the code does.
 use Rattle.std.specs.Prelude.{◌≡◌, ◌↔◌, ℕ, ◌<◌, List, Option, Some, None, All, length}
 use Rattle.omega_parity_game.specs.declared.node_spec.NodeSpec.{NodeSpec}
-use Rattle.omega_parity_game.specs.Game.{Node, IsGame, IsWithinLimits}
+use Rattle.omega_parity_game.specs.Game.{Node, IsWithinLimits}
 use Rattle.omega_parity_game.specs.Winning.{Chooses, choice_at}
-use Rattle.omega_parity_game.specs.Part.{IsPart, IsPartAt, KeepsNodes}
 use Rattle.omega_parity_game.specs.Building.{IsWellFormed, IsGameOf, game_fault_of}
 
 -- what is chosen at a place is the choice there
 abbrev pub ChoicesAreEntries : Type 0
 ChoicesAreEntries =
     (choices : List (Option ℕ)) (v w : ℕ) → Chooses choices v w ↔ (choice_at choices v ≡ Some w)
-
--- a part keeps the nodes that it has, under their new places
-abbrev pub PartsKeepNodes : Type 0
-PartsKeepNodes =
-    (nodes part : List Node) (v : ℕ) (kept : List ℕ)
-    → IsGame nodes → IsPartAt nodes v kept part → KeepsNodes nodes kept part
-
--- the part of a node of a game is a game
-abbrev pub PartsAreGames : Type 0
-PartsAreGames =
-    (nodes part : List Node) (v : ℕ) → IsGame nodes → v < length nodes → IsPart nodes v part → IsGame part
 
 -- specifications have at most one game
 abbrev pub SpecificationsHaveOneGame : Type 0

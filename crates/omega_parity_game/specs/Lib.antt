@@ -5,10 +5,10 @@ pub mod Limits
 pub mod Player
 pub mod Game
 pub mod Winning
+pub mod Paths
+pub mod Places
 pub mod Solution
-pub mod Reaching
 pub mod Bound
-pub mod Part
 pub mod Building
 pub mod Laws
 pub mod private

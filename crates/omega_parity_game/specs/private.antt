@@ -1,4 +1,3 @@
 -- What only private contracts cite.
-pub mod Entering
 pub mod layout
 pub mod priorities

@@ -1,19 +1,9 @@
-//! Laws of the definitions: what holds of strategies, of parts and of building, whatever the code does.
-ghost use Rattle.omega_parity_game.specs.Laws.{ChoicesAreEntries, GamesExist, GamesHaveNoFault, GamesKeepLimits, PartsAreGames, PartsKeepNodes, SpecificationsHaveOneGame};
+//! Laws of the definitions: what holds of strategies and of building, whatever the code does.
+ghost use Rattle.omega_parity_game.specs.Laws.{ChoicesAreEntries, GamesExist, GamesHaveNoFault, GamesKeepLimits, SpecificationsHaveOneGame};
 
 /// Proves that what a strategy chooses at a place is its choice there.
 pub fn choices_are_entries()
     ensures { ChoicesAreEntries }
-{}
-
-/// Proves that a part keeps the nodes that it has: their owners, their priorities and their edges.
-pub fn parts_keep_nodes()
-    ensures { PartsKeepNodes }
-{}
-
-/// Proves that the part of a node of a game is a game.
-pub fn parts_are_games()
-    ensures { PartsAreGames }
 {}
 
 /// Proves that specifications have at most one game.

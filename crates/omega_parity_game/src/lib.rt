@@ -1,5 +1,4 @@
-//! Parity games as values: their nodes, how they are built, strategies and solutions, the bound on lifts, the part that
-//! a node reaches.
+//! Parity games as values: their nodes, how they are built, strategies and solutions.
 //!
 //! `Game::build` and `GameBuilder` return the game of the specifications, or the least refusal that applies. A
 //! `ForwardGame` is a game without predecessors. Columns hold the nodes of both (`forward_game`, `lists`, `names`), and
@@ -8,7 +7,6 @@
 //! docs/formats.md says when each refusal comes.
 #![tactic(auto)]
 
-mod bounds;
 mod builder;
 mod forward_game;
 mod game;
@@ -18,29 +16,25 @@ mod limits;
 mod lists;
 mod names;
 mod node_spec;
-mod part;
 mod player;
 mod predecessors;
 mod priority_counts;
-mod reaching;
 mod resolving;
 mod solution;
 mod sorting;
 mod strategy;
 
-pub use bounds::bound;
 pub use builder::GameBuilder;
 pub use forward_game::ForwardGame;
 pub use game::Game;
 pub use laws::{
-    choices_are_entries, games_exist, games_have_no_fault, games_keep_limits, parts_are_games,
-    parts_keep_nodes, specifications_have_one_game,
+    choices_are_entries, games_exist, games_have_no_fault, games_keep_limits,
+    specifications_have_one_game,
 };
 pub use limits::{MOST_NODES, MOST_SUCCESSORS, game_limits_are_stated};
 pub use node_spec::NodeSpec;
 pub use omega_text::{GameFault, MOST_NUMBER, Refusal, Seq, TaskFault};
 pub use player::Player;
 pub use priority_counts::PriorityCount;
-pub use reaching::{edges_left, reached_from};
 pub use solution::Solution;
 pub use strategy::Strategy;

@@ -4,14 +4,15 @@ use Rattle.std.proofs.lemmas.Bool.{cases_eq}
 use Rattle.std.proofs.Math.Seq.{get_or-append_seam}
 use Rattle.std.proofs.lemmas.List.{get_or_append_left}
 use Rattle.std.proofs.lemmas.List.Elements.{All-head, All-tail}
+use Rattle.omega_parity_kind.specs.Priority.{beyond, has_parity, least_from, priority_by, priority_of}
+use Rattle.omega_parity_kind.specs.declared.kind.Order.{Order}
+use Rattle.omega_parity_kind.specs.declared.kind.Order.TheVariants.{Max, Min}
+use Rattle.omega_parity_kind.specs.declared.kind.Parity.{Parity}
+use Rattle.omega_parity_kind.specs.declared.kind.Parity.TheVariants.{Even, Odd}
+use Rattle.omega_parity_kind.specs.declared.kind.ParityKind.{ParityKind}
 use Rattle.omega_formula.specs.Acceptance.{acc_depth, conjunction, disjunction, fin, inf}
-use Rattle.omega_formula.specs.Kind.{beyond, formula_of, has_parity, least_from, priority_by, priority_of, sets_left}
+use Rattle.omega_formula.specs.Kind.{formula_of, sets_left}
 use Rattle.omega_formula.specs.declared.kind.AccKind.TheVariants as kinds
-use Rattle.omega_formula.specs.declared.kind.Order.{Order}
-use Rattle.omega_formula.specs.declared.kind.Order.TheVariants.{Max, Min}
-use Rattle.omega_formula.specs.declared.kind.Parity.{Parity}
-use Rattle.omega_formula.specs.declared.kind.Parity.TheVariants.{Even, Odd}
-use Rattle.omega_formula.specs.declared.kind.ParityKind.{ParityKind}
 use Rattle.omega_automaton.specs.AcceptanceKind.{HasKind}
 use Rattle.omega_automaton.specs.Automaton.{BodyEdge, Description, IsAutomaton, edge_at}
 use Rattle.omega_automaton.specs.Branching.{has_universal_branching}

@@ -5,8 +5,9 @@ use Rattle.std.proofs.lemmas.Bool.{false_from_ne_true}
 use Rattle.std.proofs.lemmas.List.{length-map}
 use Rattle.std.proofs.lemmas.List.Elements.{All-map}
 use Rattle.std.proofs.lemmas.Option.{slice_get_within}
+use Rattle.omega_parity_kind.specs.Priority.{greatest_number, priority_of}
 use Rattle.omega_formula.specs.Acceptance.{accepts}
-use Rattle.omega_formula.specs.Kind.{greatest_number, parity_formula, priority_of}
+use Rattle.omega_formula.specs.Kind.{parity_formula}
 use Rattle.omega_acc.specs.KindLaws.{ParityIsPriority}
 use Rattle.omega_label.specs.Label.{LabelTree}
 use Rattle.omega_automaton.specs.Automaton.{AreBelow, BodyEdge, Description, edge_at, edges_of}

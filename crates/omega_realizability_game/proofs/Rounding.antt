@@ -2,7 +2,7 @@
 use Rattle.std.proofs.Common.{◌≡◌, ◌↔◌, ℕ, zero, suc, ◌<◌, Bool, All, List, [], ◌∷◌, length, get_or, Contains, Some, sym, refl, ◌∙◌, subst, arith}
 use Rattle.std.specs.Prelude.{slice_get}
 use Rattle.std.proofs.lemmas.Option.{slice_get_within}
-use Rattle.omega_formula.specs.declared.kind.ParityKind.{ParityKind}
+use Rattle.omega_parity_kind.specs.declared.kind.ParityKind.{ParityKind}
 use Rattle.omega_automaton.specs.Automaton.{BodyEdge, Description, edge_count, edges_of}
 use Rattle.omega_controllers.specs.Controllers.{Answers}
 use Rattle.omega_rounds.specs.Rounds.{IsAskedIn, IsRounds, answers_of, no_edge}

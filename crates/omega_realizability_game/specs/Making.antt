@@ -10,7 +10,7 @@ use Rattle.omega_text.specs.declared.refusal.game.GameFault.TheVariants.{TooMany
 use Rattle.omega_text.specs.declared.refusal.task.TaskFault.{TaskFault}
 use Rattle.omega_text.specs.declared.refusal.task.TaskFault.TheVariants.{TooManyPropositions}
 use Rattle.omega_expression.specs.Limits.{most_mentioned}
-use Rattle.omega_formula.specs.declared.kind.ParityKind.{ParityKind}
+use Rattle.omega_parity_kind.specs.declared.kind.ParityKind.{ParityKind}
 use Rattle.omega_automaton.specs.Automaton.{BodyEdge, Description, edge_at}
 use Rattle.omega_parity_game.specs.Limits.{most_nodes}
 use Rattle.omega_rounds.specs.Extracting.{HaveSameNumbers}

@@ -2,8 +2,8 @@
 -- automaton; a question is a class of the environment's letters, and its answers are the edges that answer them.
 pub use Rattle.omega_realizability_game.specs.Letters.{holds_in, letter_of}
 use Rattle.std.specs.Prelude.{◌≡◌, ◌↔◌, ℕ, ◌<◌, Bool, List, [], ◌∷◌, Contains, Some, length}
-use Rattle.omega_formula.specs.Kind.{priority_of}
-use Rattle.omega_formula.specs.declared.kind.ParityKind.{ParityKind}
+use Rattle.omega_parity_kind.specs.Priority.{priority_of}
+use Rattle.omega_parity_kind.specs.declared.kind.ParityKind.{ParityKind}
 use Rattle.omega_automaton.specs.Automaton.{BodyEdge, Description, edge_at, edge_count}
 use Rattle.omega_runs.specs.Lasso.{marks_of}
 use Rattle.omega_controllers.specs.Controllers.{Answers, IsMet}

@@ -2,8 +2,10 @@
 use Rattle.std.proofs.Common.{◌≡◌, ◌↔◌, ℕ, ◌<◌, inl, inr, Bool, List, [], length, map, Option, Some, sym, refl, subst, arith}
 use Rattle.omega_automaton.specs.Automaton.{Description}
 use Rattle.omega_parity_game.specs.Game.{IsGame, Node}
-use Rattle.omega_parity_game.specs.Laws.{ChoicesAreEntries, PartsKeepNodes}
-use Rattle.omega_parity_game.specs.Part.{Reaches, StandsAt}
+use Rattle.omega_parity_game.specs.Laws.{ChoicesAreEntries}
+use Rattle.omega_reaching.specs.Laws.{PartsKeepNodes}
+use Rattle.omega_parity_game.specs.Paths.{Reaches}
+use Rattle.omega_parity_game.specs.Places.{StandsAt}
 use Rattle.omega_parity_game.specs.Winning.{Chooses, InRegion, choice_at}
 use Rattle.omega_parity_game.specs.declared.player.Player.{Player}
 use Rattle.omega_parity_game.specs.declared.player.Player.TheVariants.{One, Zero}

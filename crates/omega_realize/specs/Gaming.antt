@@ -4,7 +4,7 @@ use Rattle.omega_text.specs.Cases.{never, or_game, or_memory, or_task}
 use Rattle.omega_text.specs.declared.refusal.Refusal.{Refusal}
 use Rattle.omega_automaton.specs.Automaton.{Description}
 use Rattle.omega_parity_game.specs.Game.{Node}
-use Rattle.omega_parity_game.specs.Part.{IsPart}
+use Rattle.omega_reaching.specs.Part.{IsPart}
 use Rattle.omega_rounds.specs.Naming.{IsNamedGame}
 use Rattle.omega_rounds.specs.Rounds.{IsRounds}
 use Rattle.omega_rounds.specs.declared.rounds.Rounds.{Rounds}

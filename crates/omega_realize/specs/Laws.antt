@@ -3,7 +3,7 @@
 use Rattle.std.specs.Prelude.{◌↔◌, ◌⊎◌, ℕ, Bool, List}
 use Rattle.omega_automaton.specs.Automaton.{Description}
 use Rattle.omega_parity_game.specs.Game.{Node}
-use Rattle.omega_parity_game.specs.Part.{new_place}
+use Rattle.omega_parity_game.specs.Places.{new_place}
 use Rattle.omega_parity_game.specs.Winning.{InRegion}
 use Rattle.omega_parity_game.specs.declared.player.Player.TheVariants.{One, Zero}
 use Rattle.omega_controllers.specs.Controllers.{IsController, IsCounterStrategy}

@@ -8,6 +8,7 @@ ghost use Rattle.omega_realize.specs.Gaming.{IsPartedGame, IsRealizabilityGame, 
 
 use crate::parting::{Parted, parted_rounds};
 use omega_automaton::Automaton;
+use omega_reaching::part;
 use omega_rounds::{Game, Rounds, named_rounds_game};
 use omega_text::{Refusal, Seq};
 use std::alloc::Global;
@@ -46,7 +47,7 @@ fn game_from(
     ensures refused { IfErr result (IsUngamed automaton.now _controlled.now) }
 {
     let whole = named_rounds_game(alloc, &parted.rounds)?;
-    whole.part(alloc, parted.start)
+    part(alloc, &whole, parted.start)
 }
 
 /// Makes the game of no rounds.

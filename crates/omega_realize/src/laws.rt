@@ -3,7 +3,8 @@
 ghost use Rattle.omega_realize.specs.Laws.{GamesDecide};
 
 use omega_controllers::controllers_exclude_counter_strategies;
-use omega_parity_game::{choices_are_entries, parts_keep_nodes};
+use omega_parity_game::choices_are_entries;
+use omega_reaching::parts_keep_nodes;
 use omega_realizability_game::{answerings_are_controllers, askings_are_counter_strategies};
 use omega_region_laws::{regions_cover, regions_of_parts};
 use omega_rounds::{chosen_answers_win, chosen_questions_win};

@@ -5,7 +5,8 @@ use Rattle.std.proofs.lemmas.List.Quantifiers.{position-Some}
 use Rattle.omega_parity_game.specs.declared.player.Player.{Player}
 use Rattle.omega_parity_game.specs.Game.{Node, HasEdge, owner_at, priority_at}
 use Rattle.omega_parity_game.specs.Laws.{ChoicesAreEntries}
-use Rattle.omega_parity_game.specs.Part.{KeepsNodes, new_place}
+use Rattle.omega_parity_game.specs.Places.{new_place}
+use Rattle.omega_reaching.specs.Part.{KeepsNodes}
 use Rattle.omega_parity_game.specs.Winning.{IsStrategy, Chooses, Wins, InRegion, choice_at}
 use Rattle.omega_region_laws.proofs.Choices.{entries_of, length_entries, mapped_choice, picked, picks}
 use Rattle.omega_region_laws.proofs.Mirrors.{IsMirror, wins_by_mirror}

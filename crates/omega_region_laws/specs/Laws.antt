@@ -3,7 +3,7 @@ use Rattle.std.specs.Prelude.{◌↔◌, ◌⊎◌, ℕ, ◌<◌, List, Option, 
 use Rattle.omega_parity_game.specs.declared.player.Player.{Player}
 use Rattle.omega_parity_game.specs.declared.player.Player.TheVariants.{Zero, One}
 use Rattle.omega_parity_game.specs.Game.{Node, IsGame}
-use Rattle.omega_parity_game.specs.Part.{IsPartAt}
+use Rattle.omega_reaching.specs.Part.{IsPartAt}
 use Rattle.omega_parity_game.specs.Winning.{Leaves, IsStrategy, Wins, InRegion}
 
 -- a strategy that wins from a node wins from each node to which it leaves an edge possible

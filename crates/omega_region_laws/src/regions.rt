@@ -1,7 +1,8 @@
 //! Laws of regions, which hold in every parity game, whatever the code does.
 ghost use Rattle.omega_region_laws.specs.Laws.{RegionsAreApart, RegionsAreWonAtOnce, RegionsCover, RegionsOfParts, WinningIsKept};
 
-use omega_parity_game::{choices_are_entries, parts_keep_nodes};
+use omega_parity_game::choices_are_entries;
+use omega_reaching::parts_keep_nodes;
 
 /// States that a strategy that wins from a node wins from each node to which it leaves an edge possible.
 pub fn winning_is_kept()

@@ -3,16 +3,17 @@ use Rattle.std.proofs.Common.{◌≡◌, ◌↔◌, ℕ, zero, suc, ◌+◌, ◌
 use Rattle.std.specs.Prelude.{if◌then◌else◌}
 use Rattle.std.proofs.lemmas.Bool.{and_from, and_parts, both_ways, cases_Bool, cases_eq, ne_eqb, not-true, not_from_false, or_cases, or_from, or_left, or_right}
 use Rattle.std.proofs.lemmas.List.Elements.{All-cons, All-nil}
-use Rattle.omega_formula.proofs.PriorityLemmas.{least_mark-le}
-use Rattle.omega_formula.proofs.Parities.{least_from-le}
+use Rattle.omega_parity_kind.specs.Priority.{beyond, greatest_number, has_parity, least_from, least_mark, priority_by, priority_of}
+use Rattle.omega_parity_kind.specs.declared.kind.Order.{Order}
+use Rattle.omega_parity_kind.specs.declared.kind.Order.TheVariants.{Max, Min}
+use Rattle.omega_parity_kind.specs.declared.kind.Parity.{Parity}
+use Rattle.omega_parity_kind.specs.declared.kind.Parity.TheVariants.{Even, Odd}
+use Rattle.omega_parity_kind.specs.declared.kind.ParityKind.{ParityKind}
+use Rattle.omega_parity_kind.proofs.PriorityLemmas.{least_mark-le}
+use Rattle.omega_parity_kind.proofs.Parities.{least_from-le}
 use Rattle.omega_formula.specs.Acceptance.{AccTree, accepts, conjunction, disjunction, fin, holds, inf, occurs}
-use Rattle.omega_formula.specs.Kind.{beyond, formula_of, greatest_number, has_parity, joined_to, least_from, least_mark, parity_formula, priority_by, priority_of, sets_left}
+use Rattle.omega_formula.specs.Kind.{formula_of, joined_to, parity_formula, sets_left}
 use Rattle.omega_acc.specs.KindLaws.{ParityIsPriority}
-use Rattle.omega_formula.specs.declared.kind.Order.{Order}
-use Rattle.omega_formula.specs.declared.kind.Order.TheVariants.{Max, Min}
-use Rattle.omega_formula.specs.declared.kind.Parity.{Parity}
-use Rattle.omega_formula.specs.declared.kind.Parity.TheVariants.{Even, Odd}
-use Rattle.omega_formula.specs.declared.kind.ParityKind.{ParityKind}
 use Rattle.omega_runs.specs.Parity.{IsLimit, ParityIsLimit}
 use Rattle.omega_runs.specs.Runs.{AtLastNever, ForEver, Satisfies}
 use Rattle.omega_runs.proofs.Leads.{or_false}

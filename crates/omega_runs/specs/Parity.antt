@@ -1,7 +1,8 @@
 -- Parity formulas of infinitely many marks: the limit of their priorities decides.
 use Rattle.std.specs.Prelude.{◌≡◌, ◌↔◌, ℕ, ◌<◌, ◌≤◌, ◌%◌, All, List}
-use Rattle.omega_formula.specs.Kind.{parity_formula, priority_of}
-use Rattle.omega_formula.specs.declared.kind.ParityKind.{ParityKind}
+use Rattle.omega_parity_kind.specs.Priority.{priority_of}
+use Rattle.omega_parity_kind.specs.declared.kind.ParityKind.{ParityKind}
+use Rattle.omega_formula.specs.Kind.{parity_formula}
 use Rattle.omega_runs.specs.Runs.{Satisfies}
 
 -- the limit of infinitely many numbers: the greatest that recurs for ever. It occurs at or after every index, and from

@@ -1,5 +1,4 @@
 -- Lemmas by theme.
-mod schedules
 mod lifting
 mod answers
 mod runs

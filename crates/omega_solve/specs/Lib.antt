@@ -8,8 +8,8 @@ pub use Rattle.omega_lift_laws.specs.Run
 pub use Rattle.omega_lift_laws.specs.Answer
 pub use Rattle.omega_lift_laws.specs.Laws
 pub use Rattle.omega_measure.specs.Table
+pub use Rattle.omega_schedules.specs.Schedule
 pub mod Limits
-pub mod Schedule
 pub mod Solver
 pub mod Headline
 pub mod Determinacy

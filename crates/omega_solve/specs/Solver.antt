@@ -5,7 +5,7 @@ use Rattle.omega_parity_game.specs.Game.{Node, successor_count, priorities}
 use Rattle.omega_parity_game.specs.Bound.{bound_of, product_of}
 use Rattle.omega_lift_laws.specs.Run.{IsDue, IsLiftingRun, IsStable, zero_table}
 use Rattle.omega_measure.specs.Table.{Content, zero_content}
-use Rattle.omega_solve.specs.Schedule.{Pending, all_pending}
+use Rattle.omega_schedules.specs.Schedule.{Pending, all_pending}
 
 -- a solver: its game and player, its table and schedule, the number of lifts it made, and whether its last run ended
 -- with no lift due

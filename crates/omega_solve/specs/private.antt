@@ -1,4 +1,3 @@
 -- What private contracts alone cite.
-pub mod schedules
 pub mod solving
 pub mod turning

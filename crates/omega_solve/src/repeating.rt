@@ -3,10 +3,10 @@ ghost use Rattle.omega_parity_game.specs.Game.{HasEdge, IsGame};
 ghost use Rattle.omega_solve.specs.private.solving.Repeating.{LiftsAgain};
 ghost use Rattle.omega_solve.specs.private.solving.Successor.{IsTableOf};
 
-use crate::schedule::Schedule;
 use crate::successor::{due_towards, owns};
 use omega_lift_laws::{allowances_are_unique, runs_keep_tables};
 use omega_measure::{Game, MeasureTable, Player};
+use omega_schedules::Schedule;
 
 /// Lifts `place` again while it leads to itself, a lift is due there and the schedule takes it again, at most `most`
 /// times. Returns how often. Wakes nothing: predecessors are woken once, after the last of these lifts.

@@ -8,7 +8,6 @@ use crate::answer::{AnswerRef, fill_answer};
 use crate::limits::MOST_LIFTS;
 use crate::outcome::Outcome;
 use crate::repeating::lift_again;
-use crate::schedule::Schedule;
 use crate::successor::due_towards;
 use crate::wake::wake_predecessors;
 use omega_lift_laws::{
@@ -16,6 +15,7 @@ use omega_lift_laws::{
     regions_stay_below_top, runs_are_bounded, runs_keep_tables, zero_tables_are_tables,
 };
 use omega_measure::{Game, MeasureTable, Player, Refusal};
+use omega_schedules::Schedule;
 use std::alloc::Global;
 use std::marker::Model;
 
@@ -51,9 +51,9 @@ impl<'g, T: MeasureTable, S: Schedule> Model for Solver<'g, T, S> {
 impl<'g, T: MeasureTable, S: Schedule> Solver<'g, T, S> {
     ghost use Rattle.omega_lift_laws.specs.Answer.{AreChoices, won_in};
     ghost use Rattle.omega_lift_laws.specs.Run.{IsDue};
+    ghost use Rattle.omega_schedules.specs.Schedule.{IsIdle, IsPending, all_pending, with_taken};
     ghost use Rattle.omega_solve.specs.declared.outcome.Outcome.TheVariants.{Done};
     ghost use Rattle.omega_solve.specs.Headline.{IsExact, Runs};
-    ghost use Rattle.omega_solve.specs.Schedule.{IsIdle, IsPending, all_pending, with_taken};
     ghost use Rattle.omega_solve.specs.private.solving.Successor.{IsDueTowards};
     ghost use Rattle.omega_solve.specs.private.solving.Progress.{IsLifted};
     ghost use Rattle.omega_solve.specs.Solver.{IsFinished, IsReached, attempt_bound, lift_bound};

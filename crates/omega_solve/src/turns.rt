@@ -14,13 +14,13 @@ mod side;
 
 use crate::answer::fill_answer;
 use crate::laws::runs_lead_to_least_tables;
-use crate::schedule::Schedule;
 use handing::{hand_on, has_news};
 use keeping::{are_won, mark_lost};
 use omega_lift_laws::{
     choices_are_a_strategy, choices_win, regions_stay_below_top, zero_tables_are_tables,
 };
 use omega_measure::{Game, MeasureTable, Player, Refusal};
+use omega_schedules::Schedule;
 use side::{Side, is_idle, lift_until, take_out};
 use std::alloc::Global;
 

@@ -2,8 +2,8 @@ ghost use Rattle.std.specs.Prelude.{◌≡◌, ◌<◌, length};
 ghost use Rattle.omega_parity_game.specs.Game.{predecessors_of};
 ghost use Rattle.omega_solve.specs.private.solving.Wake.{Wakes};
 
-use crate::schedule::Schedule;
 use omega_measure::{Game, MeasureTable};
+use omega_schedules::Schedule;
 
 /// Makes the predecessors of `place` pending. A predecessor at top is left out: no lift is ever due there.
 #[inline(always)]

@@ -6,7 +6,7 @@ use Rattle.omega_game.specs.declared.lasso.Lasso.{Lasso}
 use Rattle.omega_game_answers.specs.Verify.{LosesGiven, explained_text, identifiers_text}
 use Rattle.omega_game_answers.proofs.Explaining.{cycle-inside, stem-inside}
 use Rattle.omega_parity_game.specs.Game.{IsGame, IsWithinLimits, Node, identifier_at}
-use Rattle.omega_parity_game.specs.Part.{IsPath}
+use Rattle.omega_parity_game.specs.Paths.{IsPath}
 use Rattle.omega_parity_game.specs.Player.{player_number}
 use Rattle.omega_parity_game.specs.Solution.{choices_of}
 use Rattle.omega_parity_game.specs.Winning.{IsWalk}

@@ -2,7 +2,7 @@
 use Rattle.std.proofs.Common.{◌≡◌, ◌↔◌, ℕ, ◌+◌, ◌-◌, ◌<◌, List, [], ◌∷◌, ◌++◌, length, take, drop, get_or, refl, sym, ap, ◌∙◌, subst, arith}
 use Rattle.std.proofs.lemmas.List.{drop_more, take-append-drop, take_all, take_more}
 use Rattle.omega_parity_game.specs.Game.{HasEdge, Node}
-use Rattle.omega_parity_game.specs.Part.{IsPath}
+use Rattle.omega_parity_game.specs.Paths.{IsPath}
 use Rattle.omega_parity_game.specs.Winning.{end_of}
 use Rattle.omega_walk_answers.specs.Walk.{AreJoined}
 

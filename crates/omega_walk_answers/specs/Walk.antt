@@ -3,7 +3,7 @@ use Rattle.std.specs.Prelude.{◌≡◌, ℕ, ◌<◌, All, List, [], ◌∷◌,
 use Rattle.omega_game.specs.declared.lasso.Lasso.{Lasso}
 use Rattle.omega_lasso_text.specs.declared.lasso.LassoText.{LassoText}
 use Rattle.omega_parity_game.specs.Game.{Node, identifier_at}
-use Rattle.omega_parity_game.specs.Part.{IsPath}
+use Rattle.omega_parity_game.specs.Paths.{IsPath}
 use Rattle.omega_text.specs.Cases.{or_task}
 use Rattle.omega_text.specs.declared.refusal.Refusal.{Refusal}
 use Rattle.omega_text.specs.declared.refusal.task.TaskFault.TheVariants.{BadSolution}

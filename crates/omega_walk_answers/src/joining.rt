@@ -1,7 +1,7 @@
 //! Whether listed edges join places of a game.
 ghost use Rattle.std.specs.Prelude.{◌≡◌, ◌<◌, ◌↔◌, All, IfOk, IsOkUnless, IsTrue, length};
 ghost use Rattle.omega_parity_game.specs.Game.{HasEdge};
-ghost use Rattle.omega_parity_game.specs.Part.{IsPath};
+ghost use Rattle.omega_parity_game.specs.Paths.{IsPath};
 ghost use Rattle.omega_walk_answers.specs.Walk.{AreJoined, IsLassoIn};
 
 use omega_game::ForwardGame;

@@ -3,14 +3,15 @@
 use Rattle.std.proofs.Common.{◌≡◌, ℕ, ◌+◌, ◌-◌, ◌<◌, ◌≤◌, zero, suc, true, false, not, ◌&&◌, ◌||◌, eqb, List, [], ◌∷◌, length, map, max, min, ap, refl, sym, ◌∙◌, arith, eq-eqb, add-one, inl, inr}
 use Rattle.std.specs.List.{All}
 use Rattle.std.proofs.lemmas.Bool.{cases_eq, cond_both, ne_eqb, or_from, or_left, or_right}
+use Rattle.omega_parity_kind.specs.Priority.{beyond, greatest_number, has_parity, least_from, least_mark, priority_by}
+use Rattle.omega_parity_kind.specs.declared.kind.Order.{Order}
+use Rattle.omega_parity_kind.specs.declared.kind.Order.TheVariants.{Max, Min}
+use Rattle.omega_parity_kind.specs.declared.kind.Parity.{Parity}
+use Rattle.omega_parity_kind.specs.declared.kind.Parity.TheVariants.{Even, Odd}
+use Rattle.omega_parity_kind.proofs.Parities.{even-difference, even-not-odd, has_parity-suc, least_from-le, least_from-parity, not-not}
+use Rattle.omega_parity_kind.proofs.PriorityLemmas.{least_mark-le}
 use Rattle.omega_formula.specs.Acceptance.{accepts, fin, holds, inf, occurs, disjunction, conjunction}
-use Rattle.omega_formula.specs.Kind.{beyond, formula_of, greatest_number, has_parity, least_from, least_mark, priority_by, sets_left, without_sets}
-use Rattle.omega_formula.specs.declared.kind.Order.{Order}
-use Rattle.omega_formula.specs.declared.kind.Order.TheVariants.{Max, Min}
-use Rattle.omega_formula.specs.declared.kind.Parity.{Parity}
-use Rattle.omega_formula.specs.declared.kind.Parity.TheVariants.{Even, Odd}
-use Rattle.omega_formula.proofs.Parities.{even-difference, even-not-odd, has_parity-suc, least_from-le, least_from-parity, not-not}
-use Rattle.omega_formula.proofs.PriorityLemmas.{least_mark-le}
+use Rattle.omega_formula.specs.Kind.{formula_of, sets_left, without_sets}
 
 -- ---- the greatest mark
 

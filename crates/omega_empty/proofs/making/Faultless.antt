@@ -10,7 +10,7 @@ use Rattle.omega_automaton.specs.Automaton.{AreBelow, BodyEdge, Description, IsA
 use Rattle.omega_automaton.specs.declared.edge.Edge.{Edge}
 use Rattle.omega_automaton.specs.declared.state.State.{State}
 use Rattle.omega_parity_game.proofs.building.Duplicates.{no_duplicate}
-use Rattle.omega_parity_game.proofs.parts.PartGames.{memory_alone}
+use Rattle.omega_parity_game.proofs.building.Refusals.{memory_alone}
 use Rattle.omega_parity_game.specs.Building.{IsBuildRefusal, game_fault_of, has_duplicate, has_undefined, listed_successors}
 use Rattle.omega_parity_game.specs.Game.{Node}
 use Rattle.omega_parity_game.specs.Limits.{most_nodes, most_successors}

@@ -4,8 +4,8 @@ use Rattle.std.proofs.Common.{◌≡◌, ℕ, ◌+◌, ◌%◌, ◌<◌, List, [
 use Rattle.std.specs.Prelude.{slice_index_or}
 use Rattle.std.proofs.lemmas.List.{length-map}
 use Rattle.std.proofs.lemmas.List.Elements.{All-contains, All-head, All-map}
+use Rattle.omega_parity_kind.specs.Priority.{greatest_number}
 use Rattle.omega_formula.specs.Acceptance.{accepts}
-use Rattle.omega_formula.specs.Kind.{greatest_number}
 use Rattle.omega_acc.specs.KindLaws.{BuchiIsEverySet, ParityIsPriority}
 use Rattle.omega_formula.specs.declared.kind.AccKind.{AccKind}
 use Rattle.omega_formula.specs.declared.kind.AccKind.TheVariants as kinds

@@ -1,6 +1,6 @@
 -- Walks of an emptiness game from a state's node: edges of the automaton in order, unless they end in the sink.
 use Rattle.std.proofs.Common.{◌≡◌, ℕ, suc, ◌+◌, ◌<◌, ◌⊎◌, inl, inr, Bool, List, [], ◌∷◌, ◌++◌, length, map, max, Option, Some, sym, ap, refl, ◌∙◌, subst, arith}
-use Rattle.omega_formula.specs.Kind.{greatest_number}
+use Rattle.omega_parity_kind.specs.Priority.{greatest_number}
 use Rattle.omega_formula.specs.declared.kind.AccKind.{AccKind}
 use Rattle.omega_automaton.specs.Automaton.{BodyEdge, Description, IsAutomaton, edge_at}
 use Rattle.omega_parity_game.specs.Building.{IsGameOf}

@@ -8,7 +8,7 @@ use Rattle.std.proofs.lemmas.List.Kept.{AllPairs-from_increasing}
 use Rattle.std.proofs.lemmas.List.Sorted.{Contains-permutation, IsPermutation-sym}
 use Rattle.std.proofs.lemmas.List.{length-map}
 use Rattle.std.proofs.lemmas.Option.{slice_get_within}
-use Rattle.omega_formula.specs.Kind.{greatest_number}
+use Rattle.omega_parity_kind.specs.Priority.{greatest_number}
 use Rattle.omega_formula.specs.declared.kind.AccKind.{AccKind}
 use Rattle.omega_automaton.specs.Automaton.{AreBelow, Description, IsAutomaton, edge_count, edges_of}
 use Rattle.omega_parity_game.proofs.elements.Membership.{map-Contains}

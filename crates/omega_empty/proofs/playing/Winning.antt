@@ -6,8 +6,8 @@ use Rattle.std.proofs.Math.Nat.{zero-mul}
 use Rattle.std.proofs.lemmas.Bool.{eq-eqb}
 use Rattle.std.proofs.lemmas.List.{length-map, map-append}
 use Rattle.std.proofs.lemmas.List.Elements.{All-map}
+use Rattle.omega_parity_kind.specs.Priority.{greatest_number}
 use Rattle.omega_formula.specs.Acceptance.{accepts}
-use Rattle.omega_formula.specs.Kind.{greatest_number}
 use Rattle.omega_acc.specs.KindLaws.{BuchiIsEverySet, ParityIsPriority}
 use Rattle.omega_formula.specs.declared.kind.AccKind.{AccKind}
 use Rattle.omega_formula.specs.declared.kind.AccKind.TheVariants as kinds

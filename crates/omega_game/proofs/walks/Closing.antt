@@ -4,10 +4,10 @@ use Rattle.std.proofs.lemmas.Bool.{cases_eq, false≢true}
 use Rattle.std.proofs.lemmas.List.{take_more}
 use Rattle.std.proofs.lemmas.List.Elements.{Contains-append_left, Contains-push, Contains-push_cases}
 use Rattle.omega_parity_game.specs.Game.{Node, priority_at}
-use Rattle.omega_parity_game.specs.Reaching.{mark_at, IsLowPath, AreReached}
+use Rattle.omega_reaching.specs.Reaching.{mark_at, IsLowPath, AreReached}
 use Rattle.omega_parity_game.specs.Winning.{end_of}
 use Rattle.omega_parity_game.proofs.elements.Membership.{Contains-nothing}
-use Rattle.omega_parity_game.proofs.walks.Marking.{mark_set, mark_other, mark_kept, reached_on, unmarked}
+use Rattle.omega_reaching.proofs.Marking.{mark_set, mark_other, mark_kept, reached_on, unmarked}
 use Rattle.omega_game.specs.private.checking.Following.{AreMarked, AreClosed}
 
 -- what is reached without a bound leads to what is reached

@@ -3,8 +3,8 @@ use Rattle.std.proofs.Common.{◌≡◌, ℕ, ◌<◌, ◌≤◌, ◌⊎◌, inl
 use Rattle.std.proofs.lemmas.Bool.{cases_lt}
 use Rattle.std.proofs.lemmas.List.{get_or_default, reverse-append}
 use Rattle.omega_parity_game.specs.Game.{Node, priority_at}
-use Rattle.omega_parity_game.specs.Reaching.{left_at}
-use Rattle.omega_parity_game.proofs.walks.Marking.{path_on, end_on}
+use Rattle.omega_reaching.specs.Reaching.{left_at}
+use Rattle.omega_reaching.proofs.Marking.{path_on, end_on}
 use Rattle.omega_game.specs.private.refuting.Ways.{origin_at, IsTree, IsWay, root, onward, LeadsTo}
 
 module _ (nodes : List Node) (choices : List (Option ℕ)) (most : ℕ) (places met : List ℕ) (origins : List (Option ℕ)) (tree : IsTree nodes choices most places met origins) where

@@ -1,7 +1,7 @@
 //! Whether no place that is reached bears a losing priority and recurs: suggested by a fast search, checked, and else
 //! tested plainly.
 ghost use Rattle.std.specs.Prelude.{◌≡◌, ◌<◌, length, IfOk, IfSome, IsTrue};
-ghost use Rattle.omega_parity_game.specs.Reaching.{LeadsInside};
+ghost use Rattle.omega_reaching.specs.Reaching.{LeadsInside};
 ghost use Rattle.omega_game.specs.private.checking.Decision.{IsLosingPlace, IsRightDecision};
 ghost use Rattle.omega_game.specs.private.checking.Following.{AreClosed};
 
@@ -12,7 +12,8 @@ use crate::checking::nesting::search_nested;
 use crate::checking::ordering::shows_none;
 use crate::checking::recurring::{decide_plainly, recurs};
 use crate::checking::top_nodes::search_by_top_nodes;
-use omega_parity_game::{ForwardGame, Player, edges_left};
+use omega_parity_game::{ForwardGame, Player};
+use omega_reaching::edges_left;
 use std::alloc::{AllocError, Global};
 
 /// Decides whether no marked place of a priority that loses for the player recurs.

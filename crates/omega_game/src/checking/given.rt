@@ -6,7 +6,8 @@ ghost use Rattle.omega_parity_game.specs.Winning.{IsStrategy};
 ghost use Rattle.omega_game.specs.private.checking.Ordering.{AreEnds, StandsAsGiven};
 
 use crate::checking::ordering::{ends_of, is_in_order, numbers_in, ranks_along};
-use omega_parity_game::{ForwardGame, Solution, edges_left};
+use omega_parity_game::{ForwardGame, Solution};
+use omega_reaching::edges_left;
 use std::alloc::{AllocError, Global};
 
 /// Whether an order of the places shows that each player's choices win from all places given to the player. No edge

@@ -1,12 +1,13 @@
 //! A proof that a strategy wins, as an order of the places: each edge leads forward, or back to a place whose priority
 //! does not lose and is the greatest on the way. A closed walk passes its greatest priority by such a step back.
 ghost use Rattle.std.specs.Prelude.{◌≡◌, ℕ, ◌<◌, ◌≤◌, ◌+◌, ◌^◌, length, vec_len, IfOk, IsTrue, slice_index};
-ghost use Rattle.omega_parity_game.specs.Reaching.{LeadsInside};
+ghost use Rattle.omega_reaching.specs.Reaching.{LeadsInside};
 ghost use Rattle.omega_game.specs.private.checking.Following.{AreClosed};
 ghost use Rattle.omega_game.specs.private.checking.Ordering.{AreEnds, AreEndsAfter, IsInOrder, StandsInOrder};
 ghost use Rattle.omega_game.specs.private.checking.Recurring.{NoneRecurs};
 
-use omega_parity_game::{ForwardGame, Player, edges_left};
+use omega_parity_game::{ForwardGame, Player};
+use omega_reaching::edges_left;
 use std::alloc::{AllocError, Global};
 
 /// Whether an order of the places shows that no marked place of a losing priority recurs. Linear in nodes and edges.

@@ -1,9 +1,10 @@
 //! A search in breadth: each place that is reached is met on a shortest way.
 ghost use Rattle.std.specs.Prelude.{◌≡◌, ◌<◌, length, vec_len, All, IfOk, OnOk};
-ghost use Rattle.omega_parity_game.specs.Reaching.{LeadsInside};
+ghost use Rattle.omega_reaching.specs.Reaching.{LeadsInside};
 ghost use Rattle.omega_game.specs.private.refuting.Ways.{AreMet, IsTree, MeetsAll};
 
-use omega_parity_game::{ForwardGame, edges_left};
+use omega_parity_game::ForwardGame;
+use omega_reaching::edges_left;
 use std::alloc::{AllocError, Global};
 
 /// The places that a search met, in its order, and for each the index of the one from which it was met. Those that the

@@ -1,6 +1,6 @@
 //! Shortest ways to a place that is reached.
 ghost use Rattle.std.specs.Prelude.{◌≡◌, ◌<◌, length, All, Contains, IfOk, slice_index};
-ghost use Rattle.omega_parity_game.specs.Reaching.{LeadsInside, IsReachedFrom};
+ghost use Rattle.omega_reaching.specs.Reaching.{LeadsInside, IsReachedFrom};
 ghost use Rattle.omega_game.specs.private.refuting.Ways.{IsWay, LeadBack, LeadsTo};
 
 use crate::refuting::breadth::met_from;

@@ -8,7 +8,7 @@ use Rattle.std.specs.List.Sorted.{IsStrictlyIncreasing}
 use Rattle.omega_parity_game.specs.declared.node_spec.NodeSpec.{NodeSpec}
 use Rattle.omega_parity_game.specs.Game.{Node, HasEdge, node_at, no_node, identifiers, successors_at}
 use Rattle.omega_parity_game.specs.Building.{IsGameOf, IsWellFormed, specified, specified_times, game_fault_of}
-use Rattle.omega_parity_game.specs.Part.{new_place}
+use Rattle.omega_parity_game.specs.Places.{new_place}
 use Rattle.omega_parity_game.proofs.elements.Counting.{counted_from}
 use Rattle.omega_parity_game.proofs.building.Faults.{faultless_from_none}
 use Rattle.omega_parity_game.proofs.elements.Membership.{Contains-nothing, Contains-under, map-Contains, map-map, map_same, passes_nowhere, place_of_contained}

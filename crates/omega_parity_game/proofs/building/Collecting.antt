@@ -353,7 +353,7 @@ successors-specs_of columns even =
     ∙ ap (λ (spec : NodeSpec). spec.successors) (get_or-specs_of columns k (spec_in columns 0) within) ∙ get_or_default columns.successors k [] e (omega (arith, even.successors_even)))
 
 -- to change the last of some specifications and one more is to change that one
-with_last-push : (change : NodeSpec → NodeSpec) (specs : List NodeSpec) (spec : NodeSpec) → with_last change (specs ++ spec ∷ []) ≡ specs ++ change spec ∷ []
+pub with_last-push : (change : NodeSpec → NodeSpec) (specs : List NodeSpec) (spec : NodeSpec) → with_last change (specs ++ spec ∷ []) ≡ specs ++ change spec ∷ []
 with_last-push change [] spec = refl
 with_last-push change (first ∷ []) spec = refl
 with_last-push change (first ∷ next ∷ specs) spec = ap (λ others. first ∷ others) (with_last-push change (next ∷ specs) spec)

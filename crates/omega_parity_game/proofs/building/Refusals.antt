@@ -1,4 +1,4 @@
--- The refusal of specifications whose identifiers rise.
+-- The refusal of specifications whose identifiers rise, and of those without a fault.
 use Rattle.std.proofs.Common.{◌≡◌, ℕ, ◌+◌, ◌-◌, ◌<◌, ◌≤◌, Bool, true, false, not, Some, None, List, [], ◌∷◌, length, map, get_or, sum_by, refl, sym, ◌∙◌, ap, subst, arith, inl, inr}
 use Rattle.std.proofs.Math.Path.{fun_ext}
 use Rattle.std.specs.List.{list_all}
@@ -6,12 +6,14 @@ use Rattle.std.specs.List.Sorted.{IsStrictlyIncreasing}
 use Rattle.std.proofs.lemmas.Bool.{cases_lt, lt-ltb, le-ltb}
 use Rattle.std.proofs.lemmas.List.{length-map}
 use Rattle.std.proofs.lemmas.List.Sums.{sum_by-cons}
+use Rattle.omega_text.specs.declared.refusal.Refusal.{Refusal}
+use Rattle.omega_text.specs.declared.refusal.Refusal.TheVariants.{Automaton, Game, Io, Memory, Task, Text}
 use Rattle.omega_text.specs.declared.refusal.game.GameFault.TheVariants.{DuplicateNode, UndefinedSuccessor, TooManyEdges, TooManyNodes}
 use Rattle.omega_text.specs.Limits.{most_number}
 use Rattle.omega_parity_game.specs.Limits.{most_nodes, most_successors}
 use Rattle.omega_parity_game.specs.declared.player.Player.{Player}
 use Rattle.omega_parity_game.specs.declared.node_spec.NodeSpec.{NodeSpec}
-use Rattle.omega_parity_game.specs.Building.{game_fault_of, has_duplicate, has_undefined, listed_successors}
+use Rattle.omega_parity_game.specs.Building.{IsBuildRefusal, game_fault_of, has_duplicate, has_undefined, listed_successors}
 use Rattle.omega_parity_game.specs.private.layout.Collected.{AreCollected, ids_of}
 use Rattle.omega_parity_game.specs.private.layout.Columns.{Columns, AreEven, collected, columns_of, identifiers_of, specs_of, spec_in}
 use Rattle.omega_parity_game.specs.private.layout.Resolving.{is_defined, resolved_in}
@@ -118,3 +120,12 @@ AreResolved-from ids slice keys n lists places flag r true' = record {
   defined = flag_is ids slice keys n lists places flag r ∙ true';
   placed = r.placed ∙ ap (λ (xs : List ℕ). map (map (resolved_in xs)) lists) (ids_known ids slice keys n r.count r.value r.listed);
 }
+
+-- specifications without a fault are refused for want of memory alone
+pub memory_alone : (specs : List NodeSpec) (refusal : Refusal) → game_fault_of specs ≡ None → IsBuildRefusal specs refusal → refusal ≡ Memory
+memory_alone specs (Text fault) none is = absurd is
+memory_alone specs (Game fault) none is = absurd (cc)
+memory_alone specs (Automaton fault) none is = absurd is
+memory_alone specs (Task fault) none is = absurd is
+memory_alone specs Memory none is = refl
+memory_alone specs Io none is = absurd is

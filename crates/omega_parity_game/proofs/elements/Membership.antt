@@ -8,7 +8,7 @@ use Rattle.std.proofs.lemmas.List.Kept.{AllPairs-from_increasing}
 use Rattle.std.proofs.lemmas.List.Sums.{passes_at_first, fails_before_first}
 use Rattle.std.specs.List.{list_any, position_or_len}
 use Rattle.std.specs.List.Sorted.{IsStrictlyIncreasing}
-use Rattle.omega_parity_game.specs.Part.{StandsAt, new_place}
+use Rattle.omega_parity_game.specs.Places.{StandsAt, new_place}
 
 module _ {X : Type 0} where
   -- the head

@@ -1,3 +1,2 @@
--- How priorities are counted and multiplied: cited by private contracts alone.
+-- How priorities are counted: cited by private contracts alone.
 pub mod Tally
-pub mod Factors

@@ -10,8 +10,8 @@ use Rattle.omega_parity_game.specs.Winning.{Chooses}
 use Rattle.omega_lift_laws.specs.Measure.{Measure}
 use Rattle.omega_lift_laws.specs.Allowance.{measure_at}
 use Rattle.omega_lift_laws.specs.Answer.{AreChoices, IsFirstLeast, won_in}
+use Rattle.omega_schedules.proofs.Flags.{slice_get-set_other, slice_get-set_same}
 use Rattle.omega_solve.specs.private.solving.Successor.{IsChoiceAt}
-use Rattle.omega_solve.proofs.schedules.Flags.{slice_get-set_other, slice_get-set_same}
 
 -- a place is won if its measure is not top
 won_at : (b : Bool) (x : Measure) → (IsTrue b ↔ (x ≡ None)) → not b ≡ is_some x

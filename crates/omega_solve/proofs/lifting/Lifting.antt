@@ -15,9 +15,9 @@ use Rattle.omega_lift_laws.specs.Allowance.{IsAllowance, IsAllowanceOf, IsLiftVa
 use Rattle.omega_lift_laws.specs.Run.{IsDue, IsLiftingRun, IsTable, Lifts}
 use Rattle.omega_lift_laws.specs.Laws.{AllowancesAreUnique, RunsKeepTables}
 use Rattle.omega_measure.specs.Table.{Content, Exceeds, Raises, with_measure}
+use Rattle.omega_schedules.specs.Schedule.{IsPending, Pending, with_taken, waits}
+use Rattle.omega_schedules.proofs.Flags.{pending_taken, waits_taken}
 use Rattle.omega_solve.specs.Limits.{most_lifts}
-use Rattle.omega_solve.specs.Schedule.{IsPending, Pending, with_taken}
-use Rattle.omega_solve.specs.private.schedules.Waits.{waits}
 use Rattle.omega_solve.specs.Solver.{LiftsWithin, SolverState}
 use Rattle.omega_solve.specs.private.solving.Successor.{IsDueTowards, IsTableOf}
 use Rattle.omega_solve.specs.private.solving.Repeating.{LiftsAgain}
@@ -25,7 +25,6 @@ use Rattle.omega_solve.specs.private.solving.Wake.{Wakes}
 use Rattle.omega_solve.specs.private.solving.Progress.{IsLifted, IsSolving, in_degree}
 use Rattle.omega_solve.proofs.lifting.Due.{allowance_in, allowance_of, table_entries}
 use Rattle.omega_solve.proofs.lifting.Edges.{contained, edge_from_predecessor, edge_leaves}
-use Rattle.omega_solve.proofs.schedules.Flags.{pending_taken, waits_taken}
 
 -- a run goes on by one lift
 pub run_more : (nodes : List Node) (player : Player) (old table : List Measure) (places : List ℕ) (v : ℕ) (x : Measure)

@@ -7,7 +7,7 @@ use Rattle.omega_parity_game.specs.Game.{Node, HasEdge}
 use Rattle.omega_lift_laws.specs.Run.{IsLiftingRun}
 use Rattle.omega_lift_laws.specs.Laws.{AllowancesAreUnique, RunsKeepTables}
 use Rattle.omega_measure.specs.Table.{Content, Raises}
-use Rattle.omega_solve.specs.Schedule.{Pending, with_taken_again}
+use Rattle.omega_schedules.specs.Schedule.{Pending, with_taken_again}
 use Rattle.omega_solve.specs.private.solving.Repeating.{LiftsAgain}
 use Rattle.omega_solve.specs.private.solving.Successor.{IsDueTowards, IsTableOf}
 use Rattle.omega_solve.proofs.lifting.Lifting.{run_append, run_raised, table_raised}

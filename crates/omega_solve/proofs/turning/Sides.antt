@@ -16,8 +16,9 @@ use Rattle.omega_lift_laws.specs.Laws.{AllowancesAreUnique, ChoicesAreAStrategy,
 use Rattle.omega_lift_laws.specs.Run.{IsDue, IsLiftingRun, IsStable, IsTable}
 use Rattle.omega_lift_laws.proofs.Choosing.{cases_top}
 use Rattle.omega_measure.specs.Table.{Content, Raises, with_measure, zero_content}
+use Rattle.omega_schedules.specs.Schedule.{IsPending, Pending, all_pending, with_taken}
+use Rattle.omega_schedules.proofs.Flags.{pending_all, pending_inside, pending_taken}
 use Rattle.omega_solve.specs.LeastTables.{IsLeastStable, RunsLeadToLeastTables}
-use Rattle.omega_solve.specs.Schedule.{IsPending, Pending, all_pending, with_taken}
 use Rattle.omega_solve.specs.Turns.{EndsRaised, IsAnswerOfRun}
 use Rattle.omega_solve.specs.private.solving.Repeating.{LiftsAgain}
 use Rattle.omega_solve.specs.private.solving.Successor.{IsDueTowards, IsTableOf}
@@ -27,7 +28,6 @@ use Rattle.omega_solve.proofs.answers.Exactness.{answer_exact}
 use Rattle.omega_solve.proofs.lifting.Due.{table_entries}
 use Rattle.omega_solve.proofs.lifting.Edges.{contained, edge_from_predecessor, edge_leaves}
 use Rattle.omega_solve.proofs.lifting.Lifting.{due_before, due_below_top, due_pending, raised, run_raised}
-use Rattle.omega_solve.proofs.schedules.Flags.{pending_all, pending_inside, pending_taken}
 use Rattle.omega_solve.proofs.turning.Below.{at_most_set, at_most_top, run_below, zero_below}
 use Rattle.omega_solve.proofs.turning.Raising.{lifts_raise, raised_more, raised_start, set_keeps_table}
 

@@ -7,11 +7,11 @@ ghost use Rattle.omega_solve.specs.private.turning.Handing.{AreWon};
 ghost use Rattle.omega_solve.specs.private.turning.Side.{IsSide};
 
 use super::side::{Side, take_out};
-use crate::schedule::Schedule;
 use crate::wake::wake_predecessors;
 use omega_lift_laws::won_places_are_in_regions;
 use omega_measure::{Game, MeasureTable, Player};
 use omega_region_laws::regions_are_apart;
+use omega_schedules::Schedule;
 
 /// Whether some place that is not in `lost` is below top in `table`.
 pub(crate) fn has_news<T: MeasureTable>(game: &Game, table: &T, lost: &[bool]) -> bool

@@ -5,10 +5,10 @@ ghost use Rattle.omega_lift_laws.specs.Allowance.{measure_at};
 ghost use Rattle.omega_solve.specs.private.solving.Successor.{IsTableOf};
 ghost use Rattle.omega_solve.specs.private.turning.Handing.{AreWon, Rests, RestsOn, StandsAlone};
 
-use crate::schedule::Schedule;
 use crate::successor::owns;
 use omega_lift_laws::{allowances_exist, measures_are_ordered, won_places_are_in_regions};
 use omega_measure::{Game, MeasureTable, Player};
+use omega_schedules::Schedule;
 
 /// Marks in `lost` the places whose measures may still rise to top: those at top, those at which a lift is due, and
 /// those that rest on such places. A lift is due at no place that is not pending, so that nothing is compared there at

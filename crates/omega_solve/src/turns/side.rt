@@ -1,17 +1,17 @@
 ghost use Rattle.std.specs.Prelude.{◌≡◌, ◌-◌, ◌^◌, ◌<◌, length, IsTrue};
 ghost use Rattle.omega_lift_laws.specs.Run.{IsDue};
 ghost use Rattle.omega_parity_game.specs.Game.{IsGame};
-ghost use Rattle.omega_solve.specs.Schedule.{IsIdle, IsPending};
+ghost use Rattle.omega_schedules.specs.Schedule.{IsIdle, IsPending};
 ghost use Rattle.omega_solve.specs.private.solving.Successor.{IsDueTowards};
 ghost use Rattle.omega_solve.specs.private.turning.Side.{IsSide};
 
 use super::MOST_TAKES;
 use crate::repeating::lift_again;
-use crate::schedule::Schedule;
 use crate::successor::due_towards;
 use crate::wake::wake_predecessors;
 use omega_lift_laws::{allowances_are_unique, runs_keep_tables};
 use omega_measure::{Game, MeasureTable, Player};
+use omega_schedules::Schedule;
 
 /// One player's side of solving in turns: the measures, and the places to be looked at.
 #[derive(Drop)]

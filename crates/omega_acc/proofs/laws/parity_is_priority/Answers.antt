@@ -1,7 +1,7 @@
 -- The formula holds where the greatest priority is even.
 use Rattle.std.proofs.Common.{eq-eqb, ◌%◌, map, sym, ◌∙◌}
 use Rattle.std.proofs.lemmas.Bool.{eqb-true}
-use Rattle.omega_formula.specs.Kind.{greatest_number, priority_of}
+use Rattle.omega_parity_kind.specs.Priority.{greatest_number, priority_of}
 use Rattle.omega_acc.proofs.kinds.KindLemmas.{accepts-greatest}
 use Rattle.omega_acc.proofs.laws.parity_is_priority.Goals as goal
 

@@ -1,9 +1,9 @@
 -- Parity and generalized Büchi formulas in postfix order.
 use Rattle.std.specs.Prelude.{ℕ, false, if◌then◌else◌}
-use Rattle.omega_formula.specs.Kind.{has_parity}
+use Rattle.omega_parity_kind.specs.Priority.{has_parity}
+use Rattle.omega_parity_kind.specs.declared.kind.Parity.{Parity}
 use Rattle.omega_formula.specs.declared.formula.AccNode.{AccNode}
 use Rattle.omega_formula.specs.declared.formula.AccNode.TheVariants.{And, Fin, Inf, Or}
-use Rattle.omega_formula.specs.declared.kind.Parity.{Parity}
 
 -- the node of a set's atom
 abbrev pub atom_node : Parity → ℕ → AccNode

@@ -1,7 +1,7 @@
 -- The places that a strategy reaches from some places.
 use Rattle.std.specs.Prelude.{◌↔◌, ℕ, Bool, IsTrue, Option, List, Contains}
 use Rattle.omega_parity_game.specs.Game.{Node}
-use Rattle.omega_parity_game.specs.Reaching.{left_at, mark_at, AreReached}
+use Rattle.omega_reaching.specs.Reaching.{left_at, mark_at, AreReached}
 
 -- the marks are those of the places
 abbrev pub AreMarked : List ℕ → List Bool → Type 0

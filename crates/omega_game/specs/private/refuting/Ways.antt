@@ -1,7 +1,7 @@
 -- A search in breadth for the places that are reached, and the ways on which it met them.
 use Rattle.std.specs.Prelude.{◌≡◌, ◌⊎◌, ℕ, ◌+◌, ◌<◌, ◌≤◌, Bool, not, IsTrue, Option, Some, None, List, [], ◌∷◌, ◌++◌, length, Contains, count_by, slice_index, slice_index_or}
 use Rattle.omega_parity_game.specs.Game.{Node, priority_at}
-use Rattle.omega_parity_game.specs.Reaching.{left_at, mark_at, IsReachedFrom}
+use Rattle.omega_reaching.specs.Reaching.{left_at, mark_at, IsReachedFrom}
 
 -- the index of the place from which the one at an index was met, or none
 abbrev pub origin_at : List (Option ℕ) → ℕ → Option ℕ

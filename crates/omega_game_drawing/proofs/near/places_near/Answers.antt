@@ -1,6 +1,6 @@
 -- `places_near`: the search begins, goes on and ends.
 use Rattle.std.proofs.Common.{◌≡◌, ◌<◌, ℕ, Bool, List, [], All, true, false, not, inl, inr, length, replicate, eqb-true, refl, subst, sym, arith}
-use Rattle.omega_parity_game.proofs.walks.Marking.{empty_of_none}
+use Rattle.omega_reaching.proofs.Marking.{empty_of_none}
 use Rattle.omega_game_drawing.specs.private.Entering.{AreEntered, IsAfter}
 use Rattle.omega_game_drawing.proofs.Searching.{front_inside, search_begins, search_ends, search_goes_on, spent}
 use Rattle.omega_game_drawing.proofs.near.places_near.Goals as goal

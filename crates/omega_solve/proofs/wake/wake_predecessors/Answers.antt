@@ -1,7 +1,7 @@
 -- Each predecessor is woken, or left out at top.
 use Rattle.std.proofs.Common.{arith, refl}
 use Rattle.omega_solve.proofs.lifting.Edges.{predecessor_inside}
-use Rattle.omega_solve.proofs.schedules.Waking.{wakes_added, wakes_skipped}
+use Rattle.omega_solve.proofs.lifting.Waking.{wakes_added, wakes_skipped}
 use Rattle.omega_solve.proofs.wake.wake_predecessors.Goals as goal
 use Rattle.omega_solve.proofs.wake.wake_predecessors.Goals.{then-not-is_top, else-not-is_top}
 

@@ -3,9 +3,8 @@ use Rattle.std.specs.Prelude.{◌≡◌, ℕ, ◌+◌, ◌<◌, ◌≤◌, Bool,
 use Rattle.omega_parity_game.specs.Game.{Node, IsGame, IsWithinLimits, predecessors_of, priorities}
 use Rattle.omega_lift_laws.specs.Answer.{AreChoices, won_in}
 use Rattle.omega_lift_laws.specs.Run.{IsDue, IsLiftingRun, zero_table}
+use Rattle.omega_schedules.specs.Schedule.{IsIdle, IsPending, waits}
 use Rattle.omega_solve.specs.Limits.{most_lifts}
-use Rattle.omega_solve.specs.Schedule.{IsIdle, IsPending}
-use Rattle.omega_solve.specs.private.schedules.Waits.{waits}
 use Rattle.omega_solve.specs.Solver.{LiftsWithin, SolverState}
 use Rattle.omega_solve.specs.private.solving.Successor.{IsTableOf}
 

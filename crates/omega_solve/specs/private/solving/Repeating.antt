@@ -4,7 +4,7 @@ use Rattle.omega_parity_game.specs.declared.player.Player.{Player}
 use Rattle.omega_parity_game.specs.Game.{Node, HasEdge}
 use Rattle.omega_lift_laws.specs.Run.{IsLiftingRun}
 use Rattle.omega_measure.specs.Table.{Content}
-use Rattle.omega_solve.specs.Schedule.{Pending}
+use Rattle.omega_schedules.specs.Schedule.{Pending}
 use Rattle.omega_solve.specs.private.solving.Successor.{IsTableOf}
 
 -- v is lifted `count` times in a row, and leads to itself if `count` is not 0. Each lift is counted as a take, and the

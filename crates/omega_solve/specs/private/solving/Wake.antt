@@ -2,8 +2,7 @@
 use Rattle.std.specs.Prelude.{◌≡◌, ℕ, ◌+◌, ◌<◌, ◌≤◌, IsSome, List, length, slice_index}
 use Rattle.omega_lift_laws.specs.Measure.{Measure}
 use Rattle.omega_lift_laws.specs.Allowance.{measure_at}
-use Rattle.omega_solve.specs.Schedule.{IsPending, Pending}
-use Rattle.omega_solve.specs.private.schedules.Waits.{waits}
+use Rattle.omega_schedules.specs.Schedule.{IsPending, Pending, waits}
 
 -- the first `count` of the places are pending if they are below top, each place that was pending still is, and at most
 -- `count` were added

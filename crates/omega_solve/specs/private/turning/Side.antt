@@ -4,9 +4,9 @@ use Rattle.omega_parity_game.specs.declared.player.Player.{Player}
 use Rattle.omega_parity_game.specs.Game.{Node}
 use Rattle.omega_lift_laws.specs.Run.{IsDue}
 use Rattle.omega_measure.specs.Table.{Content}
+use Rattle.omega_schedules.specs.Schedule.{IsIdle, IsPending, Pending}
 use Rattle.omega_solve.specs.LeastTables.{IsBelowStable}
 use Rattle.omega_solve.specs.Turns.{IsRaised}
-use Rattle.omega_solve.specs.Schedule.{IsIdle, IsPending, Pending}
 use Rattle.omega_solve.specs.private.solving.Successor.{IsTableOf}
 
 -- the table is at most each in which no lift is due, so many raises lead to it, and each place at which a lift is due

@@ -1,6 +1,6 @@
 -- `joins`: the places before this one are joined.
 use Rattle.std.proofs.Common.{◌≡◌, take}
-use Rattle.omega_parity_game.specs.Part.{IsPath}
+use Rattle.omega_parity_game.specs.Paths.{IsPath}
 use Rattle.omega_parity_game.specs.Winning.{end_of}
 use Rattle.omega_walk_answers.proofs.joining.joins.Given as goal
 

@@ -3,7 +3,7 @@
 use Rattle.std.proofs.Common.{ℕ, ◌<◌, IsTrue}
 use Rattle.omega_parity_game.specs.Game.{priority_at}
 use Rattle.omega_parity_game.specs.Player.{loses}
-use Rattle.omega_parity_game.specs.Reaching.{mark_at}
+use Rattle.omega_reaching.specs.Reaching.{mark_at}
 use Rattle.omega_game.specs.private.checking.Recurring.{Recurs}
 use Rattle.omega_game.proofs.checking.recurring.decide_plainly.Given as goal
 

@@ -2,7 +2,7 @@
 use Rattle.std.proofs.Common.{◌≡◌, ◌∙◌, false, ap, length, refl, subst, sym}
 use Rattle.omega_parity_game.specs.Game.{priorities}
 use Rattle.omega_measure.specs.Table.{Content, zero_content}
-use Rattle.omega_solve.specs.Schedule.{Pending, all_pending}
+use Rattle.omega_schedules.specs.Schedule.{Pending, all_pending}
 use Rattle.omega_solve.specs.Solver.{SolverState, start_of, solver_state}
 use Rattle.omega_solve.specs.private.solving.Progress.{IsSolving}
 use Rattle.omega_solve.proofs.lifting.Starting.{answered_open, solving_start}

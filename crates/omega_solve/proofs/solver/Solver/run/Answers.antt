@@ -1,9 +1,9 @@
 -- A run goes on lift by lift, and ends with none due or with its budget used up.
 use Rattle.std.proofs.Common.{◌≡◌, ◌-◌, ◌∙◌, ap, arith, refl, subst, sym, true}
+use Rattle.omega_schedules.proofs.Flags.{waits_taken}
 use Rattle.omega_solve.specs.Solver.{SolverState}
 use Rattle.omega_solve.specs.private.solving.Progress.{IsSolver}
 use Rattle.omega_solve.proofs.lifting.Finishing.{finished_idle, reached_bounded, solving_reached}
-use Rattle.omega_solve.proofs.schedules.Flags.{waits_taken}
 use Rattle.omega_solve.proofs.runs.Dealing.{call_done, call_over, call_reaches, call_spent}
 use Rattle.omega_solve.proofs.lifting.Lifting.{lifts_more}
 use Rattle.omega_solve.proofs.solver.Solver.run.Goals as goal

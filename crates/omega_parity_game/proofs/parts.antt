@@ -1,4 +1,0 @@
--- The part of a place.
-pub mod Kept
-pub mod PartGames
-pub mod Specifying

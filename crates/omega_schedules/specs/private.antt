@@ -1,0 +1,4 @@
+-- What the three schedules alone cite.
+pub mod Sweep
+pub mod Worklist
+pub mod Nested
