@@ -1,4 +1,4 @@
-ghost use Rattle.std.specs.Prelude.{◌≡◌, ◌<◌, ◌++◌, [], ◌∷◌, false, length, map, option_map, IfErr, IfOk, IfSome, OnErr, OnOk};
+ghost use Rattle.std.specs.Prelude.{◌≡◌, ◌<◌, ◌≤◌, ◌++◌, [], ◌∷◌, false, length, map, option_map, IfErr, IfOk, IfSome, OnErr, OnOk};
 ghost use Rattle.std.specs.List.{list_any};
 ghost use Rattle.std.specs.Str.{bytes_eq};
 ghost use Rattle.omega_text.specs.Cases.{IsMemory};
@@ -170,23 +170,43 @@ impl Aliases {
         ensures same { OnErr result (self.new ≡ self.old) }
         ensures err { IfErr result (IsRepeated self.old name.now) }
     {
+        match self.counted(name, &body) {
+            Ok((extent, expanded)) => {
+                let room = self.room_beside(&expanded);
+                put_last(
+                    &mut self.names,
+                    &mut self.definitions,
+                    name,
+                    body,
+                    extent,
+                    expanded,
+                )?;
+                self.room = room;
+                Ok(())
+            }
+            Err(refusal) => Err(refusal),
+        }
+    }
+
+    /// Returns the extent of the definition `body`, and its expanded nodes if they are kept. Refused with
+    /// [AutomatonFault::Alias] exactly if `name` is there.
+    fn counted(
+        &self,
+        name: &[u8],
+        body: &RawLabel,
+    ) -> Result<(Option<Extent>, Option<Seq<LabelNode>>), Refusal>
+        ensures absent { OnOk result (length self.now ≤ place_among self.now name.now) }
+        ensures extent { IfOk result (λ made. made.0 ≡ option_map extent_of (expansion self.now body.now)) }
+        ensures kept { IfOk result (λ made. IsKept made.1 (expansion self.now body.now)) }
+        ensures err { IfErr result (IsRepeated self.now name.now) }
+    {
         if self.place(name) < self.len() {
             return Err(Refusal::Automaton(AutomatonFault::Alias));
         }
         let alloc = *self.definitions.allocator();
-        let extent = self.measure(alloc, &body)?;
-        let expanded = self.expanded(alloc, &body, extent)?;
-        let room = self.room_beside(&expanded);
-        put_last(
-            &mut self.names,
-            &mut self.definitions,
-            name,
-            body,
-            extent,
-            expanded,
-        )?;
-        self.room = room;
-        Ok(())
+        let extent = self.measure(alloc, body)?;
+        let expanded = self.expanded(alloc, body, extent)?;
+        Ok((extent, expanded))
     }
 
     /// Returns the expanded nodes of a definition, if they are few enough to be kept. The aliases in it are kept then

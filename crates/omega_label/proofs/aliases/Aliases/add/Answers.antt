@@ -14,20 +14,20 @@ put_last-requires c =
     let count : length (definitions_held c.self.inside) ≡ length c.args.self.now = ap length c.self.view_is in
     let size : length (definitions_held c.self.inside) ≡ length c.self.inside.definitions.items = length-map c.self.inside.definitions.items defined_of in
     place-absent (λ key. key.items) defined_of c.args.name.now c.self.inside.names.keys c.self.inside.definitions.items c.self.invariant.named
-    (omega (arith, c.if-place-len.false, c.len.ensures, c.place.ensures, seen, count, size))
+    (omega (arith, c.in-Ok.ensures.absent, seen, count, size))
 
 pub invariant_of-self : goal.invariant_of-self
 invariant_of-self c =
     let keeps = Keeps-put c.put_last.result _ _ c.self.inside.definitions.items c.put_last.new.definitions.items _ (record { named = c.self.invariant.named; measured = c.self.invariant.measured; kept = c.self.invariant.kept })
     c.put_last.ensures.names c.put_last.ensures.definitions c.put_last.ensures.same_names c.put_last.ensures.same_definitions
-    (c.in_ok-extent.ensures.ok ∙ ap (λ ds. option_map extent_of (expansion ds c.args.body)) (sym c.self.view_is))
-    (subst (λ ds. IsKept c.in_ok-expanded.expanded (expansion ds c.args.body)) (sym c.self.view_is) c.in_ok-expanded.ensures.ok) in
+    (c.in-Ok.ensures.extent ∙ ap (λ ds. option_map extent_of (expansion ds c.args.body)) (sym c.self.view_is))
+    (subst (λ ds. IsKept c.in-Ok.expanded (expansion ds c.args.body)) (sym c.self.view_is) c.in-Ok.ensures.kept) in
     record { named = keeps.named; measured = keeps.measured; kept = keeps.kept }
 
-pub invariant_of-self-2 : goal.invariant_of-self-2
-invariant_of-self-2 c =
+pub invariant_of-self-in-Ok : goal.invariant_of-self-in-Ok
+invariant_of-self-in-Ok c =
     let keeps = Keeps-push _ _ c.self.inside.definitions.items c.put_last.new.definitions.items _ (record { named = c.self.invariant.named; measured = c.self.invariant.measured; kept = c.self.invariant.kept })
-    c.in_ok-put_last.ensures.names c.in_ok-put_last.ensures.definitions
-    (c.in_ok-extent.ensures.ok ∙ ap (λ ds. option_map extent_of (expansion ds c.args.body)) (sym c.self.view_is))
-    (subst (λ ds. IsKept c.in_ok-expanded.expanded (expansion ds c.args.body)) (sym c.self.view_is) c.in_ok-expanded.ensures.ok) in
+    c.in_ok-put_last-in-Ok.ensures.names c.in_ok-put_last-in-Ok.ensures.definitions
+    (c.in-Ok.ensures.extent ∙ ap (λ ds. option_map extent_of (expansion ds c.args.body)) (sym c.self.view_is))
+    (subst (λ ds. IsKept c.in-Ok.expanded (expansion ds c.args.body)) (sym c.self.view_is) c.in-Ok.ensures.kept) in
     record { named = keeps.named; measured = keeps.measured; kept = keeps.kept }
