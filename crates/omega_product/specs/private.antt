@@ -1,6 +1,7 @@
 -- What private contracts alone cite.
 pub mod Adding
 pub mod Explored
+pub mod Headers
 pub mod Labelling
 pub mod Meeting
 pub mod Operands

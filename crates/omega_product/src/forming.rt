@@ -5,12 +5,16 @@ ghost use Rattle.omega_automaton.specs.Branching.{has_universal_branching};
 ghost use Rattle.omega_product.specs.Joining.{joined_names as names_of_both};
 ghost use Rattle.omega_product.specs.Limits.{IsWithin};
 ghost use Rattle.omega_edge_labels.specs.Limits.{most_edges, most_states};
+ghost use Rattle.omega_product.specs.private.Explored.{AreMade, IsExplored};
+ghost use Rattle.omega_product.specs.private.Headers.{AreOfBoth, IsHeader};
+ghost use Rattle.omega_product.specs.private.Operands.{AreTabled, AreTables};
 ghost use Rattle.omega_product.specs.Product.{IsProduct};
 ghost use Rattle.omega_product.specs.Refusing.{HaveNoBranch, IsJoinFault, IsProductRefusal};
 ghost use Rattle.omega_edge_labels.specs.Fitting.{IsLarge};
 ghost use Rattle.omega_product.specs.Written.{IsWritten, IsWrittenProduct, raw_of};
 
 use crate::acceptance::joint_acceptance;
+use crate::explored::Explored;
 use crate::exploring::explore;
 use crate::header::items_of;
 use crate::names::joined_names;
@@ -102,22 +106,83 @@ fn written_product(
     let sets = sets_of_both(one, other)?;
     let names = names_of(alloc, one, other)?;
     let mut tables = Tables::of(alloc, one, other, names.as_slice())?;
-    let explored = explore(alloc, one, other, &mut tables)?;
-    let operands = Operands {
-        one,
-        other,
-        tables: &tables,
-    };
-    let states = states_of(alloc, &operands, &explored)?;
-    let acceptance = joint_acceptance(alloc, one, other)?;
+    written_over(alloc, one, other, &mut tables, names, sets)
+}
+
+/// Returns the product as a text writes it, of two automata with these `tables`, the joined `names` and the number of
+/// `sets` of both. Fails with [TaskFault::TooManyPropositions] or [TaskFault::TooLarge].
+fn written_over(
+    alloc: Global,
+    one: &Automaton,
+    other: &Automaton,
+    tables: &mut Tables,
+    names: Vec<ByteString>,
+    sets: u32,
+) -> Result<RawAutomaton, Refusal>
+    requires tables { AreTables one.now other.now tables.old }
+    requires header { AreOfBoth one.now other.now names.items sets }
+    ensures written { IfOk result (IsWrittenProduct one.now other.now) }
+    ensures states { IfOk result (λ raw. length raw.states ≤ most_states) }
+    ensures edges { IfOk result (λ raw. sum_by (λ state. length state.edges) raw.states ≤ most_edges) }
+    ensures refused { IfErr result (or_task (IsJoinFault one.now other.now) (or_memory never)) }
+{
+    match explore(alloc, one, other, tables) {
+        Ok(explored) => {
+            let operands = Operands { one, other, tables };
+            written_explored(alloc, &operands, &explored, names, sets)
+        }
+        Err(refusal) => Err(refusal),
+    }
+}
+
+/// Returns the product as a text writes it, of the pairs and edges of `explored`. Fails with [TaskFault::TooLarge].
+fn written_explored(
+    alloc: Global,
+    operands: &Operands<'_>,
+    explored: &Explored,
+    names: Vec<ByteString>,
+    sets: u32,
+) -> Result<RawAutomaton, Refusal>
+    requires tabled { AreTabled operands.now }
+    requires explored { IsExplored operands.now.one.now operands.now.other.now explored.now }
+    requires made { AreMade operands.now.tables.now explored.now }
+    requires header { AreOfBoth operands.now.one.now operands.now.other.now names.items sets }
+    ensures written { IfOk result (IsWrittenProduct operands.now.one.now operands.now.other.now) }
+    ensures states { IfOk result (λ raw. length raw.states ≤ most_states) }
+    ensures edges { IfOk result (λ raw. sum_by (λ state. length state.edges) raw.states ≤ most_edges) }
+    ensures refused { IfErr result
+        (or_task (IsJoinFault operands.now.one.now operands.now.other.now) (or_memory never)) }
+{
+    let states = states_of(alloc, operands, explored)?;
+    match header_of(alloc, operands, explored, names, sets) {
+        Ok(items) => assembled(alloc, items, states),
+        Err(refusal) => Err(refusal),
+    }
+}
+
+/// Returns the header of the product of the pairs of `explored`. Fails with [TaskFault::TooLarge] if the acceptance is
+/// too deep.
+fn header_of(
+    alloc: Global,
+    operands: &Operands<'_>,
+    explored: &Explored,
+    names: Vec<ByteString>,
+    sets: u32,
+) -> Result<Vec<RawItem>, Refusal>
+    requires few { length explored.now.pairs.keys ≤ most_states }
+    requires header { AreOfBoth operands.now.one.now operands.now.other.now names.items sets }
+    ensures header { IfOk result (λ items.
+        IsHeader operands.now.one.now operands.now.other.now explored.now.pairs.keys items.items) }
+    ensures refused { IfErr result
+        (or_task (IsJoinFault operands.now.one.now operands.now.other.now) (or_memory never)) }
+{
+    let acceptance = joint_acceptance(alloc, operands.one, operands.other)?;
     let starts = Starts {
-        firsts: one.starts(),
-        seconds: other.starts(),
+        firsts: operands.one.starts(),
+        seconds: operands.other.starts(),
         found: &explored.pairs,
     };
-    let items = items_of(alloc, names, sets, acceptance, &starts)?;
-    let raw = assembled(alloc, items, states)?;
-    Ok(raw)
+    Ok(items_of(alloc, names, sets, acceptance, &starts)?)
 }
 
 /// Returns the number of sets of both. Fails with [TaskFault::TooLarge] if a text has no number for it.
