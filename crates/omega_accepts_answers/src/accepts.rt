@@ -1,6 +1,7 @@
-ghost use Rattle.std.specs.Prelude.{◌≡◌, ◌++◌, IfErr, IfOk, IsOkUnless, OnOk};
+ghost use Rattle.std.specs.Prelude.{◌≡◌, List, ◌++◌, ℕ, IfErr, IfOk, IsOkUnless, OnOk};
 ghost use Rattle.omega_accepts.specs.Refusing.{IsMembershipRefusal};
 ghost use Rattle.omega_accepts_answers.specs.Accepts.{IsAcceptsAnswer, IsInputRefusal, IsMembershipVerdict, IsOfNoText, exit_of, membership_text, no_text};
+ghost use Rattle.omega_accepts_answers.specs.private.Undecided.{IsUndecided};
 ghost use Rattle.omega_containment_answers.specs.Choice.{refused_for};
 ghost use Rattle.omega_hoa.specs.Alone.{IsAutomatonRefusal, IsAutomatonText};
 ghost use Rattle.omega_io.specs.Refused.{IsAbout};
@@ -38,15 +39,42 @@ pub fn accepts_text(
     ensures refused { IfErr result (λ refused. IsAbout (IsOfNoText word.items text.items)
         (IsWordRefusal word.items) (IsInputRefusal word.items text.items) refused.text refused.refusal) }
 {
-    let symbolic = match word_in(alloc, word) {
-        Ok(symbolic) => symbolic,
-        Err(refusal) => return Err(Refused::of(Which::File, refusal)),
-    };
-    let automaton = match automaton_in(alloc, text) {
-        Ok(automaton) => automaton,
-        Err(refusal) => return Err(Refused::of(Which::Input, refusal)),
-    };
-    match verdict_on(alloc, symbolic, &automaton, explain) {
+    match word_in(alloc, word) {
+        Ok(symbolic) => accepts_with(alloc, symbolic, text, explain),
+        Err(refusal) => Err(Refused::of(Which::File, refusal)),
+    }
+}
+
+/// Returns what [accepts_text] does for each text of a word that is the text of `symbolic`.
+fn accepts_with(
+    alloc: Global,
+    symbolic: SymbolicWord,
+    text: Vec<u8>,
+    explain: bool,
+) -> Result<(Exit, Vec<u8>), Refused>
+    ensures answer { (word : List ℕ) → IsWordText word symbolic
+        → IfOk result (λ made. IsAcceptsAnswer word text.items explain made.0 made.1.items) }
+    ensures refused { (word : List ℕ) → IsWordText word symbolic
+        → IfErr result (λ refused. IsAbout (IsOfNoText word text.items)
+        (IsWordRefusal word) (IsInputRefusal word text.items) refused.text refused.refusal) }
+{
+    match automaton_in(alloc, text) {
+        Ok(automaton) => verdict_on(alloc, symbolic, &automaton, explain),
+        Err(refusal) => Err(Refused::of(Which::Input, refusal)),
+    }
+}
+
+/// Returns the exit and the text for a word and an automaton. Fails as [accepts_text] does after both texts are read.
+fn verdict_on(
+    alloc: Global,
+    word: SymbolicWord,
+    automaton: &Automaton,
+    explain: bool,
+) -> Result<(Exit, Vec<u8>), Refused>
+    ensures verdict { IfOk result (λ made. IsMembershipVerdict word automaton.now explain made.0 made.1.items) }
+    ensures refused { IfErr result (IsUndecided word automaton.now) }
+{
+    match decided(alloc, word, automaton, explain) {
         Ok(made) => Ok(made),
         Err(refusal) => Err(refused_for(Which::Input, refusal)),
     }
@@ -79,7 +107,7 @@ fn refused_for(text: Which, refusal: Refusal) -> Refused
 }
 
 /// Returns the exit and the text for a word and an automaton. Fails as `accepts` of `omega_accepts` does.
-fn verdict_on(
+fn decided(
     alloc: Global,
     word: SymbolicWord,
     automaton: &Automaton,

@@ -1,6 +1,8 @@
-ghost use Rattle.std.specs.Prelude.{◌≡◌, IfErr, IfOk, IsOkUnless};
+ghost use Rattle.std.specs.Prelude.{◌≡◌, List, ℕ, IfErr, IfOk, IsOkUnless};
 ghost use Rattle.omega_containment.specs.Refusing.{IsContainmentRefusal};
 ghost use Rattle.omega_containment_answers.specs.Contained.{IsContainedAnswer, IsContainmentVerdict, IsFileRefusal, IsOfNoText, containment_text, exit_of};
+ghost use Rattle.omega_containment_answers.specs.private.Asked.{IsUncontained};
+ghost use Rattle.omega_hoa.specs.Alone.{IsAutomatonText};
 ghost use Rattle.omega_io.specs.Refused.{IsAbout};
 ghost use Rattle.omega_language_answers.specs.Meet.{IsTextRefused};
 
@@ -30,15 +32,43 @@ pub fn contained_texts(
     ensures refused { IfErr result (λ refused. IsAbout (IsOfNoText file.items input.items)
         (IsFileRefusal file.items input.items) (IsTextRefused file.items input.items) refused.text refused.refusal) }
 {
-    let second = match automaton_in(alloc, file) {
-        Ok(automaton) => automaton,
-        Err(refusal) => return Err(Refused::of(Which::File, refusal)),
-    };
-    let first = match automaton_in(alloc, input) {
-        Ok(automaton) => automaton,
-        Err(refusal) => return Err(Refused::of(Which::Input, refusal)),
-    };
-    match contained_automata(alloc, &first, &second, explain) {
+    match automaton_in(alloc, file) {
+        Ok(second) => contained_with(alloc, &second, input, explain),
+        Err(refusal) => Err(Refused::of(Which::File, refusal)),
+    }
+}
+
+/// Returns what [contained_texts] does for each text of a file that is the text of `second`.
+fn contained_with(
+    alloc: Global,
+    second: &Automaton,
+    input: Vec<u8>,
+    explain: bool,
+) -> Result<(Exit, Vec<u8>), Refused>
+    ensures answer { (file : List ℕ) → IsAutomatonText file second.now
+        → IfOk result (λ made. IsContainedAnswer file input.items explain made.0 made.1.items) }
+    ensures refused { (file : List ℕ) → IsAutomatonText file second.now
+        → IfErr result (λ refused. IsAbout (IsOfNoText file input.items)
+        (IsFileRefusal file input.items) (IsTextRefused file input.items) refused.text refused.refusal) }
+{
+    match automaton_in(alloc, input) {
+        Ok(first) => verdict_on(alloc, &first, second, explain),
+        Err(refusal) => Err(Refused::of(Which::Input, refusal)),
+    }
+}
+
+/// Returns the exit and the text for two automata, of which `second` is that of the file. Fails as [contained_texts]
+/// does after both texts are read.
+fn verdict_on(
+    alloc: Global,
+    first: &Automaton,
+    second: &Automaton,
+    explain: bool,
+) -> Result<(Exit, Vec<u8>), Refused>
+    ensures verdict { IfOk result (λ made. IsContainmentVerdict first.now second.now explain made.0 made.1.items) }
+    ensures refused { IfErr result (IsUncontained first.now second.now) }
+{
+    match contained_automata(alloc, first, second, explain) {
         Ok(made) => Ok(made),
         Err(refusal) => Err(refused_for(Which::File, refusal)),
     }

@@ -1,14 +1,17 @@
-ghost use Rattle.std.specs.Prelude.{◌≡◌, IfErr, IfOk, IsOkUnless, OnOk};
+ghost use Rattle.std.specs.Prelude.{◌≡◌, List, ℕ, IfErr, IfOk, IsOkUnless, OnOk};
+ghost use Rattle.omega_containment.specs.Containing.{IsContainment};
 ghost use Rattle.omega_containment.specs.Equality.{AreEquatable, IsEquality};
+ghost use Rattle.omega_containment.specs.Refusing.{AreComparable};
 ghost use Rattle.omega_containment_answers.specs.Equal.{IsEqualAnswer, IsEqualityVerdict, IsFileRefusal, IsInputRefusal, IsOfNoText, equality_text, exit_of};
 ghost use Rattle.omega_containment_answers.specs.private.Asked.{IsAsked};
-ghost use Rattle.omega_io.specs.Refused.{IsAbout};
+ghost use Rattle.omega_hoa.specs.Alone.{IsAutomatonText};
+ghost use Rattle.omega_io.specs.Refused.{IsAbout, about_none};
 
 use crate::choice::refused_for;
 use crate::example::no_text;
 use crate::reading::automaton_in;
 use omega_automaton::{Automaton, Refusal};
-use omega_containment::{Equality, contained, equality_of};
+use omega_containment::{Containment, Equality, contained, equality_of};
 use omega_io::{Exit, Refused, Which};
 use std::alloc::Global;
 
@@ -33,15 +36,29 @@ pub fn equal_texts(
     ensures refused { IfErr result (λ refused. IsAbout (IsOfNoText file.items input.items)
         (IsFileRefusal file.items input.items) (IsInputRefusal file.items input.items) refused.text refused.refusal) }
 {
-    let second = match automaton_in(alloc, file) {
-        Ok(automaton) => automaton,
-        Err(refusal) => return Err(Refused::of(Which::File, refusal)),
-    };
-    let first = match automaton_in(alloc, input) {
-        Ok(automaton) => automaton,
-        Err(refusal) => return Err(Refused::of(Which::Input, refusal)),
-    };
-    verdict_on(alloc, &first, &second, explain)
+    match automaton_in(alloc, file) {
+        Ok(second) => equal_with(alloc, &second, input, explain),
+        Err(refusal) => Err(Refused::of(Which::File, refusal)),
+    }
+}
+
+/// Returns what [equal_texts] does for each text of a file that is the text of `second`.
+fn equal_with(
+    alloc: Global,
+    second: &Automaton,
+    input: Vec<u8>,
+    explain: bool,
+) -> Result<(Exit, Vec<u8>), Refused>
+    ensures answer { (file : List ℕ) → IsAutomatonText file second.now
+        → IfOk result (λ made. IsEqualAnswer file input.items explain made.0 made.1.items) }
+    ensures refused { (file : List ℕ) → IsAutomatonText file second.now
+        → IfErr result (λ refused. IsAbout (IsOfNoText file input.items)
+        (IsFileRefusal file input.items) (IsInputRefusal file input.items) refused.text refused.refusal) }
+{
+    match automaton_in(alloc, input) {
+        Ok(first) => verdict_on(alloc, &first, second, explain),
+        Err(refusal) => Err(Refused::of(Which::Input, refusal)),
+    }
 }
 
 /// Returns the exit and the text for two automata, of which `second` is that of the file. Fails as `equal_texts` does
@@ -55,9 +72,20 @@ fn verdict_on(
     ensures verdict { IfOk result (λ made. IsEqualityVerdict first.now second.now explain made.0 made.1.items) }
     ensures refused { IfErr result (IsAsked first.now second.now) }
 {
-    let answer = asked(alloc, first, second)?;
-    match equality_text(alloc, &answer, explain) {
-        Ok(text) => Ok((exit_of(&answer), text)),
+    match asked(alloc, first, second) {
+        Ok(answer) => told(alloc, &answer, explain),
+        Err(refused) => Err(refused),
+    }
+}
+
+/// Returns the exit and the text for an answer.
+fn told(alloc: Global, answer: &Equality, explain: bool) -> Result<(Exit, Vec<u8>), Refused>
+    ensures told { IfOk result (λ made.
+        (made.0 ≡ exit_of answer.now) × (made.1.items ≡ equality_text explain answer.now)) }
+    ensures memory { IfErr result (λ refused. refused ≡ about_none Refusal.Memory) }
+{
+    match equality_text(alloc, answer, explain) {
+        Ok(text) => Ok((exit_of(answer), text)),
         Err(refusal) => Err(Refused::from(refusal)),
     }
 }
@@ -68,15 +96,29 @@ fn asked(alloc: Global, first: &Automaton, second: &Automaton) -> Result<Equalit
     ensures given { OnOk result (AreEquatable first.now second.now) }
     ensures refused { IfErr result (IsAsked first.now second.now) }
 {
-    let there = match contained(alloc, first, second) {
-        Ok(answer) => answer,
-        Err(refusal) => return Err(refused_for(Which::File, refusal)),
-    };
-    let back = match contained(alloc, second, first) {
-        Ok(answer) => answer,
-        Err(refusal) => return Err(refused_for(Which::Input, refusal)),
-    };
-    Ok(equality_of(there, back))
+    match contained(alloc, first, second) {
+        Ok(there) => asked_back(alloc, first, second, there),
+        Err(refusal) => Err(refused_for(Which::File, refusal)),
+    }
+}
+
+/// Asks whether `second` accepts only words that `first` accepts, where `there` is the answer the other way round.
+fn asked_back(
+    alloc: Global,
+    first: &Automaton,
+    second: &Automaton,
+    there: Containment,
+) -> Result<Equality, Refused>
+    requires right { IsContainment first.now second.now there }
+    requires given { AreComparable first.now second.now }
+    ensures right { IfOk result (IsEquality first.now second.now) }
+    ensures given { OnOk result (AreEquatable first.now second.now) }
+    ensures refused { IfErr result (IsAsked first.now second.now) }
+{
+    match contained(alloc, second, first) {
+        Ok(back) => Ok(equality_of(there, back)),
+        Err(refusal) => Err(refused_for(Which::Input, refusal)),
+    }
 }
 
 /// Returns how the program ends after an answer.

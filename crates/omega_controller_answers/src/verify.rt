@@ -1,8 +1,9 @@
-ghost use Rattle.std.specs.Prelude.{IfErr, IfOk};
+ghost use Rattle.std.specs.Prelude.{List, ℕ, IfErr, IfOk};
 ghost use Rattle.omega_controller_answers.specs.Parting.{IsParted};
 ghost use Rattle.omega_controller_answers.specs.Verify.{IsControllerAnswer, IsControllerVerdict, IsFileRefusal, IsInputRefusal, IsOfNoText};
 ghost use Rattle.omega_controller_answers.specs.private.Reported.{IsPairReported};
 ghost use Rattle.omega_controller_judge.specs.Refusing.{IsJudgeRefusal};
+ghost use Rattle.omega_hoa.specs.Alone.{IsAutomatonText};
 ghost use Rattle.omega_io.specs.Refused.{IsAbout};
 
 use crate::about::judge_reported;
@@ -47,15 +48,30 @@ pub fn verify_controller(
         (IsFileRefusal specification.items text.items) (IsInputRefusal specification.items text.items)
         refused.text refused.refusal) }
 {
-    let specified = match automaton_in(alloc, specification) {
-        Ok(automaton) => automaton,
-        Err(refusal) => return Err(Refused::of(Which::File, refusal)),
-    };
-    let controller = match automaton_in(alloc, text) {
-        Ok(automaton) => automaton,
-        Err(refusal) => return Err(Refused::of(Which::Input, refusal)),
-    };
-    verdict_on(alloc, &specified, &controller, explain)
+    match automaton_in(alloc, specification) {
+        Ok(specified) => verified_with(alloc, &specified, text, explain),
+        Err(refusal) => Err(Refused::of(Which::File, refusal)),
+    }
+}
+
+/// Returns what [verify_controller] does for each text of a specification that is the text of `specified`.
+fn verified_with(
+    alloc: Global,
+    specified: &Automaton,
+    text: Vec<u8>,
+    explain: bool,
+) -> Result<(Exit, Vec<u8>), Refused>
+    ensures answer { (specification : List ℕ) → IsAutomatonText specification specified.now
+        → IfOk result (λ made. IsControllerAnswer specification text.items explain made.0 made.1.items) }
+    ensures refused { (specification : List ℕ) → IsAutomatonText specification specified.now
+        → IfErr result (λ refused. IsAbout (IsOfNoText specification text.items)
+        (IsFileRefusal specification text.items) (IsInputRefusal specification text.items)
+        refused.text refused.refusal) }
+{
+    match automaton_in(alloc, text) {
+        Ok(controller) => verdict_on(alloc, specified, &controller, explain),
+        Err(refusal) => Err(Refused::of(Which::Input, refusal)),
+    }
 }
 
 /// Returns the exit and the text for two automata. Fails as `verify_controller` does after both texts are read.

@@ -1,5 +1,5 @@
-ghost use Rattle.std.specs.Prelude.{IfErr, IfOk};
-ghost use Rattle.omega_hoa.specs.Alone.{IsAutomatonRefusal};
+ghost use Rattle.std.specs.Prelude.{ℕ, List, IfErr, IfOk};
+ghost use Rattle.omega_hoa.specs.Alone.{IsAutomatonRefusal, IsAutomatonText};
 ghost use Rattle.omega_product.specs.Refusing.{IsProductRefusal};
 ghost use Rattle.omega_language_answers.specs.Meet.{IsMeetAnswer, IsOfNoText, IsTextRefused};
 ghost use Rattle.omega_language_answers.specs.private.Met.{IsMet};
@@ -23,15 +23,34 @@ pub fn meet_texts(alloc: Global, file: &[u8], input: &[u8]) -> Result<Vec<u8>, R
         (IsAutomatonRefusal file.now) (IsTextRefused file.now input.now) refused.text refused.refusal) }
 {
     match read_one(alloc, file) {
-        Ok(second) => match read_one(alloc, input) {
-            Ok(first) => match met(alloc, &first, &second) {
-                Ok(output) => Ok(output),
-                Err(refusal) => Err(Refused::from(refusal)),
-            },
-            Err(refusal) => Err(Refused::of(Which::Input, refusal)),
-        },
+        Ok(second) => met_with(alloc, &second, input),
         Err(refusal) => Err(Refused::of(Which::File, refusal)),
     }
+}
+
+/// Returns what [meet_texts] does for each text of a file that is the text of `second`.
+fn met_with(alloc: Global, second: &Automaton, input: &[u8]) -> Result<Vec<u8>, Refused>
+    ensures answer { (file : List ℕ) → IsAutomatonText file second.now
+        → IfOk result (λ output. IsMeetAnswer file input.now output.items) }
+    ensures refused { (file : List ℕ) → IsAutomatonText file second.now
+        → IfErr result (λ refused. IsAbout (IsOfNoText file input.now)
+        (IsAutomatonRefusal file) (IsTextRefused file input.now) refused.text refused.refusal) }
+{
+    match read_one(alloc, input) {
+        Ok(first) => match met_first(alloc, first, second) {
+            Ok(output) => Ok(output),
+            Err(refusal) => Err(Refused::from(refusal)),
+        },
+        Err(refusal) => Err(Refused::of(Which::Input, refusal)),
+    }
+}
+
+/// Returns the canonical text of the product of `first`, which is dropped, and `second`. Fails as `product` does.
+fn met_first(alloc: Global, first: Automaton, second: &Automaton) -> Result<Vec<u8>, Refusal>
+    ensures met { IfOk result (λ output. IsMet first second.now output.items) }
+    ensures refused { IfErr result (IsProductRefusal first second.now) }
+{
+    met(alloc, &first, second)
 }
 
 /// Returns the canonical text of the product of `first` and `second`. Fails as `product` does.

@@ -9,7 +9,9 @@ use Rattle.omega_io.specs.declared.refused.Refused.{Refused}
 use Rattle.omega_io.specs.declared.refused.Which.TheVariants.{Input}
 use Rattle.omega_io.specs.Refused.{IsAbout, about, about_none}
 use Rattle.omega_language_answers.specs.Meet.{IsProductRefused, IsTextRefused}
+use Rattle.omega_trim.specs.Refusing.{IsTrimRefusal}
 use Rattle.omega_trim_answers.specs.Meet.{IsOfNoText, IsTrimRefused}
+use Rattle.omega_trim_answers.specs.Trim.{IsTrimAnswerRefusal}
 use Rattle.omega_trim_answers.specs.private.Met.{IsUnmet}
 use Rattle.omega_language_answers.proofs.Refusals.{text_is_read}
 
@@ -44,3 +46,13 @@ module _ (file input : List ℕ) where
         texts = record { second = second; second_read = second_read; first = first; first_read = first_read; meeting = h.meeting };
         refused = h.refused;
       })
+
+-- the trimming of the automaton of a text is refused, or memory is
+pub trim_refused : (text : List ℕ) (automaton : Description) → IsAutomatonText text automaton → (refusal : Refusal) → IsTrimRefusal automaton refusal
+    → or_memory (IsTrimAnswerRefusal text) refusal
+trim_refused text automaton read (Text fault) is = inr (record { automaton = automaton; read = read; refused = is })
+trim_refused text automaton read (Game fault) is = inr (record { automaton = automaton; read = read; refused = is })
+trim_refused text automaton read (Automaton fault) is = inr (record { automaton = automaton; read = read; refused = is })
+trim_refused text automaton read (Task fault) is = inr (record { automaton = automaton; read = read; refused = is })
+trim_refused text automaton read Memory is = tt
+trim_refused text automaton read Io is = inr (record { automaton = automaton; read = read; refused = is })

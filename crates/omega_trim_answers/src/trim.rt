@@ -1,9 +1,7 @@
-ghost use Rattle.std.specs.Prelude.{IfErr, IfOk, OnOk};
+ghost use Rattle.std.specs.Prelude.{IfErr, IfOk};
 ghost use Rattle.omega_text.specs.Cases.{or_memory};
 ghost use Rattle.omega_hoa.specs.Alone.{IsAutomatonRefusal, IsAutomatonText};
-ghost use Rattle.omega_lasso_search.specs.Searching.{IsSearchable};
 ghost use Rattle.omega_trim.specs.Refusing.{IsTrimRefusal};
-ghost use Rattle.omega_trim.specs.Trimmed.{IsTrimmed};
 ghost use Rattle.omega_trim_answers.specs.Trim.{IsTrimAnswer, IsTrimAnswerRefusal, IsTrimText};
 
 use omega_automaton::Automaton;
@@ -23,10 +21,10 @@ pub fn trim_text(alloc: Global, text: Vec<u8>) -> Result<Vec<u8>, Refusal>
     ensures answer { IfOk result (λ output. IsTrimAnswer text.items output.items) }
     ensures refused { IfErr result (or_memory (IsTrimAnswerRefusal text.items)) }
 {
-    let automaton = read(alloc, text)?;
-    let trimmed = trimmed(alloc, automaton)?;
-    trimmed.keeps_limits();
-    canonical(alloc, &trimmed)
+    match read(alloc, text) {
+        Ok(automaton) => trimmed_text(alloc, automaton),
+        Err(refusal) => Err(refusal),
+    }
 }
 
 /// Returns the canonical text of `automaton` without its useless states, as [trim_text] does. Fails with the first of
@@ -52,11 +50,10 @@ fn read(alloc: Global, text: Vec<u8>) -> Result<Automaton, Refusal>
     read_one(alloc, text.as_slice())
 }
 
-/// Returns `automaton`, which is dropped, without its useless states. Fails as `trim` does.
-fn trimmed(alloc: Global, automaton: Automaton) -> Result<Automaton, Refusal>
-    ensures trimmed { IfOk result (IsTrimmed automaton) }
-    ensures given { OnOk result (IsSearchable automaton) }
+/// Returns the canonical text of `automaton`, which is dropped, without its useless states. Fails as `trim` does.
+fn trimmed_text(alloc: Global, automaton: Automaton) -> Result<Vec<u8>, Refusal>
+    ensures text { IfOk result (λ output. IsTrimText automaton output.items) }
     ensures refused { IfErr result (IsTrimRefusal automaton) }
 {
-    trim(alloc, &automaton)
+    trim_automaton(alloc, &automaton)
 }

@@ -1,10 +1,19 @@
--- The refusals of two automata that are asked both ways whether the one accepts only words that the other accepts.
-use Rattle.std.specs.Prelude.{◌⊎◌}
+-- The refusals of two automata that are asked one way, or both, whether the one accepts only words that the other
+-- accepts.
+use Rattle.std.specs.Prelude.{◌≡◌, ◌⊎◌}
+use Rattle.omega_text.specs.declared.refusal.Refusal.{Refusal}
 use Rattle.omega_automaton.specs.Automaton.{Description}
 use Rattle.omega_containment.specs.Refusing.{IsContainmentRefusal}
+use Rattle.omega_containment_answers.specs.Choice.{refused_for}
 use Rattle.omega_containment_answers.specs.Contained.{IsChoice}
 use Rattle.omega_io.specs.Refused.{IsAbout}
 use Rattle.omega_io.specs.declared.refused.Refused.{Refused}
+use Rattle.omega_io.specs.declared.refused.Which.TheVariants.{File}
+
+-- a refusal of `first` in `second`, which is that of the file: a choice is told of it
+abbrev pub IsUncontained : Description → Description → Refused → Type 0
+IsUncontained first second refused =
+    (refusal : Refusal) × IsContainmentRefusal first second refusal × (refused ≡ refused_for File refusal)
 
 -- a choice of `second`, which is that of the file, or of `first`, which is that of the input, or any other refusal
 abbrev pub IsAsked : Description → Description → Refused → Type 0

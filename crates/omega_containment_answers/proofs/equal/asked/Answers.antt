@@ -1,7 +1,7 @@
--- a choice of the one automaton, or of the other, and both answers together
-use Rattle.std.proofs.Common.{◌⊎◌, inl, inr}
+-- a choice of the automaton of the file
+use Rattle.std.proofs.Common.{◌⊎◌, inl}
 use Rattle.omega_text.specs.declared.refusal.Refusal.{Refusal}
-use Rattle.omega_io.specs.declared.refused.Which.TheVariants.{File, Input}
+use Rattle.omega_io.specs.declared.refused.Which.TheVariants.{File}
 use Rattle.omega_containment.specs.Refusing.{IsContainmentRefusal}
 use Rattle.omega_containment_answers.specs.Contained.{IsChoice}
 use Rattle.omega_containment_answers.proofs.About.{by_choice}
@@ -13,15 +13,3 @@ returns-in-Err-clause-refused c =
     let back : Refusal → Type 0 = IsContainmentRefusal c.args.second.now c.args.first.now in
     by_choice (λ refusal. (there refusal ⊎ back refusal) × ¬ IsChoice refusal) (λ refusal. there refusal × IsChoice refusal) (λ refusal. back refusal × IsChoice refusal)
     File there (λ refusal is not. (inl is, not)) (λ refusal is choice. (is, choice)) c.in-Err.refusal c.in-Err.ensures.refused c.refused_for.result c.refused_for.ensures
-
-pub returns-in-Err-contained-clause-refused : goal.returns-in-Err-contained-clause-refused
-returns-in-Err-contained-clause-refused c =
-    let there : Refusal → Type 0 = IsContainmentRefusal c.args.first.now c.args.second.now in
-    let back : Refusal → Type 0 = IsContainmentRefusal c.args.second.now c.args.first.now in
-    by_choice (λ refusal. (there refusal ⊎ back refusal) × ¬ IsChoice refusal) (λ refusal. there refusal × IsChoice refusal) (λ refusal. back refusal × IsChoice refusal)
-    Input back (λ refusal is not. (inr is, not)) (λ refusal is choice. (is, choice)) c.in-Err-contained.refusal c.in-Err-contained.ensures.refused
-    c.refused_for-in-Err-contained.result c.refused_for-in-Err-contained.ensures
-
-pub returns-clause-right : goal.returns-clause-right
-returns-clause-right c =
-    c.equality_of.ensures c.args.first.now c.args.second.now c.in-Ok.ensures.right c.in-Ok-contained.ensures.right
