@@ -1,9 +1,8 @@
 -- What containment of the automaton of a word says of the words that are admitted.
-use Rattle.std.proofs.Common.{◌≡◌, ℕ, List, subst, sym}
+use Rattle.std.proofs.Common.{subst, sym}
 use Rattle.std.specs.List.{AllByRecursion}
 use Rattle.omega_automaton.specs.Automaton.{Description}
 use Rattle.omega_containment.specs.Containing.{IsContainment, IsOutside}
-use Rattle.omega_containment.specs.declared.containment.Containment.{Containment}
 use Rattle.omega_containment.specs.declared.containment.Containment.TheVariants.{Contained, NotContained}
 use Rattle.omega_containment.specs.declared.containment.Counterexample.{Counterexample}
 use Rattle.omega_symbolic_word.specs.declared.symbolic_word.SymbolicWord.{SymbolicWord}

@@ -1,5 +1,5 @@
 -- The states of letters, one after another.
-use Rattle.std.proofs.Common.{◌≡◌, ℕ, zero, suc, ◌+◌, ◌<◌, ◌≤◌, List, [], ◌∷◌, ◌++◌, length, refl, sym, ap, ◌∙◌, subst, arith, append_assoc, length-append, add-zero}
+use Rattle.std.proofs.Common.{◌≡◌, ℕ, suc, ◌+◌, ◌<◌, ◌≤◌, List, [], ◌∷◌, ◌++◌, length, refl, sym, ap, ◌∙◌, arith, append_assoc, length-append, add-zero}
 use Rattle.omega_edge_labels.specs.Limits.{most_states}
 use Rattle.omega_label.specs.Raw.{RawLabelTree}
 use Rattle.omega_raw.specs.declared.raw_state.RawState.{RawState}
@@ -29,46 +29,22 @@ module _ (count back : ℕ) where
     pub state_fits : (letters : List RawLabelTree) → length yielded < length letters → length old + length letters ≤ most_states → length now < most_states
     state_fits letters below few = let size = states_so_far in omega arith
 
-    -- one letter more
-    pub states_more : (pushed : List RawState) (state : RawState) (letter : RawLabelTree) → pushed ≡ now ++ state ∷ [] → state ≡ letter_state (length now) (next_state count back (length now)) letter
-        → pushed ≡ old ++ letter_states count back (length old) (yielded ++ letter ∷ [])
-    states_more pushed state letter pushed_is state_is =
-        pushed_is
-        ∙ (ap (λ (s : RawState). now ++ s ∷ []) state_is
-        ∙ (ap (λ n. now ++ letter_state n (next_state count back n) letter ∷ []) states_so_far
-        ∙ (ap (λ (s : List RawState). s ++ letter_state (length old + length yielded) (next_state count back (length old + length yielded)) letter ∷ []) is
-        ∙ (append_assoc old (letter_states count back (length old) yielded) (letter_state (length old + length yielded) (next_state count back (length old + length yielded)) letter ∷ [])
-        ∙ ap (λ (s : List RawState). old ++ s) (sym (states_after (length old) yielded (letter ∷ [])))))))
+    -- letters more
+    pub states_more : (after : List RawState) (rest : List RawLabelTree) → after ≡ now ++ letter_states count back (length now) rest
+        → after ≡ old ++ letter_states count back (length old) (yielded ++ rest)
+    states_more after rest after_is =
+        after_is
+        ∙ (ap (λ n. now ++ letter_states count back n rest) states_so_far
+        ∙ (ap (λ (s : List RawState). s ++ letter_states count back (length old + length yielded) rest) is
+        ∙ (append_assoc old (letter_states count back (length old) yielded) (letter_states count back (length old + length yielded) rest)
+        ∙ ap (λ (s : List RawState). old ++ s) (sym (states_after (length old) yielded rest)))))
 
-  -- the letters of a stem, then one of a cycle, and then the others
-  pub states_joined : (stem others : List RawLabelTree) (first : RawLabelTree) (states pushed all : List RawState)
-      → states ≡ letter_states count back 0 stem → pushed ≡ states ++ letter_state (length stem) (next_state count back (length stem)) first ∷ []
-      → all ≡ pushed ++ letter_states count back (length pushed) others
-      → all ≡ letter_states count back 0 (stem ++ first ∷ others)
-  states_joined stem others first states pushed all states_is pushed_is all_is =
-      let size : length pushed ≡ length stem + 1 = omega (arith, ap length pushed_is, length-append states (letter_state (length stem) (next_state count back (length stem)) first ∷ []), ap length states_is, states_counted 0 stem) in
-      all_is
-      ∙ (ap (λ n. pushed ++ letter_states count back n others) size
-      ∙ (ap (λ (s : List RawState). s ++ letter_states count back (length stem + 1) others) (pushed_is ∙ ap (λ (s : List RawState). s ++ letter_state (length stem) (next_state count back (length stem)) first ∷ []) states_is)
-      ∙ (append_assoc (letter_states count back 0 stem) (letter_state (length stem) (next_state count back (length stem)) first ∷ []) (letter_states count back (length stem + 1) others)
-      ∙ (ap (λ n. letter_states count back 0 stem ++ letter_state n (next_state count back n) first ∷ letter_states count back (n + 1) others) (let e : length stem ≡ 0 + length stem = omega arith in e)
-      ∙ sym (states_after 0 stem (first ∷ others))))))
-
-  -- how many states there are after the first letter of a cycle
-  pub states_pushed : (stem : List RawLabelTree) (begun states pushed : List RawState) (state : RawState) → begun ≡ []
-      → states ≡ begun ++ letter_states count back (length begun) stem → pushed ≡ states ++ state ∷ [] → length pushed ≡ length stem + 1
-  states_pushed stem begun states pushed state begun_is states_is pushed_is =
-      omega (arith, ap length pushed_is, length-append states (state ∷ []), ap length states_is, length-append begun (letter_states count back (length begun) stem), ap length begun_is, states_counted (length begun) stem)
-
-  -- all states, with the row's numbers as they were counted
-  pub states_done : (stem others : List RawLabelTree) (first : RawLabelTree) (begun states pushed all : List RawState) (state : RawState)
+  -- all states where there were none, with the row's numbers as they were counted
+  pub states_done : (stem others letters : List RawLabelTree) (begun all : List RawState)
       → count ≡ length stem + length others + 1 → back ≡ length stem → begun ≡ []
-      → states ≡ begun ++ letter_states count back (length begun) stem → state ≡ letter_state back (next_state count back back) first
-      → pushed ≡ states ++ state ∷ [] → all ≡ pushed ++ letter_states count back (length pushed) others
-      → all ≡ letter_states (length stem + length others + 1) (length stem) 0 (stem ++ first ∷ others)
-  states_done stem others first begun states pushed all state count_is back_is begun_is states_is state_is pushed_is all_is =
-      states_joined stem others first states pushed all
-      (states_is ∙ ap (λ (b : List RawState). b ++ letter_states count back (length b) stem) begun_is)
-      (pushed_is ∙ ap (λ (s : RawState). states ++ s ∷ []) (state_is ∙ ap (λ n. letter_state n (next_state count back n) first) back_is))
+      → all ≡ begun ++ letter_states count back (length begun) letters
+      → all ≡ letter_states (length stem + length others + 1) (length stem) 0 letters
+  states_done stem others letters begun all count_is back_is begun_is all_is =
       all_is
-      ∙ (λ i. letter_states (count_is i) (back_is i) 0 (stem ++ first ∷ others))
+      ∙ (ap (λ (b : List RawState). b ++ letter_states count back (length b) letters) begun_is
+      ∙ (λ i. letter_states (count_is i) (back_is i) 0 letters))

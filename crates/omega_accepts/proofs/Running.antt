@@ -1,5 +1,5 @@
 -- The runs of the automaton of a word: it accepts exactly the words that are admitted.
-use Rattle.std.proofs.Common.{◌≡◌, ℕ, zero, suc, ◌+◌, ◌<◌, Bool, true, false, IsTrue, List, [], ◌∷◌, ◌++◌, length, get_or, Contains, Option, Some, None, option_map, refl, sym, ap, ◌∙◌, subst, arith, append_assoc, length-append, if◌then◌else◌, eq-eqb}
+use Rattle.std.proofs.Common.{◌≡◌, ℕ, zero, suc, ◌+◌, ◌<◌, Bool, true, IsTrue, List, [], ◌∷◌, ◌++◌, length, get_or, Contains, Option, Some, refl, sym, ap, ◌∙◌, subst, arith, append_assoc, length-append, if◌then◌else◌, eq-eqb}
 use Rattle.std.specs.Prelude.{slice_get, slice_index_or}
 use Rattle.std.specs.List.{flat_map}
 use Rattle.std.specs.Option.{IfSome}
@@ -11,13 +11,13 @@ use Rattle.omega_formula.specs.Acceptance.{AccTree}
 use Rattle.omega_formula.specs.Acceptance as acc
 use Rattle.omega_automaton.specs.Automaton.{BodyEdge, Description, edge_at, edges_from}
 use Rattle.omega_lasso_word.specs.Fitting.{along}
-use Rattle.omega_runs.specs.Lasso.{IsStart, IsStep, IsUsable, label_of, marks_at}
-use Rattle.omega_runs.specs.Runs.{IsAcceptingRun, Satisfies}
-use Rattle.omega_runs.specs.Words.{Allows, CanBeTaken, IsAccepted}
+use Rattle.omega_runs.specs.Lasso.{IsStart, marks_at}
+use Rattle.omega_runs.specs.Runs.{Satisfies}
+use Rattle.omega_runs.specs.Words.{Allows, IsAccepted}
 use Rattle.omega_satisfying.specs.Satisfiable.{IsSatisfiable}
 use Rattle.omega_symbolic_word.specs.Admitted.{Admits, holds, is_true_letter}
 use Rattle.omega_symbolic_word.specs.declared.symbolic_word.SymbolicWord.{SymbolicWord}
-use Rattle.omega_word_laws.specs.NamedWords.{AcceptsNamed, NamedWord, part_of}
+use Rattle.omega_word_laws.specs.NamedWords.{NamedWord, part_of}
 use Rattle.omega_accepts.specs.Written.{IsWordAutomaton, letter_count, letters_of, next_state}
 use Rattle.omega_accepts.proofs.Edges.{HasLetterEdge, IsLetterEdge, edges_counted, edges_there}
 use Rattle.omega_accepts.proofs.Letters.{letter_worth, some_is}

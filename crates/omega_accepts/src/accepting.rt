@@ -45,8 +45,10 @@ pub fn accepts(
     ensures decided { OnOk result (IsDecided word automaton.now) }
     ensures refused { IfErr result (IsMembershipRefusal word automaton.now) }
 {
-    let one = word_automaton(alloc, word)?;
-    membership(alloc, &one, automaton)
+    match word_automaton(alloc, word) {
+        Ok(one) => membership(alloc, &one, automaton),
+        Err(refusal) => Err(refusal),
+    }
 }
 
 /// Returns whether `automaton` accepts each word that `one` does, the automaton of a symbolic word. Fails as [accepts]

@@ -1,19 +1,22 @@
 //! The automaton of a symbolic word: a state for each letter, in a row that leads back to the first letter of the
 //! cycle.
 
-ghost use Rattle.std.specs.Prelude.{◌≡◌, ◌+◌, ◌<◌, ◌≤◌, ◌↔◌, length, IfErr, IfOk, IsOkUnless, IsTrue};
+ghost use Rattle.std.specs.Prelude.{◌≡◌, ◌∷◌, [], ◌++◌, ◌+◌, ◌<◌, ◌≤◌, ◌↔◌, false, length, IfErr, IfOk, IsOkUnless, IsTrue};
 ghost use Rattle.omega_automaton.specs.Limits.{most_propositions};
 ghost use Rattle.omega_complement.specs.Refusing.{BreaksLimit};
 ghost use Rattle.omega_edge_labels.specs.Fitting.{IsLarge};
 ghost use Rattle.omega_edge_labels.specs.Limits.{most_states};
-ghost use Rattle.omega_accepts.specs.Written.{IsWordAutomaton, IsOversized, written_items, written_word};
+ghost use Rattle.omega_raw.specs.declared.raw_item.RawItem.TheVariants as item;
+ghost use Rattle.omega_accepts.specs.Written.{HasNoAutomaton, IsWordAutomaton, IsOversized, letter_states, written_items, written_word};
+ghost use Rattle.omega_accepts.specs.private.Writing.{versioned};
 ghost use Rattle.omega_automaton.specs.Meaning.{Means};
 
 use crate::states::letter_states;
 use omega_automaton::{Automaton, MOST_PROPOSITIONS, RawAutomaton, automaton_of};
 use omega_edge_labels::MOST_STATES;
 use omega_formula::RawAcc;
-use omega_raw::RawItem;
+use omega_label::RawLabel;
+use omega_raw::{RawItem, RawState};
 use omega_symbolic_word::SymbolicWord;
 use omega_text::{ByteString, Numbers, Refusal, Seq, TaskFault};
 use std::alloc::Global;
@@ -28,14 +31,33 @@ pub fn word_automaton(alloc: Global, word: SymbolicWord) -> Result<Automaton, Re
     ensures automaton { IfOk result (IsWordAutomaton word) }
     ensures refused { IfErr result (IsOversized word) }
 {
-    if is_too_long(&word) {
-        return Err(Refusal::Task(TaskFault::TooLarge));
+    if is_oversized(&word) {
+        Err(Refusal::Task(TaskFault::TooLarge))
+    } else {
+        of_fitting(alloc, word)
     }
-    if MOST_PROPOSITIONS < word.names.len() {
-        return Err(Refusal::Task(TaskFault::TooLarge));
+}
+
+/// Returns the automaton of a word with neither too many letters nor too many names. Fails as [word_automaton] does.
+fn of_fitting(alloc: Global, word: SymbolicWord) -> Result<Automaton, Refusal>
+    requires letters { length word.stem + length word.others < most_states }
+    requires names { length word.names ≤ most_propositions }
+    ensures automaton { IfOk result (IsWordAutomaton word) }
+    ensures refused { IfErr result (IsOversized word) }
+{
+    match written_word(alloc, word) {
+        Ok(raw) => formed(alloc, raw),
+        Err(refusal) => Err(refusal),
     }
-    let raw = written_word(alloc, word)?;
-    formed(alloc, raw)
+}
+
+/// Whether a word has too many letters or too many names.
+fn is_oversized(word: &SymbolicWord) -> bool
+    ensures oversized { IsTrue result → HasNoAutomaton word.now }
+    ensures letters { result ≡ false → length word.now.stem + length word.now.others < most_states }
+    ensures names { result ≡ false → length word.now.names ≤ most_propositions }
+{
+    is_too_long(word) || MOST_PROPOSITIONS < word.names.len()
 }
 
 /// Whether a word has more than `MOST_STATES` letters.
@@ -62,8 +84,41 @@ fn written_word(alloc: Global, word: SymbolicWord) -> Result<RawAutomaton, Refus
     let stem = stem.into_vec();
     let others = others.into_vec();
     let count = (stem.len() + others.len() + 1) as u32;
-    let items = written_items(alloc, count, names)?;
-    let states = letter_states(alloc, stem, first, others)?;
+    match written_items(alloc, count, names) {
+        Ok(items) => with_items(alloc, items, stem, first, others),
+        Err(refusal) => Err(refusal),
+    }
+}
+
+/// Returns the written automaton with this header, of the letters of a stem, and of the first letter and the others of
+/// a cycle.
+fn with_items(
+    alloc: Global,
+    items: Vec<RawItem>,
+    stem: Vec<RawLabel>,
+    first: RawLabel,
+    others: Vec<RawLabel>,
+) -> Result<RawAutomaton, Refusal>
+    requires { length stem.items + length others.items < most_states }
+    ensures written { IfOk result (λ raw. raw ≡ versioned items.items (letter_states
+        (length stem.items + length others.items + 1) (length stem.items) 0 (stem.items ++ first ∷ others.items))) }
+    ensures memory { IsOkUnless result Refusal.Memory }
+{
+    match letter_states(alloc, stem, first, others) {
+        Ok(states) => versioned(alloc, items, states),
+        Err(refusal) => Err(refusal),
+    }
+}
+
+/// Returns the written automaton of version 1 with this header and these states.
+fn versioned(
+    alloc: Global,
+    items: Vec<RawItem>,
+    states: Vec<RawState>,
+) -> Result<RawAutomaton, Refusal>
+    ensures written { IfOk result (λ raw. raw ≡ versioned items.items states.items) }
+    ensures memory { IsOkUnless result Refusal.Memory }
+{
     let version = ByteString::from_slice(alloc, b"v1")?;
     Ok(RawAutomaton {
         version,
@@ -78,16 +133,70 @@ fn written_items(alloc: Global, count: u32, names: Seq<ByteString>) -> Result<Ve
     ensures items { IfOk result (λ items. items.items ≡ written_items count names) }
     ensures memory { IsOkUnless result Refusal.Memory }
 {
-    let formula = RawAcc::constant(alloc, true)?;
+    match RawAcc::constant(alloc, true) {
+        Ok(formula) => items_with(alloc, count, names, formula),
+        Err(refusal) => Err(refusal),
+    }
+}
+
+/// Returns the header with `count` states and propositions of these `names`, which accepts as `formula` says.
+fn items_with(
+    alloc: Global,
+    count: u32,
+    names: Seq<ByteString>,
+    formula: RawAcc,
+) -> Result<Vec<RawItem>, Refusal>
+    requires { length names ≤ most_propositions }
+    ensures items { IfOk result (λ items. items.items ≡ item.States count ∷ item.Start (0 ∷ [])
+        ∷ item.Propositions (length names) names ∷ item.Acceptance 0 formula ∷ []) }
+    ensures memory { IsOkUnless result Refusal.Memory }
+{
+    match first_items(alloc, count) {
+        Ok(items) => with_names(items, names, formula),
+        Err(refusal) => Err(refusal),
+    }
+}
+
+/// Returns the items before the names: `count` states, and the start.
+fn first_items(alloc: Global, count: u32) -> Result<Vec<RawItem>, Refusal>
+    ensures items { IfOk result (λ items. items.items ≡ item.States count ∷ item.Start (0 ∷ []) ∷ []) }
+    ensures memory { IsOkUnless result Refusal.Memory }
+{
     let mut items = Vec::new(alloc);
     items.push(RawItem::States(count))?;
     items.push(RawItem::Start(Numbers::one(0)))?;
-    items.push(RawItem::Propositions {
+    Ok(items)
+}
+
+/// Returns `items`, and after them the propositions of these `names` and the acceptance that `formula` says.
+fn with_names(
+    items: Vec<RawItem>,
+    names: Seq<ByteString>,
+    formula: RawAcc,
+) -> Result<Vec<RawItem>, Refusal>
+    requires { length names ≤ most_propositions }
+    ensures items { IfOk result (λ all. all.items ≡ items.items
+        ++ item.Propositions (length names) names ∷ item.Acceptance 0 formula ∷ []) }
+    ensures memory { IsOkUnless result Refusal.Memory }
+{
+    let named = RawItem::Propositions {
         count: names.len() as u32,
         names,
-    })?;
-    items.push(RawItem::Acceptance { count: 0, formula })?;
-    Ok(items)
+    };
+    match with_item(items, named) {
+        Ok(all) => with_item(all, RawItem::Acceptance { count: 0, formula }),
+        Err(refusal) => Err(refusal),
+    }
+}
+
+/// Returns `items`, and after them `more`.
+fn with_item(items: Vec<RawItem>, more: RawItem) -> Result<Vec<RawItem>, Refusal>
+    ensures items { IfOk result (λ all. all.items ≡ items.items ++ more ∷ []) }
+    ensures memory { IsOkUnless result Refusal.Memory }
+{
+    let mut all = items;
+    all.push(more)?;
+    Ok(all)
 }
 
 /// Returns the meaning of `raw`. Fails with [TaskFault::TooLarge] if `raw` breaks a limit of automata.

@@ -68,8 +68,10 @@ fn meets(alloc: Global, one: &Automaton, automaton: &Automaton) -> Result<bool, 
 {
     one.keeps_limits();
     automaton.keeps_limits();
-    let both = product(alloc, one, automaton)?;
-    accepts_some(alloc, &both)
+    match product(alloc, one, automaton) {
+        Ok(both) => accepts_some(alloc, &both),
+        Err(refusal) => Err(refusal),
+    }
 }
 
 /// Whether `automaton` accepts a word. Fails as `lasso` does.

@@ -1,6 +1,6 @@
 //! The states of the automaton of a symbolic word.
 
-ghost use Rattle.std.specs.Prelude.{◌≡◌, ◌∷◌, ◌++◌, ◌+◌, ◌<◌, ◌≤◌, length, IfOk, IsOkUnless, OnOk};
+ghost use Rattle.std.specs.Prelude.{◌≡◌, [], ◌∷◌, ◌++◌, ◌+◌, ◌<◌, ◌≤◌, length, IfOk, IsOkUnless, OnOk};
 ghost use Rattle.omega_edge_labels.specs.Limits.{most_states};
 ghost use Rattle.omega_accepts.specs.Written.{letter_state, letter_states, next_state};
 
@@ -30,11 +30,48 @@ pub(crate) fn letter_states(
 {
     let row = row_of(stem.len(), others.len());
     let mut states = Vec::with_capacity(alloc, row.count as usize)?;
-    append_states(alloc, row, stem, &mut states)?;
-    let loop_state = letter_state(alloc, row, row.back, first)?;
-    states.push(loop_state)?;
-    append_states(alloc, row, others, &mut states)?;
+    append_all(alloc, row, stem, first, others, &mut states)?;
     Ok(states)
+}
+
+/// Appends the states of the letters of a stem, and of the first letter and the others of a cycle, to `states`, those
+/// of the letters before.
+fn append_all(
+    alloc: Global,
+    row: Row,
+    stem: Vec<RawLabel>,
+    first: RawLabel,
+    others: Vec<RawLabel>,
+    states: &mut Vec<RawState>,
+) -> Result<(), Refusal>
+    requires { length states.old.items + length stem.items + length others.items < most_states }
+    ensures states { OnOk result (states.new.items ≡ states.old.items ++ letter_states row.count row.back
+        (length states.old.items) (stem.items ++ first ∷ others.items)) }
+    ensures memory { IsOkUnless result Refusal.Memory }
+{
+    match append_states(alloc, row, stem, states) {
+        Ok(()) => append_cycle(alloc, row, first, others, states),
+        Err(refusal) => Err(refusal),
+    }
+}
+
+/// Appends the states of the first letter and the others of a cycle to `states`, those of the letters before.
+fn append_cycle(
+    alloc: Global,
+    row: Row,
+    first: RawLabel,
+    others: Vec<RawLabel>,
+    states: &mut Vec<RawState>,
+) -> Result<(), Refusal>
+    requires { length states.old.items + length others.items < most_states }
+    ensures states { OnOk result (states.new.items ≡ states.old.items
+        ++ letter_states row.count row.back (length states.old.items) (first ∷ others.items)) }
+    ensures memory { IsOkUnless result Refusal.Memory }
+{
+    match append_state(alloc, row, first, states) {
+        Ok(()) => append_states(alloc, row, others, states),
+        Err(refusal) => Err(refusal),
+    }
 }
 
 /// Returns the row of the letters of a stem, of the first letter of a cycle and of the others, by their counts.
@@ -62,10 +99,26 @@ fn append_states(
     ensures memory { IsOkUnless result Refusal.Memory }
 {
     for letter in letters {
-        let number = states.len() as u32;
-        let state = letter_state(alloc, row, number, letter)?;
-        states.push(state)?;
+        append_state(alloc, row, letter, states)?;
     }
+    Ok(())
+}
+
+/// Appends the state of `letter` to `states`, those of the letters before.
+fn append_state(
+    alloc: Global,
+    row: Row,
+    letter: RawLabel,
+    states: &mut Vec<RawState>,
+) -> Result<(), Refusal>
+    requires { length states.old.items < most_states }
+    ensures states { OnOk result (states.new.items ≡ states.old.items
+        ++ letter_states row.count row.back (length states.old.items) (letter ∷ [])) }
+    ensures memory { IsOkUnless result Refusal.Memory }
+{
+    let number = states.len() as u32;
+    let state = letter_state(alloc, row, number, letter)?;
+    states.push(state)?;
     Ok(())
 }
 

@@ -46,6 +46,17 @@ valuation_more index zero some = absurd (omega arith)
 valuation_more index (suc p) some =
     rw add-one (joined_bytes (valuation_label index (suc p)) (nat_eq ((index / 2 ^ suc p) % 2) 1) (suc p) (valuation_tight index (suc p)))
 
+-- the text of one proposition more
+pub valuation_step : (index p : ℕ) (out before joined after : List ℕ) → 0 < p
+    → before ≡ out ++ bytes_of (valuation_label index p)
+    → joined ≡ before ++ 38 ∷ []
+    → after ≡ joined ++ literal_bytes (nat_eq ((index / 2 ^ p) % 2) 1) p
+    → after ≡ out ++ bytes_of (valuation_label index (p + 1))
+valuation_step index p out before joined after some so_far and_is is =
+    let bytes : List ℕ = literal_bytes (nat_eq ((index / 2 ^ p) % 2) 1) p in
+    following out (bytes_of (valuation_label index p)) (38 ∷ bytes) so_far (following before (38 ∷ []) bytes and_is is)
+    ∙ ap (λ (x : List ℕ). out ++ x) (sym (valuation_more index p some))
+
 -- the last item
 last_item : (xs : List LabelNode) (x : LabelNode) → slice_get (xs ++ x ∷ []) (length (xs ++ x ∷ []) - 1) ≡ Some x
 last_item xs x =

@@ -1,29 +1,20 @@
 -- one state more, and all at the end
-use Rattle.std.proofs.Common.{◌≡◌, ◌++◌, List, length, sym, ap, refl, ◌∙◌, arith}
+use Rattle.std.proofs.Common.{◌≡◌, [], ◌∷◌, ◌++◌, List, length, sym, ap, refl, ◌∙◌, arith}
 use Rattle.std.proofs.lemmas.Iterator.Adapters.{YieldsList-from_vec}
 use Rattle.std.proofs.lemmas.Iterator.Consumers.{YieldsList-end, YieldsList-turn}
 use Rattle.std.proofs.lemmas.List.Folds.{map_fixed}
 use Rattle.omega_label.specs.Raw.{RawLabelTree}
-use Rattle.omega_accepts.specs.Written.{letter_state, letter_states, next_state}
+use Rattle.omega_accepts.specs.Written.{letter_states}
 use Rattle.omega_accepts.proofs.Rows.{state_fits, states_more}
 use Rattle.omega_accepts.proofs.states.append_states.Goals as goal
 
 pub loop-letter-preserved : goal.loop-letter-preserved
 loop-letter-preserved c =
-    let long : c.len-number.result ≡ length c.loop-letter.states.items = omega arith in
-    states_more c.args.row.count c.args.row.back c.args.states.now.items c.loop-letter.states.items c.loop-letter.yielded c.loop-letter.invariant c.push.new.self.items c.in_ok-state.state c.in-Some.letter
-    c.in_ok-push.ensures.items (c.in_ok-state.ensures.state ∙ ap (λ n. letter_state n (next_state c.args.row.count c.args.row.back n) c.in-Some.letter) long)
+    states_more c.args.row.count c.args.row.back c.args.states.now.items c.loop-letter.states.items c.loop-letter.yielded c.loop-letter.invariant c.append_state.new.states.items (c.in-Some.letter ∷ [])
+    c.in_ok-append_state.ensures.states
 
-pub overflow_cast-number : goal.overflow_cast-number
-overflow_cast-number c =
-    let taken = c.into_iter-letter-iterator.ensures.into_iter_gives in
-    let gives = YieldsList-from_vec {s = c.into_iter-letter-iterator.result} c.args.letters.items taken.0 (taken.1 ∙ c.args.letters.ok.0) in
-    let turn = YieldsList-turn gives c.loop-letter.yielded c.loop-letter.letter-iterator c.loop-letter.yielded_by c.next.result c.next.new.self c.in-Some.letter c.in-Some.is c.next.ensures.steps in
-    let fits = state_fits c.args.row.count c.args.row.back c.args.states.now.items c.loop-letter.states.items c.loop-letter.yielded c.loop-letter.invariant c.args.letters.items turn.0 c.requires in
-    omega (arith, fits)
-
-pub letter_state-requires : goal.letter_state-requires
-letter_state-requires c =
+pub append_state-requires : goal.append_state-requires
+append_state-requires c =
     let taken = c.into_iter-letter-iterator.ensures.into_iter_gives in
     let gives = YieldsList-from_vec {s = c.into_iter-letter-iterator.result} c.args.letters.items taken.0 (taken.1 ∙ c.args.letters.ok.0) in
     let turn = YieldsList-turn gives c.loop-letter.yielded c.loop-letter.letter-iterator c.loop-letter.yielded_by c.next.result c.next.new.self c.in-Some.letter c.in-Some.is c.next.ensures.steps in
