@@ -9,7 +9,7 @@ use Rattle.omega_game.specs.declared.lasso.Lasso.{Lasso}
 use Rattle.omega_parity_game.specs.declared.player.Player.{Player}
 use Rattle.omega_game.specs.Counterexample.{IsCounterexample}
 use Rattle.omega_parity_game.specs.Game.{IsGame, IsWithinLimits, Node}
-use Rattle.omega_parity_game.specs.Laws.{PartsAreGames, PartsKeepNodes}
+use Rattle.omega_reaching.specs.Laws.{PartsAreGames, PartsKeepNodes}
 use Rattle.omega_parity_game.specs.Player.{loses}
 use Rattle.omega_parity_game.specs.Winning.{IsClosedWalk, Wins, end_of, greatest_on}
 use Rattle.omega_io.specs.declared.exit.Exit.{Exit}

@@ -2,6 +2,7 @@
 use Rattle.std.proofs.Common.{List, Option, None, Some, ℕ, refl}
 use Rattle.omega_text.specs.Cases.{or_memory}
 use Rattle.omega_text.specs.declared.refusal.Refusal.{Refusal}
+use Rattle.omega_text.specs.declared.refusal.Refusal.TheVariants.{Automaton, Game, Io, Memory, Task, Text}
 use Rattle.omega_io.specs.Refused.{IsAbout}
 use Rattle.omega_io.specs.declared.refused.Which.{Which}
 use Rattle.omega_io.specs.declared.refused.Which.TheVariants.{File, Input}
@@ -25,6 +26,22 @@ pub unknown_refused_or_memory : (text : List ℕ) (game : List Node) (from : Opt
 unknown_refused_or_memory text game None refusal read unknown = absurd unknown
 unknown_refused_or_memory text game (Some identifier) refusal read (is, unknown) =
     rw is (refl, record { game = game; read = read; unknown = unknown })
+
+-- it is a refusal of drawing the game
+pub unknown_or_memory : (game : List Node) (from : Option ℕ) (refusal : Refusal) → IsUnknownFrom game from refusal
+    → or_memory (IsUnknownFrom game from) refusal
+unknown_or_memory game None refusal unknown = absurd unknown
+unknown_or_memory game (Some identifier) refusal (is, unknown) = rw is (refl, unknown)
+
+-- a refusal of drawing the game is one of its text
+pub unknown_text_or_memory : (text : List ℕ) (game : List Node) (from : Option ℕ) (refusal : Refusal) → IsGameText text game
+    → or_memory (IsUnknownFrom game from) refusal → or_memory (IsJudgedGameRefusal text from) refusal
+unknown_text_or_memory text game from Memory read h = tt
+unknown_text_or_memory text game from (Task fault) read h = unknown_refused_or_memory text game from (Task fault) read h
+unknown_text_or_memory text game from (Text fault) read h = unknown_refused_or_memory text game from (Text fault) read h
+unknown_text_or_memory text game from (Game fault) read h = unknown_refused_or_memory text game from (Game fault) read h
+unknown_text_or_memory text game from (Automaton fault) read h = unknown_refused_or_memory text game from (Automaton fault) read h
+unknown_text_or_memory text game from Io read h = unknown_refused_or_memory text game from Io read h
 
 -- the part that the node of an identifier reaches has that node
 part_has : (text : List ℕ) (game : List Node) (identifier : ℕ) → IsPartText text identifier game → (place : ℕ) × HasIdentifier game identifier place

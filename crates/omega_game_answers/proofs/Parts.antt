@@ -7,8 +7,10 @@ use Rattle.std.proofs.lemmas.List.Elements.{All-map, Contains-get_or}
 use Rattle.std.proofs.lemmas.List.Kept.{AllPairs-from_increasing}
 use Rattle.std.proofs.lemmas.List.Sums.{sum_by-cons, sum_by-drop_more, sum_by-take-drop}
 use Rattle.omega_parity_game.specs.Game.{IsGame, IsWithinLimits, IsWritableNode, Node, successor_count, identifiers, no_node, node_at}
-use Rattle.omega_parity_game.specs.Laws.{PartsKeepNodes}
-use Rattle.omega_parity_game.specs.Part.{IsPart, IsPartAt, Reaches, new_place, restricted}
+use Rattle.omega_reaching.specs.Laws.{PartsKeepNodes}
+use Rattle.omega_parity_game.specs.Paths.{Reaches}
+use Rattle.omega_parity_game.specs.Places.{new_place}
+use Rattle.omega_reaching.specs.Part.{IsPart, IsPartAt, restricted}
 use Rattle.omega_game_answers.specs.Part.{HasIdentifier, IsPartFrom}
 
 -- ---- rising lists with the same members

@@ -1,6 +1,6 @@
 -- The places of true flags, and the nodes chosen there.
-use Rattle.std.proofs.Common.{◌≡◌, ℕ, zero, suc, ◌+◌, ◌<◌, ◌≤◌, Bool, true, false, List, [], ◌∷◌, Option, Some, None, IfSome, length, get_or, slice_index, ◌⊎◌, inl, inr, refl, ap, subst, ◌∙◌, arith}
-use Rattle.std.specs.List.{Contains, slice_get}
+use Rattle.std.proofs.Common.{◌≡◌, ℕ, zero, suc, ◌+◌, ◌<◌, ◌≤◌, Bool, true, false, List, [], ◌∷◌, Option, Some, None, IfSome, length, get_or, slice_index, ◌⊎◌, inl, inr, refl, sym, ap, subst, drop, ◌++◌, ◌∙◌, append_assoc, drop-cons, arith}
+use Rattle.std.specs.List.{Contains, flat_map, slice_get}
 use Rattle.std.specs.List.Sorted.{IsStrictlyIncreasing}
 use Rattle.std.proofs.lemmas.List.Elements.{Contains-get_or}
 use Rattle.std.proofs.lemmas.Option.{slice_get-get_or}
@@ -77,3 +77,27 @@ choice-within nodes player choices v game strategy h =
 -- a flag that is true, as code reads it
 pub slice_get-true : (flags : List Bool) (i : ℕ) → i < length flags → get_or flags i false ≡ true → slice_get flags i ≡ Some true
 slice_get-true flags i h t = slice_get-get_or flags i false h ∙ ap Some t
+
+-- ---- the lines of the places of true flags
+
+-- the places from one on, with its flag first
+places_from-drop : (won : List Bool) (place : ℕ) (flag : Bool) → place < length won → get_or won place false ≡ flag
+    → places_from place (drop place won) ≡ places_from place (flag ∷ drop (place + 1) won)
+places_from-drop won place flag h is =
+    let next : suc place ≡ place + 1 = omega arith in
+    ap (places_from place) (drop-cons won place false h ∙ ap (λ (b : Bool). b ∷ drop (suc place) won) is ∙ ap (λ (i : ℕ). flag ∷ drop i won) next)
+
+-- one line more is written
+pub lines-won : (line : ℕ → List ℕ) (won : List Bool) (place : ℕ) (out text : List ℕ) → place < length won → get_or won place false ≡ true
+    → out ++ flat_map line (places_from place (drop place won)) ≡ text
+    → (out ++ line place) ++ flat_map line (places_from (place + 1) (drop (place + 1) won)) ≡ text
+lines-won line won place out text h is written =
+    append_assoc out (line place) (flat_map line (places_from (place + 1) (drop (place + 1) won)))
+    ∙ ap (λ (places : List ℕ). out ++ flat_map line places) (sym (places_from-drop won place true h is)) ∙ written
+
+-- no line is written for a place that is not won
+pub lines-lost : (line : ℕ → List ℕ) (won : List Bool) (place : ℕ) (out text : List ℕ) → place < length won → get_or won place false ≡ false
+    → out ++ flat_map line (places_from place (drop place won)) ≡ text
+    → out ++ flat_map line (places_from (place + 1) (drop (place + 1) won)) ≡ text
+lines-lost line won place out text h is written =
+    ap (λ (places : List ℕ). out ++ flat_map line places) (sym (places_from-drop won place false h is)) ∙ written

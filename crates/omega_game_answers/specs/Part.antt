@@ -4,7 +4,7 @@ use Rattle.omega_text.specs.Cases.{or_task}
 use Rattle.omega_text.specs.declared.refusal.Refusal.{Refusal}
 use Rattle.omega_text.specs.declared.refusal.task.TaskFault.TheVariants.{UnknownNode}
 use Rattle.omega_parity_game.specs.Game.{Node, node_at}
-use Rattle.omega_parity_game.specs.Part.{IsPart}
+use Rattle.omega_reaching.specs.Part.{IsPart}
 use Rattle.omega_pg.specs.game.Refusing.{IsRefusal}
 use Rattle.omega_pg.specs.game.Text.{IsGameText}
 

@@ -5,6 +5,7 @@ ghost use Rattle.omega_game_answers.specs.Canon.{IsCanonAnswer};
 pub mod least;
 pub mod part;
 
+use crate::dropping::drop_game;
 use crate::game_text::forward_game_of;
 use omega_game::Refusal;
 use omega_pg::write_game;
@@ -16,5 +17,7 @@ pub fn canon_game(alloc: Global, text: Vec<u8>) -> Result<Vec<u8>, Refusal>
     ensures refused { IfErr result (IsReadRefusal text.items) }
 {
     let game = forward_game_of(alloc, text)?;
-    write_game(alloc, &game)
+    let written = write_game(alloc, &game);
+    drop_game(game);
+    written
 }

@@ -2,6 +2,7 @@ ghost use Rattle.std.specs.Prelude.{◌≡◌, IfOk, IfErr, IsOkUnless, codes};
 ghost use Rattle.omega_pg.specs.game.Refusing.{IsReadRefusal};
 ghost use Rattle.omega_game_answers.specs.Check.{IsCheckAnswer};
 
+use crate::dropping::drop_game;
 use crate::game_text::forward_game_of;
 use omega_game::Refusal;
 use std::alloc::Global;
@@ -11,7 +12,8 @@ pub fn check_game(alloc: Global, text: Vec<u8>) -> Result<Vec<u8>, Refusal>
     ensures answer { IfOk result (λ output. IsCheckAnswer text.items output.items) }
     ensures refused { IfErr result (IsReadRefusal text.items) }
 {
-    let _game = forward_game_of(alloc, text)?;
+    let game = forward_game_of(alloc, text)?;
+    drop_game(game);
     accepted(alloc)
 }
 

@@ -5,8 +5,9 @@ ghost use Rattle.omega_game_drawing.specs.Extent.{IsPlaced};
 ghost use Rattle.omega_pg.specs.solution.Refusing.{IsReadSolutionRefusal};
 ghost use Rattle.omega_game_answers.specs.Draw.{IsExtent, IsGameDrawingAnswer, IsSolutionDrawingAnswer};
 ghost use Rattle.omega_game_answers.specs.Verify.{IsJudgedGameRefusal, RefusesSolution};
-ghost use Rattle.omega_game_answers.specs.private.steps.Drawn.{IsDrawnRefusal, IsSolutionDrawn, IsUnknownFrom, IsSolvedDrawn};
+ghost use Rattle.omega_game_answers.specs.private.steps.Drawn.{IsDrawnRefusal, IsGameDrawn, IsSolutionDrawn, IsUnknownFrom, IsSolvedDrawn};
 
+use crate::dropping::drop_game;
 use crate::game_text::forward_game_of;
 use crate::verify::judged_game;
 use omega_game::{ForwardGame, Refusal, TaskFault};
@@ -28,8 +29,23 @@ pub fn draw_game_text(
     ensures refused { IfErr result (or_memory (IsJudgedGameRefusal text.items from)) }
 {
     let game = forward_game_of(alloc, text)?;
-    let extent = extent_of(&game, from, depth)?;
-    draw_game(alloc, &game, extent)
+    let drawn = draw_alone(alloc, &game, from, depth);
+    drop_game(game);
+    drawn
+}
+
+/// Returns the drawing of the extent of `game`, without a solution. Fails with [TaskFault::UnknownNode].
+fn draw_alone(
+    alloc: Global,
+    game: &ForwardGame,
+    from: Option<u32>,
+    depth: Option<u32>,
+) -> Result<Vec<u8>, Refusal>
+    ensures drawn { IfOk result (λ output. IsGameDrawn game.now from depth output.items) }
+    ensures refused { IfErr result (or_memory (IsUnknownFrom game.now from)) }
+{
+    let extent = extent_of(game, from, depth)?;
+    draw_game(alloc, game, extent)
 }
 
 /// Returns the drawing of the game of `text`, as `draw_game_text` does, with the solution in `solution`: of the whole
@@ -52,7 +68,11 @@ pub fn draw_solution_text(
         (IsRefusedOf (RefusesSolution text.items from solution.now) (IsJudgedGameRefusal text.items from)) }
 {
     match judged_game(alloc, text, from) {
-        Ok(game) => draw_with(alloc, &game, solution, from, depth, legend),
+        Ok(game) => {
+            let drawn = draw_with(alloc, &game, solution, from, depth, legend);
+            drop_game(game);
+            drawn
+        }
         Err(refusal) => Err(Refused::of(Which::Input, refusal)),
     }
 }

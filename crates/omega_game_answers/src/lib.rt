@@ -6,8 +6,10 @@
 mod canon;
 mod check;
 mod draw;
+mod dropping;
 mod game_text;
 mod laws;
+mod numbered;
 mod part;
 mod player_text;
 mod show;

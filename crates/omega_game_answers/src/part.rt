@@ -2,7 +2,8 @@ ghost use Rattle.std.specs.Prelude.{◌≡◌, IfOk, IfErr};
 ghost use Rattle.omega_game_answers.specs.Part.{IsPartFrom};
 ghost use Rattle.omega_game_answers.specs.private.steps.PartRefusal.{IsPartRefusal};
 
-use omega_game::{ForwardGame, Refusal, TaskFault};
+use crate::dropping::drop_game;
+use omega_game::{ForwardGame, Refusal, TaskFault, forward_part};
 use std::alloc::Global;
 
 /// Takes the part of `game` that the node with `identifier` reaches. The game is dropped, so that it takes no memory
@@ -11,7 +12,9 @@ pub fn part_from(alloc: Global, game: ForwardGame, identifier: u32) -> Result<Fo
     ensures part { IfOk result (IsPartFrom game identifier) }
     ensures refused { IfErr result (IsPartRefusal game identifier) }
 {
-    part_of(alloc, &game, identifier)
+    let part = part_of(alloc, &game, identifier);
+    drop_game(game);
+    part
 }
 
 /// Returns the part of `game` that the node with `identifier` reaches. Fails with [TaskFault::UnknownNode] if there is
@@ -24,5 +27,5 @@ fn part_of(alloc: Global, game: &ForwardGame, identifier: u32) -> Result<Forward
         Some(place) => place,
         None => return Err(Refusal::Task(TaskFault::UnknownNode)),
     };
-    game.part(alloc, place)
+    forward_part(alloc, game, place)
 }

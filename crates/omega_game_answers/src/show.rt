@@ -1,13 +1,17 @@
 ghost use Rattle.std.specs.Prelude.{◌≡◌, ◌++◌, IfOk, IfErr, OnOk, IsOkUnless};
+ghost use Rattle.omega_parity_game.specs.Bound.{bound_of};
+ghost use Rattle.omega_parity_game.specs.Game.{priorities};
 ghost use Rattle.omega_pg.specs.game.Refusing.{IsReadRefusal};
-ghost use Rattle.omega_game_answers.specs.Show.{IsShowAnswer, bound_line, description, size_line};
+ghost use Rattle.omega_game_answers.specs.Show.{IsShowAnswer, bound_line, bound_text, description, size_line};
 
 pub mod json;
 
+use crate::dropping::drop_game;
 use crate::game_text::forward_game_of;
+use crate::numbered::append_numbered;
 use crate::player_text::append_player;
-use omega_game::{ForwardGame, Player, Refusal, bound};
-use omega_text::write_number;
+use omega_game::{ForwardGame, Player, Refusal};
+use omega_measure::bound;
 use std::alloc::Global;
 
 /// Returns the size of the game of `text`, and the bounds on lifts. Fails with the [Refusal::Text] or [Refusal::Game]
@@ -17,7 +21,9 @@ pub fn show_game(alloc: Global, text: Vec<u8>) -> Result<Vec<u8>, Refusal>
     ensures refused { IfErr result (IsReadRefusal text.items) }
 {
     let game = forward_game_of(alloc, text)?;
-    describe(alloc, &game)
+    let described = describe(alloc, &game);
+    drop_game(game);
+    described
 }
 
 fn describe(alloc: Global, game: &ForwardGame) -> Result<Vec<u8>, Refusal>
@@ -37,12 +43,9 @@ fn append_size(game: &ForwardGame, out: &mut Vec<u8>) -> Result<(), Refusal>
 {
     let nodes = game.len();
     let greatest = game.id((nodes - 1) as u32);
-    out.extend_from_slice(b"game nodes ")?;
-    write_number(nodes as u128, out)?;
-    out.extend_from_slice(b" edges ")?;
-    write_number(game.edges() as u128, out)?;
-    out.extend_from_slice(b" greatest ")?;
-    write_number(u128::from(greatest), out)?;
+    append_numbered(b"game nodes ", nodes as u128, out)?;
+    append_numbered(b" edges ", game.edges() as u128, out)?;
+    append_numbered(b" greatest ", u128::from(greatest), out)?;
     out.extend_from_slice(b"\n")?;
     Ok(())
 }
@@ -53,13 +56,18 @@ fn append_bound(game: &ForwardGame, player: Player, out: &mut Vec<u8>) -> Result
 {
     append_player(player, out)?;
     out.extend_from_slice(b" ")?;
-    match bound(game, player) {
-        Some(lifts) => {
-            out.extend_from_slice(b"bound ")?;
-            write_number(lifts, out)?;
-        }
-        None => out.extend_from_slice(b"bound over 128 bits")?,
-    }
+    append_lifts(game, player, out)?;
     out.extend_from_slice(b"\n")?;
     Ok(())
+}
+
+/// Appends the bound on lifts of `player`, or that it takes more than 128 bits.
+fn append_lifts(game: &ForwardGame, player: Player, out: &mut Vec<u8>) -> Result<(), Refusal>
+    ensures text { OnOk result (out.new.items ≡ out.old.items ++ bound_text (bound_of player (priorities game.now))) }
+    ensures memory { IsOkUnless result Refusal.Memory }
+{
+    match bound(game, player) {
+        Some(lifts) => append_numbered(b"bound ", lifts, out),
+        None => Ok(out.extend_from_slice(b"bound over 128 bits")?),
+    }
 }

@@ -13,6 +13,7 @@ pub mod both;
 mod one;
 pub(crate) mod searched;
 
+use crate::dropping::drop_game;
 use crate::game_text::forward_game_of;
 use crate::part::part_from;
 use asked::Asked;
@@ -98,8 +99,16 @@ fn solve_whole<L, W: Reporter<L>>(
         game asked budget output.items observer.old observer.new) }
 {
     match asked {
-        Asked::Both => solve_both(alloc, &game, budget, reporter, observer),
+        Asked::Both => {
+            let solved = solve_both(alloc, &game, budget, reporter, observer);
+            drop_game(game);
+            solved
+        }
         Asked::Search => { solve_by_judged_search(alloc, game, budget, reporter, observer) }
-        Asked::Player(player) => { solve_one(alloc, &game, player, budget, reporter, observer) }
+        Asked::Player(player) => {
+            let solved = solve_one(alloc, &game, player, budget, reporter, observer);
+            drop_game(game);
+            solved
+        }
     }
 }

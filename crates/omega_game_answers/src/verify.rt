@@ -1,7 +1,7 @@
 ghost use Rattle.std.specs.Prelude.{◌≡◌, ◌↔◌, IfOk, IfErr, IsOkUnless, IsTrue};
 ghost use Rattle.omega_text.specs.Cases.{or_memory};
 ghost use Rattle.omega_parity_game.specs.Solution.{IsSolution, WinsAsGiven, WinsGiven};
-ghost use Rattle.omega_pg.specs.solution.Refusing.{IsReadSolutionRefusal};
+ghost use Rattle.omega_pg.specs.solution.Refusing.{IsReadSolutionRefusal, IsSolutionRefusal};
 ghost use Rattle.omega_pg.specs.solution.Text.{IsSolutionText};
 ghost use Rattle.omega_game_answers.specs.Part.{IsPartText, IsPartTextRefusal};
 ghost use Rattle.omega_game_answers.specs.Verify.{IsJudgedGame, IsJudgedGameRefusal, IsSolutionVerdict, IsVerifyAnswer, RefusesSolution};
@@ -12,11 +12,13 @@ ghost use Rattle.omega_game_answers.specs.private.steps.Verdict.{verdict_exit, v
 pub mod explaining;
 pub mod winners;
 
+use crate::dropping::drop_game;
+use crate::game_text::forward_game_of;
 use crate::part::part_from;
 use explaining::explained;
 use omega_game::{ForwardGame, Player, Refusal, Solution, check_strategy};
 use omega_io::{Exit, Refused, Which};
-use omega_pg::{read_forward_game, read_solution};
+use omega_pg::read_solution;
 use std::alloc::Global;
 
 /// Judges the solution in `text` without solving the game. The game's text is dropped before the solution is read. If
@@ -37,11 +39,29 @@ pub fn verify_solution(
         (IsRefusedOf (IsJudgedGameRefusal game.items from) (RefusesSolution game.items from text.items)) }
 {
     match judged_game(alloc, game, from) {
-        Ok(game) => match judged(alloc, &game, text, explain) {
-            Ok(made) => Ok(made),
-            Err(refusal) => Err(Refused::of(Which::Input, refusal)),
-        },
+        Ok(game) => {
+            let made = judged_or_refused(alloc, &game, text, explain);
+            drop_game(game);
+            made
+        }
         Err(refusal) => Err(Refused::of(Which::File, refusal)),
+    }
+}
+
+/// Returns the verdict on the solution of `game` in `text`. Fails with the [Refusal::Text] or [TaskFault::BadSolution]
+/// of the text, which is the input's.
+fn judged_or_refused(
+    alloc: Global,
+    game: &ForwardGame,
+    text: Vec<u8>,
+    explain: bool,
+) -> Result<(Exit, Vec<u8>), Refused>
+    ensures judged { IfOk result (λ made. IsSolutionJudged game.now text.items explain made.0 made.1.items) }
+    ensures refused { IfErr result (IsRefusedOf (λ refusal. ⊥) (IsSolutionRefusal game.now text.items)) }
+{
+    match judged(alloc, game, text, explain) {
+        Ok(made) => Ok(made),
+        Err(refusal) => Err(Refused::of(Which::Input, refusal)),
     }
 }
 
@@ -67,18 +87,22 @@ pub fn judged_game(alloc: Global, text: Vec<u8>, from: Option<u32>) -> Result<Fo
     ensures refused { IfErr result (or_memory (IsJudgedGameRefusal text.items from)) }
 {
     match from {
-        None => read_forward_game(alloc, text.as_slice()),
-        Some(identifier) => judged_part(alloc, text.as_slice(), identifier),
+        None => forward_game_of(alloc, text),
+        Some(identifier) => judged_part(alloc, text, identifier),
     }
 }
 
-/// Reads the part that the node with `identifier` reaches in the game of `text`. Fails with the [Refusal::Text] or
-/// [Refusal::Game] of the text, or with [TaskFault::UnknownNode].
-fn judged_part(alloc: Global, text: &[u8], identifier: u32) -> Result<ForwardGame, Refusal>
-    ensures part { IfOk result (IsPartText text.now identifier) }
-    ensures refused { IfErr result (or_memory (IsPartTextRefusal text.now identifier)) }
+/// Reads the part that the node with `identifier` reaches in the game of `text`. The text is dropped. Fails with the
+/// [Refusal::Text] or [Refusal::Game] of the text, or with [TaskFault::UnknownNode].
+pub(crate) fn judged_part(
+    alloc: Global,
+    text: Vec<u8>,
+    identifier: u32,
+) -> Result<ForwardGame, Refusal>
+    ensures part { IfOk result (IsPartText text.items identifier) }
+    ensures refused { IfErr result (or_memory (IsPartTextRefusal text.items identifier)) }
 {
-    let game = read_forward_game(alloc, text)?;
+    let game = forward_game_of(alloc, text)?;
     part_from(alloc, game, identifier)
 }
 

@@ -2,7 +2,7 @@
 use Rattle.std.specs.Prelude.{◌↔◌, ◌<◌, List, Option, Some, None, ℕ, length, slice_index}
 use Rattle.omega_parity_game.specs.declared.player.Player.{Player}
 use Rattle.omega_parity_game.specs.Game.{Node}
-use Rattle.omega_parity_game.specs.Part.{IsPartAt}
+use Rattle.omega_reaching.specs.Part.{IsPartAt}
 use Rattle.omega_parity_game.specs.Winning.{InRegion}
 use Rattle.omega_pg.specs.game.Text.{IsGameText}
 use Rattle.omega_game_answers.specs.Part.{HasIdentifier}

@@ -1,11 +1,14 @@
 //! Games in which the least priority decides, written as games in which the greatest does.
-ghost use Rattle.std.specs.Prelude.{IfErr, IfOk};
+ghost use Rattle.std.specs.Prelude.{◌≡◌, IfErr, IfOk, IsOkUnless};
 ghost use Rattle.omega_text.specs.Cases.{or_memory};
+ghost use Rattle.omega_pg.specs.game.Canonical.{canonical_game};
+ghost use Rattle.omega_least_priority.specs.Turning.{turned_game};
 ghost use Rattle.omega_game_answers.specs.Least.{IsCanonLeastAnswer};
 ghost use Rattle.omega_game_answers.specs.Verify.{IsJudgedGameRefusal};
 
+use crate::dropping::drop_game;
 use crate::verify::judged_game;
-use omega_game::Refusal;
+use omega_game::{ForwardGame, Refusal};
 use omega_least_priority::turned_priorities;
 use omega_pg::write_game_with_priorities;
 use std::alloc::Global;
@@ -20,6 +23,16 @@ pub fn canon_least(alloc: Global, text: Vec<u8>, from: Option<u32>) -> Result<Ve
     ensures refused { IfErr result (or_memory (IsJudgedGameRefusal text.items from)) }
 {
     let game = judged_game(alloc, text, from)?;
-    let turned = turned_priorities(alloc, &game)?;
-    write_game_with_priorities(alloc, &game, turned.as_slice())
+    let written = write_turned(alloc, &game);
+    drop_game(game);
+    written
+}
+
+/// Returns the canonical text of `game` with its priorities turned.
+fn write_turned(alloc: Global, game: &ForwardGame) -> Result<Vec<u8>, Refusal>
+    ensures text { IfOk result (λ text. text.items ≡ canonical_game (turned_game game.now)) }
+    ensures memory { IsOkUnless result Refusal.Memory }
+{
+    let turned = turned_priorities(alloc, game)?;
+    write_game_with_priorities(alloc, game, turned.as_slice())
 }

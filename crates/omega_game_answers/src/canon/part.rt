@@ -3,8 +3,8 @@ ghost use Rattle.omega_text.specs.Cases.{or_memory};
 ghost use Rattle.omega_game_answers.specs.Part.{IsPartTextRefusal};
 ghost use Rattle.omega_game_answers.specs.Canon.{IsCanonPartAnswer};
 
-use crate::game_text::forward_game_of;
-use crate::part::part_from;
+use crate::dropping::drop_game;
+use crate::verify::judged_part;
 use omega_game::Refusal;
 use omega_pg::write_game;
 use std::alloc::Global;
@@ -15,7 +15,8 @@ pub fn canon_part(alloc: Global, text: Vec<u8>, from: u32) -> Result<Vec<u8>, Re
     ensures answer { IfOk result (λ output. IsCanonPartAnswer text.items from output.items) }
     ensures refused { IfErr result (or_memory (IsPartTextRefusal text.items from)) }
 {
-    let game = forward_game_of(alloc, text)?;
-    let part = part_from(alloc, game, from)?;
-    write_game(alloc, &part)
+    let part = judged_part(alloc, text, from)?;
+    let written = write_game(alloc, &part);
+    drop_game(part);
+    written
 }

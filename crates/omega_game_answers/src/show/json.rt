@@ -1,10 +1,13 @@
 ghost use Rattle.std.specs.Prelude.{◌≡◌, ◌++◌, ◌<◌, ◌≤◌, IfErr, IfOk, IsOkUnless, OnOk, length};
 ghost use Rattle.omega_pg.specs.game.Refusing.{IsReadRefusal};
-ghost use Rattle.omega_game_answers.specs.ShowJson.{IsGameObject, IsShowJsonAnswer, bounds_member, components_members, has_self_loop, member_text, pair_text, pairs_after, pairs_text, player_bound, priorities_member, self_loop_count, size_members};
+ghost use Rattle.omega_game_answers.specs.ShowJson.{IsGameObject, IsShowJsonAnswer, bounds_member, components_members, game_object, has_self_loop, pair_text, pairs_after, pairs_text, player_bound, priorities_member, self_loop_count, size_members};
 
+use crate::dropping::drop_game;
 use crate::game_text::forward_game_of;
-use omega_game::{ForwardGame, Player, PriorityCount, Refusal, bound};
+use crate::numbered::append_numbered;
+use omega_game::{ForwardGame, Player, PriorityCount, Refusal};
 use omega_game_components::{Components, count_components};
+use omega_measure::bound;
 use omega_text::write_number;
 use std::alloc::Global;
 
@@ -19,7 +22,9 @@ pub fn show_json(alloc: Global, text: Vec<u8>) -> Result<Vec<u8>, Refusal>
     ensures refused { IfErr result (IsReadRefusal text.items) }
 {
     let game = forward_game_of(alloc, text)?;
-    object_of(alloc, &game)
+    let object = object_of(alloc, &game);
+    drop_game(game);
+    object
 }
 
 /// Returns the object of `game`.
@@ -29,13 +34,27 @@ fn object_of(alloc: Global, game: &ForwardGame) -> Result<Vec<u8>, Refusal>
 {
     let components = count_components(alloc, game)?;
     let mut out = Vec::new(alloc);
-    append_size(game, &mut out)?;
-    append_priorities(game.priority_counts(), &mut out)?;
-    append_member(b",\"self_loops\":", self_loops(game) as u128, &mut out)?;
-    append_components(components, &mut out)?;
-    append_bounds(game, &mut out)?;
-    out.extend_from_slice(b"}\n")?;
+    append_object(game, components, &mut out)?;
     Ok(out)
+}
+
+/// Appends the object of `game`, which has these `components`.
+fn append_object(
+    game: &ForwardGame,
+    components: Components,
+    out: &mut Vec<u8>,
+) -> Result<(), Refusal>
+    ensures text { OnOk result
+        (out.new.items ≡ out.old.items ++ game_object game.now components.count components.largest) }
+    ensures memory { IsOkUnless result Refusal.Memory }
+{
+    append_size(game, out)?;
+    append_priorities(game.priority_counts(), out)?;
+    append_numbered(b",\"self_loops\":", self_loops(game) as u128, out)?;
+    append_components(components, out)?;
+    append_bounds(game, out)?;
+    out.extend_from_slice(b"}\n")?;
+    Ok(())
 }
 
 /// Appends the members `nodes`, `edges` and `greatest`.
@@ -45,19 +64,10 @@ fn append_size(game: &ForwardGame, out: &mut Vec<u8>) -> Result<(), Refusal>
 {
     let nodes = game.len();
     let greatest = game.id((nodes - 1) as u32);
-    append_member(b"{\"nodes\":", nodes as u128, out)?;
-    append_member(b",\"edges\":", game.edges() as u128, out)?;
-    append_member(b",\"greatest\":", greatest as u128, out)?;
+    append_numbered(b"{\"nodes\":", nodes as u128, out)?;
+    append_numbered(b",\"edges\":", game.edges() as u128, out)?;
+    append_numbered(b",\"greatest\":", greatest as u128, out)?;
     Ok(())
-}
-
-/// Appends `name`, with the signs around it, and the `number`.
-fn append_member(name: &[u8], number: u128, out: &mut Vec<u8>) -> Result<(), Refusal>
-    ensures text { OnOk result (out.new.items ≡ out.old.items ++ member_text name.now number) }
-    ensures memory { IsOkUnless result Refusal.Memory }
-{
-    out.extend_from_slice(name)?;
-    write_number(number, out)
 }
 
 /// Appends the member `priorities`.
@@ -100,8 +110,8 @@ fn append_pair(count: PriorityCount, out: &mut Vec<u8>) -> Result<(), Refusal>
     ensures text { OnOk result (out.new.items ≡ out.old.items ++ pair_text count) }
     ensures memory { IsOkUnless result Refusal.Memory }
 {
-    append_member(b"[", u128::from(count.priority), out)?;
-    append_member(b",", u128::from(count.nodes), out)?;
+    append_numbered(b"[", u128::from(count.priority), out)?;
+    append_numbered(b",", u128::from(count.nodes), out)?;
     out.extend_from_slice(b"]")?;
     Ok(())
 }
@@ -134,8 +144,8 @@ fn append_components(components: Components, out: &mut Vec<u8>) -> Result<(), Re
         (out.new.items ≡ out.old.items ++ components_members components.count components.largest) }
     ensures memory { IsOkUnless result Refusal.Memory }
 {
-    append_member(b",\"components\":", components.count as u128, out)?;
-    append_member(b",\"largest\":", components.largest as u128, out)?;
+    append_numbered(b",\"components\":", components.count as u128, out)?;
+    append_numbered(b",\"largest\":", components.largest as u128, out)?;
     Ok(())
 }
 

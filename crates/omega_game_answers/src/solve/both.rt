@@ -14,9 +14,10 @@ ghost use Rattle.omega_game_answers.specs.private.steps.Bounds.{AreBoundsWithin,
 ghost use Rattle.omega_game_answers.specs.private.steps.Lifts.{LiftsWholeGame};
 ghost use Rattle.omega_budget.specs.Observing.{IsObserved, refusal_in};
 
-use omega_budget::{Reordered, Reporter, TurnsAnswer};
-use omega_game::{ForwardGame, Player, Refusal, Seq, Solution, Strategy, TaskFault, bound};
-use omega_measure::fits;
+use crate::dropping::drop_reordered;
+use omega_budget::{Found, Reordered, Reporter, TurnsAnswer};
+use omega_game::{ForwardGame, Player, Refusal, Seq, Solution, Strategy, TaskFault};
+use omega_measure::{bound, fits};
 use omega_pg::write_solution;
 use omega_region_laws::{regions_are_apart, regions_cover};
 use std::alloc::Global;
@@ -57,7 +58,9 @@ pub fn solution_of<L, W: Reporter<L>>(
 {
     fits_both(game)?;
     let reordered = Reordered::of(alloc, game)?;
-    solution_in(alloc, game, &reordered, budget, reporter, observer)
+    let solution = solution_in(alloc, game, &reordered, budget, reporter, observer);
+    drop_reordered(reordered);
+    solution
 }
 
 /// Returns the solution of a game that is too wide for neither player. If the bounds of both players are within
@@ -115,7 +118,9 @@ pub fn solution_in_turns(alloc: Global, game: &ForwardGame) -> Result<Option<Sol
 {
     fits_both(game)?;
     let reordered = Reordered::of(alloc, game)?;
-    turned_solution(alloc, game, &reordered)
+    let turned = turned_solution(alloc, game, &reordered);
+    drop_reordered(reordered);
+    turned
 }
 
 /// Returns the solution of a game that is too wide for neither player, by lifting for both players in turns. It is
@@ -143,7 +148,7 @@ fn turned_solution(
     }
 }
 
-/// Returns the solution that the answers for both players make.
+/// Returns the solution that the answers of turns for both players make.
 fn joined(alloc: Global, zero: TurnsAnswer, one: TurnsAnswer) -> Result<Solution, Refusal>
     ensures winners { IfOk result (λ solution. solution.winners ≡ winners_of zero.won.items) }
     ensures zero { IfOk result (λ solution. solution.zero.choice ≡ zero.choice.items) }
@@ -151,15 +156,35 @@ fn joined(alloc: Global, zero: TurnsAnswer, one: TurnsAnswer) -> Result<Solution
     ensures memory { IsOkUnless result Refusal.Memory }
 {
     let winners = winners_of(alloc, zero.won.as_slice())?;
-    Ok(Solution {
+    Ok(solution_by(winners, zero.choice, one.choice))
+}
+
+/// Returns the solution that the answers of runs for both players make.
+fn found_joined(alloc: Global, zero: Found, one: Found) -> Result<Solution, Refusal>
+    ensures winners { IfOk result (λ solution. solution.winners ≡ winners_of zero.won.items) }
+    ensures zero { IfOk result (λ solution. solution.zero.choice ≡ zero.choice.items) }
+    ensures one { IfOk result (λ solution. solution.one.choice ≡ one.choice.items) }
+    ensures memory { IsOkUnless result Refusal.Memory }
+{
+    let winners = winners_of(alloc, zero.won.as_slice())?;
+    Ok(solution_by(winners, zero.choice, one.choice))
+}
+
+/// Returns the solution of these winners and the choices of both players.
+fn solution_by(winners: Vec<Player>, zero: Vec<Option<u32>>, one: Vec<Option<u32>>) -> Solution
+    ensures winners { result.winners ≡ winners.items }
+    ensures zero { result.zero.choice ≡ zero.items }
+    ensures one { result.one.choice ≡ one.items }
+{
+    Solution {
         winners: Seq::from_vec(winners),
         zero: Strategy {
-            choice: Seq::from_vec(zero.choice),
+            choice: Seq::from_vec(zero),
         },
         one: Strategy {
-            choice: Seq::from_vec(one.choice),
+            choice: Seq::from_vec(one),
         },
-    })
+    }
 }
 
 /// Returns the solution of a game that is too wide for neither player, by lifting for one player and then for the
@@ -185,16 +210,8 @@ fn lifted_solution<L, W: Reporter<L>>(
     game.keeps_limits();
     let zero = reordered.solve(alloc, Player::Zero, budget, reporter, observer)?;
     let one = reordered.solve(alloc, Player::One, budget, reporter, observer)?;
-    let winners = winners_of(alloc, zero.won.as_slice())?;
-    Ok(Solution {
-        winners: Seq::from_vec(winners),
-        zero: Strategy {
-            choice: Seq::from_vec(zero.choice),
-        },
-        one: Strategy {
-            choice: Seq::from_vec(one.choice),
-        },
-    })
+    let solution = found_joined(alloc, zero, one)?;
+    Ok(solution)
 }
 
 /// Fails with [TaskFault::TooWide] alone, if the game is too wide for either player.

@@ -7,6 +7,7 @@ ghost use Rattle.omega_game_answers.specs.private.steps.Lifts.{LiftsWholeGame};
 ghost use Rattle.omega_budget.specs.Observing.{IsObserved, refusal_in};
 
 use super::answer_text::write_answer;
+use crate::dropping::drop_reordered;
 use omega_budget::{Reordered, Reporter};
 use omega_game::{ForwardGame, Player, Refusal};
 use std::alloc::Global;
@@ -29,6 +30,30 @@ pub fn solve_one<L, W: Reporter<L>>(
         (W.tells reporter.now) (W.pace reporter.now) budget observer.old observer.new }
 {
     let reordered = Reordered::of(alloc, game)?;
+    let answer = answer_in(alloc, game, &reordered, player, budget, reporter, observer);
+    drop_reordered(reordered);
+    answer
+}
+
+/// Returns the answer text of `player` for `game`, which is lifted in the order of `reordered`. Fails with
+/// [TaskFault::TooWide] or [TaskFault::Budget].
+fn answer_in<L, W: Reporter<L>>(
+    alloc: Global,
+    game: &ForwardGame,
+    reordered: &Reordered<'_>,
+    player: Player,
+    budget: u64,
+    reporter: &W,
+    observer: &mut L,
+) -> Result<Vec<u8>, Refusal>
+    requires budget { budget ≤ most_lifts }
+    requires given { reordered.now.given ≡ game.now }
+    ensures answer { IfOk result (λ output. CountsReported (W.tells reporter.now) (W.pace reporter.now)
+        game.now (way.Player player) budget output.items observer.old observer.new) }
+    ensures refused { IfErr result (IsSolveGameRefusal game.now (way.Player player) None budget) }
+    ensures reported { IsObserved (LiftsWholeGame game.now (way.Player player)) (refusal_in result)
+        (W.tells reporter.now) (W.pace reporter.now) budget observer.old observer.new }
+{
     let found = reordered.solve(alloc, player, budget, reporter, observer)?;
     write_answer(
         alloc,

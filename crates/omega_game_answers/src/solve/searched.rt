@@ -8,6 +8,7 @@ ghost use Rattle.omega_game_answers.specs.private.steps.Lifts.{LiftsWholeGame};
 ghost use Rattle.omega_budget.specs.Observing.{IsObserved, refusal_in};
 
 use super::both::{solution_in_turns, solution_of};
+use crate::dropping::drop_whole;
 use omega_budget::Reporter;
 use omega_game::{ForwardGame, Game, Refusal, Solution};
 use omega_judged_search::solve_by_search;
@@ -33,7 +34,9 @@ pub fn solve_by_judged_search<L, W: Reporter<L>>(
         (W.tells reporter.now) (W.pace reporter.now) budget observer.old observer.new }
 {
     let whole = game.with_predecessors(alloc)?;
-    searched_text(alloc, &whole, budget, reporter, observer)
+    let text = searched_text(alloc, &whole, budget, reporter, observer);
+    drop_whole(whole);
+    text
 }
 
 /// Returns the solution text in the same way, for a game with predecessors.

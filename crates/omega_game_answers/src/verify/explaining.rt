@@ -3,6 +3,7 @@ ghost use Rattle.std.specs.Prelude.{◌≡◌, ◌++◌, IfNone, IfOk, IfSome, I
 ghost use Rattle.omega_parity_game.specs.Solution.{IsSolution, WinsGiven};
 ghost use Rattle.omega_game_answers.specs.Verify.{ArePlacesOf, IsSolutionVerdict, LosesGiven, explained_text, identifiers_text};
 
+use crate::numbered::append_numbered;
 use omega_game::{ForwardGame, Lasso, Player, Refusal, Solution, counterexample};
 use omega_io::Exit;
 use omega_text::write_number;
@@ -19,11 +20,11 @@ pub(crate) fn explained(
     ensures memory { IsOkUnless result Refusal.Memory }
 {
     if let Some(lasso) = lost_by(alloc, game, solution, Player::Zero)? {
-        let text = explanation(alloc, game, Player::Zero, &lasso)?;
+        let text = explanation(alloc, game, Player::Zero, lasso)?;
         return Ok((Exit::No, text));
     }
     if let Some(lasso) = lost_by(alloc, game, solution, Player::One)? {
-        let text = explanation(alloc, game, Player::One, &lasso)?;
+        let text = explanation(alloc, game, Player::One, lasso)?;
         return Ok((Exit::No, text));
     }
     Ok((Exit::Done, Vec::from_slice(alloc, b"yes\n")?))
@@ -51,8 +52,23 @@ pub fn lost_by(
     Ok(found)
 }
 
-/// Returns the text of `no` with its explanation.
+/// Returns the text of `no` with its explanation. The lasso is dropped.
 fn explanation(
+    alloc: Global,
+    game: &ForwardGame,
+    player: Player,
+    lasso: Lasso,
+) -> Result<Vec<u8>, Refusal>
+    requires stem { ArePlacesOf game.now lasso.stem }
+    requires cycle { ArePlacesOf game.now lasso.cycle }
+    ensures text { IfOk result (λ text. text.items ≡ explained_text game.now player lasso) }
+    ensures memory { IsOkUnless result Refusal.Memory }
+{
+    explanation_by(alloc, game, player, &lasso)
+}
+
+/// Returns the text of `no` with its explanation by `lasso`.
+fn explanation_by(
     alloc: Global,
     game: &ForwardGame,
     player: Player,
@@ -64,14 +80,42 @@ fn explanation(
     ensures memory { IsOkUnless result Refusal.Memory }
 {
     let mut out = Vec::new(alloc);
-    out.extend_from_slice(b"no\nplayer ")?;
-    write_number(u128::from(player.number()), &mut out)?;
-    out.extend_from_slice(b"\nstem")?;
-    write_identifiers(game, lasso.stem.as_slice(), &mut out)?;
-    out.extend_from_slice(b"\ncycle")?;
-    write_identifiers(game, lasso.cycle.as_slice(), &mut out)?;
-    out.extend_from_slice(b"\n")?;
+    append_explanation(game, player, lasso, &mut out)?;
     Ok(out)
+}
+
+/// Appends `no` with its explanation.
+fn append_explanation(
+    game: &ForwardGame,
+    player: Player,
+    lasso: &Lasso,
+    out: &mut Vec<u8>,
+) -> Result<(), Refusal>
+    requires stem { ArePlacesOf game.now lasso.now.stem }
+    requires cycle { ArePlacesOf game.now lasso.now.cycle }
+    ensures text { OnOk result (out.new.items ≡ out.old.items ++ explained_text game.now player lasso.now) }
+    ensures memory { IsOkUnless result Refusal.Memory }
+{
+    append_numbered(b"no\nplayer ", u128::from(player.number()), out)?;
+    append_places(game, b"\nstem", lasso.stem.as_slice(), out)?;
+    append_places(game, b"\ncycle", lasso.cycle.as_slice(), out)?;
+    out.extend_from_slice(b"\n")?;
+    Ok(())
+}
+
+/// Appends `name`, and the identifiers of the nodes at `places`.
+fn append_places(
+    game: &ForwardGame,
+    name: &[u8],
+    places: &[u32],
+    out: &mut Vec<u8>,
+) -> Result<(), Refusal>
+    requires { ArePlacesOf game.now places.now }
+    ensures text { OnOk result (out.new.items ≡ out.old.items ++ (name.now ++ identifiers_text game.now places.now)) }
+    ensures memory { IsOkUnless result Refusal.Memory }
+{
+    out.extend_from_slice(name)?;
+    write_identifiers(game, places, out)
 }
 
 /// Appends the identifiers of the nodes at `places`, a space before each.

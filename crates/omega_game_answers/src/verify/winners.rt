@@ -1,7 +1,7 @@
 //! Judges the winners that a solution text gives, whatever its choices, by solving the game.
 ghost use Rattle.std.specs.Prelude.{◌≡◌, ◌++◌, ◌<◌, ◌^◌, IfErr, IfNone, IfOk, IfSome, IsOkUnless, None, OnOk, length};
 ghost use Rattle.omega_io.specs.Refused.{IsRefusedOf};
-ghost use Rattle.omega_parity_game.specs.Solution.{IsSolution};
+ghost use Rattle.omega_parity_game.specs.Solution.{IsExactSolution, IsSolution};
 ghost use Rattle.omega_pg.specs.solution.Winners.{IsReadWinnersRefusal, IsWinnersRefusal, IsWinnersText};
 ghost use Rattle.omega_solve.specs.Limits.{most_lifts};
 ghost use Rattle.omega_game_answers.specs.Winners.{IsWinnersAnswer, IsWinnersGameRefusal, IsWinnersVerdict, RefusesWinners, wrong_text};
@@ -10,14 +10,15 @@ ghost use Rattle.omega_game_answers.specs.solve.Refusing.{IsSolveGameRefusal};
 ghost use Rattle.omega_game_answers.specs.private.steps.Winners.{AreWinnersJudged, GiveTheSame, IsFirstDifference, IsUnsolvedRefusal, explanation_text, refutation_text};
 
 use super::judged_game;
+use crate::dropping::{drop_game, drop_whole};
+use crate::numbered::append_numbered;
 use crate::player_text::append_player;
 use crate::solve::searched::searched_solution;
 use omega_budget::NoObserver;
-use omega_game::{ForwardGame, Player, Refusal, Solution};
+use omega_game::{ForwardGame, Game, Player, Refusal, Solution};
 use omega_io::{Exit, Refused, Which};
 use omega_pg::{read_winners, write_solution};
 use omega_solve::MOST_LIFTS;
-use omega_text::write_number;
 use std::alloc::Global;
 
 /// Judges the winners that the solution in `text` gives. Its choices are passed over, so that a text of winners alone
@@ -64,7 +65,10 @@ fn winners_judged(
             Ok(made) => Ok(made),
             Err(refusal) => Err(Refused::of(Which::File, refusal)),
         },
-        Err(refusal) => Err(Refused::of(Which::Input, refusal)),
+        Err(refusal) => {
+            drop_game(game);
+            Err(Refused::of(Which::Input, refusal))
+        }
     }
 }
 
@@ -90,13 +94,45 @@ fn verdict_on_winners(
     ensures verdict { IfOk result (λ made. IsWinnersVerdict game winners.now explain made.0 made.1.items) }
     ensures refused { IfErr result (IsSolveGameRefusal game Search None most_lifts) }
 {
-    game.keeps_limits();
     let whole = game.with_predecessors(alloc)?;
-    let solution = searched_solution(alloc, &whole, MOST_LIFTS, &NoObserver, &mut ())?;
+    let made = verdict_by_search(alloc, &whole, winners, explain);
+    drop_whole(whole);
+    made
+}
+
+/// Solves `game` and returns the verdict on `winners`, as `verdict_on_winners` does.
+fn verdict_by_search(
+    alloc: Global,
+    game: &Game,
+    winners: &[Player],
+    explain: bool,
+) -> Result<(Exit, Vec<u8>), Refusal>
+    requires { length winners.now ≡ length game.now }
+    ensures verdict { IfOk result (λ made. IsWinnersVerdict game.now winners.now explain made.0 made.1.items) }
+    ensures refused { IfErr result (IsSolveGameRefusal game.now Search None most_lifts) }
+{
+    let solution = searched_solution(alloc, game, MOST_LIFTS, &NoObserver, &mut ())?;
+    verdict_by(alloc, game.forward(), &solution, winners, explain)
+}
+
+/// Returns the verdict on `winners` by the exact `solution` of `game`.
+fn verdict_by(
+    alloc: Global,
+    game: &ForwardGame,
+    solution: &Solution,
+    winners: &[Player],
+    explain: bool,
+) -> Result<(Exit, Vec<u8>), Refusal>
+    requires count { length winners.now ≡ length game.now }
+    requires exact { IsExactSolution game.now solution.now }
+    ensures verdict { IfOk result (λ made. IsWinnersVerdict game.now winners.now explain made.0 made.1.items) }
+    ensures memory { IsOkUnless result Refusal.Memory }
+{
+    game.keeps_limits();
     match first_difference(solution.winners.as_slice(), winners) {
         None => Ok((Exit::Done, Vec::from_slice(alloc, b"yes\n")?)),
         Some(place) => {
-            let text = refutation(alloc, whole.forward(), &solution, place, explain)?;
+            let text = refutation(alloc, game, solution, place, explain)?;
             Ok((Exit::No, text))
         }
     }
@@ -168,8 +204,7 @@ fn append_wrong(
     ensures text { OnOk result (out.new.items ≡ out.old.items ++ wrong_text game.now place winner) }
     ensures memory { IsOkUnless result Refusal.Memory }
 {
-    out.extend_from_slice(b"no\nnode ")?;
-    write_number(u128::from(game.id(place)), out)?;
+    append_numbered(b"no\nnode ", u128::from(game.id(place)), out)?;
     out.extend_from_slice(b" ")?;
     append_player(winner, out)?;
     out.extend_from_slice(b"\n")?;

@@ -4,10 +4,10 @@ use Rattle.omega_game_answers.proofs.canon.canon_game.Goals as goal
 
 pub returns-clause-answer : goal.returns-clause-answer
 returns-clause-answer c =
-    IfOk-weaker c.write_game.result _ _
+    IfOk-weaker c.write_game-written.result _ _
     (λ output written. record {
       game = c.in_ok-game.game;
       read = c.in_ok-game.ensures.game;
       written = written;
     })
-    c.write_game.ensures.text
+    c.write_game-written.ensures.text

@@ -1,25 +1,22 @@
 -- `draw_game_text`: what is drawn, or refused, is the game that was read.
-use Rattle.std.proofs.Common.{rules}
-use Rattle.std.proofs.lemmas.Result.{IfOk-weaker}
-use Rattle.omega_text.specs.Cases.{or_memory}
-use Rattle.omega_game_answers.specs.Verify.{IsJudgedGameRefusal}
-use Rattle.omega_game_answers.proofs.Drawing.{unknown_refused_or_memory}
+use Rattle.std.proofs.lemmas.Result.{IfErr-weaker, IfOk-weaker}
+use Rattle.omega_game_answers.proofs.Drawing.{unknown_text_or_memory}
 use Rattle.omega_game_answers.proofs.draw.draw_game_text.Goals as goal
 
 pub returns-clause-answer : goal.returns-clause-answer
 returns-clause-answer c =
-    IfOk-weaker c.draw_game.result _ _
+    IfOk-weaker c.draw_alone-drawn.result _ _
     (λ output drawn. record {
       game = c.in_ok-game.game;
       read = c.in_ok-game.ensures.game;
-      extent = c.in_ok-extent.extent;
-      asked = c.in_ok-extent.ensures.asked;
-      drawn = drawn;
+      extent = drawn.extent;
+      asked = drawn.asked;
+      drawn = drawn.drawn;
     })
-    c.draw_game.ensures.drawn
+    c.draw_alone-drawn.ensures.drawn
 
-pub returns-in_err-extent-clause-refused : goal.returns-in_err-extent-clause-refused
-returns-in_err-extent-clause-refused c =
-    let refused : or_memory (IsJudgedGameRefusal c.args.text.items c.args.from) c.in_err-extent.field-0.0 =
-    unknown_refused_or_memory c.args.text.items c.in_ok-game.game c.args.from _ c.in_ok-game.ensures.game c.in_err-extent.ensures.refused in
-    search rules
+pub returns-clause-refused : goal.returns-clause-refused
+returns-clause-refused c =
+    IfErr-weaker c.draw_alone-drawn.result _ _
+    (λ refusal unknown. unknown_text_or_memory c.args.text.items c.in_ok-game.game c.args.from refusal c.in_ok-game.ensures.game unknown)
+    c.draw_alone-drawn.ensures.refused

@@ -10,13 +10,13 @@ returns-in-None-clause-refused c =
 
 pub returns-clause-part : goal.returns-clause-part
 returns-clause-part c =
-    IfOk-weaker c.part.result _ _
+    IfOk-weaker c.forward_part.result _ _
     (λ part reached. record {
       place = c.in-Some.place;
       identified = identified-place c.args.game.now c.args.identifier c.in-Some.place (sym c.in-Some.ensures);
       reached = reached;
     })
-    c.part.ensures.part
+    c.forward_part.ensures.part
 
 pub returns-clause-refused : goal.returns-clause-refused
-returns-clause-refused c = IfErr-weaker c.part.result _ _ (λ refusal e. rw e tt) c.part.ensures.memory
+returns-clause-refused c = IfErr-weaker c.forward_part.result _ _ (λ refusal e. rw e tt) c.forward_part.ensures.memory

@@ -3,23 +3,23 @@ use Rattle.std.proofs.lemmas.Result.{IfOk-weaker}
 use Rattle.omega_game_answers.proofs.solve.solve_whole.Goals as goal
 
 pub returns-in-Both-clause-reported : goal.returns-in-Both-clause-reported
-returns-in-Both-clause-reported g c = rw c.in-Both.is c.solve_both.ensures.reported
+returns-in-Both-clause-reported g c = rw c.in-Both.is c.solve_both-solved.ensures.reported
 
 pub returns-in-Search-clause-reported : goal.returns-in-Search-clause-reported
 returns-in-Search-clause-reported g c = rw c.in-Search.is c.solve_by_judged_search.ensures.reported
 
 pub returns-in-Player-clause-reported : goal.returns-in-Player-clause-reported
-returns-in-Player-clause-reported g c = rw c.in-Player.is c.solve_one.ensures.reported
+returns-in-Player-clause-reported g c = rw c.in-Player.is c.solve_one-solved.ensures.reported
 
 pub returns-in-Player-clause-answer : goal.returns-in-Player-clause-answer
 returns-in-Player-clause-answer g c =
-    rw c.in-Player.is (IfOk-weaker c.solve_one.result _ _ (λ output counted. (counted.0, counted.1)) c.solve_one.ensures.answer)
+    rw c.in-Player.is (IfOk-weaker c.solve_one-solved.result _ _ (λ output counted. (counted.0, counted.1)) c.solve_one-solved.ensures.answer)
 
 pub returns-in-Player-clause-counted : goal.returns-in-Player-clause-counted
-returns-in-Player-clause-counted g c = rw c.in-Player.is c.solve_one.ensures.answer
+returns-in-Player-clause-counted g c = rw c.in-Player.is c.solve_one-solved.ensures.answer
 
 pub returns-in-Both-clause-counted : goal.returns-in-Both-clause-counted
-returns-in-Both-clause-counted g c = rw c.in-Both.is (IfOk-weaker c.solve_both.result _ _ (λ output answer. tt) c.solve_both.ensures.answer)
+returns-in-Both-clause-counted g c = rw c.in-Both.is (IfOk-weaker c.solve_both-solved.result _ _ (λ output answer. tt) c.solve_both-solved.ensures.answer)
 
 pub returns-in-Search-clause-counted : goal.returns-in-Search-clause-counted
 returns-in-Search-clause-counted g c =

@@ -5,7 +5,7 @@ use Rattle.omega_text.specs.declared.refusal.Refusal.TheVariants.{Task}
 use Rattle.omega_text.specs.declared.refusal.task.TaskFault.TheVariants.{UnknownNode}
 use Rattle.omega_parity_game.specs.Game.{Node}
 use Rattle.omega_parity_game.specs.declared.solution.Solution.{Solution}
-use Rattle.omega_game_drawing.specs.GameDrawing.{IsSolutionDrawing}
+use Rattle.omega_game_drawing.specs.GameDrawing.{IsGameDrawing, IsSolutionDrawing}
 use Rattle.omega_game_drawing.specs.declared.extent.Extent.{Extent}
 use Rattle.omega_pg.specs.solution.Refusing.{IsSolutionRefusal}
 use Rattle.omega_pg.specs.solution.Text.{IsSolutionText}
@@ -16,6 +16,12 @@ use Rattle.omega_game_answers.specs.Part.{IsUnknownIdentifier}
 abbrev pub IsUnknownFrom : List Node → Option ℕ → Refusal → Type 0
 IsUnknownFrom game None refusal = ⊥
 IsUnknownFrom game (Some identifier) refusal = (refusal ≡ Task UnknownNode) × IsUnknownIdentifier game identifier
+
+-- the drawing of the extent that an identifier and a depth give is written
+pub record IsGameDrawn (game : List Node) (from depth : Option ℕ) (output : List ℕ) : Type 0 where
+  pub extent : Extent
+  pub asked : IsExtent game from depth extent
+  pub drawn : IsGameDrawing game extent output
 
 -- the text is that of a solution of the game, and the drawing of the extent of the game with it is written
 pub record IsSolutionDrawn (game : List Node) (extent : Extent) (text : List ℕ) (legend : Bool) (output : List ℕ)

@@ -7,4 +7,4 @@ use Rattle.omega_game_answers.proofs.show.json.append_components.Goals as goal
 pub returns-clause-text : goal.returns-clause-text
 returns-clause-text c =
     following c.args.out.now.items (member_text (codes ",\"components\":") c.args.components.count)
-    (member_text (codes ",\"largest\":") c.args.components.largest) c.in_ok-append_member.ensures.text c.in_ok-append_member-2.ensures.text
+    (member_text (codes ",\"largest\":") c.args.components.largest) c.in_ok-append_numbered.ensures.text c.in_ok-append_numbered-2.ensures.text

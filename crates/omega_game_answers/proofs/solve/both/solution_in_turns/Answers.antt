@@ -15,6 +15,6 @@ returns-in_err-fits_both-clause-refused c =
 
 pub returns-clause-exact : goal.returns-clause-exact
 returns-clause-exact c =
-    IfOk-weaker c.turned_solution.result _ _
+    IfOk-weaker c.turned_solution-turned.result _ _
     (λ found right. IfSome_then found right (λ solution by_bounds. exact_by_bounds c.args.game.now solution by_bounds))
-    c.turned_solution.ensures.right
+    c.turned_solution-turned.ensures.right

@@ -10,10 +10,10 @@ returns-in_err-whole-clause-reported g c =
     (none_observed _ _ _ _ _ _ (spares (λ refusal. refusal ≡ Memory) _ c.in_err-whole.ensures.memory (λ e. cc)))
 
 pub returns-clause-answer : goal.returns-clause-answer
-returns-clause-answer g c = rw c.in_ok-whole.ensures.game at c.searched_text.ensures.answer
+returns-clause-answer g c = rw c.in_ok-whole.ensures.game at c.searched_text-text.ensures.answer
 
 pub returns-clause-refused : goal.returns-clause-refused
-returns-clause-refused g c = rw c.in_ok-whole.ensures.game at c.searched_text.ensures.refused
+returns-clause-refused g c = rw c.in_ok-whole.ensures.game at c.searched_text-text.ensures.refused
 
 pub returns-clause-reported : goal.returns-clause-reported
-returns-clause-reported g c = rw c.in_ok-whole.ensures.game at c.searched_text.ensures.reported
+returns-clause-reported g c = rw c.in_ok-whole.ensures.game at c.searched_text-text.ensures.reported
