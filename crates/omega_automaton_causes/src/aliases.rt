@@ -7,6 +7,7 @@ ghost use Rattle.omega_raw.specs.declared.raw_automaton.RawAutomaton.{RawAutomat
 ghost use Rattle.omega_text.specs.Lexeme.{lexeme_of};
 ghost use Rattle.omega_automaton_causes.specs.Aliases.{alias_line, alias_mentions, first_wrong_alias, is_wrong, names_after, wrong_alias_line};
 ghost use Rattle.omega_automaton_causes.specs.AutomatonCauses.{WritesAutomaton};
+ghost use Rattle.omega_automaton_causes.specs.Finding.{line_about};
 ghost use Rattle.omega_automaton_causes.specs.private.AliasReading.{after_beginning, after_name, as_open, as_said, names_in, nothing, part_of, step};
 
 use indexmap::IndexSet;
@@ -127,9 +128,32 @@ pub(crate) fn alias_line(alloc: Global, text: &[u8]) -> Result<Vec<u8>, Refusal>
         (λ line. (raw : RawAutomaton) → WritesAutomaton text.now raw → line.items ≡ alias_line raw) }
     ensures memory { IsOkUnless result Refusal.Memory }
 {
-    let reading = read_aliases(alloc, text)?;
+    match read_aliases(alloc, text) {
+        Ok(reading) => line_of(alloc, reading.said()),
+        Err(refusal) => Err(refusal),
+    }
+}
+
+/// Returns the line about the first of `mentions` that is wrong.
+fn line_of(alloc: Global, mentions: &[AliasMention<'_>]) -> Result<Vec<u8>, Refusal>
+    ensures line { IfOk result
+        (λ line. line.items ≡ line_about wrong_alias_line (first_wrong_alias [] (map as_said mentions.now))) }
+    ensures memory { IsOkUnless result Refusal.Memory }
+{
     let mut names = IndexSet::new(alloc);
-    match first_wrong_alias(reading.said(), &mut names)? {
+    match first_wrong_alias(mentions, &mut names) {
+        Ok(found) => found_line(alloc, found),
+        Err(refusal) => Err(refusal),
+    }
+}
+
+/// Returns the line about a mention that was found to be wrong, or no bytes if none was.
+fn found_line(alloc: Global, found: Option<AliasMention<'_>>) -> Result<Vec<u8>, Refusal>
+    ensures line { IfOk result
+        (λ line. line.items ≡ line_about wrong_alias_line (option_map as_said found.entry)) }
+    ensures memory { IsOkUnless result Refusal.Memory }
+{
+    match found {
         Some(mention) => wrong_alias_line(alloc, mention),
         None => Ok(Vec::new(alloc)),
     }

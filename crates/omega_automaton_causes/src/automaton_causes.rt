@@ -1,8 +1,11 @@
 //! The line that says why an automaton text means no automaton.
 
 ghost use Rattle.std.specs.Prelude.{◌≡◌, IfOk, IsOkUnless};
+ghost use Rattle.omega_text.specs.declared.refusal.automaton.AutomatonFault.TheVariants as Fault;
 ghost use Rattle.omega_raw.specs.declared.raw_automaton.RawAutomaton.{RawAutomaton};
 ghost use Rattle.omega_automaton_causes.specs.AutomatonCauses.{IsAutomatonCause, WritesAutomaton, fault_line};
+ghost use Rattle.omega_automaton_causes.specs.Sets.{set_range_line};
+ghost use Rattle.omega_automaton_causes.specs.States.{state_range_line, state_twice_line};
 ghost use Rattle.omega_automaton_causes.specs.private.Refused.{IsFaultOf, IsRefusedFor, fault_in};
 
 use crate::aliases::alias_line;
@@ -73,20 +76,10 @@ fn fault_line(alloc: Global, text: &[u8], fault: AutomatonFault) -> Result<Vec<u
     ensures memory { IsOkUnless result Refusal.Memory }
 {
     match fault {
-        AutomatonFault::StateRange => {
-            faults_are_least();
-            let raw = read_written(alloc, text)?;
-            state_range_line(alloc, &raw)
-        }
-        AutomatonFault::SetRange => {
-            let raw = read_written(alloc, text)?;
-            set_range_line(alloc, &raw)
-        }
+        AutomatonFault::StateRange => text_state_range_line(alloc, text),
+        AutomatonFault::SetRange => text_set_range_line(alloc, text),
         AutomatonFault::Alias => alias_line(alloc, text),
-        AutomatonFault::StateTwice => {
-            let raw = read_written(alloc, text)?;
-            state_twice_line(alloc, &raw)
-        }
+        AutomatonFault::StateTwice => text_state_twice_line(alloc, text),
         AutomatonFault::Version
         | AutomatonFault::RepeatedHeader
         | AutomatonFault::MissingAcceptance
@@ -97,6 +90,46 @@ fn fault_line(alloc: Global, text: &[u8], fault: AutomatonFault) -> Result<Vec<u
         | AutomatonFault::AcceptanceAtom
         | AutomatonFault::TooDeep
         | AutomatonFault::Expansion => Ok(Vec::new(alloc)),
+    }
+}
+
+/// Returns the line about the first state that a text mentions and that is none.
+fn text_state_range_line(alloc: Global, text: &[u8]) -> Result<Vec<u8>, Refusal>
+    requires { IsRefusedFor text.now Fault.StateRange }
+    ensures line { IfOk result
+        (λ line. (raw : RawAutomaton) → WritesAutomaton text.now raw → line.items ≡ state_range_line raw) }
+    ensures memory { IsOkUnless result Refusal.Memory }
+{
+    faults_are_least();
+    match read_written(alloc, text) {
+        Ok(raw) => state_range_line(alloc, &raw),
+        Err(refusal) => Err(refusal),
+    }
+}
+
+/// Returns the line about the first set that a text mentions and that is none.
+fn text_set_range_line(alloc: Global, text: &[u8]) -> Result<Vec<u8>, Refusal>
+    requires { (raw : RawAutomaton) × WritesAutomaton text.now raw }
+    ensures line { IfOk result
+        (λ line. (raw : RawAutomaton) → WritesAutomaton text.now raw → line.items ≡ set_range_line raw) }
+    ensures memory { IsOkUnless result Refusal.Memory }
+{
+    match read_written(alloc, text) {
+        Ok(raw) => set_range_line(alloc, &raw),
+        Err(refusal) => Err(refusal),
+    }
+}
+
+/// Returns the line about the first state that a text defines twice.
+fn text_state_twice_line(alloc: Global, text: &[u8]) -> Result<Vec<u8>, Refusal>
+    requires { (raw : RawAutomaton) × WritesAutomaton text.now raw }
+    ensures line { IfOk result
+        (λ line. (raw : RawAutomaton) → WritesAutomaton text.now raw → line.items ≡ state_twice_line raw) }
+    ensures memory { IsOkUnless result Refusal.Memory }
+{
+    match read_written(alloc, text) {
+        Ok(raw) => state_twice_line(alloc, &raw),
+        Err(refusal) => Err(refusal),
     }
 }
 

@@ -5,7 +5,7 @@ ghost use Rattle.std.specs.List.{AllByRecursion};
 ghost use Rattle.omega_raw.specs.Grammar.{IsRawItem, IsRawState};
 ghost use Rattle.omega_automaton.specs.Faults.{has_state_out_of_range, state_count};
 ghost use Rattle.omega_automaton.specs.Items.{first_said, states_in};
-ghost use Rattle.omega_automaton_causes.specs.Finding.{first_found};
+ghost use Rattle.omega_automaton_causes.specs.Finding.{first_found, line_about};
 ghost use Rattle.omega_automaton_causes.specs.States.{first_state_twice, first_state_beyond, no_state, no_state_line, start_beyond, state_beyond, state_range_line, state_twice_line, target_beyond, twice_line};
 
 use crate::finding::first_beyond;
@@ -178,7 +178,18 @@ pub(crate) fn state_twice_line(alloc: Global, raw: &RawAutomaton) -> Result<Vec<
     ensures memory { IsOkUnless result Refusal.Memory }
 {
     let mut seen = IndexSet::new(alloc);
-    match first_state_twice(raw.states.as_slice(), &mut seen)? {
+    match first_state_twice(raw.states.as_slice(), &mut seen) {
+        Ok(found) => found_twice_line(alloc, found),
+        Err(refusal) => Err(refusal),
+    }
+}
+
+/// Returns the line about a state that was found to be defined twice, or no bytes if none was.
+fn found_twice_line(alloc: Global, found: Option<u32>) -> Result<Vec<u8>, Refusal>
+    ensures line { IfOk result (λ line. line.items ≡ line_about twice_line found) }
+    ensures memory { IsOkUnless result Refusal.Memory }
+{
+    match found {
         Some(state) => twice_line(alloc, state),
         None => Ok(Vec::new(alloc)),
     }

@@ -1,3 +1,4 @@
 -- Lemmas of the command line.
 pub mod Given
+pub mod Lines
 pub mod Numbers

@@ -1,13 +1,14 @@
-ghost use Rattle.std.specs.Prelude.{◌≡◌, IfErr, IfNone, IfOk, IfSome, Some, codes, false, string_bytes, true};
-ghost use Rattle.omega_command.specs.CommandLine.{Asks, AsksFor, Gives, GivesFlag, GoesWithEither, IsFormatText};
-ghost use Rattle.omega_command.specs.CommandLine.{AsksReading, GivesLeniency, IsMistake, IsOfEither, IsWrong};
+ghost use Rattle.std.specs.Prelude.{◌≡◌, IfErr, IfNone, IfOk, IfSome, IsSome, Some, codes, false, string_bytes, true};
+ghost use Rattle.omega_command.specs.CommandLine.{Asks, AsksFor, Gives, GivesFlag, GivesNoDrawn, GivesPart, GoesWithEither};
+ghost use Rattle.omega_command.specs.CommandLine.{AsksReading, GivesLeniency, IsFormatText, IsMistake, IsOfEither, IsWrong};
 ghost use Rattle.omega_command.specs.CommandLine.{LeavesFormat, LeavesNoFormat, text_of};
+ghost use Rattle.omega_command.specs.Either.{subcommand_of};
 ghost use Rattle.omega_command.specs.declared.command.Format.TheVariants.{Hoa, Pg};
 ghost use Rattle.omega_command.specs.declared.either.OfEither.{OfEither};
 ghost use Rattle.omega_command.specs.declared.either.OfEither.TheVariants as either;
 ghost use Rattle.omega_command.specs.declared.mistake.Mistake.TheVariants as mistake;
 ghost use Rattle.omega_command.specs.declared.options.OptionName.TheVariants as name;
-ghost use Rattle.omega_command.specs.private.Tasks.{IsTaskBeside};
+ghost use Rattle.omega_command.specs.private.Tasks.{IsLineWith};
 
 use crate::beside::Beside;
 use crate::command::{Command, Format};
@@ -21,6 +22,7 @@ use crate::mistake::Mistake;
 use crate::options::{OptionName, Options};
 use crate::source::source_in;
 use crate::subcommand::{Subcommand, subcommand_named};
+use crate::tasks::{lifting_task, task_beside, task_given};
 use crate::values::{budget_in, depth_in, format_in, identifier_in, is_set, other_in, player_in};
 use crate::verifying::verifying_for;
 use std::alloc::Global;
@@ -79,14 +81,10 @@ fn told_line_for<'a>(
     ensures asked { IfOk result (Asks subcommand.now options.now) }
     ensures mistaken { IfErr result (IsMistake subcommand.now options.now) }
 {
-    let task = task_for(alloc, subcommand, options)?;
-    let source = source_in(alloc, options)?;
-    Ok(Line::Do {
-        task,
-        source,
-        lenient: false,
-        verbose,
-    })
+    match task_for(alloc, subcommand, options) {
+        Ok(task) => line_with(alloc, options, task, false, verbose),
+        Err(mistake) => Err(mistake),
+    }
 }
 
 /// Returns the line that `subcommand` requests with `options`, one of which is `--lenient`, or what is wrong with them.
@@ -101,14 +99,32 @@ fn lenient_line_for<'a>(
     ensures asked { IfOk result (Asks subcommand.now options.now) }
     ensures mistaken { IfErr result (IsWrong subcommand.now options.now) }
 {
-    let task = lenient_task_for(alloc, subcommand, options)?;
-    let source = source_in(alloc, options)?;
-    Ok(Line::Do {
-        task,
-        source,
-        lenient: true,
-        verbose,
-    })
+    match lenient_task_for(alloc, subcommand, options) {
+        Ok(task) => line_with(alloc, options, task, true, verbose),
+        Err(mistake) => Err(mistake),
+    }
+}
+
+/// Returns the line with this task and flags, and the source that the operand names.
+fn line_with<'a>(
+    alloc: Global,
+    options: &Options<'a>,
+    task: Task,
+    lenient: bool,
+    verbose: bool,
+) -> Result<Line, Mistake<'a>>
+    ensures line { IfOk result (IsLineWith options.now task lenient verbose) }
+    ensures memory { IfErr result (λ found. found ≡ mistake.Memory) }
+{
+    match source_in(alloc, options) {
+        Ok(source) => Ok(Line::Do {
+            task,
+            source,
+            lenient,
+            verbose,
+        }),
+        Err(mistake) => Err(mistake),
+    }
 }
 
 /// Returns the task that `subcommand` requests with `options`, one of which is `--lenient`, or what is wrong with them.
@@ -187,10 +203,7 @@ fn either_for<'a>(subcommand: &str, options: &Options<'a>) -> Result<Option<OfEi
         return Ok(None);
     }
     if subcommand == "show" {
-        if is_set(OptionName::Json, options.json)? {
-            return Ok(Some(OfEither::ShowJson));
-        }
-        return Ok(Some(OfEither::Show));
+        return showing_of_either(options);
     }
     if subcommand == "check" {
         return Ok(Some(OfEither::Check));
@@ -202,6 +215,19 @@ fn either_for<'a>(subcommand: &str, options: &Options<'a>) -> Result<Option<OfEi
         return drawing_of_either(options);
     }
     Ok(None)
+}
+
+/// Returns the command `show` for either format.
+fn showing_of_either<'a>(options: &Options<'a>) -> Result<Option<OfEither>, Mistake<'a>>
+    ensures some { IfOk result (λ found. IfSome found (λ asked.
+        (codes "show" ≡ subcommand_of asked) × GoesWithEither asked options.now)) }
+    ensures none { IfOk result IsSome }
+    ensures mistaken { IfErr result (IsMistake (codes "show") options.now) }
+{
+    if is_set(OptionName::Json, options.json)? {
+        return Ok(Some(OfEither::ShowJson));
+    }
+    Ok(Some(OfEither::Show))
 }
 
 /// Returns the command `canon` for either format, if `options` have none that goes with one format alone.
@@ -309,21 +335,13 @@ fn solving_for<'a>(options: &Options<'a>) -> Result<Task, Mistake<'a>>
     let observed = is_set(OptionName::Progress, options.progress)?;
     if !is_set(OptionName::Search, options.search)? {
         let command = Command::Solve { player, from };
-        return Ok(if observed {
-            Task::Observed(command, budget)
-        } else {
-            Task::Run(command, budget)
-        });
+        return Ok(lifting_task(command, budget, observed));
     }
     if player.is_some() {
         return Err(Mistake::Conflict(OptionName::Search, OptionName::Player));
     }
     let command = Command::Search { from };
-    Ok(if observed {
-        Task::Observed(command, budget)
-    } else {
-        Task::Run(command, budget)
-    })
+    Ok(lifting_task(command, budget, observed))
 }
 
 /// Returns the task that `meet` requests with `options`, or what is wrong with them.
@@ -333,13 +351,7 @@ fn meeting_for<'a>(alloc: Global, options: &Options<'a>) -> Result<Task, Mistake
 {
     let trim = is_set(OptionName::Trim, options.trim)?;
     let name = other_in(options)?;
-    match String::from_str(alloc, name) {
-        Ok(file) => Ok(Task::Beside {
-            file,
-            asked: Beside::Meet { trim },
-        }),
-        Err(_) => Err(Mistake::Memory),
-    }
+    task_beside(alloc, name, Beside::Meet { trim })
 }
 
 /// Returns the task that `join` requests with `options`, or what is wrong with them.
@@ -348,13 +360,7 @@ fn joining_for<'a>(alloc: Global, options: &Options<'a>) -> Result<Task, Mistake
     ensures mistaken { IfErr result (IsMistake (codes "join") options.now) }
 {
     let name = other_in(options)?;
-    match String::from_str(alloc, name) {
-        Ok(file) => Ok(Task::Beside {
-            file,
-            asked: Beside::Join,
-        }),
-        Err(_) => Err(Mistake::Memory),
-    }
+    task_beside(alloc, name, Beside::Join)
 }
 
 /// Returns the task that `accepts` requests with `options`, or what is wrong with them.
@@ -366,13 +372,7 @@ fn accepted_for<'a>(alloc: Global, options: &Options<'a>) -> Result<Task, Mistak
     let Some(word) = options.word_text else {
         return Err(Mistake::Missing(OptionName::WordText));
     };
-    match String::from_str(alloc, word) {
-        Ok(text) => Ok(Task::Given {
-            text,
-            asked: Beside::Accepts { explain },
-        }),
-        Err(_) => Err(Mistake::Memory),
-    }
+    task_given(alloc, word, Beside::Accepts { explain })
 }
 
 /// Returns the task that `contained` requests with `options`, or what is wrong with them.
@@ -385,19 +385,11 @@ fn contained_for<'a>(alloc: Global, options: &Options<'a>) -> Result<Task, Mista
     let Some(name) = options.within else {
         return Err(Mistake::Missing(OptionName::In));
     };
-    let Ok(file) = String::from_str(alloc, name) else {
-        return Err(Mistake::Memory);
-    };
     if stream {
-        return Ok(Task::Beside {
-            file,
-            asked: Beside::ContainedStream { explain },
-        });
+        task_beside(alloc, name, Beside::ContainedStream { explain })
+    } else {
+        task_beside(alloc, name, Beside::Contained { explain })
     }
-    Ok(Task::Beside {
-        file,
-        asked: Beside::Contained { explain },
-    })
 }
 
 /// Returns the task that `equal` requests with `options`, or what is wrong with them.
@@ -409,13 +401,7 @@ fn equal_for<'a>(alloc: Global, options: &Options<'a>) -> Result<Task, Mistake<'
     let Some(name) = options.to else {
         return Err(Mistake::Missing(OptionName::To));
     };
-    match String::from_str(alloc, name) {
-        Ok(file) => Ok(Task::Beside {
-            file,
-            asked: Beside::Equal { explain },
-        }),
-        Err(_) => Err(Mistake::Memory),
-    }
+    task_beside(alloc, name, Beside::Equal { explain })
 }
 
 /// Returns the task that `complement` requests with `options`, or what is wrong with them.
@@ -455,11 +441,7 @@ fn realizing_for<'a>(options: &Options<'a>) -> Result<Task, Mistake<'a>>
             return Err(Mistake::Conflict(OptionName::Lift, OptionName::AsGame));
         }
         let command = Command::RealizeByLifting { controller };
-        return Ok(if observed {
-            Task::Observed(command, budget)
-        } else {
-            Task::Run(command, budget)
-        });
+        return Ok(lifting_task(command, budget, observed));
     }
     if options.budget.is_some() || observed {
         return Err(Mistake::Missing(OptionName::Lift));
@@ -500,6 +482,25 @@ fn game_drawing_for<'a>(alloc: Global, options: &Options<'a>) -> Result<Task, Mi
         return Err(Mistake::Missing(OptionName::From));
     }
     let legend = is_set(OptionName::Legend, options.legend)?;
+    part_drawing_for(alloc, options, from, depth, legend)
+}
+
+/// Returns the task that `draw` requests for this part of a game, with what is drawn in it, or what is wrong with
+/// `options`.
+fn part_drawing_for<'a>(
+    alloc: Global,
+    options: &Options<'a>,
+    from: Option<u32>,
+    depth: Option<u32>,
+    legend: bool,
+) -> Result<Task, Mistake<'a>>
+    requires format { Gives IsFormatText (text_of name.Format options.now) (Some Pg) }
+    requires no_lasso { GivesFlag (text_of name.Lasso options.now) false }
+    requires part { GivesPart options.now from depth }
+    requires legend { GivesFlag (text_of name.Legend options.now) legend }
+    ensures asked { IfOk result (AsksFor (codes "draw") options.now) }
+    ensures mistaken { IfErr result (IsMistake (codes "draw") options.now) }
+{
     if let Some(solution) = options.solution {
         if options.walk.is_some() {
             return Err(Mistake::Conflict(OptionName::Solution, OptionName::Walk));
@@ -534,17 +535,6 @@ fn game_drawing_for<'a>(alloc: Global, options: &Options<'a>) -> Result<Task, Mi
     })
 }
 
-/// Returns the task with the file of this name beside the input.
-fn task_beside<'a>(alloc: Global, name: &str, asked: Beside) -> Result<Task, Mistake<'a>>
-    ensures task { IfOk result (IsTaskBeside name.now asked) }
-    ensures memory { IfErr result (λ found. found ≡ mistake.Memory) }
-{
-    match String::from_str(alloc, name) {
-        Ok(file) => Ok(Task::Beside { file, asked }),
-        Err(_) => Err(Mistake::Memory),
-    }
-}
-
 /// Returns the task that `draw` requests for an automaton, or what is wrong with `options`.
 fn automaton_drawing_for<'a>(options: &Options<'a>) -> Result<Task, Mistake<'a>>
     requires { Gives IsFormatText (text_of name.Format options.now) (Some Hoa) }
@@ -560,6 +550,16 @@ fn automaton_drawing_for<'a>(options: &Options<'a>) -> Result<Task, Mistake<'a>>
     if is_set(OptionName::Legend, options.legend)? {
         return Err(Mistake::OnlyWith(OptionName::Legend, Format::Pg));
     }
+    whole_drawing_for(options)
+}
+
+/// Returns the task that `draw` requests for an automaton in which nothing is drawn, or what is wrong with `options`.
+fn whole_drawing_for<'a>(options: &Options<'a>) -> Result<Task, Mistake<'a>>
+    requires format { Gives IsFormatText (text_of name.Format options.now) (Some Hoa) }
+    requires alone { GivesNoDrawn options.now }
+    ensures asked { IfOk result (AsksFor (codes "draw") options.now) }
+    ensures mistaken { IfErr result (IsMistake (codes "draw") options.now) }
+{
     if options.from.is_some() {
         return Err(Mistake::OnlyWith(OptionName::From, Format::Pg));
     }

@@ -9,6 +9,7 @@ use crate::limits::MOST_BUDGET;
 use crate::line::Task;
 use crate::mistake::Mistake;
 use crate::options::{OptionName, Options};
+use crate::tasks::lifting_task;
 use crate::values::{budget_in, is_set};
 
 /// Returns the task that `empty` requests with `options`, or what is wrong with them.
@@ -40,11 +41,7 @@ fn emptiness_of_one_for<'a>(options: &Options<'a>) -> Result<Task, Mistake<'a>>
             names,
             status,
         };
-        return Ok(if observed {
-            Task::Observed(command, budget)
-        } else {
-            Task::Run(command, budget)
-        });
+        return Ok(lifting_task(command, budget, observed));
     }
     if options.budget.is_some() {
         return Err(Mistake::Conflict(OptionName::Search, OptionName::Budget));

@@ -15,6 +15,7 @@ mod number;
 mod options;
 mod source;
 mod subcommand;
+mod tasks;
 mod values;
 mod verifying;
 

@@ -8,6 +8,7 @@ use crate::beside::Beside;
 use crate::line::Task;
 use crate::mistake::Mistake;
 use crate::options::{OptionName, Options};
+use crate::tasks::task_beside;
 use crate::values::{identifier_in, is_set};
 use std::alloc::Global;
 
@@ -55,13 +56,7 @@ fn solution_verifying_for<'a>(
     if names && !explain {
         return Err(Mistake::Missing(OptionName::Explain));
     }
-    match String::from_str(alloc, name) {
-        Ok(file) => Ok(Task::Beside {
-            file,
-            asked: judging_for(from, explain, winners, names),
-        }),
-        Err(_) => Err(Mistake::Memory),
-    }
+    task_beside(alloc, name, judging_for(from, explain, winners, names))
 }
 
 /// Returns what is asked of a solution. With names of nodes, its choices are judged and a `no` is explained.
@@ -107,13 +102,7 @@ fn lasso_verifying_for<'a>(
     if names {
         return Err(Mistake::Conflict(OptionName::Automaton, OptionName::Names));
     }
-    match String::from_str(alloc, automaton) {
-        Ok(file) => Ok(Task::Beside {
-            file,
-            asked: Beside::VerifyLasso { explain },
-        }),
-        Err(_) => Err(Mistake::Memory),
-    }
+    task_beside(alloc, automaton, Beside::VerifyLasso { explain })
 }
 
 /// Returns the task that `verify` requests with `options` that name a specification, or what is wrong with them.
@@ -147,11 +136,5 @@ fn controller_verifying_for<'a>(
     if names {
         return Err(Mistake::Conflict(OptionName::Specification, OptionName::Names));
     }
-    match String::from_str(alloc, specification) {
-        Ok(file) => Ok(Task::Beside {
-            file,
-            asked: Beside::VerifyController { explain },
-        }),
-        Err(_) => Err(Mistake::Memory),
-    }
+    task_beside(alloc, specification, Beside::VerifyController { explain })
 }

@@ -1,4 +1,4 @@
--- `game_drawing_for`: a depth needs a node, and a legend a solution or a walk.
+-- `game_drawing_for`: a depth needs a node.
 use Rattle.std.proofs.Common.{inr, refl, sym}
 use Rattle.omega_text.specs.Limits.{most_number}
 use Rattle.omega_command.specs.CommandLine.{IsNumberText, text_of}
@@ -15,13 +15,4 @@ returns-then-is_none-clause-mistaken c =
           given_some (IsNumberText most_number) (text_of name.Depth c.args.options.now) c.in_ok-depth.depth c.in_ok-depth.ensures.given (sym c.if-is_some.ensures);
       missing = λ used. used
           (given_none (IsNumberText most_number) (text_of name.From c.args.options.now) c.in_ok-from.from c.in_ok-from.ensures.given c.if-is_none.ensures);
-    })
-
-pub returns-then-legend-clause-mistaken : goal.returns-then-legend-clause-mistaken
-returns-then-legend-clause-mistaken c =
-    inr (record {
-      one = name.Legend;
-      needed = (refl, refl, rw c.in_default-walk.is refl);
-      one_used = rw c.if-legend.true at c.in_ok-legend.ensures.given;
-      missing = λ used. used (rw c.in_default.is refl);
     })

@@ -3,7 +3,7 @@ use Rattle.std.proofs.Common.{inr, refl, sym}
 use Rattle.omega_command.specs.CommandLine.{text_of}
 use Rattle.omega_command.specs.declared.options.OptionName.TheVariants as name
 use Rattle.omega_command.proofs.Given.{some_read, unset}
-use Rattle.omega_command.proofs.asking.realizing_for.Goals.{then-is_some-via-then-is_some, then-is_some-via-else-is_some+then-observed-2}
+use Rattle.omega_command.proofs.asking.realizing_for.Goals.{then-is_some-via-then-is_some, then-is_some-via-else-is_some+then-observed}
 use Rattle.omega_command.proofs.asking.realizing_for.Goals as goal
 
 pub returns-then-is_some-clause-mistaken : goal.returns-then-is_some-clause-mistaken
@@ -14,10 +14,10 @@ returns-then-is_some-clause-mistaken c = inr (elim c.then-is_some.branch [
     one_used = some_read _ c.args.options.now.budget (sym w.if-is_some.ensures);
     missing = unset (text_of name.Lift c.args.options.now) (rw c.if-lift.false at c.in_ok-lift.ensures.given);
   }
-  | then-is_some-via-else-is_some+then-observed-2 w ↦ record {
+  | then-is_some-via-else-is_some+then-observed w ↦ record {
     one = name.Progress;
     needed = (refl, refl);
-    one_used = rw w.if-observed-2.true at c.in_ok-observed.ensures.given;
+    one_used = rw w.if-observed.true at c.in_ok-observed.ensures.given;
     missing = unset (text_of name.Lift c.args.options.now) (rw c.if-lift.false at c.in_ok-lift.ensures.given);
   }
 ])
