@@ -16,6 +16,7 @@ from functools import partial
 
 from automaton_calls import automaton_call_cases
 from game_calls import game_call_cases
+from known_calls import SOLVERS, words_for
 from memory import (ABORTED, ALIASES, BUCHI, CARRY, CHOICE, DENSE, GAPS, TWO, TWO_SETS, WRITTEN, Shimmed, shim)
 from program import ROOT, Cases, Fault, Left, shown
 from text_calls import text_call_cases
@@ -95,7 +96,9 @@ RUNS: list[tuple[str, bytes, bytes, int, bytes]] = [
     ("RawEdges", b"", b"", 0, b"1 ;-2 ;-3 ;+"),
     ("StateName", b"n" * 40, b"", 0, b"n" * 40),
     *((call, b"HOA: v2 --BODY-- --END--", b"", 20, b"") for call in ("automaton_of", "read_one")),
-    *((call, text, b"", 0, b"digraph automaton {\n") for call in ("draw_automaton", "draw_lasso") for text in AUTOMATA),
+    *(("draw_automaton", text, b"", 0, b"digraph automaton {\n") for text in AUTOMATA),
+    # The edge 0 as a cycle, whatever it leads to.
+    *(("draw_lasso", text, b"stem cycle 0", 0, b"digraph automaton {\n") for text in AUTOMATA),
     *((call, STREAM, b"", 0, b"aborted\nHOA: v1\n") for call in ("read_stream", "feed")),
     *((call, BUCHI + b"x", b"", 3, b"") for call in ("read_stream", "feed")),
     *((call, text, b"", 0, b"parity ")
@@ -165,8 +168,6 @@ RUNS: list[tuple[str, bytes, bytes, int, bytes]] = [
     ("file_lines", b"a.pg", b"", 0, b"omega: 61 Io\nomega: cannot read 'a.pg': no such file or directory\n"),
 ]
 
-SOLVERS = [f"{table} {order}" for table in ("plain", "packed") for order in ("sweep", "worklist", "nested")]
-
 # Calls that ask for no memory after those that make what they are asked of: made where the second text is `run`.
 QUIET = [
     *((solver, text, b"") for solver in SOLVERS for text in GAMES),
@@ -183,7 +184,8 @@ def build() -> None:
     sources = [os.path.join(folder, name) for folder, _, names in os.walk(os.path.join(CRATE, "src")) for name in names]
     if os.path.exists(CALLS) and all(os.path.getmtime(file) <= os.path.getmtime(CALLS) for file in sources):
         return
-    subprocess.run(["rt", "run", "--", "write_number", "0", "0"], cwd=CRATE, stdout=subprocess.DEVNULL, check=True)
+    asked = words_for("write_number", b"0", b"0")
+    subprocess.run(["rt", "run", "--", *asked], cwd=CRATE, stdout=subprocess.DEVNULL, check=True)
 
 
 def fault_in(came: Left, ample: Left) -> Fault:
@@ -192,28 +194,28 @@ def fault_in(came: Left, ample: Left) -> Fault:
     return None if came in allowed else f"status {came[0]}, {shown(came[1])}, {shown(came[2])}"
 
 
-def refused_fault(shimmed: Shimmed, words: list[str | bytes], ample: Left, first: int, last: int) -> Fault:
+def refused_fault(shimmed: Shimmed, asked: list[str | bytes], ample: Left, first: int, last: int) -> Fault:
     """What is wrong with a call whose requests from a first one to a last one are refused, or nothing."""
-    return fault_in(shimmed.run(words, b"", None, first, last)[0], ample)
+    return fault_in(shimmed.run(asked, b"", None, first, last)[0], ample)
 
 
 def refused_calls(shimmed: Shimmed, call: str, text: bytes, other: bytes, status: int, beginning: bytes) -> Cases:
     """Each request refused, alone and with all after it."""
-    words: list[str | bytes] = [call, text, other]
-    ample, requests = shimmed.run(words, b"", None)
+    asked = words_for(call, text, other)
+    ample, requests = shimmed.run(asked, b"", None)
     label = f"{call} of {shown(text)} {shown(other)}"
     wanted = ample[0] == status and ample[1].startswith(beginning) and (status == 0) == (ample[1] != b"")
     yield f"{label}: with ample memory", None if wanted else f"status {ample[0]}, {shown(ample[1])}"
     for n in range(1, requests + 1):
         for to in (n, 2 ** 60):
-            refused = partial(refused_fault, shimmed, words, ample, n, to)
+            refused = partial(refused_fault, shimmed, asked, ample, n, to)
             yield f"{label}: request {n} of {requests}{'' if to == n else ' and all behind it'}", refused
 
 
 def quiet_calls(shimmed: Shimmed, call: str, text: bytes, beginning: bytes) -> Cases:
     """The calls make no request, and with each later request refused they give what they give with ample memory."""
-    _, before = shimmed.run([call, text, b""], b"", None)
-    ample, requests = shimmed.run([call, text, b"run"], b"", None)
+    _, before = shimmed.run(words_for(call, text, b""), b"", None)
+    ample, requests = shimmed.run(words_for(call, text, b"run"), b"", None)
     label = f"{call} of {shown(text)}"
     fault = None
     if ample[0] != 0 or not ample[1].startswith(beginning) or ample[1] == b"":
@@ -221,22 +223,22 @@ def quiet_calls(shimmed: Shimmed, call: str, text: bytes, beginning: bytes) -> C
     elif requests != before:
         fault = f"{requests} requests, and {before} without these calls"
     yield f"{label}: requests", fault
-    came, _ = shimmed.run([call, text, b"run"], b"", None, before + 1, 2 ** 60)
+    came, _ = shimmed.run(words_for(call, text, b"run"), b"", None, before + 1, 2 ** 60)
     yield f"{label}: no memory left", None if came == ample else f"status {came[0]}, {shown(came[1])}"
 
 
 def pieces_again(shimmed: Shimmed) -> Cases:
     """A stream in pieces gives the items of the whole text, also where a piece was fed once more after a refused
     request."""
-    whole, _ = shimmed.run(["read_stream", STREAM, b""], b"", None)
-    fed, requests = shimmed.run(["feed", STREAM, b""], b"", None)
+    whole, _ = shimmed.run(words_for("read_stream", STREAM, b""), b"", None)
+    fed, requests = shimmed.run(words_for("feed", STREAM, b""), b"", None)
     yield "a stream in pieces and whole", None if fed == whole else f"{shown(fed[1])} for {shown(whole[1])}"
     yield "pieces fed once more", partial(fed_again_fault, shimmed, whole, requests)
 
 
 def fed_again_fault(shimmed: Shimmed, whole: Left, requests: int) -> Fault:
     """Whether most of the runs in which a request is refused give the items of the whole text all the same."""
-    again = [shimmed.run(["feed", STREAM, b""], b"", None, n)[0] for n in range(1, requests + 1)]
+    again = [shimmed.run(words_for("feed", STREAM, b""), b"", None, n)[0] for n in range(1, requests + 1)]
     most = sum(came == whole for came in again)
     return None if most * 2 > requests else f"{most} answers for {requests} refused requests"
 

@@ -14,6 +14,7 @@ from functools import partial
 
 from automata import Automaton, read_one
 from calls import CALLS, build
+from known_calls import words_for
 from product_checks import LANGUAGES, NO_STARTS, NO_STATES, SETLESS, WORDS, Paired
 from products import Word, accepts, is_deterministic, valuations
 from program import Cases, Fault, Left, shown
@@ -51,7 +52,7 @@ State: 0
 
 def called(call: str, one: bytes, other: bytes) -> Left:
     """What a call leaves; the line of a refusal, whose number is the status, is passed over."""
-    ran = subprocess.run([CALLS, call, one, other], capture_output=True, check=False)
+    ran = subprocess.run([CALLS, *words_for(call, one, other)], capture_output=True, check=False)
     line = re.fullmatch(rb"omega: (\d+) \w+(?: at \d+)?\n", ran.stderr)
     return ran.returncode, ran.stdout, b"" if line and int(line[1]) == ran.returncode else ran.stderr
 

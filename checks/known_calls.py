@@ -1,9 +1,47 @@
-"""Calls of `omega_calls` whose whole answers are known: the forms of their rows, and their runs with ample memory."""
+"""The calls of `omega_calls`, and those whose whole answers are known: the forms of their rows, and their runs with
+ample memory.
+"""
 from memory import Shimmed
 from program import Cases, Fault, Left, shown
 
+SOLVERS = [f"{table} {order}" for table in ("plain", "packed") for order in ("sweep", "worklist", "nested")]
+
+# The groups of calls, one of which is the program's first word.
+GROUPS = {
+    "tokens": ["write_number", "pg_tokens", "hoa_tokens", "ByteString", "Numbers", "Seq", "write_escaped",
+               "write_name_line", "next_pg_token", "next_pg_number"],
+    "expressions": ["read_label", "read_raw_label", "RawLabel", "expand", "expand_in_place", "expanded_size",
+                    "shape of a label", "read_acc", "read_raw_acc", "RawAcc", "Acc", "shape of a formula",
+                    "end of a label", "end of a formula", "depth of a label", "depth of a formula", "is RawAcc",
+                    "priority"],
+    "raw": ["read_raw", "automaton_of", "RawEdges", "StateName", "end of an automaton"],
+    "automata": ["read_one", "write_canonical", "draw_automaton", "edge_places", "complement", "automaton"],
+    "runs": ["draw_lasso", "word_of", "judge_lasso"],
+    "comparing": ["product", "contained", "equal"],
+    "emptiness": ["emptiness_game", "emptiness", "emptiness_observed", "lasso", "verdict_of"],
+    "streams": ["read_stream", "feed", "pieces"],
+    "inputs": ["read_all", "read_piece", "read_text", "tell_stream", "lines_in", "file_lines"],
+    "faults": ["game_cause", "place_line"],
+    "games": ["read_game", "part", "draw_game", "draw_part", "GameBuilder", "finish_forward", "game", "game of a part",
+              "solution_cause", "turned_priorities", "read_winners"],
+    "solutions": ["read_solution", "draw_solution", "places_given", "counterexample", "check_strategy",
+                  "check_strategy_fast", "check_strategy_by_order", "check_solution_by_order", "by rising order",
+                  "by first place", "fits", "fast of all places"],
+    "solving": [*SOLVERS, "Reordered", "solve_by_search", "search", "order"],
+    "building": ["read_forward_game", "with_predecessors", "build"],
+    "searching": ["is_satisfiable", "components", "reached", "path", "accepting_walk"],
+    "quiet": ["texts", "label"],
+    "lassos": ["read_lasso", "read_lasso_lines"],
+}
+GROUP_OF = {call: group for group, calls in GROUPS.items() for call in calls}
+
 # A call and its two texts, what it is to give, and whether that is only what its output begins with.
 Known = tuple[str, bytes, bytes, Left, bool]
+
+
+def words_for(call: str, text: str | bytes, other: bytes) -> list[str | bytes]:
+    """The program's words for a call: the group of the call, its name and its two texts."""
+    return [GROUP_OF[call], call, text, other]
 
 
 def said(call: str, text: bytes, other: bytes, output: bytes) -> Known:
@@ -23,7 +61,7 @@ def refused(call: str, text: bytes, other: bytes, line: bytes) -> Known:
 
 def given_by(shimmed: Shimmed, call: str, text: bytes, other: bytes) -> Left:
     """What a call gives, its first text on standard input."""
-    return shimmed.run([call, "-", other], text, None)[0]
+    return shimmed.run(words_for(call, "-", other), text, None)[0]
 
 
 def known_fault(came: Left, wanted: Left, begins: bool) -> Fault:

@@ -1,7 +1,7 @@
 //! Calls on the automaton of a text, which is read once and lent: a function that owns an automaton is slow to prove.
 use crate::{comparing, emptiness, lassos, quiet};
 use omega_automaton::Automaton;
-use omega_automaton_drawing::{draw_automaton, draw_lasso};
+use omega_automaton_drawing::draw_automaton;
 use omega_canon::{canonical, write_canonical};
 use omega_complement::complement;
 use omega_hoa::read_one;
@@ -9,28 +9,31 @@ use omega_product::product;
 use omega_text::Refusal;
 use std::alloc::Global;
 
-pub(crate) fn has(call: &str) -> bool {
-    is_here(call) || emptiness::has(call)
-}
-
-fn is_here(call: &str) -> bool {
-    match call {
-        "read_one" | "write_canonical" | "draw_automaton" | "draw_lasso" | "edge_places" => true,
-        "complement" | "word_of" | "judge_lasso" | "product" | "contained" | "equal" => true,
-        "automaton" => true,
-        _ => false,
-    }
-}
-
 pub(crate) fn called(
     alloc: Global,
+    group: &str,
     call: &str,
     text: &[u8],
     other: &[u8],
 ) -> Result<Vec<u8>, Refusal> {
     match read_one(alloc, text) {
-        Ok(automaton) => of_automaton(alloc, call, &automaton, other),
+        Ok(automaton) => of_group(alloc, group, call, &automaton, other),
         Err(refusal) => Err(refusal),
+    }
+}
+
+fn of_group(
+    alloc: Global,
+    group: &str,
+    call: &str,
+    automaton: &Automaton,
+    other: &[u8],
+) -> Result<Vec<u8>, Refusal> {
+    match group {
+        "emptiness" => emptiness::of_automaton(alloc, call, automaton),
+        "runs" => lassos::of_lasso(alloc, call, automaton, other),
+        "comparing" => with_other(alloc, call, automaton, other),
+        _ => of_automaton(alloc, call, automaton, other),
     }
 }
 
@@ -44,14 +47,9 @@ fn of_automaton(
         "read_one" => canonical(alloc, automaton),
         "write_canonical" => appended(alloc, automaton),
         "draw_automaton" => draw_automaton(alloc, automaton),
-        // The edge 0 as a cycle, whatever it leads to.
-        "draw_lasso" => draw_lasso(alloc, automaton, &[], &[0]),
         "edge_places" => lassos::places(alloc, automaton),
         "complement" => written(alloc, complement(alloc, automaton)),
-        "word_of" | "judge_lasso" => lassos::of_lasso(alloc, call, automaton, other),
-        "product" | "contained" | "equal" => with_other(alloc, call, automaton, other),
-        "automaton" => quiet::of_automaton(alloc, automaton, quiet::runs(other)),
-        _ => emptiness::of_automaton(alloc, call, automaton),
+        _ => quiet::of_automaton(alloc, automaton, quiet::runs(other)),
     }
 }
 

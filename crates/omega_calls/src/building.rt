@@ -5,13 +5,6 @@ use omega_game::{ForwardGame, Game, GameBuilder, MOST_NUMBER, NodeSpec, Player, 
 use omega_pg::{read_forward_game, write_game};
 use std::alloc::Global;
 
-pub(crate) fn has(call: &str) -> bool {
-    match call {
-        "read_forward_game" | "with_predecessors" | "build" => true,
-        _ => false,
-    }
-}
-
 pub(crate) fn called(alloc: Global, call: &str, text: &[u8]) -> Result<Vec<u8>, Refusal> {
     match call {
         "read_forward_game" => forward_written(alloc, read_forward_game(alloc, text)),
@@ -104,23 +97,29 @@ fn fill(builder: &mut GameBuilder, game: &Game) -> Result<(), Refusal>
 fn add_node(builder: &mut GameBuilder, game: &Game, place: u32) -> Result<(), Refusal>
     requires { place < length game.now }
 {
-    let (id, priority, owner) = (game.id(place), game.priority(place), game.owner(place));
-    let successors = game.successors(place);
-    if successors.is_empty() || id > MOST_NUMBER || priority > MOST_NUMBER {
+    let Some((first, others)) = game.successors(place).split_first() else {
         return Err(Refusal::Io);
-    }
-    for (at, successor) in successors.iter().enumerate() {
-        if *successor as usize >= game.len() {
-            return Err(Refusal::Io);
-        }
-        let id_of_successor = game.id(*successor);
-        if at == 0 {
-            add_again(builder, id, priority, owner, id_of_successor)?;
-        } else {
-            list_again(builder, id_of_successor)?;
-        }
-    }
+    };
+    let (id, priority, owner) = (game.id(place), game.priority(place), game.owner(place));
+    add_again(builder, id, priority, owner, id_at(game, *first))?;
+    list_all(builder, game, others)?;
     name_again(builder)
+}
+
+fn list_all(builder: &mut GameBuilder, game: &Game, places: &[u32]) -> Result<(), Refusal> {
+    for place in places {
+        list_again(builder, id_at(game, *place))?;
+    }
+    Ok(())
+}
+
+/// Returns the identifier at a place, or a number that is none if there is no such place.
+fn id_at(game: &Game, place: u32) -> u32 {
+    if (place as usize) < game.len() {
+        game.id(place)
+    } else {
+        u32::MAX
+    }
 }
 
 fn add_again(

@@ -32,8 +32,12 @@ pub(crate) fn equality(
 /// Returns an answer with its counterexample.
 fn told(alloc: Global, answer: &[u8], example: &Counterexample) -> Result<Vec<u8>, Refusal> {
     let mut out = Vec::from_slice(alloc, answer)?;
+    put_example(example, &mut out)?;
+    Ok(out)
+}
+
+fn put_example(example: &Counterexample, out: &mut Vec<u8>) -> Result<(), Refusal> {
     out.extend_from_slice(b"word ")?;
     out.extend_from_slice(example.word.as_slice())?;
-    out.push(b'\n')?;
-    Ok(out)
+    Ok(out.push(b'\n')?)
 }

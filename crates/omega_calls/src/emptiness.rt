@@ -3,7 +3,7 @@ ghost use Rattle.std.specs.Prelude.{IfOk};
 ghost use Rattle.omega_empty.specs.EmptinessGame.{IsEmptinessGame};
 ghost use Rattle.omega_solve.specs.Headline.{IsExact};
 
-use crate::lists::put_all;
+use crate::lists::two_lists;
 use omega_budget::{Found, NoObserver, Reordered};
 use omega_empty::{Automaton, Verdict, emptiness, emptiness_game, emptiness_observed, verdict_of};
 use omega_game::{ForwardGame, Player, Refusal};
@@ -11,13 +11,6 @@ use omega_lasso_search::lasso;
 use omega_pg::write_game;
 use omega_solve::MOST_LIFTS;
 use std::alloc::Global;
-
-pub(crate) fn has(call: &str) -> bool {
-    match call {
-        "emptiness_game" | "emptiness" | "emptiness_observed" | "lasso" | "verdict_of" => true,
-        _ => false,
-    }
-}
 
 pub(crate) fn of_automaton(
     alloc: Global,
@@ -73,13 +66,8 @@ fn found_in(alloc: Global, game: &ForwardGame) -> Result<Found, Refusal>
 }
 
 fn told(alloc: Global, verdict: Result<Verdict, Refusal>) -> Result<Vec<u8>, Refusal> {
-    let mut out = Vec::new(alloc);
     match verdict? {
-        Verdict::Empty => out.extend_from_slice(b"empty\n")?,
-        Verdict::Lasso { stem, cycle } => {
-            put_all(&mut out, stem.as_slice())?;
-            put_all(&mut out, cycle.as_slice())?;
-        }
+        Verdict::Empty => Ok(Vec::from_slice(alloc, b"empty\n")?),
+        Verdict::Lasso { stem, cycle } => two_lists(alloc, stem.as_slice(), cycle.as_slice()),
     }
-    Ok(out)
 }

@@ -1,5 +1,5 @@
 //! Labels, aliases and acceptance formulas.
-use crate::lists::{numbers, put, put_answer};
+use crate::lists::{answer, each, is_front, numbers, put, put_answer};
 use omega_acc::{
     Acc, Aliases, Label, Order, Parity, ParityKind, RawAcc, RawLabel, expand, expand_in_place,
     expanded_size, priority, read_acc, read_label, read_raw_acc, read_raw_label, write_acc,
@@ -7,16 +7,6 @@ use omega_acc::{
 };
 use omega_text::{Cursor, HoaKind, Refusal, TextCursor, check_tokens, hoa_tokens};
 use std::alloc::Global;
-
-pub(crate) fn has(call: &str) -> bool {
-    match call {
-        "read_label" | "read_raw_label" | "RawLabel" | "expand" | "expand_in_place" => true,
-        "expanded_size" | "shape of a label" | "read_acc" | "read_raw_acc" | "RawAcc" => true,
-        "Acc" | "shape of a formula" | "end of a label" | "end of a formula" => true,
-        "depth of a label" | "depth of a formula" | "is RawAcc" | "priority" => true,
-        _ => false,
-    }
-}
 
 pub(crate) fn called(
     alloc: Global,
@@ -72,25 +62,38 @@ fn front_built(alloc: Global) -> Result<RawLabel, Refusal> {
 /// Returns what is written of a label in which `@a` is `1|2`.
 fn label_written(alloc: Global, raw: Result<RawLabel, Refusal>) -> Result<Vec<u8>, Refusal> {
     match raw {
-        Ok(raw) => over_aliases(alloc, &raw, &aliases(alloc, b"1|2")?),
+        Ok(raw) => over_given(alloc, &raw, aliases(alloc, b"1|2")),
+        Err(refusal) => Err(refusal),
+    }
+}
+
+fn over_given(
+    alloc: Global,
+    raw: &RawLabel,
+    aliases: Result<Aliases, Refusal>,
+) -> Result<Vec<u8>, Refusal> {
+    match aliases {
+        Ok(aliases) => over_aliases(alloc, raw, &aliases),
         Err(refusal) => Err(refusal),
     }
 }
 
 fn over_aliases(alloc: Global, raw: &RawLabel, aliases: &Aliases) -> Result<Vec<u8>, Refusal> {
-    written(alloc, &expand(alloc, raw, aliases)?)
+    expanded_written(alloc, expand(alloc, raw, aliases))
 }
 
 /// Returns a label after `<`. A refused request leaves `<` alone, and the label is written once more.
 fn written(alloc: Global, label: &Label) -> Result<Vec<u8>, Refusal> {
     let mut out = Vec::from_slice(alloc, b"<")?;
-    match write_label(label, &mut out) {
-        Ok(()) => Ok(out),
-        Err(_) if out.as_slice() != b"<".as_slice() => Err(Refusal::Io),
-        Err(_) => {
-            write_label(label, &mut out)?;
-            Ok(out)
-        }
+    put_label_again(label, &mut out)?;
+    Ok(out)
+}
+
+fn put_label_again(label: &Label, out: &mut Vec<u8>) -> Result<(), Refusal> {
+    match write_label(label, out) {
+        Ok(()) => Ok(()),
+        Err(_) if !is_front(out.as_slice()) => Err(Refusal::Io),
+        Err(_) => write_label(label, out),
     }
 }
 
@@ -100,12 +103,19 @@ fn aliases(alloc: Global, text: &[u8]) -> Result<Aliases, Refusal> {
         return Err(Refusal::Io);
     };
     let mut aliases = Aliases::new(alloc);
+    match add_all(alloc, &mut aliases, text) {
+        Ok(()) => Ok(aliases),
+        Err(refusal) => Err(refusal),
+    }
+}
+
+fn add_all(alloc: Global, aliases: &mut Aliases, labels: &str) -> Result<(), Refusal> {
     let mut letter = b'a';
-    for label in text.split(';') {
-        add_again(alloc, &mut aliases, &[b'@', letter], label.as_bytes())?;
+    for label in labels.split(';') {
+        add_again(alloc, aliases, &[b'@', letter], label.as_bytes())?;
         letter = letter.wrapping_add(1);
     }
-    Ok(aliases)
+    Ok(())
 }
 
 /// Adds an alias. A refused request adds none, so that it may be added once more.
@@ -167,10 +177,7 @@ fn expanded_written(alloc: Global, label: Result<Label, Refusal>) -> Result<Vec<
 }
 
 fn size(alloc: Global, raw: &RawLabel, aliases: &Aliases) -> Result<Vec<u8>, Refusal> {
-    let size = expanded_size(alloc, raw, aliases)?;
-    let mut out = Vec::new(alloc);
-    put(&mut out, u128::from(size))?;
-    Ok(out)
+    each(alloc, &[u128::from(expanded_size(alloc, raw, aliases)?)])
 }
 
 /// Returns a label, taken apart and put together.
@@ -259,13 +266,15 @@ fn formula_written(alloc: Global, formula: Result<Acc, Refusal>) -> Result<Vec<u
 /// Returns a formula after `<`. A refused request leaves `<` alone, and the formula is written once more.
 fn text_of(alloc: Global, formula: &Acc) -> Result<Vec<u8>, Refusal> {
     let mut out = Vec::from_slice(alloc, b"<")?;
-    match write_acc(formula, &mut out) {
-        Ok(()) => Ok(out),
-        Err(_) if out.as_slice() != b"<".as_slice() => Err(Refusal::Io),
-        Err(_) => {
-            write_acc(formula, &mut out)?;
-            Ok(out)
-        }
+    put_formula_again(formula, &mut out)?;
+    Ok(out)
+}
+
+fn put_formula_again(formula: &Acc, out: &mut Vec<u8>) -> Result<(), Refusal> {
+    match write_acc(formula, out) {
+        Ok(()) => Ok(()),
+        Err(_) if !is_front(out.as_slice()) => Err(Refusal::Io),
+        Err(_) => write_acc(formula, out),
     }
 }
 
@@ -291,10 +300,7 @@ fn end(alloc: Global, refusal: Option<Refusal>, place: usize) -> Result<Vec<u8>,
         Some(refusal) => (refusal.number(), refusal.at().unwrap_or(place)),
         None => (0, place),
     };
-    let mut out = Vec::new(alloc);
-    put(&mut out, u128::from(number))?;
-    put(&mut out, at as u128)?;
-    Ok(out)
+    each(alloc, &[u128::from(number), at as u128])
 }
 
 /// Returns the depth of a label, whether it is too deep, and whether its propositions are below each of some numbers.
@@ -356,26 +362,21 @@ fn compared(
     raw: &RawAcc,
     other: Result<RawAcc, Refusal>,
 ) -> Result<Vec<u8>, Refusal> {
-    let mut out = Vec::new(alloc);
     match other {
-        Ok(other) => put_answer(&mut out, *raw == other)?,
-        Err(refusal) => return Err(refusal),
+        Ok(other) => answer(alloc, *raw == other),
+        Err(refusal) => Err(refusal),
     }
-    Ok(out)
 }
 
 /// Returns the priority of the marks after the first three numbers of a text: 0 for max or 1 for min, 0 for even or 1
 /// for odd, and the count of sets.
 fn priority_in(alloc: Global, text: &[u8]) -> Result<Vec<u8>, Refusal> {
-    let numbers = numbers(alloc, text)?;
-    let mut out = Vec::new(alloc);
-    match numbers.as_slice() {
+    match numbers(alloc, text)?.as_slice() {
         [order, parity, count, marks @ ..] => {
-            put_priority(&mut out, kind_of(*order, *parity, *count), marks)?
+            priority_of(alloc, kind_of(*order, *parity, *count), marks)
         }
-        _ => return Err(Refusal::Io),
+        _ => Err(Refusal::Io),
     }
-    Ok(out)
 }
 
 fn kind_of(order: u32, parity: u32, count: u32) -> ParityKind {
@@ -390,10 +391,10 @@ fn kind_of(order: u32, parity: u32, count: u32) -> ParityKind {
     }
 }
 
-fn put_priority(out: &mut Vec<u8>, kind: ParityKind, marks: &[u32]) -> Result<(), Refusal> {
+fn priority_of(alloc: Global, kind: ParityKind, marks: &[u32]) -> Result<Vec<u8>, Refusal> {
     let count = kind.count;
     if count > 9 || !marks.iter().all(|mark| *mark < count) {
         return Err(Refusal::Io);
     }
-    put(out, u128::from(priority(kind, marks)))
+    each(alloc, &[u128::from(priority(kind, marks))])
 }

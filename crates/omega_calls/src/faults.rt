@@ -4,13 +4,6 @@ use omega_causes::{game_cause, place_line};
 use omega_text::Refusal;
 use std::alloc::Global;
 
-pub(crate) fn has(call: &str) -> bool {
-    match call {
-        "game_cause" | "place_line" => true,
-        _ => false,
-    }
-}
-
 pub(crate) fn called(
     alloc: Global,
     call: &str,

@@ -1,42 +1,41 @@
 //! Calls on the game of a text, which is read once and lent: a function that owns a game is slow to prove.
-use crate::lists::{only_number, put_all};
+use crate::lists::{all, only_number};
 use crate::{building, quiet, solutions, solving};
 use omega_causes::solution_cause;
-use omega_game::{Game, Player, Refusal};
+use omega_game::{Game, Player, Refusal, part};
 use omega_game_drawing::{Extent, draw_game};
 use omega_least_priority::turned_priorities;
 use omega_pg::{read_game, read_winners, write_game};
 use std::alloc::Global;
 
-pub(crate) fn has(call: &str) -> bool {
-    is_here(call) || solutions::has(call) || solving::has(call)
-}
-
-fn is_here(call: &str) -> bool {
-    match call {
-        "read_game" | "part" | "draw_game" | "draw_part" | "GameBuilder" | "finish_forward" => true,
-        "game" | "game of a part" | "solution_cause" | "turned_priorities" => true,
-        "read_winners" => true,
-        _ => false,
-    }
-}
-
 pub(crate) fn called(
     alloc: Global,
+    group: &str,
     call: &str,
     text: &[u8],
     other: &[u8],
 ) -> Result<Vec<u8>, Refusal> {
     match read_game(alloc, text) {
-        Ok(game) => of_game(alloc, call, &game, other),
+        Ok(game) => of_group(alloc, group, call, &game, other),
         Err(refusal) => Err(refusal),
     }
 }
 
-fn of_game(alloc: Global, call: &str, game: &Game, other: &[u8]) -> Result<Vec<u8>, Refusal> {
-    if solving::has(call) {
-        return solving::of_game(alloc, call, game, other);
+fn of_group(
+    alloc: Global,
+    group: &str,
+    call: &str,
+    game: &Game,
+    other: &[u8],
+) -> Result<Vec<u8>, Refusal> {
+    match group {
+        "solving" => solving::of_game(alloc, call, game, other),
+        "solutions" => solutions::of_game(alloc, call, game, other),
+        _ => of_game(alloc, call, game, other),
     }
+}
+
+fn of_game(alloc: Global, call: &str, game: &Game, other: &[u8]) -> Result<Vec<u8>, Refusal> {
     match call {
         "read_game" => write_game(alloc, game.forward()),
         "part" => part_of_first(alloc, game),
@@ -48,8 +47,7 @@ fn of_game(alloc: Global, call: &str, game: &Game, other: &[u8]) -> Result<Vec<u
         "game of a part" => read_of_part(alloc, game, other),
         "solution_cause" => solution_cause(alloc, game.forward(), other),
         "turned_priorities" => turned(alloc, game),
-        "read_winners" => winners_given(alloc, game, other),
-        _ => solutions::of_game(alloc, call, game, other),
+        _ => winners_given(alloc, game, other),
     }
 }
 
@@ -58,13 +56,13 @@ fn part_of_first(alloc: Global, game: &Game) -> Result<Vec<u8>, Refusal> {
     if game.len() == 0 {
         return Err(Refusal::Io);
     }
-    building::written(alloc, game.part(alloc, 0))
+    building::written(alloc, part(alloc, game, 0))
 }
 
 /// Returns what is read of the part of the node whose identifier is the only number of a text.
 fn read_of_part(alloc: Global, game: &Game, text: &[u8]) -> Result<Vec<u8>, Refusal> {
     match game.place_of(only_number(alloc, text)?) {
-        Some(place) => read_of_game(alloc, game.part(alloc, place)),
+        Some(place) => read_of_game(alloc, part(alloc, game, place)),
         None => Err(Refusal::Io),
     }
 }
@@ -79,9 +77,7 @@ fn read_of_game(alloc: Global, made: Result<Game, Refusal>) -> Result<Vec<u8>, R
 /// Returns the priorities of a game of which the least counts, so that the greatest does.
 fn turned(alloc: Global, game: &Game) -> Result<Vec<u8>, Refusal> {
     let turned = turned_priorities(alloc, game.forward())?;
-    let mut out = Vec::new(alloc);
-    put_all(&mut out, turned.as_slice())?;
-    Ok(out)
+    all(alloc, turned.as_slice())
 }
 
 /// Returns a digit for the winner of each place.

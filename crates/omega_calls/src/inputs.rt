@@ -7,14 +7,6 @@ use omega_stream_reading::{ItemText, tell_stream};
 use omega_text::{PgKind, Refusal, TextFault, Token, TokenReader, read_text};
 use std::alloc::Global;
 
-pub(crate) fn has(call: &str) -> bool {
-    match call {
-        "read_all" | "read_piece" | "read_text" | "tell_stream" | "lines_in" => true,
-        "file_lines" => true,
-        _ => false,
-    }
-}
-
 pub(crate) fn called(alloc: Global, call: &str, text: &[u8]) -> Result<Vec<u8>, Refusal> {
     match call {
         "read_all" => read_all(alloc, &mut FromRead::new(text)),
@@ -61,9 +53,15 @@ fn numbers_in(alloc: Global, text: &[u8]) -> Result<Vec<u8>, Refusal> {
     let values = Values {
         taken: Vec::new(alloc),
     };
-    let values = read_text::<PgKind, Values>(values, text)?;
+    match read_text::<PgKind, Values>(values, text) {
+        Ok(values) => each_of(alloc, values.taken.as_slice()),
+        Err(refusal) => Err(refusal),
+    }
+}
+
+fn each_of(alloc: Global, values: &[u32]) -> Result<Vec<u8>, Refusal> {
     let mut out = Vec::new(alloc);
-    for value in &values.taken {
+    for value in values {
         put(&mut out, u128::from(*value))?;
     }
     Ok(out)

@@ -1,26 +1,32 @@
 //! Tokens in text: a letter for the kind, the places where it begins and ends, and the value.
-use crate::lists::put;
-use omega_text::{HoaKind, PgKind, Refusal, Token};
+use crate::lists::put_each;
+use omega_text::{HoaKind, PgKind, Refusal, Span, Token};
 
 pub(crate) fn put_pg(out: &mut Vec<u8>, token: &Token<'_, PgKind>) -> Result<(), Refusal> {
-    out.push(match token.kind {
+    put_token(out, pg_letter(token.kind), token.span, token.value)
+}
+
+fn pg_letter(kind: PgKind) -> u8 {
+    match kind {
         PgKind::Number => b'n',
         PgKind::Parity => b'p',
         PgKind::ParitySol => b's',
         PgKind::Semicolon => b';',
         PgKind::Comma => b',',
         PgKind::Name => b'"',
-    })?;
-    put(out, token.span.start as u128)?;
-    put(out, token.span.end as u128)?;
-    put(out, u128::from(token.value))
+    }
 }
 
 pub(crate) fn put_hoa(out: &mut Vec<u8>, token: &Token<'_, HoaKind>) -> Result<(), Refusal> {
-    out.push(hoa_letter(token.kind))?;
-    put(out, token.span.start as u128)?;
-    put(out, token.span.end as u128)?;
-    put(out, u128::from(token.value))
+    put_token(out, hoa_letter(token.kind), token.span, token.value)
+}
+
+fn put_token(out: &mut Vec<u8>, letter: u8, span: Span, value: u32) -> Result<(), Refusal> {
+    out.push(letter)?;
+    put_each(
+        out,
+        &[span.start as u128, span.end as u128, u128::from(value)],
+    )
 }
 
 fn hoa_letter(kind: HoaKind) -> u8 {

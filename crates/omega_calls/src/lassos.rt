@@ -1,9 +1,10 @@
-//! Texts and words of lassos, and their referee.
-use crate::lists::put;
+//! Texts, drawings and words of lassos, and their referee.
+use crate::lists::put_each;
+use omega_automaton_drawing::draw_lasso;
 use omega_lasso_judge::{judge_lasso, write_lasso_fault};
 use omega_lasso_text::{LassoText, Refusal, read_lasso, read_lasso_lines, write_lasso};
 use omega_lasso_word::{Automaton, word_of};
-use omega_runs::edge_places;
+use omega_runs::{EdgePlace, edge_places};
 use std::alloc::Global;
 
 /// Returns a lasso that is read and written.
@@ -18,7 +19,7 @@ pub(crate) fn read_and_written(alloc: Global, call: &str, text: &[u8]) -> Result
     }
 }
 
-/// Returns for an automaton and the lasso of a text its word, or what the referee says.
+/// Returns for an automaton and the lasso of a text their drawing, the word, or what the referee says.
 pub(crate) fn of_lasso(
     alloc: Global,
     call: &str,
@@ -26,10 +27,20 @@ pub(crate) fn of_lasso(
     text: &[u8],
 ) -> Result<Vec<u8>, Refusal> {
     match read_lasso(alloc, text) {
+        Ok(lasso) if call == "draw_lasso" => drawing(alloc, automaton, &lasso),
         Ok(lasso) if call == "word_of" => word(alloc, automaton, &lasso),
         Ok(lasso) => judged(alloc, automaton, &lasso),
         Err(refusal) => Err(refusal),
     }
+}
+
+fn drawing(alloc: Global, automaton: &Automaton, lasso: &LassoText) -> Result<Vec<u8>, Refusal> {
+    draw_lasso(
+        alloc,
+        automaton,
+        lasso.stem.as_slice(),
+        lasso.cycle.as_slice(),
+    )
 }
 
 fn word(alloc: Global, automaton: &Automaton, lasso: &LassoText) -> Result<Vec<u8>, Refusal> {
@@ -55,11 +66,16 @@ fn judged(alloc: Global, automaton: &Automaton, lasso: &LassoText) -> Result<Vec
 
 /// Returns for each edge the place of its state, and its own among the edges of that state.
 pub(crate) fn places(alloc: Global, automaton: &Automaton) -> Result<Vec<u8>, Refusal> {
-    let places = edge_places(alloc, automaton)?;
+    match edge_places(alloc, automaton) {
+        Ok(places) => places_written(alloc, places.as_slice()),
+        Err(refusal) => Err(refusal),
+    }
+}
+
+fn places_written(alloc: Global, places: &[EdgePlace]) -> Result<Vec<u8>, Refusal> {
     let mut out = Vec::new(alloc);
-    for place in &places {
-        put(&mut out, place.state as u128)?;
-        put(&mut out, place.index as u128)?;
+    for place in places {
+        put_each(&mut out, &[place.state as u128, place.index as u128])?;
     }
     Ok(out)
 }

@@ -38,6 +38,14 @@ pub(crate) fn put(out: &mut Vec<u8>, number: u128) -> Result<(), Refusal> {
     Ok(())
 }
 
+/// Puts numbers, each with a space after it.
+pub(crate) fn put_each(out: &mut Vec<u8>, numbers: &[u128]) -> Result<(), Refusal> {
+    for number in numbers {
+        put(out, *number)?;
+    }
+    Ok(())
+}
+
 /// Puts numbers, each with a space after it, and `;`.
 pub(crate) fn put_all(out: &mut Vec<u8>, numbers: &[u32]) -> Result<(), Refusal> {
     for number in numbers {
@@ -47,8 +55,42 @@ pub(crate) fn put_all(out: &mut Vec<u8>, numbers: &[u32]) -> Result<(), Refusal>
     Ok(())
 }
 
-/// Whether something holds.
+/// Puts whether something holds.
 pub(crate) fn put_answer(out: &mut Vec<u8>, holds: bool) -> Result<(), Refusal> {
     out.push(if holds { b'+' } else { b'-' })?;
     Ok(())
+}
+
+/// Returns whether something holds.
+pub(crate) fn answer(alloc: Global, holds: bool) -> Result<Vec<u8>, Refusal> {
+    let mut out = Vec::new(alloc);
+    put_answer(&mut out, holds)?;
+    Ok(out)
+}
+
+/// Returns numbers, each with a space after it.
+pub(crate) fn each(alloc: Global, numbers: &[u128]) -> Result<Vec<u8>, Refusal> {
+    let mut out = Vec::new(alloc);
+    put_each(&mut out, numbers)?;
+    Ok(out)
+}
+
+/// Returns numbers, each with a space after it, and `;`.
+pub(crate) fn all(alloc: Global, numbers: &[u32]) -> Result<Vec<u8>, Refusal> {
+    let mut out = Vec::new(alloc);
+    put_all(&mut out, numbers)?;
+    Ok(out)
+}
+
+/// Returns two lists of numbers, each number with a space after it, and each list with `;`.
+pub(crate) fn two_lists(alloc: Global, one: &[u32], other: &[u32]) -> Result<Vec<u8>, Refusal> {
+    let mut out = Vec::new(alloc);
+    put_all(&mut out, one)?;
+    put_all(&mut out, other)?;
+    Ok(out)
+}
+
+/// Whether a text is `<` alone, as it was before a refused request.
+pub(crate) fn is_front(text: &[u8]) -> bool {
+    text == b"<".as_slice()
 }

@@ -1,8 +1,8 @@
-//! A program that makes one public call of the libraries on two texts, each of them a word after the call's name, and
-//! writes what the call gives. If the first word is `-`, that text is the standard input. The status is 0, or the
-//! number of the refusal, whose line goes to standard error unless memory is refused. It is 61 also if a call left
-//! something changed after a refused request, or if there is no such call. `checks/calls.py` refuses its requests for
-//! memory, and compares what it writes with what is known.
+//! A program that makes one public call of the libraries on two texts, and writes what the call gives. Its words are
+//! the group of the call, the call's name, and the texts. If the first text is `-`, it is the standard input instead.
+//! The status is 0, or the number of the refusal, whose line goes to standard error unless memory is refused. It is 61
+//! also if a call left something changed after a refused request, or if there is no such group. `checks/calls.py`
+//! refuses its requests for memory, and compares what it writes with what is known.
 #![tactic(auto)]
 
 mod automata;
@@ -74,45 +74,53 @@ fn words_of(rt: &HostRuntime) -> io::Result<Vec<String>> {
 }
 
 fn asked(rt: &HostRuntime, words: &[String]) -> Result<Vec<u8>, Refusal> {
-    if words.len() < 4 {
+    if words.len() < 5 {
         return Err(Refusal::Io);
     }
-    let (call, text, other) = (words[1].as_str(), words[2].as_bytes(), words[3].as_bytes());
-    if text == b"-".as_slice() {
-        let input = read_all(rt.alloc(), &mut FromRead::new(rt.stdin()))?;
-        called(rt.alloc(), call, input.as_slice(), other)
+    let (group, call) = (words[1].as_str(), words[2].as_str());
+    let (text, other) = (words[3].as_bytes(), words[4].as_bytes());
+    if words[3].as_str() == "-" {
+        called_on_input(rt, group, call, other)
     } else {
-        called(rt.alloc(), call, text, other)
+        called(rt.alloc(), group, call, text, other)
     }
 }
 
-/// Returns what a call gives of two texts.
-fn called(alloc: Global, call: &str, text: &[u8], other: &[u8]) -> Result<Vec<u8>, Refusal> {
-    if tokens::has(call) {
-        tokens::called(alloc, call, text, other)
-    } else if expressions::has(call) {
-        expressions::called(alloc, call, text, other)
-    } else if raw::has(call) {
-        raw::called(alloc, call, text)
-    } else if automata::has(call) {
-        automata::called(alloc, call, text, other)
-    } else if streams::has(call) {
-        streams::called(alloc, call, text)
-    } else if inputs::has(call) {
-        inputs::called(alloc, call, text)
-    } else if faults::has(call) {
-        faults::called(alloc, call, text, other)
-    } else if games::has(call) {
-        games::called(alloc, call, text, other)
-    } else if building::has(call) {
-        building::called(alloc, call, text)
-    } else if searching::has(call) {
-        searching::called(alloc, call, text)
-    } else if quiet::has(call) {
-        quiet::called(alloc, call, text, other)
-    } else if call == "read_lasso" || call == "read_lasso_lines" {
-        lassos::read_and_written(alloc, call, text)
-    } else {
-        Err(Refusal::Io)
+fn called_on_input(
+    rt: &HostRuntime,
+    group: &str,
+    call: &str,
+    other: &[u8],
+) -> Result<Vec<u8>, Refusal> {
+    match read_all(rt.alloc(), &mut FromRead::new(rt.stdin())) {
+        Ok(input) => called(rt.alloc(), group, call, input.as_slice(), other),
+        Err(refusal) => Err(refusal),
+    }
+}
+
+/// Returns what a call of a group gives of two texts.
+fn called(
+    alloc: Global,
+    group: &str,
+    call: &str,
+    text: &[u8],
+    other: &[u8],
+) -> Result<Vec<u8>, Refusal> {
+    match group {
+        "tokens" => tokens::called(alloc, call, text, other),
+        "expressions" => expressions::called(alloc, call, text, other),
+        "raw" => raw::called(alloc, call, text),
+        "streams" => streams::called(alloc, call, text),
+        "inputs" => inputs::called(alloc, call, text),
+        "faults" => faults::called(alloc, call, text, other),
+        "building" => building::called(alloc, call, text),
+        "searching" => searching::called(alloc, call, text),
+        "quiet" => quiet::called(alloc, call, text, other),
+        "lassos" => lassos::read_and_written(alloc, call, text),
+        "games" | "solutions" | "solving" => games::called(alloc, group, call, text, other),
+        "automata" | "emptiness" | "runs" | "comparing" => {
+            automata::called(alloc, group, call, text, other)
+        }
+        _ => Err(Refusal::Io),
     }
 }

@@ -1,29 +1,24 @@
 //! Calls that ask for no memory, after those that make what they are made on.
+ghost use Rattle.std.specs.Prelude.{◌<◌, length};
+
 use crate::expressions::label_in;
 use crate::kinds::put_hoa;
-use crate::lists::{put, put_all, put_answer};
+use crate::lists::{put, put_all, put_answer, put_each};
 use omega_acc::{
     AccKind, Aliases, Label, Order, Parity, ParityKind, RawLabel, acceptance_kind, expand,
     parity_of, priority, satisfiable,
 };
 use omega_automaton::{Automaton, EdgeRef, State};
-use omega_game::{Game, Player, Refusal, Seq, Strategy, bound};
+use omega_game::{Game, Player, Refusal, Seq, Strategy};
 use omega_hoa::Stream;
 use omega_io::{Exit, exit_code};
-use omega_measure::fits;
+use omega_measure::{bound, fits};
 use omega_raw::HeaderValue;
 use omega_text::{
-    ByteString, Cursor, HoaKind, PgKind, TextCursor, TextFault, TokenKind, TokenSource,
+    ByteString, Cursor, HoaKind, PgKind, TextCursor, TextFault, Token, TokenKind, TokenSource,
     check_tokens, hoa_tokens, next_hoa_token, next_pg_number, next_pg_token,
 };
 use std::alloc::Global;
-
-pub(crate) fn has(call: &str) -> bool {
-    match call {
-        "texts" | "label" => true,
-        _ => false,
-    }
-}
 
 pub(crate) fn called(
     alloc: Global,
@@ -59,10 +54,7 @@ fn put_tokens(alloc: Global, text: &[u8], out: &mut Vec<u8>) -> Result<(), Refus
     if let Ok(Some(token)) = next_hoa_token(text, 0) {
         put(out, token.span.end as u128)?;
     }
-    if let Err(fault) = next_pg_token(text, 0) {
-        put(out, u128::from(Refusal::Text(fault).number()))?;
-        out.extend_from_slice(Refusal::Text(fault).name().as_bytes())?;
-    }
+    put_pg_fault(text, out)?;
     put_answer(out, next_pg_number(text, 0).is_some())?;
     if check_tokens::<HoaKind>(text).is_ok() {
         put_places(&mut TextCursor::<HoaKind>::new(text), out)?;
@@ -74,6 +66,15 @@ fn put_tokens(alloc: Global, text: &[u8], out: &mut Vec<u8>) -> Result<(), Refus
     put_answer(out, outcome.is_ok())?;
     put(out, u128::from(exit_code(&Ok(Exit::No))))?;
     let _none = Aliases::new(alloc);
+    Ok(())
+}
+
+/// Puts what is at fault with the first token of a text as a game text.
+fn put_pg_fault(text: &[u8], out: &mut Vec<u8>) -> Result<(), Refusal> {
+    if let Err(fault) = next_pg_token(text, 0) {
+        put(out, u128::from(Refusal::Text(fault).number()))?;
+        out.extend_from_slice(Refusal::Text(fault).name().as_bytes())?;
+    }
     Ok(())
 }
 
@@ -96,8 +97,14 @@ fn put_place<'a, S: TokenSource<'a, HoaKind>>(
     out: &mut Vec<u8>,
 ) -> Result<bool, Refusal> {
     put(out, source.place() as u128)?;
-    let shown = source.look();
-    let taken = source.take();
+    put_taken(source.look(), source.take(), out)
+}
+
+fn put_taken(
+    shown: Option<Token<'_, HoaKind>>,
+    taken: Option<Token<'_, HoaKind>>,
+    out: &mut Vec<u8>,
+) -> Result<bool, Refusal> {
     put_answer(out, shown == taken)?;
     match taken {
         Some(token) => {
@@ -120,13 +127,7 @@ pub(crate) fn of_game(alloc: Global, game: &Game, runs: bool) -> Result<Vec<u8>,
 
 fn put_game(game: &Game, strategy: &Strategy, out: &mut Vec<u8>) -> Result<(), Refusal> {
     for place in 0..game.len() as u32 {
-        put(out, u128::from(game.id(place)))?;
-        put(out, u128::from(game.priority(place)))?;
-        put_player(game.owner(place), game.priority(place), out)?;
-        put_name(game.name(place), out)?;
-        put_answer(out, game.place_of(game.id(place)) == Some(place))?;
-        put_all(out, game.successors(place))?;
-        put_all(out, game.predecessors(place))?;
+        put_node(game, place, out)?;
     }
     put(out, game.edges() as u128)?;
     for class in game.priority_counts() {
@@ -137,8 +138,23 @@ fn put_game(game: &Game, strategy: &Strategy, out: &mut Vec<u8>) -> Result<(), R
     }
     put_answer(out, strategy.fits(game.forward(), Player::Zero))?;
     put_answer(out, fits(game.forward(), Player::Zero))?;
-    put(out, bound(game.forward(), Player::Zero).unwrap_or(0))?;
-    put(out, bound(game.forward(), Player::One).unwrap_or(0))
+    let zero = bound(game.forward(), Player::Zero).unwrap_or(0);
+    put_each(
+        out,
+        &[zero, bound(game.forward(), Player::One).unwrap_or(0)],
+    )
+}
+
+fn put_node(game: &Game, place: u32, out: &mut Vec<u8>) -> Result<(), Refusal>
+    requires { place < length game.now }
+{
+    let (id, priority) = (game.id(place), game.priority(place));
+    put_each(out, &[u128::from(id), u128::from(priority)])?;
+    put_player(game.owner(place), priority, out)?;
+    put_name(game.name(place), out)?;
+    put_answer(out, game.place_of(id) == Some(place))?;
+    put_all(out, game.successors(place))?;
+    put_all(out, game.predecessors(place))
 }
 
 /// Puts whether a node has a name, and the name.
@@ -197,11 +213,14 @@ pub(crate) fn of_automaton(
 }
 
 fn put_automaton(automaton: &Automaton, out: &mut Vec<u8>) -> Result<(), Refusal> {
-    put(out, u128::from(automaton.state_count()))?;
-    put(out, automaton.propositions().len() as u128)?;
-    put(out, u128::from(automaton.set_count()))?;
-    put(out, automaton.defined().len() as u128)?;
-    put(out, u128::from(automaton.edge_count()))?;
+    let counts = [
+        u128::from(automaton.state_count()),
+        automaton.propositions().len() as u128,
+        u128::from(automaton.set_count()),
+        automaton.defined().len() as u128,
+        u128::from(automaton.edge_count()),
+    ];
+    put_each(out, counts.as_slice())?;
     put_headers(automaton, out)?;
     for state in automaton.defined() {
         put_edges(state, out)?;

@@ -1,6 +1,6 @@
 //! Automata as they are written.
 use crate::automata::written;
-use crate::lists::{put, put_all, put_answer};
+use crate::lists::{each, put_all, put_answer};
 use omega_acc::RawLabel;
 use omega_automaton::automaton_of;
 use omega_raw::{RawEdge, RawEdges, StateName, read_raw};
@@ -9,13 +9,6 @@ use omega_text::{
     hoa_tokens,
 };
 use std::alloc::Global;
-
-pub(crate) fn has(call: &str) -> bool {
-    match call {
-        "read_raw" | "automaton_of" | "RawEdges" | "StateName" | "end of an automaton" => true,
-        _ => false,
-    }
-}
 
 pub(crate) fn called(alloc: Global, call: &str, text: &[u8]) -> Result<Vec<u8>, Refusal> {
     match call {
@@ -58,9 +51,7 @@ fn raw_end(alloc: Global, text: &[u8]) -> Result<Vec<u8>, Refusal> {
     if let Err(refusal) = read_raw(alloc, &mut cursor) {
         return Err(refusal);
     }
-    let mut out = Vec::new(alloc);
-    put(&mut out, cursor.place() as u128)?;
-    Ok(out)
+    each(alloc, &[cursor.place() as u128])
 }
 
 /// Returns two short edges and one with a label, in as much memory as they need.
@@ -133,7 +124,13 @@ fn written_edges(alloc: Global, edges: &RawEdges) -> Result<Vec<u8>, Refusal> {
 
 /// Returns a name as a state keeps it.
 fn name_written(alloc: Global, text: &[u8]) -> Result<Vec<u8>, Refusal> {
-    let name = StateName::of(alloc, ByteString::from_slice(alloc, text)?)?;
+    match StateName::of(alloc, ByteString::from_slice(alloc, text)?) {
+        Ok(name) => bytes_of(alloc, &name),
+        Err(_) => Err(Refusal::Memory),
+    }
+}
+
+fn bytes_of(alloc: Global, name: &StateName) -> Result<Vec<u8>, Refusal> {
     match name.as_slice() {
         Some(bytes) => Ok(Vec::from_slice(alloc, bytes)?),
         None => Err(Refusal::Io),

@@ -2,23 +2,16 @@
 ghost use Rattle.std.specs.Prelude.{◌≡◌, length, IfOk};
 
 use crate::expressions::{formula_in, label_in};
-use crate::lists::{put_all, put_answer};
+use crate::lists::{all, answer, put_all, put_answer};
 use omega_acc::{Aliases, Label, RawLabel, expand};
 use omega_accepting_walk::accepting_walk;
-use omega_components::{Graph, Scratch, components, path, reached};
+use omega_components::{EdgeComponents, Graph, Scratch, components, path, reached};
 use omega_satisfying::is_satisfiable;
 use omega_text::{Numbers, Refusal};
 use std::alloc::Global;
 
 /// The edges of the graph, all of them.
 const EDGES: [u32; 4] = [0, 1, 2, 3];
-
-pub(crate) fn has(call: &str) -> bool {
-    match call {
-        "is_satisfiable" | "components" | "reached" | "path" | "accepting_walk" => true,
-        _ => false,
-    }
-}
 
 pub(crate) fn called(alloc: Global, call: &str, text: &[u8]) -> Result<Vec<u8>, Refusal> {
     if call == "is_satisfiable" {
@@ -61,7 +54,13 @@ fn grouped(alloc: Global, graph: &Graph) -> Result<Vec<u8>, Refusal>
     requires edges { length graph.now.edges ≡ 4 }
 {
     let mut scratch = Scratch::new(alloc, 3)?;
-    let edge_components = components(alloc, &mut scratch, graph, EDGES.as_slice())?;
+    match components(alloc, &mut scratch, graph, EDGES.as_slice()) {
+        Ok(edge_components) => edge_lists(alloc, &edge_components),
+        Err(refusal) => Err(refusal),
+    }
+}
+
+fn edge_lists(alloc: Global, edge_components: &EdgeComponents) -> Result<Vec<u8>, Refusal> {
     let mut out = Vec::new(alloc);
     for at in 0..edge_components.len() {
         put_all(&mut out, edge_components.edge_component(at))?;
@@ -104,12 +103,10 @@ fn accepted(alloc: Global, graph: &Graph, text: &[u8]) -> Result<Vec<u8>, Refusa
 }
 
 fn written_walk(alloc: Global, walk: Option<Vec<u32>>) -> Result<Vec<u8>, Refusal> {
-    let mut out = Vec::new(alloc);
     match walk {
-        Some(walk) => put_all(&mut out, walk.as_slice())?,
-        None => out.extend_from_slice(b"none")?,
+        Some(walk) => all(alloc, walk.as_slice()),
+        None => Ok(Vec::from_slice(alloc, b"none")?),
     }
-    Ok(out)
 }
 
 /// Whether a label can be true.
@@ -122,13 +119,11 @@ fn judged(alloc: Global, raw: Result<RawLabel, Refusal>) -> Result<Vec<u8>, Refu
 
 fn judged_expanded(alloc: Global, label: Result<Label, Refusal>) -> Result<Vec<u8>, Refusal> {
     match label {
-        Ok(label) => told(alloc, is_satisfiable(alloc, &label)),
+        Ok(label) => told(alloc, &label),
         Err(refusal) => Err(refusal),
     }
 }
 
-fn told(alloc: Global, holds: Result<bool, Refusal>) -> Result<Vec<u8>, Refusal> {
-    let mut out = Vec::new(alloc);
-    put_answer(&mut out, holds?)?;
-    Ok(out)
+fn told(alloc: Global, label: &Label) -> Result<Vec<u8>, Refusal> {
+    answer(alloc, is_satisfiable(alloc, label)?)
 }

@@ -3,7 +3,7 @@ ghost use Rattle.std.specs.Prelude.{◌<◌, length, All, IsTrue};
 ghost use Rattle.omega_parity_game.specs.Solution.{IsSolution};
 
 use crate::choices;
-use crate::lists::{put_all, put_answer};
+use crate::lists::{answer, put_all, put_answer};
 use omega_game::{
     Game, Lasso, MOST_NUMBER, Player, Refusal, Solution, Strategy, check_solution_by_order,
     check_strategy, check_strategy_by_order, check_strategy_fast, counterexample,
@@ -11,16 +11,6 @@ use omega_game::{
 use omega_game_drawing::{Extent, draw_solution};
 use omega_pg::{read_solution, write_solution};
 use std::alloc::Global;
-
-pub(crate) fn has(call: &str) -> bool {
-    match call {
-        "read_solution" | "draw_solution" | "places_given" | "counterexample" => true,
-        "check_strategy" | "check_strategy_fast" | "check_strategy_by_order" => true,
-        "check_solution_by_order" | "by rising order" | "by first place" => true,
-        "fits" | "fast of all places" => true,
-        _ => false,
-    }
-}
 
 /// Returns what a call gives of a game and the solution of a text, or the choices of a player in a text of numbers.
 pub(crate) fn of_game(
@@ -68,12 +58,10 @@ fn judged_by_order(
     if solution.winners.len() != game.len() || !fit {
         return Err(Refusal::Io);
     }
-    let mut out = Vec::new(alloc);
-    put_answer(
-        &mut out,
+    answer(
+        alloc,
         check_solution_by_order(alloc, game.forward(), solution, order)?,
-    )?;
-    Ok(out)
+    )
 }
 
 /// Returns what a call gives of both players' choices.

@@ -1,6 +1,6 @@
 //! Games solved: by lifting, over each table and each schedule, in an order of their own, and by the search.
 use crate::choices::player_of;
-use crate::lists::{numbers, put, put_all, put_answer};
+use crate::lists::{all, numbers, put, put_all, put_answer, put_each};
 use crate::quiet::runs;
 use omega_budget::{Found, NoObserver, Reordered};
 use omega_game::{Game, Player, Refusal};
@@ -13,15 +13,6 @@ use omega_solve::{
 };
 use omega_zielonka::search;
 use std::alloc::Global;
-
-pub(crate) fn has(call: &str) -> bool {
-    match call {
-        "plain sweep" | "plain worklist" | "plain nested" => true,
-        "packed sweep" | "packed worklist" | "packed nested" => true,
-        "Reordered" | "solve_by_search" | "search" | "order" => true,
-        _ => false,
-    }
-}
 
 pub(crate) fn of_game(
     alloc: Global,
@@ -51,11 +42,20 @@ fn lifted<T: MeasureTable, S: Schedule>(
     game: &Game,
     other: &[u8],
 ) -> Result<Vec<u8>, Refusal> {
-    if !other.is_empty() && !runs(other) {
-        return lifted_within::<T, S>(alloc, game, numbers(alloc, other)?.as_slice());
+    if other.is_empty() || runs(other) {
+        lifted_by_both::<T, S>(alloc, game, runs(other))
+    } else {
+        lifted_within::<T, S>(alloc, game, numbers(alloc, other)?.as_slice())
     }
+}
+
+fn lifted_by_both<T: MeasureTable, S: Schedule>(
+    alloc: Global,
+    game: &Game,
+    runs: bool,
+) -> Result<Vec<u8>, Refusal> {
     let mut out = Vec::with_capacity(alloc, 4096)?;
-    lift_in_order::<T, S>(alloc, game, runs(other), &mut out)?;
+    lift_in_order::<T, S>(alloc, game, runs, &mut out)?;
     Ok(out)
 }
 
@@ -80,14 +80,23 @@ fn lift_within<T: MeasureTable, S: Schedule>(
     budgets: &[u32],
 ) -> Result<Vec<u8>, Refusal> {
     let mut out = Vec::new(alloc);
-    put_answer(&mut out, solver.answer().is_some())?;
-    for budget in budgets {
-        put_run(solver, u64::from(*budget), &mut out)?;
-    }
-    if let Some(answer) = solver.answer() {
-        put_found(&mut out, answer.won, answer.choice)?;
-    }
+    put_runs(solver, budgets, &mut out)?;
     Ok(out)
+}
+
+fn put_runs<T: MeasureTable, S: Schedule>(
+    solver: &mut Solver<'_, T, S>,
+    budgets: &[u32],
+    out: &mut Vec<u8>,
+) -> Result<(), Refusal> {
+    put_answer(out, solver.answer().is_some())?;
+    for budget in budgets {
+        put_run(solver, u64::from(*budget), out)?;
+    }
+    match solver.answer() {
+        Some(answer) => put_found(out, answer.won, answer.choice),
+        None => Ok(()),
+    }
 }
 
 /// Runs a solver. Puts whether it says that it is done, whether it has an answer, its lifts, and its attempts.
@@ -102,8 +111,10 @@ fn put_run<T: MeasureTable, S: Schedule>(
     let outcome = solver.run(budget);
     put_answer(out, outcome == Outcome::Done)?;
     put_answer(out, solver.answer().is_some())?;
-    put(out, u128::from(solver.lifts()))?;
-    put(out, u128::from(solver.attempts()))
+    put_each(
+        out,
+        &[u128::from(solver.lifts()), u128::from(solver.attempts())],
+    )
 }
 
 fn lift_in_order<T: MeasureTable, S: Schedule>(
@@ -151,8 +162,10 @@ fn lift_whole<T: MeasureTable, S: Schedule>(
             break;
         }
     }
-    put(out, u128::from(solver.lifts()))?;
-    put(out, u128::from(solver.attempts()))?;
+    put_each(
+        out,
+        &[u128::from(solver.lifts()), u128::from(solver.attempts())],
+    )?;
     match solver.answer() {
         Some(answer) => put_found(out, answer.won, answer.choice),
         None => Err(Refusal::Io),
@@ -239,25 +252,37 @@ fn found_by_search(alloc: Global, game: &Game) -> Result<Vec<u8>, Refusal> {
 }
 
 fn suggestion(alloc: Global, game: &Game) -> Result<Vec<u8>, Refusal> {
-    let mut out = Vec::new(alloc);
     match search(alloc, game, 1000)? {
-        Some(suggestion) => put_all(&mut out, suggestion.order.as_slice())?,
-        None => out.extend_from_slice(b"nothing\n")?,
+        Some(suggestion) => all(alloc, suggestion.order.as_slice()),
+        None => Ok(Vec::from_slice(alloc, b"nothing\n")?),
     }
-    Ok(out)
 }
 
 /// Returns the places of a game in the order of their positions, and how many words its sets of positions have.
 fn order(alloc: Global, game: &Game) -> Result<Vec<u8>, Refusal> {
-    let permutation = Permutation::nested(alloc, game.forward())?;
+    match Permutation::nested(alloc, game.forward()) {
+        Ok(permutation) => positions(alloc, &permutation),
+        Err(_) => Err(Refusal::Memory),
+    }
+}
+
+fn positions(alloc: Global, permutation: &Permutation) -> Result<Vec<u8>, Refusal> {
     let mut out = Vec::new(alloc);
     for position in 0..permutation.len() {
         put(&mut out, u128::from(permutation.place(position)))?;
     }
-    let _filled = FilledWords::all(alloc, permutation.len())?;
-    let all = position_set::all_positions(alloc, permutation.len())?;
-    put(&mut out, all.len() as u128)?;
-    let numbers = numbers_below(alloc, permutation.len())?;
-    put_all(&mut out, numbers.as_slice())?;
+    put_sets(alloc, permutation.len(), &mut out)?;
     Ok(out)
+}
+
+fn put_sets(alloc: Global, count: u32, out: &mut Vec<u8>) -> Result<(), Refusal> {
+    FilledWords::all(alloc, count)?;
+    put_words(alloc, count, out)?;
+    let numbers = numbers_below(alloc, count)?;
+    put_all(out, numbers.as_slice())
+}
+
+fn put_words(alloc: Global, count: u32, out: &mut Vec<u8>) -> Result<(), Refusal> {
+    let words = position_set::all_positions(alloc, count)?;
+    put(out, words.len() as u128)
 }

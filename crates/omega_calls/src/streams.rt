@@ -5,13 +5,6 @@ use omega_hoa::{Item, Stream, read_stream};
 use omega_text::Refusal;
 use std::alloc::Global;
 
-pub(crate) fn has(call: &str) -> bool {
-    match call {
-        "read_stream" | "feed" | "pieces" => true,
-        _ => false,
-    }
-}
-
 pub(crate) fn called(alloc: Global, call: &str, text: &[u8]) -> Result<Vec<u8>, Refusal> {
     match call {
         "read_stream" => whole(alloc, text),

@@ -1,20 +1,12 @@
 //! Numbers, tokens, lists, and names in drawings.
 use crate::kinds::{put_hoa, put_pg};
-use crate::lists::{numbers, only_number, put, put_all, put_answer};
+use crate::lists::{all, is_front, numbers, only_number, put, put_all, put_answer};
 use omega_dot::{write_escaped, write_name_line};
 use omega_text::{
     ByteString, Numbers, PgKind, Refusal, Seq, TextFault, Token, hoa_tokens, next_pg_number,
     next_pg_token, pg_tokens, write_number,
 };
 use std::alloc::Global;
-
-pub(crate) fn has(call: &str) -> bool {
-    match call {
-        "write_number" | "pg_tokens" | "hoa_tokens" | "ByteString" | "Numbers" => true,
-        "write_escaped" | "write_name_line" | "Seq" | "next_pg_token" | "next_pg_number" => true,
-        _ => false,
-    }
-}
 
 pub(crate) fn called(
     alloc: Global,
@@ -49,13 +41,15 @@ fn value_of(digits: &[u8]) -> u128 {
 /// Returns a number after `<`. A refused request leaves `<` alone, and the number is written once more.
 fn number(alloc: Global, value: u128) -> Result<Vec<u8>, Refusal> {
     let mut out = Vec::from_slice(alloc, b"<")?;
-    match write_number(value, &mut out) {
-        Ok(()) => Ok(out),
-        Err(_) if out.as_slice() != b"<".as_slice() => Err(Refusal::Io),
-        Err(_) => {
-            write_number(value, &mut out)?;
-            Ok(out)
-        }
+    put_again(value, &mut out)?;
+    Ok(out)
+}
+
+fn put_again(value: u128, out: &mut Vec<u8>) -> Result<(), Refusal> {
+    match write_number(value, out) {
+        Ok(()) => Ok(()),
+        Err(_) if !is_front(out.as_slice()) => Err(Refusal::Io),
+        Err(_) => write_number(value, out),
     }
 }
 
@@ -108,11 +102,19 @@ fn found_written(
 fn strings(alloc: Global, text: &[u8], other: &[u8]) -> Result<Vec<u8>, Refusal> {
     let string = ByteString::from_slice(alloc, text)?;
     let other = ByteString::from_slice(alloc, other)?;
+    string_beside(alloc, &string, &other)
+}
+
+fn string_beside(
+    alloc: Global,
+    string: &ByteString,
+    other: &ByteString,
+) -> Result<Vec<u8>, Refusal> {
     let mut out = Vec::from_slice(alloc, string.as_slice())?;
     out.push(b' ')?;
     put(&mut out, string.len() as u128)?;
-    put_answer(&mut out, string == other)?;
-    put_answer(&mut out, string == ByteString::new())?;
+    put_answer(&mut out, *string == *other)?;
+    put_answer(&mut out, *string == ByteString::new())?;
     Ok(out)
 }
 
@@ -136,12 +138,17 @@ fn put_list(alloc: Global, text: &[u8], other: &[u8], out: &mut Vec<u8>) -> Resu
 /// Returns some numbers from a list, and as many one by one. A refused request leaves the list as it was.
 fn short_list(alloc: Global) -> Result<Vec<u8>, Refusal> {
     let mut list = Numbers::from_slice(alloc, &[3, 1, 4, 1, 5])?;
-    for number in 0..20u32 {
-        push_again(alloc, &mut list, number)?;
+    match push_more(alloc, &mut list) {
+        Ok(()) => all(alloc, list.as_slice()),
+        Err(refusal) => Err(refusal),
     }
-    let mut out = Vec::new(alloc);
-    put_all(&mut out, list.as_slice())?;
-    Ok(out)
+}
+
+fn push_more(alloc: Global, list: &mut Numbers) -> Result<(), Refusal> {
+    for number in 0..20u32 {
+        push_again(alloc, list, number)?;
+    }
+    Ok(())
 }
 
 fn push_again(alloc: Global, list: &mut Numbers, number: u32) -> Result<(), Refusal> {
