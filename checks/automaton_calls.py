@@ -1,6 +1,6 @@
 """Answers of `omega_calls` about labels, formulas and automata that are known by hand: where they end in a text and how
-deep they are, what stands for an alias, priorities and kinds of acceptance, what is read of an automaton, and what a
-stream answers to pieces of a text.
+deep they are, what stands for an alias, priorities and kinds of acceptance, what is read of an automaton, how a lasso
+is drawn in one, and what a stream answers to pieces of a text.
 """
 from known_calls import Known, begun, given_by, known_cases, refused, said
 from memory import ABORTED, WRITTEN, Shimmed
@@ -92,6 +92,9 @@ JUDGED = [
     (b"0&!0", b"-"), (b"0|!0", b"+"), (b"f", b"-"), (b"0&1&2&3&4&5&6&7&8&!0", b"-"),
     (b"0&!1&!2&!3&!4&!5&!6&!7&!8", b"+"), (b"t&" + b"&".join(b"%d" % n for n in range(12)), b"+"),
 ]
+
+# Labels of one node, and whether they can be true.
+SINGLE = [(b"12", b"+"), (b"f", b"-")]
 
 MAX, MIN, EVEN, ODD = 0, 1, 0, 1
 
@@ -214,6 +217,30 @@ WITHIN = [
     (STATES, b"[!0] 3"), (STATES, b"\n[0] 2\n"), (STATES, b"\n[!0|0] 0\n"),
 ]
 
+# An automaton, and its drawing with a lasso that no search finds. An edge of both parts is the cycle's, one of neither
+# is plain, one beside an edge of the lasso has an arrow of its own, and 9 is no edge's number.
+BESIDE = automaton(b'States: 2 Start: 0 AP: 1 "a" Acceptance: 1 Inf(0)',
+                   b"State: 0 [0] 1 [!0] 0 State: 1 [t] 1 {0} [0] 0 [!0] 0&1 [f] 1")
+DRAWN = rb"""digraph automaton {
+  rankdir=LR;
+  labelloc=t;
+  label="Inf(0)\n";
+  start0 [shape=point, style=invis];
+  start0 -> 0;
+  0 [label="0\n"];
+  1 [label="1\n"];
+  0 -> 1 [label="edge 0\na\n", style=bold, color=blue];
+  0 -> 0 [label="!a\n"];
+  1 -> 1 [label="edge 2\nt\n{0}\n", style=bold, color=red];
+  1 -> 0 [label="a\n"];
+  1 -> branch4 [label="edge 4\n!a\n", style=bold, color=red, arrowhead=none];
+  branch4 [shape=point];
+  branch4 -> 0 [label="", style=bold, color=red];
+  branch4 -> 1 [label="", style=bold, color=red];
+  1 -> 1 [label="f\n"];
+}
+"""
+
 KNOWN: list[Known] = [
     *(said("read_label", text, b"", b"<" + label) for text, label, _ in LABELS),
     *(said("end of a label", text, b"", b"0 %d " % end) for text, _, end in LABELS),
@@ -232,6 +259,7 @@ KNOWN: list[Known] = [
     *(said("expand", label, definitions, b"<" + text) if text else refused("expand", label, definitions, b"27 Alias")
       for definitions, label, text in EXPANDED),
     *(said("label", label, b"run", answer) for label, answer in JUDGED),
+    *(said("is_satisfiable", label, b"", answer) for label, answer in SINGLE),
     refused("label", b"t&" + b"&".join(b"%d" % n for n in range(13)), b"run", b"42 TooManyPropositions"),
     *(said("priority", b" ".join(b"%d" % n for n in [order, parity, count, *marks]), b"", b"%d " % priority)
       for order, parity, count, marks, priority in PRIORITIES),
@@ -242,6 +270,7 @@ KNOWN: list[Known] = [
     *(said("automaton", text, b"run", read) for text, read in READ),
     refused("read_one", ABORTED, b"", b"3 Syntax at 20"),
     refused("read_one", b"", b"", b"3 Syntax at 0"),
+    said("draw_lasso", BESIDE, b"stem 0 2 9 cycle 2 4", DRAWN),
     said("read_stream", b"", b"", b""),
 ]
 

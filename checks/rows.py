@@ -51,10 +51,16 @@ class Row:
 
 def plain(text: str) -> bytes:
     """The bytes that a text with escapes stands for."""
-    made, rest = [], iter(text)
+    made, rest = b"", iter(text)
     for sign in rest:
-        made.append(ESCAPES[next(rest)] if sign == "\\" else sign)
-    return "".join(made).encode()
+        made += escaped(rest) if sign == "\\" else sign.encode()
+    return made
+
+
+def escaped(rest: Iterator[str]) -> bytes:
+    """What an escape stands for, from what follows its backslash."""
+    sign = next(rest)
+    return bytes.fromhex(next(rest) + next(rest)) if sign == "x" else ESCAPES[sign].encode()
 
 
 def rows_of(text: str) -> Iterator[Row]:

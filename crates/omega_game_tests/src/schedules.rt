@@ -1,6 +1,6 @@
 //! In which order schedules look.
 ghost use Rattle.std.specs.Prelude.{◌≡◌, length};
-ghost use Rattle.omega_solve.specs.Schedule.{all_pending};
+ghost use Rattle.omega_schedules.specs.Schedule.{all_pending};
 
 use omega_solve::{Nested, Schedule, Sweep, Worklist};
 use std::alloc::Global;

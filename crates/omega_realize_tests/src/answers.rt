@@ -1,5 +1,5 @@
-//! Answers as texts: `realizable` with the kept edges; `unrealizable` with them and after each `;` the letter of a
-//! state; or `refused` with the number of the refusal and, where it has one, its place.
+//! Answers as texts: `realizable` with the kept edges; or `unrealizable` with them and after each `;` the letter of a
+//! state.
 use crate::texts::automaton_in;
 use omega_automaton::Automaton;
 use omega_budget::NoObserver;
@@ -12,17 +12,6 @@ fn append_numbers(numbers: &[u32], out: &mut Vec<u8>) -> Result<(), Refusal> {
     for number in numbers {
         out.push(b' ')?;
         write_number(u128::from(*number), out)?;
-    }
-    Ok(())
-}
-
-// Appends what a refusal is.
-fn append_refusal(refusal: Refusal, out: &mut Vec<u8>) -> Result<(), Refusal> {
-    out.extend_from_slice(b"refused ")?;
-    write_number(u128::from(refusal.number()), out)?;
-    if let Some(at) = refusal.at() {
-        out.extend_from_slice(b" at ")?;
-        write_number(at as u128, out)?;
     }
     Ok(())
 }
@@ -46,13 +35,17 @@ fn append_answer(answer: &Realizability, out: &mut Vec<u8>) -> Result<(), Refusa
     }
 }
 
-// The text of an answer or a refusal.
+// The text of an answer.
 fn text_of(alloc: Global, answer: Result<Realizability, Refusal>) -> Result<Vec<u8>, Refusal> {
-    let mut out = Vec::new(alloc);
     match answer {
-        Ok(answer) => append_answer(&answer, &mut out)?,
-        Err(refusal) => append_refusal(refusal, &mut out)?,
+        Ok(answer) => written(alloc, &answer),
+        Err(refusal) => Err(refusal),
     }
+}
+
+fn written(alloc: Global, answer: &Realizability) -> Result<Vec<u8>, Refusal> {
+    let mut out = Vec::new(alloc);
+    append_answer(answer, &mut out)?;
     Ok(out)
 }
 

@@ -5,15 +5,15 @@ use crate::texts::is_text;
 use std::alloc::Global;
 
 /// An arbiter that answers a request at once.
-pub(crate) const ARBITER: &str =
+const ARBITER: &str =
     "HOA: v1 States: 1 Start: 0 AP: 2 \"r\" \"g\" acc-name: parity max even 1 Acceptance: 1 Inf(0) --BODY-- State: 0 [!0 | 1] 0 {0} --END--";
 
 /// The system is to guess what the environment gives in the next round.
-pub(crate) const GUESS: &str =
+const GUESS: &str =
     "HOA: v1 States: 4 Start: 0 AP: 2 \"e\" \"s\" acc-name: parity max even 1 Acceptance: 1 Inf(0) --BODY-- State: 0 [1] 1 [!1] 2 State: 1 [0] 3 State: 2 [!0] 3 State: 3 [t] 3 {0} --END--";
 
 /// Two goals again and again, of which each round serves one.
-pub(crate) const GOALS: &str =
+const GOALS: &str =
     "HOA: v1 States: 2 Start: 0 AP: 1 \"s\" acc-name: parity max even 3 Acceptance: 3 Inf(2) | (Fin(1) & Inf(0)) --BODY-- State: 0 [0] 1 [!0] 0 {1} State: 1 [0] 0 {2} [!0] 1 {1} --END--";
 
 // An automaton, what the system controls, and the answer.

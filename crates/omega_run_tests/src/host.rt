@@ -1,4 +1,4 @@
-//! Which file of the machine is opened.
+//! Which file of the machine is opened, and what is read of it.
 use omega_run::{HostFiles, InputFiles, Reason};
 use std::alloc::Allocator;
 use std::fs::{Metadata, OpenOptions};
@@ -73,5 +73,13 @@ fn opens_the_file_of_that_name(rt: HostRuntime) -> Result<(), Fail> {
         Err(unread) => unread.reason,
     };
     assert!(rt; reason == Some(Reason::NotFound));
+    Ok(())
+}
+
+/// Reads a file of the machine. Whatever else a file may be is tried on the built program.
+#[test]
+fn reads_a_file_of_the_machine(rt: HostRuntime) -> Result<(), Fail> {
+    let bytes = HostFiles::new(&rt).read_file(rt.alloc(), "/dev/null")?;
+    assert!(rt; bytes.is_empty());
     Ok(())
 }

@@ -1,13 +1,9 @@
-//! Tests of the public calls of `omega_run` and `omega_command_line`: what a run of the built program cannot show, and
-//! the worked examples. They are a crate of their own so that each library is proved once.
+//! Tests of the public calls of `omega_run` and `omega_command_line`: what a run of the built program cannot show. They
+//! are a crate of their own so that each library is proved once.
 #![tactic(auto)]
 
 #[cfg(test)]
-mod files;
-#[cfg(test)]
 mod host;
-#[cfg(test)]
-mod lenient;
 #[cfg(test)]
 mod portions;
 #[cfg(test)]
@@ -20,5 +16,3 @@ mod streams;
 mod transfers;
 #[cfg(test)]
 mod words;
-#[cfg(test)]
-mod worked;

@@ -1,4 +1,4 @@
-//! What command lines request, and what is written for wrong ones.
+//! What command lines request. What is written of wrong ones, and as help, is tried on the built program.
 use crate::running::words_of;
 use omega_command_line::read_words;
 use std::alloc::Global;
@@ -220,81 +220,6 @@ static ASKED: [(&str, &str); 53] = [
     ),
 ];
 
-/// Command lines that are at fault, and what is said of each.
-static FAULTS: [(&str, &str); 19] = [
-    ("omega", "requires a subcommand"),
-    (
-        "omega show --format xyz",
-        "invalid value 'xyz' for '--format <FORMAT>'",
-    ),
-    (
-        "omega solve --player 0 --budget 99999999999999999999",
-        "invalid value '99999999999999999999' for '--budget <N>': the number is too large",
-    ),
-    (
-        "omega canon --format hoa --from 4",
-        "the argument '--from <ID>' can only be used with '--format pg'",
-    ),
-    (
-        "omega realize --game --controller",
-        "the argument '--controller' cannot be used with '--game'",
-    ),
-    (
-        "omega realize --game --lift",
-        "the argument '--lift' cannot be used with '--game'",
-    ),
-    ("omega realize --budget 9", "were not provided:\\n  --lift"),
-    ("omega accepts g", "were not provided:\\n  --word <WORD>"),
-    ("omega show", "were not provided:\\n  --format <FORMAT>"),
-    (
-        "omega draw --lasso g",
-        "were not provided:\\n  --format <FORMAT>",
-    ),
-    (
-        "omega empty --stream --progress",
-        "the argument '--stream' cannot be used with '--progress'",
-    ),
-    (
-        "omega verify --winners --automaton a",
-        "the argument '--automaton <FILE>' cannot be used with '--winners'",
-    ),
-    (
-        "omega canon --min --format hoa",
-        "the argument '--min' can only be used with '--format pg'",
-    ),
-    (
-        "omega canon --min g",
-        "were not provided:\\n  --format <FORMAT>",
-    ),
-    (
-        "omega check --lenient --format hoa g",
-        "the argument '--lenient' can only be used with '--format pg'",
-    ),
-    (
-        "omega draw --lenient --lasso",
-        "the argument '--lasso' can only be used with '--format hoa'",
-    ),
-    (
-        "omega verify --lenient --automaton a",
-        "the argument '--automaton <FILE>' cannot be used with '--lenient'",
-    ),
-    (
-        "omega verify --lenient",
-        "were not provided:\\n  --game <FILE>",
-    ),
-    (
-        "omega verify --game g --specification s",
-        "the argument '--specification <FILE>' cannot be used with '--game <FILE>'",
-    ),
-];
-
-/// Requests for help or the version, and what the text says.
-static HELP: [(&str, &str); 3] = [
-    ("omega --help", "Usage: omega <COMMAND>"),
-    ("omega --version", "omega 1.6.0\\nproved in logic"),
-    ("omega check -h", "see more with '--help'"),
-];
-
 /// Returns what a command line is read as.
 fn read(alloc: Global, typed: &str) -> Result<String, Fail> {
     let words = words_of(alloc, typed)?;
@@ -302,20 +227,11 @@ fn read(alloc: Global, typed: &str) -> Result<String, Fail> {
     Ok(format!(in alloc; "{line:?}")?)
 }
 
-/// Whether a line shows itself with this begin, and says this.
-fn shows(line: &str, begins: &str, says: &str) -> bool {
-    line.starts_with(begins) && line.contains(says)
-}
-
-/// Fails unless a command line is read as one that shows itself with this beginning.
-fn expect_shown(
-    alloc: Global,
-    begins: &str,
-    rows: &'static [(&'static str, &'static str)],
-) -> Result<(), Fail> {
+/// Fails unless a command line is read as one that shows itself so.
+fn expect_shown(alloc: Global, rows: &'static [(&'static str, &'static str)]) -> Result<(), Fail> {
     for (typed, says) in rows {
         let line = read(alloc, typed)?;
-        if !shows(line.as_str(), begins, says) {
+        if !line.as_str().contains(*says) {
             return Err(Fail::new(*typed));
         }
     }
@@ -324,7 +240,5 @@ fn expect_shown(
 
 #[test]
 fn reads_command_lines(rt: HostRuntime) -> Result<(), Fail> {
-    expect_shown(rt.alloc(), "", ASKED.as_slice())?;
-    expect_shown(rt.alloc(), "Fault(\"error: ", FAULTS.as_slice())?;
-    expect_shown(rt.alloc(), "Help(\"", HELP.as_slice())
+    expect_shown(rt.alloc(), ASKED.as_slice())
 }

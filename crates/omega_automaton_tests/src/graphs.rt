@@ -2,7 +2,7 @@
 ghost use Rattle.std.specs.Prelude.{◌≡◌, ◌≤◌, IfOk};
 ghost use Rattle.omega_components.specs.Graph.{AreEdges, AreStates};
 
-use crate::rows::assert_row;
+use crate::outcomes::assert_row;
 use omega_components::{EdgeComponents, Graph, Refusal, Scratch, components, path, reached};
 use std::alloc::Global;
 

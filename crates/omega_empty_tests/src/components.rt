@@ -1,2 +1,0 @@
-//! Tests of the searches of `omega_components`.
-mod graphs;
