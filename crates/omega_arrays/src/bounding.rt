@@ -12,7 +12,7 @@ use crate::arrays::Arrays;
 use crate::building::built;
 use crate::fault::ArrayFault;
 use omega_game::{ForwardGame, Player};
-use omega_measure::bound;
+use omega_lift_bound::bound;
 use std::alloc::Global;
 
 /// A bound on lifts, in two halves.

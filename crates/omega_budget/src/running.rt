@@ -6,7 +6,7 @@ ghost use Rattle.omega_solve.specs.Limits.{most_lifts};
 ghost use Rattle.omega_solve.specs.Solver.{start_of};
 
 use crate::observing::{Progress, Reporter};
-use omega_measure::bound;
+use omega_lift_bound::bound;
 use omega_parity_game::{ForwardGame, Game, Player};
 use omega_solve::{MeasureTable, Outcome, Schedule, Solver};
 

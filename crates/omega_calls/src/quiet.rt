@@ -12,7 +12,8 @@ use omega_automaton::{Automaton, EdgeRef, State};
 use omega_game::{Game, Player, Refusal, Seq, Strategy};
 use omega_hoa::Stream;
 use omega_io::{Exit, exit_code};
-use omega_measure::{bound, fits};
+use omega_lift_bound::bound;
+use omega_measure::fits;
 use omega_raw::HeaderValue;
 use omega_text::{
     ByteString, Cursor, HoaKind, PgKind, TextCursor, TextFault, Token, TokenKind, TokenSource,

@@ -11,7 +11,7 @@ use crate::game_text::forward_game_of;
 use crate::numbered::append_numbered;
 use crate::player_text::append_player;
 use omega_game::{ForwardGame, Player, Refusal};
-use omega_measure::bound;
+use omega_lift_bound::bound;
 use std::alloc::Global;
 
 /// Returns the size of the game of `text`, and the bounds on lifts. Fails with the [Refusal::Text] or [Refusal::Game]

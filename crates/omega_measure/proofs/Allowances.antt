@@ -11,7 +11,7 @@ use Rattle.omega_lift_laws.specs.Laws.{AllowancesAreLeastSufficient, AllowancesE
 use Rattle.omega_lift_laws.specs.Least.{least_sufficient, limits_of}
 use Rattle.omega_lift_laws.specs.Measure.{Measure, IsMeasure, compare_from, entries_from}
 use Rattle.omega_measure.specs.private.layout.Due.{is_short}
-use Rattle.omega_measure.specs.private.layout.Rows.{allowance_of}
+use Rattle.omega_measure_rows.specs.Rows.{allowance_of}
 use Rattle.omega_measure.specs.Table.{Content, Exceeds}
 
 -- to be short is not to suffice

@@ -1,10 +1,6 @@
--- The lemmas of the bound on lifts and of tables of measures.
-pub mod Products
-pub mod Factors
+-- The lemmas of tables of measures.
 pub mod Falling
 pub mod Listed
-pub mod Raising
-pub mod RowWrites
 pub mod Shapes
 pub mod Measures
 pub mod OneWord

@@ -15,7 +15,7 @@ use Rattle.omega_measure.specs.declared.field.Field.{Field}
 use Rattle.omega_measure.specs.private.layout.Field.{AreAtMost, AreFields, ArePacked, IsInside, IsPackedRow, field_places, digit_in, digits_in, entry_limits, front_order, last_field, limits_in, measure_of, top_field, value, word_places}
 use Rattle.omega_measure.specs.private.layout.Due.{is_short}
 use Rattle.omega_measure.specs.private.layout.Packed.{ArePackedRows, HoldsAllowance, packed_content, packed_measure}
-use Rattle.omega_measure.specs.private.layout.Rows.{AreAtLimits, IsLastBelow, WritesRow, allowance_of, compare_kept, row_of}
+use Rattle.omega_measure_rows.specs.Rows.{AreAtLimits, IsLastBelow, WritesRow, allowance_of, compare_kept, row_of}
 use Rattle.omega_measure.specs.private.layout.Shape.{Setting, width_of}
 use Rattle.omega_measure.specs.Table.{Content, Exceeds, IsAllowanceIn, Raises, with_measure, zero_content}
 use Rattle.omega_measure.proofs.Allowances.{allowance_is, due_from}
@@ -23,7 +23,7 @@ use Rattle.omega_measure.proofs.Digits.{value-zeros}
 use Rattle.omega_measure.proofs.Measures.{length-listed, listed-same, listed-written, measure_at-listed}
 use Rattle.omega_measure.proofs.PackedMeasures.{AreDigits, IsMeasure-digits, allowance-cleared, allowance-raised, compare-digits, flag_is}
 use Rattle.omega_measure.proofs.PackedRows.{at_most_at, at_most_zeros, fields_inside, digits-new_row, front_order-digits, length-digits, limits_packed, packed-new_row, word_small}
-use Rattle.omega_measure.proofs.RowWrites.{rows_before}
+use Rattle.omega_measure_rows.proofs.RowWrites.{rows_before}
 
 -- ---- one row
 

@@ -7,8 +7,8 @@ use Rattle.omega_lift_laws.specs.Allowance.{measure_at}
 use Rattle.omega_lift_laws.specs.Laws.{AllowancesAreLeastSufficient, AllowancesExceed}
 use Rattle.omega_lift_laws.specs.Measure.{Measure, compare, compare_from, entries_from}
 use Rattle.omega_measure.specs.private.layout.Due.{is_short}
-use Rattle.omega_measure.specs.private.layout.Plain.{content_of}
-use Rattle.omega_measure.specs.private.layout.Rows.{AreRows, compare_kept, measure_in}
+use Rattle.omega_measure.specs.private.layout.Plain.{AreRows, content_of}
+use Rattle.omega_measure_rows.specs.Rows.{compare_kept, measure_in}
 use Rattle.omega_measure.specs.private.layout.Shape.{Setting, width_of}
 use Rattle.omega_measure.specs.Table.{Content, Exceeds}
 use Rattle.omega_measure.proofs.Allowances.{due_from}

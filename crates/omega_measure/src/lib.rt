@@ -1,9 +1,8 @@
-//! Tables of small progress measures (Jurdziński 2000), one measure for each node of a game, and the bound on lifts.
+//! Tables of small progress measures (Jurdziński 2000), one measure for each node of a game.
 //!
 //! docs/formats.md says when each refusal comes.
 #![tactic(auto)]
 
-mod bounds;
 mod cells;
 mod due;
 mod field;
@@ -13,12 +12,10 @@ mod limits;
 mod losing;
 mod packed;
 mod plain;
-mod rows;
 mod shape;
 mod table;
 mod words;
 
-pub use bounds::bound;
 pub use cells::fits;
 pub use limits::{MOST_CELLS, measure_limits_are_stated};
 pub use omega_parity_game::{Game, Player, Refusal, TaskFault};

@@ -1,10 +1,10 @@
 ghost use Rattle.std.specs.Prelude.{◌≡◌, ℕ, ◌<◌, length};
 
 use crate::due::is_short;
-use crate::rows::{compare_at, raise_at};
 use crate::shape::Shape;
 use crate::table::MeasureTable;
 use omega_lift_laws::{allowances_are_least_sufficient, allowances_exceed};
+use omega_measure_rows::{compare_at, raise_at};
 use omega_parity_game::{Game, Player, Refusal};
 use std::alloc::Global;
 use std::cmp::Ordering;
@@ -23,8 +23,7 @@ impl Model for PlainTable {
 
     ghost Value = { Content };
 
-    ghost use Rattle.omega_measure.specs.private.layout.Plain.{content_of};
-    ghost use Rattle.omega_measure.specs.private.layout.Rows.{AreRows};
+    ghost use Rattle.omega_measure.specs.private.layout.Plain.{AreRows, content_of};
 
     ghost view = { λ s. content_of s.shape s.tops.items s.entries.items };
 

@@ -1,10 +1,10 @@
 ghost use Rattle.std.specs.Prelude.{◌≡◌, ◌≢◌, ◌↔◌, ℕ, ◌+◌, ◌-◌, ◌*◌, ◌/◌, ◌<◌, ◌≤◌, ◌^◌, [], ◌∷◌, ◌++◌, suc, length, take, replicate, slice_index, slice_index_or, IsTrue};
 ghost use Rattle.omega_measure.specs.private.layout.Field.{AreFields, IsInside, IsPackedRow, digit_in, digits_in, flag_in, front_order, limits_in};
 ghost use Rattle.omega_measure.specs.private.layout.Packed.{HoldsAllowance};
-ghost use Rattle.omega_measure.specs.private.layout.Rows.{IsLastBelow, WritesRow, row_of};
+ghost use Rattle.omega_measure_rows.specs.Rows.{IsLastBelow, WritesRow, row_of};
 
 use crate::field::Field;
-use crate::rows::{copy_row, row};
+use omega_measure_rows::{copy_row, row};
 use std::cmp::Ordering;
 
 /// The field of the flag for top: the first bit of each row.

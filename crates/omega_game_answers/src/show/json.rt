@@ -7,7 +7,7 @@ use crate::game_text::forward_game_of;
 use crate::numbered::append_numbered;
 use omega_game::{ForwardGame, Player, PriorityCount, Refusal};
 use omega_game_components::{Components, count_components};
-use omega_measure::bound;
+use omega_lift_bound::bound;
 use omega_text::write_number;
 use std::alloc::Global;
 

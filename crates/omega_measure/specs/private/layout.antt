@@ -1,7 +1,6 @@
 -- How tables keep measures: what private contracts alone cite.
 pub mod Falling
 pub mod Shape
-pub mod Rows
 pub mod Plain
 pub mod Due
 pub mod Field

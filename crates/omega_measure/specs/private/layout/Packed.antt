@@ -5,7 +5,7 @@ use Rattle.omega_lift_laws.specs.Least.{limits_of}
 use Rattle.omega_lift_laws.specs.Measure.{Measure}
 use Rattle.omega_measure.specs.declared.field.Field.{Field}
 use Rattle.omega_measure.specs.private.layout.Field.{AreFields, IsPackedRow, digits_in, entry_limits, measure_of}
-use Rattle.omega_measure.specs.private.layout.Rows.{allowance_of, row_of}
+use Rattle.omega_measure_rows.specs.Rows.{allowance_of, row_of}
 use Rattle.omega_measure.specs.private.layout.Shape.{Setting}
 use Rattle.omega_measure.specs.Table.{Content}
 

@@ -4,7 +4,7 @@ use Rattle.std.specs.Prelude.{slice_index}
 use Rattle.omega_lift_laws.specs.Allowance.{measure_at}
 use Rattle.omega_lift_laws.specs.Measure.{compare_from}
 use Rattle.omega_measure.specs.private.layout.Field.{IsInside, front_order}
-use Rattle.omega_measure.specs.private.layout.Rows.{row_of}
+use Rattle.omega_measure_rows.specs.Rows.{row_of}
 use Rattle.omega_measure.proofs.PackedCalls.{in_packed, inside_by, kept_within, packed_compare_is, packed_fits}
 use Rattle.omega_measure.proofs.packed.PackedTableMeasureTable.compare_for.Goals as goal
 

@@ -1,7 +1,7 @@
 -- A measure is short exactly if the allowance exceeds it.
 use Rattle.std.proofs.Common.{length, get_or, ap, sym, subst, ◌∙◌, arith}
 use Rattle.omega_measure.specs.private.layout.Field.{IsInside, front_order}
-use Rattle.omega_measure.specs.private.layout.Rows.{row_of}
+use Rattle.omega_measure_rows.specs.Rows.{row_of}
 use Rattle.omega_measure.proofs.PackedCalls.{in_packed, inside_by, kept_within, packed_compare_is, packed_due_iff, packed_fits, packed_top_iff}
 use Rattle.omega_measure.proofs.packed.PackedTableMeasureTable.due.Goals as goal
 

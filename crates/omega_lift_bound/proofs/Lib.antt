@@ -1,0 +1,3 @@
+-- The lemmas of the bound on lifts.
+pub mod Products
+pub mod Factors

@@ -1,0 +1,7 @@
+//! The bound on the lifts of a run (Jurdziński 2000).
+#![tactic(auto)]
+
+mod bounds;
+
+pub use bounds::bound;
+pub use omega_parity_game::{ForwardGame, Player};

@@ -1,0 +1,3 @@
+-- The lemmas of rows of measures.
+pub mod Raising
+pub mod RowWrites
