@@ -1,6 +1,6 @@
 """Answers of `omega_calls` about labels, formulas and automata that are known by hand: where they end in a text and how
-deep they are, what stands for an alias, priorities and kinds of acceptance, what is read of an automaton, how a lasso
-is drawn in one, and what a stream answers to pieces of a text.
+deep they are, what stands for an alias, kinds of acceptance, what is read of an automaton, and what a stream answers to
+pieces of a text.
 """
 from known_calls import Known, begun, given_by, known_cases, refused, said
 from memory import ABORTED, WRITTEN, Shimmed
@@ -93,21 +93,6 @@ JUDGED = [
     (b"0&!1&!2&!3&!4&!5&!6&!7&!8", b"+"), (b"t&" + b"&".join(b"%d" % n for n in range(12)), b"+"),
 ]
 
-# Labels of one node, and whether they can be true.
-SINGLE = [(b"12", b"+"), (b"f", b"-")]
-
-MAX, MIN, EVEN, ODD = 0, 1, 0, 1
-
-# An order and a parity, a count of sets, marks, and the priority by the table.
-PRIORITIES: list[tuple[int, int, int, list[int], int]] = [
-    (MAX, EVEN, 3, [0], 2), (MAX, EVEN, 3, [1], 3), (MAX, EVEN, 3, [2], 4), (MAX, EVEN, 3, [], 1),
-    (MAX, ODD, 3, [0], 1), (MAX, ODD, 3, [1], 2), (MAX, ODD, 3, [2], 3), (MAX, ODD, 3, [], 0),
-    (MIN, EVEN, 3, [0], 4), (MIN, EVEN, 3, [1], 3), (MIN, EVEN, 3, [2], 2), (MIN, EVEN, 3, [], 1),
-    (MIN, ODD, 3, [0], 3), (MIN, ODD, 3, [1], 2), (MIN, ODD, 3, [2], 1), (MIN, ODD, 3, [], 0),
-    (MIN, ODD, 2, [], 1), (MIN, ODD, 2, [1], 2), (MIN, ODD, 2, [0, 1], 3),
-    (MAX, EVEN, 0, [], 1), (MAX, ODD, 0, [], 0), (MIN, EVEN, 0, [], 0), (MIN, ODD, 0, [], 1),
-]
-
 # An acceptance by its name, its count of sets and its formula; and the parity that it is.
 PARITIES = [
     (b"all", 0, b"t", b"max odd"),
@@ -176,17 +161,17 @@ ACCEPTED = [
     (b"HOA: v1 --BODY-- State: 0 {} 1 {} --END--", b""),
 ]
 
-# Items and a body; the counts of states, propositions, sets, defined states and edges; and the acceptance formula.
+# Items and a body; and the counts of states, propositions, sets, defined states and edges.
 COUNTED = [
-    (b"Acceptance: 0 t", b"", b"0 0 0 0 0 ", b"0 t"),
-    (b"States: 7 Acceptance: 3 (Inf(0))", b"", b"7 0 3 0 0 ", b"3 Inf(0)"),
-    (b"Start: 5 Acceptance: 0 f", b"State: 2", b"6 0 0 1 0 ", b"0 f"),
-    (b"Start: 0&3 Start: 1 Acceptance: 0 t", b"", b"4 0 0 0 0 ", b"0 t"),
-    (b"Acceptance: 0 t", b"State: 0 [t] 4&9 [t] 3 State: 1 [f] 0", b"10 0 0 2 3 ", b"0 t"),
-    (b"Acceptance: 0 t", b"State: 8", b"9 0 0 1 0 ", b"0 t"),
-    (b'States: 1 Start: 0 AP: 1 "a" Acceptance: 0 t', b"State: 0 0 0", b"1 1 0 1 2 ", b"0 t"),
-    (b"Acceptance: 2 Inf(0)&(Fin(!1)|Inf(1))", b"", b"0 0 2 0 0 ", b"2 Inf(0)&(Fin(!1)|Inf(1))"),
-    (b"Start: 2147483646 Acceptance: 0 t", b"", b"2147483647 0 0 0 0 ", b"0 t"),
+    (b"Acceptance: 0 t", b"", b"0 0 0 0 0 "),
+    (b"States: 7 Acceptance: 3 (Inf(0))", b"", b"7 0 3 0 0 "),
+    (b"Start: 5 Acceptance: 0 f", b"State: 2", b"6 0 0 1 0 "),
+    (b"Start: 0&3 Start: 1 Acceptance: 0 t", b"", b"4 0 0 0 0 "),
+    (b"Acceptance: 0 t", b"State: 0 [t] 4&9 [t] 3 State: 1 [f] 0", b"10 0 0 2 3 "),
+    (b"Acceptance: 0 t", b"State: 8", b"9 0 0 1 0 "),
+    (b'States: 1 Start: 0 AP: 1 "a" Acceptance: 0 t', b"State: 0 0 0", b"1 1 0 1 2 "),
+    (b"Acceptance: 2 Inf(0)&(Fin(!1)|Inf(1))", b"", b"0 0 2 0 0 "),
+    (b"Start: 2147483646 Acceptance: 0 t", b"", b"2147483647 0 0 0 0 "),
 ]
 
 # States and edges are in the order of the body, and an empty name differs from none.
@@ -210,39 +195,8 @@ READ = [
     (HEADER, b"3 2 1 0 0 1 0 ;2 ;q p ;b a b ;x + 3  +s w;y;x -;+n+t+13 40 40 "),
 ]
 
-# Automata, and what their canonical texts have.
-WITHIN = [
-    *((automaton(items, body), b"\nAcceptance: %s\n" % formula) for items, body, _, formula in COUNTED),
-    (WRITTEN, b"\n[!(0|t)&0] 0 {0}\n"),
-    (STATES, b"[!0] 3"), (STATES, b"\n[0] 2\n"), (STATES, b"\n[!0|0] 0\n"),
-]
-
-# An automaton, and its drawing with a lasso that no search finds. An edge of both parts is the cycle's, one of neither
-# is plain, one beside an edge of the lasso has an arrow of its own, and 9 is no edge's number.
-BESIDE = automaton(b'States: 2 Start: 0 AP: 1 "a" Acceptance: 1 Inf(0)',
-                   b"State: 0 [0] 1 [!0] 0 State: 1 [t] 1 {0} [0] 0 [!0] 0&1 [f] 1")
-DRAWN = rb"""digraph automaton {
-  rankdir=LR;
-  labelloc=t;
-  label="Inf(0)\n";
-  start0 [shape=point, style=invis];
-  start0 -> 0;
-  0 [label="0\n"];
-  1 [label="1\n"];
-  0 -> 1 [label="edge 0\na\n", style=bold, color=blue];
-  0 -> 0 [label="!a\n"];
-  1 -> 1 [label="edge 2\nt\n{0}\n", style=bold, color=red];
-  1 -> 0 [label="a\n"];
-  1 -> branch4 [label="edge 4\n!a\n", style=bold, color=red, arrowhead=none];
-  branch4 [shape=point];
-  branch4 -> 0 [label="", style=bold, color=red];
-  branch4 -> 1 [label="", style=bold, color=red];
-  1 -> 1 [label="f\n"];
-}
-"""
-
 KNOWN: list[Known] = [
-    *(said("read_label", text, b"", b"<" + label) for text, label, _ in LABELS),
+    *(said("expand", text, b"f", b"<" + label) for text, label, _ in LABELS),
     *(said("end of a label", text, b"", b"0 %d " % end) for text, _, end in LABELS),
     *(said("read_acc", text, b"", b"<" + formula) for text, formula, _ in FORMULAS),
     *(said("end of a formula", text, b"", b"0 %d " % end) for text, _, end in FORMULAS),
@@ -259,18 +213,12 @@ KNOWN: list[Known] = [
     *(said("expand", label, definitions, b"<" + text) if text else refused("expand", label, definitions, b"27 Alias")
       for definitions, label, text in EXPANDED),
     *(said("label", label, b"run", answer) for label, answer in JUDGED),
-    *(said("is_satisfiable", label, b"", answer) for label, answer in SINGLE),
     refused("label", b"t&" + b"&".join(b"%d" % n for n in range(13)), b"run", b"42 TooManyPropositions"),
-    *(said("priority", b" ".join(b"%d" % n for n in [order, parity, count, *marks]), b"", b"%d " % priority)
-      for order, parity, count, marks, priority in PRIORITIES),
     *(of_kind(name, count, formula, b"%s %d ;" % (parity, count) * 2) for name, count, formula, parity in PARITIES),
     *(of_kind(name, count, formula, b"%d 40 " % kind) for name, count, formula, kind in OTHERS),
-    *(said("end of an automaton", front + following, b"", b"%d " % len(front)) for front, following in ACCEPTED),
-    *(begun("automaton", automaton(items, body), b"run", counts) for items, body, counts, _ in COUNTED),
+    *(said("end of an automaton", front + following, b"", b"0 %d " % len(front)) for front, following in ACCEPTED),
+    *(begun("automaton", automaton(items, body), b"run", counts) for items, body, counts in COUNTED),
     *(said("automaton", text, b"run", read) for text, read in READ),
-    refused("read_one", ABORTED, b"", b"3 Syntax at 20"),
-    refused("read_one", b"", b"", b"3 Syntax at 0"),
-    said("draw_lasso", BESIDE, b"stem 0 2 9 cycle 2 4", DRAWN),
     said("read_stream", b"", b"", b""),
 ]
 
@@ -329,15 +277,8 @@ def cut_cases(shimmed: Shimmed) -> Cases:
                                                   [*answers, BROKEN_AT], (1, 0))
 
 
-def within_fault(shimmed: Shimmed, text: bytes, part: bytes) -> Fault:
-    came = given_by(shimmed, "read_one", text, b"")
-    return None if part in came[1] else f"status {came[0]}, {came[1]!r}"
-
-
 def automaton_call_cases(shimmed: Shimmed) -> Cases:
     yield from known_cases(shimmed, KNOWN)
-    for text, part in WITHIN:
-        yield f"canonical text of {text.decode()}: {part.decode().strip()}", within_fault(shimmed, text, part)
     for pieces, answers, items in PIECES:
         yield f"pieces {pieces}", pieces_fault(shimmed, pieces, answers, items)
     yield from cut_cases(shimmed)

@@ -1,6 +1,7 @@
 """What `contained` and `equal` answer, against a plain judge that goes through all words at once. 1,000 random pairs
 are compared both ways, half of them contained by construction. Each `no` has an accepting lasso of the automaton's own
-edges, which `verify --automaton` confirms, and a word along it that the other automaton does not accept.
+edges, which `verify --automaton` confirms, and a word along it that the other automaton does not accept. Where a label
+of the product would be too deep, so that `meet` is refused 55, a counterexample is found all the same.
 
 The propositions of the two stand in one order or another, and some have other names. An automaton contained by
 construction is the other one with more sets to be visited, with edges left out or without a start, two such side by
@@ -13,9 +14,8 @@ from functools import partial
 
 from automata import Automaton, read_one
 from containing import is_contained
-from containment_checks import Narrowed
 from emptiness import has_accepting_lasso, lasso_fault, moves_of, read_lasso
-from product_checks import LANGUAGES, NO_STARTS, NO_STATES, SETLESS, WORDS, beside, join, meet
+from product_checks import LANGUAGES, NO_STARTS, NO_STATES, SETLESS, WORDS, Paired, beside, join, meet
 from products import Letter, accepts, can_be_taken, is_deterministic, names_of, valuations
 from program import Cases, Fault, Ran, shown
 from words import NoWord, admitted, read_word
@@ -23,6 +23,31 @@ from words import NoWord, admitted, read_word
 YES, NO = (0, b"yes\n"), (6, b"no\n")
 # The number of a state behind its label.
 STATE = rb"^(State: (?:\[[^]]*\] )?)(\d+)"
+
+# `a & (b | (a & (b | ..)))`: as it is written 256 deep, and so no text has it as a part of a conjunction.
+DEEPEST = b"0&(1|" * 85 + b"0" + b")" * 85
+DEEP = b"""HOA: v1
+States: 1
+Start: 0
+AP: 2 "a" "b"
+acc-name: all
+Acceptance: 0 t
+--BODY--
+State: 0
+[%s] 0
+--END--
+""" % DEEPEST
+ALWAYS_B = b"""HOA: v1
+States: 1
+Start: 0
+AP: 1 "b"
+acc-name: all
+Acceptance: 0 t
+--BODY--
+State: 0
+[0] 0
+--END--
+"""
 
 
 def told(ran: Ran) -> str:
@@ -132,6 +157,28 @@ def renumbered(pattern: bytes, text: bytes, names: list[int]) -> bytes:
     return re.sub(pattern, lambda found: found.group(1) + b"%d" % names[int(found.group(2))], text, flags=re.MULTILINE)
 
 
+class Narrowed(Paired):
+    """Makes pairs of automata of which the first is contained in the second."""
+
+    def pair(self) -> tuple[bytes, bytes]:
+        other = self.automaton(True)
+        lines = other.split(b"\n")
+        body = lines.index(b"--BODY--")
+        choice = self.some(0, 2)
+        if choice == 0:
+            kept = [line for line in lines if not line.startswith(b"Start:")]
+            return b"\n".join(kept), other
+        if choice == 1:
+            left_out = self.some(body + 1, len(lines) - 2)
+            state = lines[left_out].split(b" ")
+            return b"\n".join([*lines[:left_out], b" ".join(state[:2]), *lines[left_out + 1:]]), other
+        at = next(at for at, line in enumerate(lines) if line.startswith(b"Acceptance:"))
+        count, formula = lines[at].split(b" ", 2)[1:]
+        sets = int(count)
+        lines[at] = b"Acceptance: %d (%s) & Inf(%d)" % (sets + 1, formula, sets)
+        return b"\n".join(lines), other
+
+
 class Contained(Narrowed):
     """Makes pairs of automata of which the first is contained in the second, which is deterministic. Few of them accept
     nothing."""
@@ -230,6 +277,12 @@ def refusal_checks() -> Cases:
                 refused_fault, words, one, other, b"41 UniversalBranch")
 
 
+def deep_checks() -> Cases:
+    """Where a label of the product would be too deep, a counterexample is found all the same."""
+    yield "meet, with the deepest label", partial(refused_fault, ["meet", "--with"], DEEP, ALWAYS_B, b"55 TooLarge")
+    yield "contained, with the deepest label", partial(contained_fault, DEEP, ALWAYS_B, False)
+
+
 def pair_checks() -> Cases:
     maker = Contained(2030)
     for number in range(500):
@@ -254,4 +307,5 @@ def pair_checks() -> Cases:
 def comparing_checks() -> Cases:
     yield from known_checks()
     yield from refusal_checks()
+    yield from deep_checks()
     yield from pair_checks()

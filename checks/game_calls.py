@@ -1,9 +1,9 @@
-"""Answers of `omega_calls` about games that are known by hand: what is read of them, what is at fault in their texts,
-which choices fit and win, what the search and the solvers find, and within which budgets.
+"""Answers of `omega_calls` about games that are known by hand: what is read of them, which choices fit and win, and what
+the solvers find, and within which budgets.
 """
 import re
 
-from known_calls import Known, begun, given_by, known_cases, refused, said
+from known_calls import Known, begun, given_by, known_cases, said
 from memory import Shimmed
 from program import Cases, Fault, Left
 
@@ -11,67 +11,6 @@ from program import Cases, Fault, Left
 GAP = b'9 3 1 4; 4 2 0 9,4 "a";'
 # Node 0 has a better and a worse successor.
 THREE = b"0 0 0 1,2; 1 1 1 0; 2 2 1 0;"
-
-# The text of a game, and the line about what is at fault in it.
-GAME_CAUSES = [
-    (b"0 0 0 0;", b""),
-    (b'parity 9; 9 3 1 4; 4 2 0 9,4 "a";', b""),
-    (b"0 0 0 0; 1 0 0 1; 1 0 0 1; 0 0 0 0;", b"node 1 comes twice"),
-    (b'5 0 0 5; 5 1 1 5 "b"; 5 0 0 5;', b"node 5 comes twice"),
-    (b"5 0 0 5; 3 0 0 5,7,8; 2 0 0 9;", b"node 3: successor 7 is no node"),
-    (b'parity 2; 0 0 0 1 "a";', b"node 0: successor 1 is no node"),
-    (b"parity 3; 0 0 0 9; 9 0 0 0; 5 0 0 0;", b"the header has 3, and there is a node 9"),
-    (b"parity 0; 1 0 0 2; 1 0 0 1;", b"node 1 comes twice"),
-    (b"parity 0; 1 0 0 2;", b"node 1: successor 2 is no node"),
-    (b"0 0 0 7; 0 0 0 0", b""),
-    (b"0 0 0 7; 0 0 0 0; x", b""),
-]
-
-# A text, a place in it, and the line about the place.
-PLACES = [
-    (b"0 0 0 0", 7, b"line 1, column 8: end of the text"),
-    (b"0 0 0 0\n", 8, b"line 2, column 1: end of the text"),
-    (b"", 0, b"line 1, column 1: end of the text"),
-    (b"", 5, b"line 1, column 1: end of the text"),
-    (b"parity 3;\n0 0 2 0;\n", 14, b"line 2, column 5: '2'"),
-    (b"a\n\nparitx 3;", 3, b"line 3, column 1: 'paritx'"),
-    (b"0 0 0 0;1 x;\tb", 10, b"line 1, column 11: 'x;'"),
-    (b"0 0\r\n", 3, b"line 1, column 4: '\\x0d'"),
-    (b"0 0\r\n", 4, b"line 1, column 5: '\\x0a'"),
-    (b"0  0", 1, b"line 1, column 2: ' '"),
-    (b"'\\\x7f\xfe~", 0, b"line 1, column 1: '\\x27\\x5c\\x7f\\xfe~'"),
-    (b"aaaaaaaaaabbbbbbbbbbccccccccccdddddddddd e", 0,
-     b"line 1, column 1: 'aaaaaaaaaabbbbbbbbbbccccccccccdddddddddd'"),
-    (b"aaaaaaaaaabbbbbbbbbbccccccccccdddddddddde", 0,
-     b"line 1, column 1: 'aaaaaaaaaabbbbbbbbbbccccccccccdddddddddd'..."),
-]
-
-# Three nodes: 1 of player 0, 3 of player 1, and 5 of player 0.
-ODD_NODES = b"1 0 0 3; 3 0 1 1,5; 5 0 0 5;"
-
-# The text of a solution of `ODD_NODES`, and the line about what is at fault in it.
-SOLUTION_CAUSES = [
-    (b"paritysol 5; 1 0 3; 3 0; 5 0 5;", b""),
-    (b"paritysol 5; 1 1; 3 1 5; 5 0 5;", b""),
-    (b"paritysol 9; 3 0;", b"the header has 9, and the greatest identifier is 5"),
-    (b"paritysol 5; 3 0; 1 0 3; 5 0 5;", b"node 1 is missing"),
-    (b"paritysol 5; 1 0 3; 5 0 5; 3 0;", b"node 3 is missing"),
-    (b"paritysol 5; 1 0 3; 3 0;", b"node 5 is missing"),
-    (b"paritysol 5;", b"node 1 is missing"),
-    (b"paritysol 5; 1 0 3; 1 0 3; 3 0; 5 0 5;", b"node 1 comes twice"),
-    (b"paritysol 5; 1 0 3; 3 0; 5 0 5; 3 0;", b"node 3 comes twice"),
-    (b"paritysol 5; 1 0 3; 2 0; 2 0;", b"node 2 is not in the game"),
-    (b"paritysol 5; 1 0 3; 3 0; 5 0 5; 7 0;", b"node 7 is not in the game"),
-    (b"paritysol 5; 1 0; 7 0;", b"node 1: no choice, and its owner wins"),
-    (b"paritysol 5; 1 0 3; 3 0 1; 7 0;", b"node 3: a choice, and its owner does not win"),
-    (b"paritysol 5; 1 0 5; 3 0; 5 0 5;", b"node 1: choice 5 is no successor"),
-    (b"paritysol 5; 1 2;", b""),
-]
-
-
-def line(cause: bytes) -> bytes:
-    return b"omega: %s\n" % cause if cause else b""
-
 
 # What is read at a place: identifier, priority, owner, name, and the places of the successors and the predecessors.
 Node = tuple[int, int, int, bytes | None, list[int], list[int]]
@@ -256,36 +195,7 @@ ORDERED_FOR_BOTH = [
     (RISING, TWO_APART, b"paritysol 1; 0 0 0; 1 0 1;", False),
 ]
 
-# Games, and the solution that the search finds.
-SEARCHED = [
-    (b"0 0 0 0;", b"paritysol 0;\n0 0 0;\n"),
-    (b"0 1 0 0;", b"paritysol 0;\n0 1;\n"),
-    (b"0 1 0 1; 1 2 1 0;", b"paritysol 1;\n0 0 1;\n1 0;\n"),
-    # Only one of two successors wins.
-    (THREE, b"paritysol 2;\n0 0 2;\n1 0;\n2 0;\n"),
-    (GAP, b"paritysol 9;\n4 0 4;\n9 0;\n"),
-    # Node 2 can be forced to the greatest priority, which player 0 then loses again. It wins by staying.
-    (b"0 2 1 1; 1 1 1 1; 2 0 0 0,2;", b"paritysol 2;\n0 1 1;\n1 1 1;\n2 0 2;\n"),
-    # Player 1 keeps away from the greatest priority, at node 0, by way of node 1.
-    (b"0 4 0 1; 1 0 1 0,2; 2 3 0 1;", b"paritysol 2;\n0 1;\n1 1 2;\n2 1;\n"),
-    # Each node leads to itself, and player 1 may move from the even one to the odd one.
-    (b"0 2 1 0,1; 1 1 0 1;", b"paritysol 1;\n0 1 1;\n1 1;\n"),
-]
-
-# Texts that give winners to the nodes of `GAP`, whose choices are passed over, and the winner of each place; and texts
-# that do not name each node once.
-WINNERS = [
-    (b"paritysol 9; 4 0; 9 1;", b"01"),
-    (b"paritysol 9; 4 0 77; 9 1;", b"01"),
-    (b"paritysol 9; 4 0;", None),
-    (b"paritysol 9; 9 1; 4 0;", None),
-    (b"paritysol 8; 4 0; 9 1;", None),
-]
-
 KNOWN: list[Known] = [
-    *(said("game_cause", text, b"", line(cause)) for text, cause in GAME_CAUSES),
-    *(said("place_line", text, b"%d" % place, line(shown)) for text, place, shown in PLACES),
-    *(said("solution_cause", ODD_NODES, text, line(cause)) for text, cause in SOLUTION_CAUSES),
     *(begun("game", text, b"run", wanted) for text, wanted in READ),
     *(begun("game of a part", text, b"%d" % name, wanted) for text, name, wanted in PARTS),
     *(said("fits", text, choices(player, [], chosen, []), sign(fit)) for text, player, chosen, fit in FITS),
@@ -296,10 +206,6 @@ KNOWN: list[Known] = [
     *(said("check_strategy_by_order", text, choices(player, [0], [None, None], order), sign(wins))
       for text, player, order, wins in ORDERED),
     *(said(call, text, solution, sign(wins)) for call, text, solution, wins in ORDERED_FOR_BOTH),
-    *(said("solve_by_search", text, b"", solution) for text, solution in SEARCHED),
-    *(refused("read_winners", GAP, text, b"53 BadSolution") if winners is None else
-      said("read_winners", GAP, text, winners) for text, winners in WINNERS),
-    said("turned_priorities", b"0 5 0 1; 1 2 1 2; 2 2 0 3; 3 9 1 0;", b"", b"3 4 4 1 ;"),
     said("read_game", b"parity 9; " + GAP, b"", b'parity 9;\n4 2 0 9,4 "a";\n9 3 1 4;\n'),
 ]
 
@@ -388,20 +294,6 @@ def solver_fault(shimmed: Shimmed, solver: str, row: Row) -> Fault:
     return next((fault for fault in faults if fault), None)
 
 
-def reordered_fault(shimmed: Shimmed, row: Row) -> Fault:
-    """The same of a game that is solved in an order of its own, by the places of the row."""
-    text, player, _, lifts, _, answer = row
-    whole = given_by(shimmed, "Reordered", text, b"%d %d" % (player, MOST))
-    needed = int(whole[1].split()[0]) if lifts is None else lifts
-    wanted = (0, b"%d " % needed + found(answer), b"")
-    spent = (51, b"", b"omega: 51 Budget\n")
-    for budget in [*range(needed + 1), MOST]:
-        came = given_by(shimmed, "Reordered", text, b"%d %d" % (player, budget))
-        if came != (spent if budget < needed else wanted):
-            return f"budget {budget} of {needed} lifts: {came}"
-    return None
-
-
 def bound_fault(shimmed: Shimmed, row: Row) -> Fault:
     """What is wrong with the bound, of which a game's call writes last those of player 0 and player 1."""
     came = given_by(shimmed, "game", row[0], b"run")
@@ -413,7 +305,6 @@ def solver_cases(shimmed: Shimmed, solvers: list[str]) -> Cases:
     for row in SOLVED:
         label = f"{row[0].decode()} for player {row[1]}"
         yield f"bound of {label}", bound_fault(shimmed, row)
-        yield f"Reordered of {label}", reordered_fault(shimmed, row)
         for solver in solvers:
             yield f"{solver} of {label}", solver_fault(shimmed, solver, row)
 

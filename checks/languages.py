@@ -9,8 +9,8 @@ from functools import partial
 from typing import Any
 
 from automata import Refused, read_one
+from comparing_checks import Narrowed
 from containing import is_contained
-from containment_checks import Narrowed
 from products import is_deterministic
 from program import Cases, Fault, shown
 from realizability import asked, is_realizable

@@ -39,6 +39,21 @@ TWO_SETS = (b"HOA: v1 States: 2 Start: 0 acc-name: generalized-Buchi 2 Acceptanc
 PRUNED = (b'HOA: v1 name: "n" States: 3 Start: 0 Start: 2 AP: 1 "a" Acceptance: 2 Fin(0)&Inf(1) --BODY-- '
           b'State: 0 "s" 0 {1} 1 State: 1 [t] 1 {0 1} State: 2 [0] 1')
 
+# Labels and formulas with parentheses and an alias, and names that are long or are written otherwise in a drawing.
+NESTED = (b'HOA: v1 name: "' + b'\\"\\\\&' * 9 + b'" AP: 3 "a" "b" "c" Start: 0 Alias: @a 1|2 '
+          b'Acceptance: 3 (Inf(0) & Fin(!1)) | t & (f | Inf(2)) --BODY-- State: 0 "' + b"n" * 40 +
+          b'" [!(0 & @a) | (t | !!f) & 2] 0 {0} --END--')
+# Names of which one is no identifier, and a letter on the way and one on the cycle.
+LETTERS = (b'HOA: v1 States: 2 Start: 0 AP: 3 "a b" "c" "_d" acc-name: Buchi Acceptance: 1 Inf(0) --BODY-- '
+           b"State: 0 [!0&1] 1 State: 1 [0&(1|2)] 1 {0} [t] 0 --END--")
+# Three states, of which the last has the one closed walk that is accepted.
+GRAPH = (b"HOA: v1 States: 3 Start: 0 Acceptance: 2 Fin(0)&Inf(1) --BODY-- State: 0 [t] 1 {0} State: 1 [t] 0 {1} [t] 2 "
+         b"State: 2 [t] 2 {1} --END--")
+# Labels over more propositions than all valuations are gone through for: one that can be true, and one that cannot.
+MANY = (b"HOA: v1 States: 1 Start: 0 AP: 20 " + b" ".join(b'"p%d"' % n for n in range(20)) +
+        b" Acceptance: 0 t --BODY-- State: 0 [%s] 0 --END--")
+EACH = b"&".join(b"%d" % n for n in range(20))
+
 OFTEN = (b'HOA: v1 States: 1 Start: 0 AP: 1 "a" acc-name: Buchi Acceptance: 1 Inf(0) --BODY-- '
          b"State: 0 [0] 0 {0} [!0] 0 --END--")
 
@@ -52,9 +67,14 @@ RUNS: list[Run] = [
     *(([name, "--format", "pg"], text, None) for text in (TWO, GAPS, CHOICE) for name in ("show", "check", "canon")),
     *(([name, "--format", "hoa"], text, None) for text in (BUCHI, ABORTED, ALIASES, WRITTEN, BUCHI * 3)
       for name in ("show", "check", "canon")),
+    *(([name, "--format", "hoa"], text, None) for name, text in
+      (("canon", NESTED), ("check", BUCHI + b"x"), ("check", b"HOA: v2 --BODY-- --END--"))),
     *((words, text, None) for text in (BUCHI, TWO_SETS, WRITTEN)
       for words in (["game"], ["empty"], ["empty", "--search"], ["empty", "--budget", "1"], ["empty", "--word"],
                     ["empty", "--search", "--word"], ["empty", "--search", "--names"], ["complement"], ["trim"])),
+    *((["complement"], text, None) for text in (ALIASES, NESTED)),
+    (["empty"], b"HOA: v1 Acceptance: 0 t --BODY-- --END--", None),
+    *((["empty", "--search", "--word"], text, None) for text in (LETTERS, GRAPH, MANY % EACH, MANY % (EACH + b"&!7"))),
     *(([*words, "--stream"], BUCHI + ABORTED, None)
       for words in (["empty"], ["empty", "--search", "--word"], ["complement"], ["trim"])),
     *((["contained", *more, "--stream", "--in"], BUCHI + ABORTED, OFTEN) for more in (NONE, ["--explain"])),
@@ -72,8 +92,10 @@ RUNS: list[Run] = [
     (["verify", "--explain", "--names", "--game"], b"paritysol 2; 0 0 1; 1 0; 2 0;", CHOICE.replace(b" 0;", b' 0 "n";')),
     *((["verify", *more, "--game"], b"paritysol 2; 0 0;", CHOICE) for more in (NONE, ["-v"])),
     *((["verify", "--explain", "--automaton"], text, TWO_SETS)
-      for text in (b"stem cycle 1 2 0", b"stem 0 cycle 2", b"stem")),
+      for text in (b"stem cycle 1 2 0", b"stem 0 cycle 2", b"stem cycle 0", b"stem 0 cycle 1", b"stem cycle 3",
+                   b"stem cycle 00", b"stem")),
     *((["meet", "--with"], BUCHI, text) for text in (BUCHI, TWO_SETS, WRITTEN, b"HOA: v1")),
+    *((["meet", "--with"], WRITTEN, text) for text in (BUCHI, TWO_SETS, WRITTEN)),
     *((["meet", "--trim", "--with"], BUCHI, text) for text in (BUCHI, TWO_SETS)),
     (["meet", "-v", "--with"], BUCHI, b"HOA: v1"),
     *((["join", "--with"], BUCHI, text) for text in (BUCHI, TWO_SETS, WRITTEN, b"HOA: v1")),
@@ -83,13 +105,18 @@ RUNS: list[Run] = [
     *(([*words, *more, option], one, other) for words, option in ((["contained"], "--in"), (["equal"], "--to"))
       for one, other in ((BUCHI, OFTEN), (OFTEN, BUCHI), (BUCHI, BUCHI), (BUCHI, b"HOA: v1"))
       for more in (NONE, ["--explain"])),
+    *(([*words, "--explain", option], one, other) for words, option, one, other in
+      ((["contained"], "--in", TWO_SETS, BUCHI), (["contained"], "--in", BUCHI, TWO_SETS),
+       (["equal"], "--to", BUCHI, TWO_SETS))),
     *((["realize", *more], text, None) for text in (ARBITER, SERVANT, GOALS, ARBITER.replace(b"AP: 1 ", b"AP: 1 1 "))
       for more in (NONE, ["--controller"], ["--game"], ["--lift"], ["--lift", "--controller"],
                    ["--lift", "--budget", "0"])),
     *((["verify", *more, "--specification"], one, other) for more in (NONE, ["--explain"])
       for one, other in ((ARBITRATES, ARBITER), (ASKS, SERVANT), (SERVES, GOALS), (SERVES, ARBITER),
                          (ARBITRATES, b"HOA: v1"))),
-    *((["draw", "--format", "pg"], text, None) for text in (GAPS, CHOICE)),
+    *((["draw", "--format", "pg", *more], text, None)
+      for text in (GAPS, CHOICE, CARRY, DENSE, b'4 0 0 4 "' + b"\\&" * 20 + b'";')
+      for more in (NONE, ["--from", "4" if b"4 " in text else "0", "--depth", "2"])),
     (["draw", "--format", "pg", "--from", "1", "--depth", "1"], CHOICE, None),
     (["draw", "--format", "pg", "--from", "9"], CHOICE, None),
     (["draw", "--format", "pg", "--solution"], CHOICE, b"paritysol 2; 0 0 1; 1 0; 2 0;"),
@@ -97,7 +124,7 @@ RUNS: list[Run] = [
     (["draw", "-v", "--format", "pg", "--solution"], CHOICE, b"paritysol 2; 0 0;"),
     *((["draw", "-v", "--format", "pg", "--legend", "--walk"], CHOICE, text) for text in (b"stem\ncycle 0 1\n", b"stem 0")),
     *((["draw", "--format", "hoa", *more], text, None)
-      for text in (BUCHI, TWO_SETS, WRITTEN) for more in (NONE, ["--lasso"])),
+      for text in (BUCHI, TWO_SETS, WRITTEN, NESTED) for more in (NONE, ["--lasso"])),
     (["verify", "--from", "1", "--game"], b"paritysol 1; 1 1 1;", PARTED),
     (["verify", "--explain", "--from", "1", "--game"], b"paritysol 1; 1 0;", PARTED),
     (["verify", "--from", "5", "--game"], b"paritysol 1; 1 0;", PARTED),

@@ -1,7 +1,7 @@
 """The rows of `checks/rows.txt`: command lines, and the status, output and standard error that each leaves, found by
 hand. They also say what help and faults of the command line have. The texts of a few are made here: bounds about 2^128,
-a game too wide for one player, which `solve --search` solves all the same, aliases that double, and complements as deep
-as can be.
+a game too wide for one player, which `solve --search` solves all the same, aliases that double, complements as deep as
+can be, and the priorities of marks by their table.
 """
 import os
 import subprocess
@@ -185,6 +185,29 @@ def deep_complements() -> Cases:
     yield long_row("complement", accepting.format(nested("Inf(0)", "&", 127)), 1, error=too_large)
 
 
+# Of each parity the formulas by their count of sets, and marks of an edge with its priority by the table.
+PRIORITIES: list[tuple[str, dict[int, str], list[tuple[int, str, int]]]] = [
+    ("max even", {0: "f", 3: "Inf(2)|Fin(1)&Inf(0)"},
+     [(3, "0", 2), (3, "1", 3), (3, "2", 4), (3, "", 1), (0, "", 1)]),
+    ("max odd", {0: "t", 3: "Fin(2)&(Inf(1)|Fin(0))"},
+     [(3, "0", 1), (3, "1", 2), (3, "2", 3), (3, "", 0), (0, "", 0)]),
+    ("min even", {0: "t", 3: "Inf(0)|Fin(1)&Inf(2)"},
+     [(3, "0", 4), (3, "1", 3), (3, "2", 2), (3, "", 1), (0, "", 0)]),
+    ("min odd", {0: "f", 2: "Fin(0)&Inf(1)", 3: "Fin(0)&(Inf(1)|Fin(2))"},
+     [(3, "0", 3), (3, "1", 2), (3, "2", 1), (3, "", 0), (2, "", 1), (2, "1", 2), (2, "0 1", 3), (0, "", 1)]),
+]
+
+
+def priorities() -> Cases:
+    """Emptiness games of one state with one edge, whose priority node 1 has."""
+    for parity, formulas, edges in PRIORITIES:
+        for count, marks, priority in edges:
+            text = (f"HOA: v1 States: 1 Start: 0 acc-name: parity {parity} {count} Acceptance: {count} "
+                    f"{formulas[count]} --BODY-- State: 0 [t] 0 {{{marks}}} --END--")
+            output = f"parity 2;\n0 0 0 1;\n1 {priority} 0 0;\n2 1 0 2;\n"
+            yield long_row("game", text, output=output.encode())
+
+
 def row_checks() -> Cases:
     with open(ROWS) as file:
         for row in rows_of(file.read()):
@@ -194,3 +217,4 @@ def row_checks() -> Cases:
     yield from wide_for_one()
     yield from doubling()
     yield from deep_complements()
+    yield from priorities()

@@ -177,9 +177,9 @@ KNOWN: list[Known] = [
     refused("next_pg_token", b" 7;x", b"3", b"1 Lex at 3"),
     *(said("next_pg_number", text, b"%d" % at, b"n%d %d %d " % (found[1], found[2], found[0]) if found else b"")
       for text, at, found in NUMBERS_AT),
-    *(refused(call, text, b"", fault) if fault else
+    *(refused("hoa_tokens", text, b"", fault) if fault else
       said("hoa_tokens", text, b"", b"".join(token(text, part) for part in parts))
-      for text, parts, fault in HOA_TEXTS for call in (("hoa_tokens", "read_raw") if fault else ("hoa_tokens",))),
+      for text, parts, fault in HOA_TEXTS),
     *(said("read_lasso", text, b"", written) for text, written in LASSOS),
     *(refused("read_lasso", text, b"", fault) for text, fault in BROKEN_LASSOS),
     *(said("read_lasso_lines", text, b"", written) for text, written in WORDS),

@@ -1,44 +1,22 @@
-//! Games built: of nodes, by a builder, and with predecessors made after the rest.
+//! Games built of nodes, and by a builder.
 ghost use Rattle.std.specs.Prelude.{◌<◌, length, OnOk};
 
-use omega_game::{ForwardGame, Game, GameBuilder, MOST_NUMBER, NodeSpec, Player, Refusal, Seq};
-use omega_pg::{read_forward_game, write_game};
+use omega_game::{Game, GameBuilder, MOST_NUMBER, NodeSpec, Player, Refusal, Seq};
+use omega_pg::write_game;
 use std::alloc::Global;
 
-pub(crate) fn called(alloc: Global, call: &str, text: &[u8]) -> Result<Vec<u8>, Refusal> {
-    match call {
-        "read_forward_game" => forward_written(alloc, read_forward_game(alloc, text)),
-        "with_predecessors" => written(alloc, completed(alloc, text)),
-        _ => written(alloc, built_of_two(alloc)),
-    }
-}
-
-pub(crate) fn written(alloc: Global, game: Result<Game, Refusal>) -> Result<Vec<u8>, Refusal> {
+fn written(alloc: Global, game: Result<Game, Refusal>) -> Result<Vec<u8>, Refusal> {
     match game {
         Ok(game) => write_game(alloc, game.forward()),
         Err(refusal) => Err(refusal),
     }
 }
 
-fn forward_written(
-    alloc: Global,
-    forward: Result<ForwardGame, Refusal>,
-) -> Result<Vec<u8>, Refusal> {
-    match forward {
-        Ok(forward) => write_game(alloc, &forward),
-        Err(refusal) => Err(refusal),
-    }
-}
-
-/// Returns the game of a text, its predecessors made after the rest.
-fn completed(alloc: Global, text: &[u8]) -> Result<Game, Refusal> {
-    match read_forward_game(alloc, text) {
-        Ok(forward) => forward.with_predecessors(alloc),
-        Err(refusal) => Err(refusal),
-    }
-}
-
 /// Returns the game of two nodes, one of them with a name.
+pub(crate) fn of_two(alloc: Global) -> Result<Vec<u8>, Refusal> {
+    written(alloc, built_of_two(alloc))
+}
+
 fn built_of_two(alloc: Global) -> Result<Game, Refusal> {
     let first = Seq::from_vec(Vec::from_slice(alloc, &[7, 3])?);
     let second = Seq::from_vec(Vec::from_slice(alloc, &[7])?);
@@ -67,15 +45,6 @@ pub(crate) fn built_again(alloc: Global, game: &Game) -> Result<Vec<u8>, Refusal
     let mut builder = GameBuilder::with_room(alloc, 1, 1)?;
     match fill(&mut builder, game) {
         Ok(()) => written(alloc, builder.finish()),
-        Err(refusal) => Err(refusal),
-    }
-}
-
-/// Returns the same without predecessors.
-pub(crate) fn forward_built_again(alloc: Global, game: &Game) -> Result<Vec<u8>, Refusal> {
-    let mut builder = GameBuilder::with_room(alloc, 1, 1)?;
-    match fill(&mut builder, game) {
-        Ok(()) => forward_written(alloc, builder.finish_forward()),
         Err(refusal) => Err(refusal),
     }
 }

@@ -82,14 +82,6 @@ pub(crate) fn all(alloc: Global, numbers: &[u32]) -> Result<Vec<u8>, Refusal> {
     Ok(out)
 }
 
-/// Returns two lists of numbers, each number with a space after it, and each list with `;`.
-pub(crate) fn two_lists(alloc: Global, one: &[u32], other: &[u32]) -> Result<Vec<u8>, Refusal> {
-    let mut out = Vec::new(alloc);
-    put_all(&mut out, one)?;
-    put_all(&mut out, other)?;
-    Ok(out)
-}
-
 /// Whether a text is `<` alone, as it was before a refused request.
 pub(crate) fn is_front(text: &[u8]) -> bool {
     text == b"<".as_slice()

@@ -5,21 +5,16 @@
 //! refuses its requests for memory, and compares what it writes with what is known.
 #![tactic(auto)]
 
-mod automata;
 mod building;
 mod choices;
-mod comparing;
-mod emptiness;
+mod ends;
 mod expressions;
-mod faults;
 mod games;
-mod inputs;
 mod kinds;
 mod lassos;
 mod lists;
 mod quiet;
 mod raw;
-mod searching;
 mod solutions;
 mod solving;
 mod streams;
@@ -109,18 +104,13 @@ fn called(
     match group {
         "tokens" => tokens::called(alloc, call, text, other),
         "expressions" => expressions::called(alloc, call, text, other),
-        "raw" => raw::called(alloc, call, text),
+        "ends" => ends::called(alloc, call, text),
+        "raw" => raw::edges_written(alloc),
         "streams" => streams::called(alloc, call, text),
-        "inputs" => inputs::called(alloc, call, text),
-        "faults" => faults::called(alloc, call, text, other),
-        "building" => building::called(alloc, call, text),
-        "searching" => searching::called(alloc, call, text),
+        "building" => building::of_two(alloc),
         "quiet" => quiet::called(alloc, call, text, other),
         "lassos" => lassos::read_and_written(alloc, call, text),
         "games" | "solutions" | "solving" => games::called(alloc, group, call, text, other),
-        "automata" | "emptiness" | "runs" | "comparing" => {
-            automata::called(alloc, group, call, text, other)
-        }
         _ => Err(Refusal::Io),
     }
 }

@@ -4,17 +4,16 @@ ghost use Rattle.std.specs.Prelude.{◌<◌, length};
 use crate::expressions::label_in;
 use crate::kinds::put_hoa;
 use crate::lists::{put, put_all, put_answer, put_each};
-use omega_acc::{
-    AccKind, Aliases, Label, Order, Parity, ParityKind, RawLabel, acceptance_kind, expand,
-    parity_of, priority, satisfiable,
-};
 use omega_automaton::{Automaton, EdgeRef, State};
+use omega_formula::{AccKind, Order, Parity, ParityKind, acceptance_kind, parity_of, priority};
 use omega_game::{Game, Player, Refusal, Seq, Strategy};
-use omega_hoa::Stream;
+use omega_hoa::{Stream, read_one};
 use omega_io::{Exit, exit_code};
+use omega_label::{Aliases, Label, RawLabel, expand};
 use omega_lift_bound::bound;
 use omega_measure::fits;
 use omega_raw::HeaderValue;
+use omega_satisfying::satisfiable;
 use omega_text::{
     ByteString, Cursor, HoaKind, PgKind, TextCursor, TextFault, Token, TokenKind, TokenSource,
     check_tokens, hoa_tokens, next_hoa_token, next_pg_number, next_pg_token,
@@ -27,10 +26,10 @@ pub(crate) fn called(
     text: &[u8],
     other: &[u8],
 ) -> Result<Vec<u8>, Refusal> {
-    if call == "texts" {
-        texts(alloc, text, runs(other))
-    } else {
-        label(alloc, label_in(alloc, text), runs(other))
+    match call {
+        "texts" => texts(alloc, text, runs(other)),
+        "automaton" => automaton(alloc, read_one(alloc, text), runs(other)),
+        _ => label(alloc, label_in(alloc, text), runs(other)),
     }
 }
 
@@ -200,12 +199,18 @@ fn of_label(alloc: Global, label: &Label, runs: bool) -> Result<Vec<u8>, Refusal
     Ok(out)
 }
 
-/// Calls on an automaton.
-pub(crate) fn of_automaton(
+fn automaton(
     alloc: Global,
-    automaton: &Automaton,
+    read: Result<Automaton, Refusal>,
     runs: bool,
 ) -> Result<Vec<u8>, Refusal> {
+    match read {
+        Ok(automaton) => of_automaton(alloc, &automaton, runs),
+        Err(refusal) => Err(refusal),
+    }
+}
+
+fn of_automaton(alloc: Global, automaton: &Automaton, runs: bool) -> Result<Vec<u8>, Refusal> {
     let mut out = Vec::with_capacity(alloc, 4096)?;
     if runs {
         put_automaton(automaton, &mut out)?;

@@ -1,61 +1,12 @@
-//! Automata as they are written.
-use crate::automata::written;
-use crate::lists::{each, put_all, put_answer};
-use omega_acc::RawLabel;
-use omega_automaton::automaton_of;
-use omega_raw::{RawEdge, RawEdges, StateName, read_raw};
-use omega_text::{
-    ByteString, Cursor, HoaKind, Marks, Numbers, Refusal, TextCursor, TokenSource, check_tokens,
-    hoa_tokens,
-};
+//! Edges as they are written.
+use crate::lists::{put_all, put_answer};
+use omega_label::RawLabel;
+use omega_raw::{RawEdge, RawEdges};
+use omega_text::{Marks, Numbers, Refusal};
 use std::alloc::Global;
 
-pub(crate) fn called(alloc: Global, call: &str, text: &[u8]) -> Result<Vec<u8>, Refusal> {
-    match call {
-        "read_raw" => over_bytes(alloc, text),
-        "automaton_of" => over_tokens(alloc, text),
-        "RawEdges" => edges_written(alloc),
-        "end of an automaton" => raw_end(alloc, text),
-        _ => name_written(alloc, text),
-    }
-}
-
-fn over_bytes(alloc: Global, text: &[u8]) -> Result<Vec<u8>, Refusal> {
-    match check_tokens::<HoaKind>(text) {
-        Ok(()) => meaning(alloc, &mut TextCursor::<HoaKind>::new(text)),
-        Err(fault) => Err(Refusal::Text(fault)),
-    }
-}
-
-/// Returns the same over the list of the text's tokens.
-fn over_tokens(alloc: Global, text: &[u8]) -> Result<Vec<u8>, Refusal> {
-    let tokens = hoa_tokens(alloc, text)?;
-    meaning(alloc, &mut Cursor::new(tokens.as_slice(), text.len()))
-}
-
-/// Returns the canonical text of what is read of tokens.
-fn meaning<'a, S: TokenSource<'a, HoaKind>>(
-    alloc: Global,
-    source: &mut S,
-) -> Result<Vec<u8>, Refusal> {
-    match read_raw(alloc, source) {
-        Ok(raw) => written(alloc, automaton_of(alloc, raw)),
-        Err(refusal) => Err(refusal),
-    }
-}
-
-/// Returns the place after the automaton that a text begins with.
-fn raw_end(alloc: Global, text: &[u8]) -> Result<Vec<u8>, Refusal> {
-    let tokens = hoa_tokens(alloc, text)?;
-    let mut cursor = Cursor::new(tokens.as_slice(), text.len());
-    if let Err(refusal) = read_raw(alloc, &mut cursor) {
-        return Err(refusal);
-    }
-    each(alloc, &[cursor.place() as u128])
-}
-
 /// Returns two short edges and one with a label, in as much memory as they need.
-fn edges_written(alloc: Global) -> Result<Vec<u8>, Refusal> {
+pub(crate) fn edges_written(alloc: Global) -> Result<Vec<u8>, Refusal> {
     let mut edges = RawEdges::new(alloc);
     match push_three(alloc, &mut edges) {
         Ok(()) => written_edges(alloc, &edges.exact(alloc)?),
@@ -120,19 +71,4 @@ fn written_edges(alloc: Global, edges: &RawEdges) -> Result<Vec<u8>, Refusal> {
         put_answer(&mut out, edge.label().is_some())?;
     }
     Ok(out)
-}
-
-/// Returns a name as a state keeps it.
-fn name_written(alloc: Global, text: &[u8]) -> Result<Vec<u8>, Refusal> {
-    match StateName::of(alloc, ByteString::from_slice(alloc, text)?) {
-        Ok(name) => bytes_of(alloc, &name),
-        Err(_) => Err(Refusal::Memory),
-    }
-}
-
-fn bytes_of(alloc: Global, name: &StateName) -> Result<Vec<u8>, Refusal> {
-    match name.as_slice() {
-        Some(bytes) => Ok(Vec::from_slice(alloc, bytes)?),
-        None => Err(Refusal::Io),
-    }
 }

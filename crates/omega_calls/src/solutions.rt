@@ -1,4 +1,4 @@
-//! Solutions of a game and strategies in it: read, judged, written, drawn.
+//! Solutions of a game and strategies in it: read, judged, written.
 ghost use Rattle.std.specs.Prelude.{◌<◌, length, All, IsTrue};
 ghost use Rattle.omega_parity_game.specs.Solution.{IsSolution};
 
@@ -8,7 +8,6 @@ use omega_game::{
     Game, Lasso, MOST_NUMBER, Player, Refusal, Solution, Strategy, check_solution_by_order,
     check_strategy, check_strategy_by_order, check_strategy_fast, counterexample,
 };
-use omega_game_drawing::{Extent, draw_solution};
 use omega_pg::{read_solution, write_solution};
 use std::alloc::Global;
 
@@ -38,7 +37,6 @@ fn of_solution(
 {
     match call {
         "read_solution" => write_solution(alloc, game.forward(), solution),
-        "draw_solution" => draw_solution(alloc, game.forward(), Extent::Whole, solution, true),
         "check_solution_by_order" => judged_by_order(alloc, game, solution, &[2, 1, 0]),
         "by rising order" => judged_by_order(alloc, game, solution, &[0, 1, 2]),
         "by first place" => judged_by_order(alloc, game, solution, &[0]),

@@ -1,17 +1,11 @@
-//! Games solved: by lifting, over each table and each schedule, in an order of their own, and by the search.
+//! Games solved by lifting, over each table and each schedule.
 use crate::choices::player_of;
-use crate::lists::{all, numbers, put, put_all, put_answer, put_each};
+use crate::lists::{numbers, put, put_answer, put_each};
 use crate::quiet::runs;
-use omega_budget::{Found, NoObserver, Reordered};
 use omega_game::{Game, Player, Refusal};
-use omega_judged_search::solve_by_search;
-use omega_order::{FilledWords, Permutation, numbers_below, position_set};
-use omega_pg::write_solution;
 use omega_solve::{
-    MOST_LIFTS, MeasureTable, Nested, Outcome, PackedTable, PlainTable, Schedule, Solver, Sweep,
-    Worklist,
+    MeasureTable, Nested, Outcome, PackedTable, PlainTable, Schedule, Solver, Sweep, Worklist,
 };
-use omega_zielonka::search;
 use std::alloc::Global;
 
 pub(crate) fn of_game(
@@ -26,12 +20,7 @@ pub(crate) fn of_game(
         "plain nested" => lifted::<PlainTable, Nested>(alloc, game, other),
         "packed sweep" => lifted::<PackedTable, Sweep>(alloc, game, other),
         "packed worklist" => lifted::<PackedTable, Worklist>(alloc, game, other),
-        "packed nested" => lifted::<PackedTable, Nested>(alloc, game, other),
-        "Reordered" if other.is_empty() => in_order(alloc, game),
-        "Reordered" => in_order_within(alloc, game, other),
-        "solve_by_search" => found_by_search(alloc, game),
-        "search" => suggestion(alloc, game),
-        _ => order(alloc, game),
+        _ => lifted::<PackedTable, Nested>(alloc, game, other),
     }
 }
 
@@ -180,109 +169,4 @@ fn put_found(out: &mut Vec<u8>, won: &[bool], choices: &[Option<u32>]) -> Result
         put(out, u128::from(choice.unwrap_or(u32::MAX)))?;
     }
     Ok(())
-}
-
-fn in_order(alloc: Global, game: &Game) -> Result<Vec<u8>, Refusal> {
-    match Reordered::of(alloc, game.forward()) {
-        Ok(reordered) => found_for_both(alloc, &reordered),
-        Err(refusal) => Err(refusal),
-    }
-}
-
-fn found_for_both(alloc: Global, reordered: &Reordered<'_>) -> Result<Vec<u8>, Refusal> {
-    let mut out = Vec::new(alloc);
-    put_found_for(alloc, reordered, Player::Zero, MOST_LIFTS, &mut out)?;
-    put_found_for(alloc, reordered, Player::One, MOST_LIFTS, &mut out)?;
-    Ok(out)
-}
-
-/// Returns what is found for the player of the first number of a text within the budget of the second.
-fn in_order_within(alloc: Global, game: &Game, text: &[u8]) -> Result<Vec<u8>, Refusal> {
-    let numbers = numbers(alloc, text)?;
-    match numbers.as_slice() {
-        [number, budget] => within(alloc, game, player_of(*number), u64::from(*budget)),
-        _ => Err(Refusal::Io),
-    }
-}
-
-fn within(alloc: Global, game: &Game, player: Player, budget: u64) -> Result<Vec<u8>, Refusal> {
-    match Reordered::of(alloc, game.forward()) {
-        Ok(reordered) => found_within(alloc, &reordered, player, budget),
-        Err(refusal) => Err(refusal),
-    }
-}
-
-fn found_within(
-    alloc: Global,
-    reordered: &Reordered<'_>,
-    player: Player,
-    budget: u64,
-) -> Result<Vec<u8>, Refusal> {
-    let mut out = Vec::new(alloc);
-    put_found_for(alloc, reordered, player, budget, &mut out)?;
-    Ok(out)
-}
-
-fn put_found_for(
-    alloc: Global,
-    reordered: &Reordered<'_>,
-    player: Player,
-    budget: u64,
-    out: &mut Vec<u8>,
-) -> Result<(), Refusal> {
-    if budget > MOST_LIFTS {
-        return Err(Refusal::Io);
-    }
-    match reordered.solve(alloc, player, budget, &NoObserver, &mut ()) {
-        Ok(found) => put_lifted(out, &found),
-        Err(refusal) => Err(refusal),
-    }
-}
-
-fn put_lifted(out: &mut Vec<u8>, found: &Found) -> Result<(), Refusal> {
-    put(out, u128::from(found.lifts))?;
-    put_found(out, found.won.as_slice(), found.choice.as_slice())
-}
-
-fn found_by_search(alloc: Global, game: &Game) -> Result<Vec<u8>, Refusal> {
-    match solve_by_search(alloc, game)? {
-        Some(solution) => write_solution(alloc, game.forward(), &solution),
-        None => Ok(Vec::from_slice(alloc, b"nothing\n")?),
-    }
-}
-
-fn suggestion(alloc: Global, game: &Game) -> Result<Vec<u8>, Refusal> {
-    match search(alloc, game, 1000)? {
-        Some(suggestion) => all(alloc, suggestion.order.as_slice()),
-        None => Ok(Vec::from_slice(alloc, b"nothing\n")?),
-    }
-}
-
-/// Returns the places of a game in the order of their positions, and how many words its sets of positions have.
-fn order(alloc: Global, game: &Game) -> Result<Vec<u8>, Refusal> {
-    match Permutation::nested(alloc, game.forward()) {
-        Ok(permutation) => positions(alloc, &permutation),
-        Err(_) => Err(Refusal::Memory),
-    }
-}
-
-fn positions(alloc: Global, permutation: &Permutation) -> Result<Vec<u8>, Refusal> {
-    let mut out = Vec::new(alloc);
-    for position in 0..permutation.len() {
-        put(&mut out, u128::from(permutation.place(position)))?;
-    }
-    put_sets(alloc, permutation.len(), &mut out)?;
-    Ok(out)
-}
-
-fn put_sets(alloc: Global, count: u32, out: &mut Vec<u8>) -> Result<(), Refusal> {
-    FilledWords::all(alloc, count)?;
-    put_words(alloc, count, out)?;
-    let numbers = numbers_below(alloc, count)?;
-    put_all(out, numbers.as_slice())
-}
-
-fn put_words(alloc: Global, count: u32, out: &mut Vec<u8>) -> Result<(), Refusal> {
-    let words = position_set::all_positions(alloc, count)?;
-    put(out, words.len() as u128)
 }

@@ -1,7 +1,6 @@
-//! Numbers, tokens, lists, and names in drawings.
+//! Numbers, tokens, strings and lists.
 use crate::kinds::{put_hoa, put_pg};
 use crate::lists::{all, is_front, numbers, only_number, put, put_all, put_answer};
-use omega_dot::{write_escaped, write_name_line};
 use omega_text::{
     ByteString, Numbers, PgKind, Refusal, Seq, TextFault, Token, hoa_tokens, next_pg_number,
     next_pg_token, pg_tokens, write_number,
@@ -21,9 +20,7 @@ pub(crate) fn called(
         "pg_tokens" => pg_places(alloc, text),
         "hoa_tokens" => hoa_places(alloc, text),
         "ByteString" => strings(alloc, text, other),
-        "Numbers" => short_list(alloc),
-        "write_escaped" => escaped(alloc, text),
-        _ => name_line(alloc, text),
+        _ => short_list(alloc),
     }
 }
 
@@ -158,16 +155,4 @@ fn push_again(alloc: Global, list: &mut Numbers, number: u32) -> Result<(), Refu
         Err(_) if list.len() != count => Err(Refusal::Io),
         Err(_) => Ok(list.push(alloc, number)?),
     }
-}
-
-fn escaped(alloc: Global, text: &[u8]) -> Result<Vec<u8>, Refusal> {
-    let mut out = Vec::new(alloc);
-    write_escaped(text, &mut out)?;
-    Ok(out)
-}
-
-fn name_line(alloc: Global, text: &[u8]) -> Result<Vec<u8>, Refusal> {
-    let mut out = Vec::new(alloc);
-    write_name_line(Some(text), &mut out)?;
-    Ok(out)
 }
