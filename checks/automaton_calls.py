@@ -253,7 +253,7 @@ def pieces_fault(shimmed: Shimmed, pieces: list[bytes], answers: list[Reported],
     came = given_by(shimmed, "pieces", b"~".join(pieces), b"")
     wanted = b"".join(b"".join(b"%d " % number for number in answer) + b";" for answer in answers)
     rest = came[1].removeprefix(wanted)
-    counts = (rest.count(b"aborted\n"), rest.count(b"HOA: v1\n"))
+    counts = (rest.count(b"aborted\n"), rest.count(b"automaton "))
     if came[0] or not came[1].startswith(wanted) or rest[:1].isdigit() or counts != items:
         return f"status {came[0]}, {came[1]!r}"
     return None

@@ -1,7 +1,7 @@
-"""Single public calls of the libraries, with every request for memory refused as in *memory*: each that may answer 60
-returns what it does with ample memory, or 60. What a call promises to leave as it was is tried after a refused request.
-Calls that are said to request no memory run with none left, and request none. Calls whose answers are known by hand, on
-texts, games and automata, give these.
+"""Single public calls of the libraries that no command of the program makes, or whose answers none shows, with every
+request for memory refused as in *memory*: each that may answer 60 returns what it does with ample memory, or 60. What a
+call promises to leave as it was is tried after a refused request. Calls that are said to request no memory run with
+none left, and request none. Calls whose answers are known by hand, on texts, games and automata, give these.
 
 The program `omega_calls` makes one call a run. It asks some calls a second time where a request was refused, and ends
 with status 61 where they left something changed that they promise to leave as it was: `write_number`, `write_label` and
@@ -55,7 +55,7 @@ RUNS: list[tuple[str, bytes, bytes, int, bytes]] = [
     ("read_acc", b"Inf(", b"", 3, b""),
     *((call, b"", b"", 0, b"<Inf(0)&t|Fin(!1)") for call in ("RawAcc", "Acc")),
     ("RawEdges", b"", b"", 0, b"1 ;-2 ;-3 ;+"),
-    *((call, STREAM, b"", 0, b"aborted\nHOA: v1\n") for call in ("read_stream", "feed")),
+    *((call, STREAM, b"", 0, b"aborted\nautomaton 0 0 0 0 0 ;;--3 \n") for call in ("read_stream", "feed")),
     *((call, BUCHI + b"x", b"", 3, b"") for call in ("read_stream", "feed")),
     *((call, text, b"", 0, b"parity ") for call in ("read_game", "GameBuilder") for text in GAMES),
     ("read_game", b"0 0 0 1;", b"", 11, b""),

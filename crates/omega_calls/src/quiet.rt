@@ -218,7 +218,8 @@ fn of_automaton(alloc: Global, automaton: &Automaton, runs: bool) -> Result<Vec<
     Ok(out)
 }
 
-fn put_automaton(automaton: &Automaton, out: &mut Vec<u8>) -> Result<(), Refusal> {
+/// Puts what is read of an automaton.
+pub(crate) fn put_automaton(automaton: &Automaton, out: &mut Vec<u8>) -> Result<(), Refusal> {
     let counts = [
         u128::from(automaton.state_count()),
         automaton.propositions().len() as u128,

@@ -1,6 +1,6 @@
 //! Streams of automata, whole and in pieces.
 use crate::lists::put;
-use omega_canon::write_canonical;
+use crate::quiet::put_automaton;
 use omega_hoa::{Item, Stream, read_stream};
 use omega_text::Refusal;
 use std::alloc::Global;
@@ -45,12 +45,21 @@ fn feed_again(stream: &mut Stream, piece: &[u8], items: &mut Vec<Item>) -> Resul
 fn written(alloc: Global, items: &[Item]) -> Result<Vec<u8>, Refusal> {
     let mut out = Vec::new(alloc);
     for item in items {
-        match item {
-            Item::Automaton(automaton) => write_canonical(automaton, &mut out)?,
-            Item::Aborted => out.extend_from_slice(b"aborted\n")?,
-        }
+        put_item(item, &mut out)?;
     }
     Ok(out)
+}
+
+/// Puts a word for the kind of an item, and what is read of an automaton.
+fn put_item(item: &Item, out: &mut Vec<u8>) -> Result<(), Refusal> {
+    match item {
+        Item::Automaton(automaton) => {
+            out.extend_from_slice(b"automaton ")?;
+            put_automaton(automaton, out)?;
+        }
+        Item::Aborted => out.extend_from_slice(b"aborted")?,
+    }
+    Ok(out.push(b'\n')?)
 }
 
 /// Returns what a stream answers to each of the pieces of a text, between which stands `~`, and to its end, and the
