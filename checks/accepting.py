@@ -30,6 +30,26 @@ NAMES = [b"a", b"b", b"c d"]
 WORDS_BY_HAND = [b"cycle{1}", b"cycle{0}", b"cycle{a}", b"cycle{!a}", b"cycle{a;!a}", b"a;cycle{!a}", b"!a;cycle{1;a}",
                  b"0;cycle{a}", b"cycle{a|b}", b'cycle{"a" & !"c d"}', b"b;a;cycle{b}", b"cycle{a|!a}"]
 
+# An automaton that accepts nothing, and whose complement accepts all by an edge without a conjunct: of a word that it
+# does not accept it writes that word. Words as `empty --word` writes them, and with other white space, comments and
+# parentheses; names with quotes and without, and names that need quotes; and how they are written.
+NOTHING = b"HOA: v1 States: 1 Start: 0 AP: 0 Acceptance: 0 f --BODY-- State: 0 [t] 0 --END--"
+WORDS_READ: list[tuple[str, bytes]] = [
+    ("cycle{1}", b"cycle{1}"),
+    ("a; cycle{!a}", b"a; cycle{!a}"),
+    ("b & !a; a; cycle{a | b; b}", b"b & !a; a; cycle{a | b; b}"),
+    ('"b c"; cycle{a & "b c"}', b'"b c"; cycle{a & "b c"}'),
+    ('"a"; cycle{a}', b"a; cycle{a}"),
+    ("\n a&(b|!c)\t;cycle {1 ; 1\r\n}  ", b"a & (b | !c); cycle{1; 1}"),
+    ("a /* ; */ ; cycle{a}/* cycle */", b"a; cycle{a}"),
+    ('"cycle"; cycle{"t" | "F1" | "U"}', b'"cycle"; cycle{"t" | "F1" | "U"}'),
+    ('"a;b"; cycle{"a\\"}"}', b'"a;b"; cycle{"a\\"}"}'),
+    # Two signs of negation go where they stand before a conjunct.
+    ("!!a; cycle{a | b & !c | 0}", b"a; cycle{a | b & !c | 0}"),
+    ("cycle{!!a | b}", b"cycle{!!a | b}"),
+    ('_a0; Up; cycle{""}', b'_a0; Up; cycle{""}'),
+]
+
 
 def is_accepted(automaton: Automaton, word: Symbolic) -> bool:
     """Whether each word that the letters admit is accepted by the automaton, which is deterministic."""
@@ -212,6 +232,10 @@ def limit_checks() -> Cases:
 
 def accepting_checks() -> Cases:
     yield from limit_checks()
+    for given, line in WORDS_READ:
+        wanted = b"no\nword " + line + b"\n"
+        yield f"the word {given!r} read", partial(fault_of, [*asked(given), "--explain"], NOTHING, 6, wanted)
+    yield "a word that admits nothing", partial(fault_of, [*asked("cycle{0}"), "--explain"], NOTHING, 0, b"yes\n")
     for text in (*(text for text, _ in LANGUAGES), NO_STARTS, NO_STATES, SETLESS):
         for word in WORDS_BY_HAND:
             yield f"{word!r} in {shown(text)}", partial(accepts_fault, word, text)

@@ -1,7 +1,7 @@
 """The rows of `checks/rows.txt`: command lines, and the status, output and standard error that each leaves, found by
 hand. They also say what help and faults of the command line have. The texts of a few are made here: bounds about 2^128,
-a game too wide for one player, which `solve --search` solves all the same, aliases that double, complements as deep as
-can be, and the priorities of marks by their table.
+games about as wide as can be, and too wide for one player, which `solve --search` solves all the same, aliases that
+double, complements as deep as can be, and the priorities of marks by their table.
 """
 import os
 import subprocess
@@ -149,6 +149,17 @@ def wide_for_one() -> Cases:
     yield long_row("solve --search --from 8192", text, output=b"paritysol 8192;\n8192 1;\n")
 
 
+def widest() -> Cases:
+    """Nodes times odd priorities at both sides of the limit, which is 8,192 times 8,192; 8,321 times 8,065 is one more.
+    Each node leads to itself, so that player 1 wins all without a lift, for whom no priority is lost."""
+    widths = ((8192, 8192, 3, b"omega: 51 Budget\n"), (8321, 8065, 1, b"omega: 50 TooWide\n"))
+    for nodes, odd, status, error in widths:
+        text = "".join(f"{node} {2 * min(node, odd - 1) + 1} 0 {node};" for node in range(nodes))
+        yield long_row("solve --player 0 --budget 0", text, status, error=error)
+        won = "".join(f"{node};\n" for node in range(nodes))
+        yield long_row("solve --player 1", text, output=f"player 1 lifts 0\n{won}".encode())
+
+
 def doubling() -> Cases:
     """Aliases of which each is twice as large as the one before, and a label that is the last of them."""
     for last, status, output, error in ((14, 0, b"accepted\n", b""), (15, 1, b"", b"omega: 33 Expansion\n"),
@@ -215,6 +226,7 @@ def row_checks() -> Cases:
                 yield f"line {row.number}: {command}", partial(row_fault, row, command)
     yield from odd_loops()
     yield from wide_for_one()
+    yield from widest()
     yield from doubling()
     yield from deep_complements()
     yield from priorities()
