@@ -1,6 +1,7 @@
 """What `accepts --word` answers, against a plain judge that goes through all words that the letters admit at once.
 1,500 random words of formulas are asked of random deterministic automata, whose propositions are other names in part.
-Each line `word` after `no` admits words that the word admits and the automaton does not accept.
+Each line `word` after `no` admits words that the word admits and the automaton does not accept. An automaton that
+accepts nothing writes back what was read of a word.
 
 A letter may be true at many sets of names, so that a word admits infinite words that repeat nothing. 600 words whose
 letters leave no proposition open are asked of random automata, most of them with choices. Else what is not
