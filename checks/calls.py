@@ -17,8 +17,9 @@ from functools import partial
 from automaton_calls import automaton_call_cases
 from game_calls import game_call_cases
 from known_calls import SOLVERS, words_for
-from memory import (ABORTED, ALIASES, BUCHI, CARRY, CHOICE, DENSE, GAPS, TWO, TWO_SETS, WRITTEN, Shimmed, shim)
+from memory import ABORTED, ALIASES, BUCHI, CARRY, CHOICE, DENSE, GAPS, TWO, TWO_SETS, WRITTEN, Shimmed
 from program import ROOT, Cases, Fault, Left, shown
+from shims import shim
 from text_calls import text_call_cases
 
 CRATE = os.path.join(ROOT, "crates", "omega_calls")
@@ -160,7 +161,7 @@ def fed_again_fault(shimmed: Shimmed, whole: Left, requests: int) -> Fault:
 
 def call_checks() -> Cases:
     build()
-    with shim() as (folder, path):
+    with shim("refusing") as (folder, path):
         shimmed = Shimmed(folder, path, CALLS)
         for run in RUNS:
             yield from refused_calls(shimmed, *run)

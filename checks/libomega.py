@@ -24,6 +24,7 @@ from languages import language_checks
 from notebook import notebook_checks
 from program import ROOT, SECONDS, Cases, Fault, run_of
 from rows import FAULT, ROWS, Row, rows_of
+from shims import built_shim
 from stacks import stack_checks
 from wrapper import wrapper_checks
 
@@ -228,16 +229,17 @@ def row_runs(omega: Any) -> Cases:
 
 def reads_only_g(row: Row, command: str) -> bool:
     """Whether each file that a command line names is the row's: the library has one file, whatever its name."""
-    words = command.split()
+    front, _, behind = command.partition(" -- ")
+    words = front.split()
     operands = [word for before, word in zip(words, words[1:]) if not word.startswith("-") and before not in VALUED]
-    return row.status != UNREAD and all(name == "g" for name in [*NAMED.findall(command), *operands])
+    return row.status != UNREAD and all(name == "g" for name in [*NAMED.findall(front), *operands, *behind.split()])
 
 
 def row_run_fault(omega: Any, row: Row, command: str) -> Fault:
     """What the library leaves of a row's text that is not what is wanted, or nothing."""
     text = row.text
     for words in command.split(" | "):
-        ran = omega.run(words.split(), text, row.file or b"")
+        ran = omega.run(words.split(), text, row.files.get("g", b""))
         text = ran.output
     if ran.status != row.status:
         return f"status {ran.status} for {row.status}"
@@ -361,11 +363,9 @@ def small_stacks(folder: str) -> Cases:
 
 def refused_memory(folder: str) -> Cases:
     """Each request for memory during all calls in C refused: 60, every array as it was, and every block given back."""
-    shim = os.path.join(folder, "refusing.so")
-    subprocess.run(["cc", "-O2", "-shared", "-fPIC", "-o", shim, os.path.join(HERE, "refusing.c"), "-ldl"], check=True)
     made, said = compiled(folder, "calls", source_of("calls.c"), STATIC)
     yield "the calls in C compile", said or None
-    env = {"LD_PRELOAD": shim, "REFUSE_COUNT": os.path.join(folder, "count")}
+    env = {"LD_PRELOAD": built_shim("refusing", folder), "REFUSE_COUNT": os.path.join(folder, "count")}
     yield "all calls in C", partial(ran_fault, [made])
     yield "all calls in C from four threads", partial(ran_fault, [made, "threads"])
     # This run counts the requests that are refused below.

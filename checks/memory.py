@@ -3,17 +3,15 @@ with the line `omega: 60 Memory`, status 4 and no output, or exactly as with amp
 last line of a refusal, which says where or what. Runs that differ in nothing but their lifts make as many requests: a
 solver that was made requests none.
 """
-import contextlib
 import os
 import subprocess
-import tempfile
-from collections.abc import Iterator, Sequence
+from collections.abc import Sequence
 from functools import partial
 
 from program import OMEGA, SECONDS, Cases, Fault, Left, shown
+from shims import shim
 from specifications import ARBITER, ARBITRATES, ASKS, GOALS, SERVANT, SERVES
 
-HERE = os.path.dirname(os.path.abspath(__file__))
 REFUSED = (4, b"", b"omega: 60 Memory\n")
 
 TWO = b"0 1 0 1; 1 2 1 0;"
@@ -149,16 +147,6 @@ RUNS: list[Run] = [
 ]
 
 
-@contextlib.contextmanager
-def shim() -> Iterator[tuple[str, str]]:
-    """The path of the shim that refuses requests, compiled for these runs, in a folder that is removed after them."""
-    with tempfile.TemporaryDirectory() as folder:
-        path = os.path.join(folder, "refusing.so")
-        source = os.path.join(HERE, "refusing.c")
-        subprocess.run(["cc", "-O2", "-shared", "-fPIC", "-o", path, source, "-ldl"], check=True)
-        yield folder, path
-
-
 class Shimmed:
     """A program under the shim."""
 
@@ -235,7 +223,7 @@ def lifting_fault(shimmed: Shimmed) -> Fault:
 
 
 def memory_checks() -> Cases:
-    with shim() as (folder, path):
+    with shim("refusing") as (folder, path):
         shimmed = Shimmed(folder, path)
         for words, text, held in RUNS:
             yield from refused_runs(shimmed, words, text, held)

@@ -22,7 +22,7 @@ class Row:
     def __init__(self, number: int) -> None:
         self.number = number
         self.commands: list[str] = []
-        self.file: bytes | None = None
+        self.files: dict[str, bytes] = {}
         self.text = b""
         self.status = 0
         self.output = b""
@@ -33,8 +33,8 @@ class Row:
         """Takes what a line has after its mark."""
         if mark == "$":
             self.commands.append(rest)
-        elif mark == "g:":
-            self.file = plain(rest)
+        elif mark.endswith(":"):
+            self.files[mark[:-1]] = plain(rest)
         elif mark == "<":
             self.text = plain(rest)
         elif mark == "=":
@@ -100,9 +100,9 @@ def said_fault(row: Row, run: Ran) -> Fault:
 def row_fault(row: Row, command: str) -> Fault:
     """What a command line leaves of a row's text that is not what is wanted, or nothing."""
     with tempfile.TemporaryDirectory() as folder:
-        if row.file is not None:
-            with open(os.path.join(folder, "g"), "wb") as file:
-                file.write(row.file)
+        for name, held in row.files.items():
+            with open(os.path.join(folder, name), "wb") as file:
+                file.write(held)
         run = run_in(folder, command, row.text)
     if run.returncode != row.status:
         return f"status {run.returncode} for {row.status}: {shown(run.stdout)} {shown(run.stderr)}"

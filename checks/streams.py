@@ -1,7 +1,8 @@
 """Which status a run ends with, and what stands on which stream. Tried are faults of the command line, words that are
 no text, files that cannot be read or are no texts, named by an option or by the operand, streams that fail or are
-closed, with the reasons that are told of them, and a pipe that nobody reads, of which nothing is told. Help names the
-limits as they are.
+closed, with the reasons that are told of them, and a pipe that nobody reads, of which nothing is told. A shim has the
+input and the output give and take a byte at a time, and fail behind each number of bytes: nothing is written, or a
+beginning of the answer. Help names the limits as they are.
 
 This is what `main` adds to what is proved of `obey`.
 """
@@ -12,6 +13,7 @@ from collections.abc import Iterator
 from typing import Any
 
 from program import OMEGA, SECONDS, Cases, Ran, fault_of, fault_with_file, shown, subcommands
+from transfers import transfer_checks
 
 CHOICE = b"0 0 0 1,2; 1 1 1 0; 2 2 1 0;"
 SOLUTION = b"paritysol 2; 0 0 2; 1 0; 2 0;"
@@ -79,6 +81,23 @@ def command_lines() -> Cases:
     came = run([b"solve", b"\xff"])
     good = came.returncode == 2 and not came.stdout and came.stderr == NO_TEXT
     yield "a word that is no text", None if good else left(came)
+
+
+def odd_names() -> Cases:
+    """A file whose name has a tabulator, and names of the program, which are no words of its command line."""
+    with tempfile.TemporaryDirectory() as folder:
+        name = os.path.join(folder, "my\tgame.pg")
+        with open(name, "wb") as file:
+            file.write(CHOICE)
+        yield "a name with a tabulator", fault_of(["verify", "--game", name], SOLUTION, 0, b"yes\n")
+    shown_game = b"game nodes 3 edges 4 greatest 2\nplayer 0 bound 6\nplayer 1 bound 12\n"
+    emptiness_game = b"parity 2;\n0 0 0 1;\n1 0 0 0;\n2 1 0 2;\n"
+    automaton = b"HOA: v1 States: 1 Start: 0 acc-name: all Acceptance: 0 t --BODY-- State: 0 [t] 0 --END--"
+    for name, words, text, output in (("--help", ["show", "--format", "pg"], CHOICE, shown_game),
+                                      ("./o", ["game"], automaton, emptiness_game)):
+        came = subprocess.run([name, *words], executable=OMEGA, input=text, capture_output=True, timeout=SECONDS)
+        good = (came.returncode, came.stdout, came.stderr) == (0, output, b"")
+        yield f"a program of the name {name}", None if good else f"{came}"
 
 
 def help_texts() -> Cases:
@@ -149,6 +168,8 @@ def broken_streams() -> Cases:
 def stream_checks() -> Cases:
     yield from statuses()
     yield from command_lines()
+    yield from odd_names()
     yield from help_texts()
     yield from closed_streams()
     yield from broken_streams()
+    yield from transfer_checks()
