@@ -10,12 +10,24 @@ use omega_parity_game::Refusal;
 use std::alloc::Global;
 
 /// The places and the steps of a lasso. A step is a place with the one after it.
-#[derive(Drop)]
 pub(crate) struct Marks {
     pub(crate) stem: IndexSet<u32>,
     pub(crate) cycle: IndexSet<u32>,
     pub(crate) stem_steps: IndexSet<(u32, u32)>,
     pub(crate) cycle_steps: IndexSet<(u32, u32)>,
+}
+
+impl Drop for Marks {
+    // Written by hand, so that each function that owns marks calls it. What a derive drops is dropped field by field at
+    // each exit of such a function, and is proved there.
+    fn drop(self) {
+        let Marks {
+            stem: _,
+            cycle: _,
+            stem_steps: _,
+            cycle_steps: _,
+        } = self;
+    }
 }
 
 impl Marks {
