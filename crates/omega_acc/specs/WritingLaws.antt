@@ -4,11 +4,11 @@ use Rattle.std.specs.Prelude.{◌≡◌, ◌≢◌, ℕ, ◌+◌, ◌≤◌, fal
 use Rattle.omega_formula.specs.Meaning.{acc_meant}
 use Rattle.omega_formula.specs.Reading.{IsAccOf, formula_symbols}
 use Rattle.omega_formula.specs.Acceptance.{AccTree}
-use Rattle.omega_label.specs.Expanding.{Defined, Entry, Meaning, expansion, replaced}
+use Rattle.omega_aliases.specs.Expanding.{Defined, Entry, Meaning, expansion, replaced}
 use Rattle.omega_label.specs.Label.{LabelTree}
 use Rattle.omega_formula.specs.Raw.{RawAccTree, raw_acc_depth}
 use Rattle.omega_label.specs.Raw.{RawLabelTree, raw_depth}
-use Rattle.omega_label.specs.Reading.{IsOf, label_symbols}
+use Rattle.omega_label_reading.specs.Reading.{IsOf, label_symbols}
 use Rattle.omega_expression.specs.Symbols.{ExpressionSymbol, disjunctive, expression_symbol_of}
 use Rattle.omega_label.specs.Writing.{NumbersFit, label_text, label_written}
 use Rattle.omega_formula.specs.Writing.{SetsFit, acc_text, acc_written}

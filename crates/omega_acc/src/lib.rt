@@ -1,7 +1,8 @@
 //! Label and acceptance formulas of omega-automata, aliases, acceptance kinds and priorities, and their laws.
 //!
-//! What labels and formulas are, and what is done with them, the crates `omega_label`, `omega_formula` and
-//! `omega_satisfying` have; all of it is handed on here. The laws of kinds and of canonical texts are in `laws`.
+//! What labels and formulas are, and what is done with them, the crates `omega_label`, `omega_label_reading`,
+//! `omega_aliases`, `omega_formula` and `omega_satisfying` have; all of it is handed on here. The laws of kinds and of
+//! canonical texts are in `laws`.
 //!
 //! docs/formats.md says when each `Refusal` comes.
 #![tactic(auto)]
@@ -13,6 +14,7 @@ pub use laws::{
     written_formulas_are_shallowest, written_formulas_mean, written_labels_are_shallowest,
     written_labels_mean,
 };
+pub use omega_aliases::{Aliases, Extent, expand, expand_in_place, expanded_size};
 pub use omega_expression::{
     MOST_BUCHI_SETS, MOST_DEPTH, MOST_MENTIONED, MOST_SIZE, expression_limits_are_stated,
 };
@@ -21,8 +23,6 @@ pub use omega_formula::{
     equal_formulas_are_equal_trees, formulas_are_one, parity_of, priority, read_acc, read_raw_acc,
     write_acc,
 };
-pub use omega_label::{
-    Aliases, Extent, Label, LabelShape, RawLabel, equal_labels_are_equal_trees, expand,
-    expand_in_place, expanded_size, labels_are_one, read_label, read_raw_label, write_label,
-};
+pub use omega_label::{Label, LabelShape, RawLabel, equal_labels_are_equal_trees, write_label};
+pub use omega_label_reading::{labels_are_one, read_label, read_raw_label};
 pub use omega_satisfying::satisfiable;

@@ -3,7 +3,7 @@ use Rattle.std.proofs.Common.{◌≡◌, ℕ, zero, suc, ◌+◌, List, [], ◌�
 use Rattle.std.specs.Prelude.{slice_get}
 use Rattle.std.specs.List.{AllZip, flat_map}
 use Rattle.std.specs.Option.{option_or}
-use Rattle.omega_label.specs.Expanding.{Meaning, expansion}
+use Rattle.omega_aliases.specs.Expanding.{Meaning, expansion}
 use Rattle.omega_label.specs.Label.{LabelTree}
 use Rattle.omega_label.specs.Raw.{RawLabelTree}
 use Rattle.omega_automaton.specs.Automaton.{BodyEdge, edges_from}

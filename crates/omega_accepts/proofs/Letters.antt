@@ -1,6 +1,6 @@
 -- A letter is true where what it means is: parentheses change nothing, and there are no aliases.
 use Rattle.std.proofs.Common.{◌≡◌, Bool, not, ◌&&◌, ◌||◌, ℕ, [], Option, Some, None, option_map, refl, sym, ap, ap₂, ◌∙◌, unwrap_or}
-use Rattle.omega_label.specs.Expanding.{Meaning, both, in_parentheses, negated, replaced}
+use Rattle.omega_aliases.specs.Expanding.{Meaning, both, in_parentheses, negated, replaced}
 use Rattle.omega_label.specs.Label.{LabelTree, truth}
 use Rattle.omega_label.specs.Label as label
 use Rattle.omega_label.specs.Raw.{RawLabelTree, alias, conjunction, constant, disjunction, group, negation, proposition}

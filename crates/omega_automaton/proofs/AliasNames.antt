@@ -3,7 +3,7 @@ use Rattle.std.proofs.Common.{◌≡◌, ℕ, suc, ◌<◌, ◌≤◌, Bool, tru
 use Rattle.std.specs.Str.{bytes_eq}
 use Rattle.omega_text.specs.declared.refusal.Refusal.{Refusal}
 use Rattle.omega_text.specs.declared.refusal.Refusal.TheVariants.{Automaton, Game, Io, Memory, Task, Text}
-use Rattle.omega_label.specs.Expanding.{Defined, IsRepeated, expansion, place_among}
+use Rattle.omega_aliases.specs.Expanding.{Defined, IsRepeated, expansion, place_among}
 use Rattle.omega_label.specs.Raw.{RawLabelTree}
 use Rattle.omega_automaton.specs.declared.making.definitions.Definitions.{Definitions}
 use Rattle.omega_automaton.specs.private.layout.Definitions.{IsUndefinable, is_named}

@@ -8,7 +8,7 @@ use Rattle.std.proofs.lemmas.List.Folds.{list_any-append}
 use Rattle.omega_text.specs.declared.refusal.Refusal.{Refusal}
 use Rattle.omega_text.specs.declared.refusal.Refusal.TheVariants.{Automaton, Game, Io, Memory, Task, Text}
 use Rattle.omega_text.specs.Cases.{IsMemory}
-use Rattle.omega_label.specs.Expanding.{Defined, Entry, Meaning, entries_of, expansion, replaced}
+use Rattle.omega_aliases.specs.Expanding.{Defined, Entry, Meaning, entries_of, expansion, replaced}
 use Rattle.omega_automaton.specs.Automaton.{has_repeat}
 use Rattle.omega_automaton.specs.Faults.{is_deep, is_large}
 use Rattle.omega_automaton.specs.declared.making.definitions.Definitions.{Definitions}

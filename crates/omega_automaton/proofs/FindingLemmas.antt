@@ -3,7 +3,7 @@ use Rattle.std.proofs.Common.{◌≡◌, ℕ, ◌+◌, ◌<◌, Bool, ◌||◌, 
 use Rattle.std.specs.List.{list_any}
 use Rattle.std.proofs.lemmas.List.Folds.{list_any_more}
 use Rattle.std.proofs.lemmas.List.Sums.{sum_by_more}
-use Rattle.omega_label.specs.Expanding.{Meaning}
+use Rattle.omega_aliases.specs.Expanding.{Meaning}
 use Rattle.omega_automaton.specs.Faults.{is_deep, is_large}
 use Rattle.omega_automaton.specs.declared.judging.findings.Findings.{Findings}
 use Rattle.omega_automaton.specs.private.layout.Findings.{AreFound, AreJoinedFindings, capped, is_faulty}

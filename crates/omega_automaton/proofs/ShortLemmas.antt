@@ -1,7 +1,7 @@
 -- Edges that are written in short mean edges that are kept in short.
 use Rattle.std.proofs.Common.{ℕ, List, [], ◌∷◌, Option, None, Some, map, option_map, unwrap_or, refl, arith}
 use Rattle.std.specs.List.{AllZip}
-use Rattle.omega_label.specs.Expanding.{Defined}
+use Rattle.omega_aliases.specs.Expanding.{Defined}
 use Rattle.omega_raw.specs.declared.short_edge.ShortEdge.{ShortEdge}
 use Rattle.omega_raw.specs.Edges.{lengthened}
 use Rattle.omega_automaton.specs.Meaning.{AreMarksOf, IsEdgeOf}

@@ -6,7 +6,7 @@ use Rattle.std.proofs.lemmas.List.Folds.{list_any_at}
 use Rattle.omega_text.specs.declared.refusal.automaton.AutomatonFault.TheVariants.{AcceptanceAtom, Alias, Expansion, MissingAcceptance, TooDeep}
 use Rattle.omega_formula.specs.Meaning.{acc_meant, fault_of_meant}
 use Rattle.omega_formula.specs.Acceptance.{AccTree}
-use Rattle.omega_label.specs.Expanding.{Defined, Meaning, expansion}
+use Rattle.omega_aliases.specs.Expanding.{Defined, Meaning, expansion}
 use Rattle.omega_label.specs.Label.{label_size}
 use Rattle.omega_expression.specs.Limits.{most_depth, most_size}
 use Rattle.omega_formula.specs.Raw.{raw_acc_depth}

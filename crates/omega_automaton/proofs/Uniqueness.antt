@@ -2,7 +2,7 @@
 use Rattle.std.proofs.Common.{◌≡◌, ℕ, List, [], ◌∷◌, Option, Some, None, refl, ap, sym, ◌∙◌}
 use Rattle.std.specs.List.{AllZip}
 use Rattle.omega_formula.specs.Acceptance.{AccTree}
-use Rattle.omega_label.specs.Expanding.{Defined}
+use Rattle.omega_aliases.specs.Expanding.{Defined}
 use Rattle.omega_label.specs.Label.{LabelTree}
 use Rattle.omega_label.specs.Raw.{RawLabelTree}
 use Rattle.omega_formula.specs.declared.name.AccName.{AccName}

@@ -7,7 +7,7 @@ use Rattle.omega_text.specs.Limits.{most_number}
 use Rattle.omega_text.specs.declared.refusal.automaton.AutomatonFault.{AutomatonFault}
 use Rattle.omega_text.specs.declared.refusal.automaton.AutomatonFault.TheVariants.{AcceptanceAtom, Alias, Expansion, ImplicitCount, MissingAcceptance, MixedLabels, Proposition, RepeatedHeader, SetRange, StateRange, StateTwice, TooDeep, UnknownHeader, Version}
 use Rattle.omega_formula.specs.Meaning.{acc_meant, acc_sets}
-use Rattle.omega_label.specs.Expanding.{Defined, Entry, Meaning, entries_of, expansion}
+use Rattle.omega_aliases.specs.Expanding.{Defined, Entry, Meaning, entries_of, expansion}
 use Rattle.omega_label.specs.Label.{label_size}
 use Rattle.omega_expression.specs.Limits.{most_depth, most_size}
 use Rattle.omega_formula.specs.Raw.{raw_acc_depth}

@@ -1,7 +1,7 @@
 -- What the items of a header say, as they are written (HOA v1, header).
 use Rattle.std.specs.Prelude.{ℕ, List, [], Option, Some, None, slice_get}
 use Rattle.std.specs.List.{filter_map}
-use Rattle.omega_label.specs.Expanding.{Defined}
+use Rattle.omega_aliases.specs.Expanding.{Defined}
 use Rattle.omega_formula.specs.Raw.{RawAccTree}
 use Rattle.omega_formula.specs.declared.name.AccName.{AccName}
 use Rattle.omega_raw.specs.declared.raw_item.RawItem.{RawItem}

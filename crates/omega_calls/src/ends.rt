@@ -1,7 +1,7 @@
 //! Where labels, acceptance formulas and automata end in a text.
 use crate::lists::each;
 use omega_formula::read_acc;
-use omega_label::read_label;
+use omega_label_reading::read_label;
 use omega_raw::read_raw;
 use omega_text::{Cursor, HoaKind, Refusal, TokenSource, hoa_tokens};
 use std::alloc::Global;

@@ -1,7 +1,9 @@
 //! Labels over aliases, and acceptance formulas: read, built, taken apart, measured and written.
 use crate::lists::{answer, each, is_front, numbers, put, put_answer};
+use omega_aliases::{Aliases, expand, expanded_size};
 use omega_formula::{Acc, RawAcc, read_acc, read_raw_acc, write_acc};
-use omega_label::{Aliases, Label, RawLabel, expand, expanded_size, read_label, write_label};
+use omega_label::{Label, RawLabel, write_label};
+use omega_label_reading::read_label;
 use omega_text::{Cursor, HoaKind, Refusal, TextCursor, check_tokens, hoa_tokens};
 use std::alloc::Global;
 

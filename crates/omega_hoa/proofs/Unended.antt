@@ -9,7 +9,7 @@ use Rattle.omega_formula.specs.Raw.{RawAccTree}
 use Rattle.omega_formula.specs.Raw as acc
 use Rattle.omega_label.specs.Raw.{RawLabelTree}
 use Rattle.omega_label.specs.Raw as tree
-use Rattle.omega_label.specs.Reading.{label_symbols}
+use Rattle.omega_label_reading.specs.Reading.{label_symbols}
 use Rattle.omega_expression.specs.Symbols as seen
 use Rattle.omega_raw.specs.Symbols.{ReadsSymbol, AutomatonSymbol, alias, formula, header, label, number, sign, text, word}
 use Rattle.omega_hoa.specs.Stream.{NoneEnds, is_end}

@@ -5,7 +5,7 @@ use Rattle.omega_text.specs.declared.hoa.kind.HoaKind.{HoaKind}
 use Rattle.omega_formula.specs.Reading.{ReadsAcc}
 use Rattle.omega_formula.specs.Raw.{RawAccTree}
 use Rattle.omega_label.specs.Raw.{RawLabelTree}
-use Rattle.omega_label.specs.Reading.{Reads}
+use Rattle.omega_label_reading.specs.Reading.{Reads}
 use Rattle.omega_expression.specs.Symbols.{EndsThere, seen_as, expression_symbol_of}
 use Rattle.omega_raw.specs.Grammar.{automaton_symbols}
 use Rattle.omega_raw.specs.Symbols.{ReadsSymbol, IsNext, Shows, ReadsSymbols, AutomatonSymbol, alias, formula, header, label, number, sign, text, without_last, word}

@@ -5,7 +5,7 @@ use Rattle.std.proofs.lemmas.List.Folds.{list_all-append}
 use Rattle.omega_expression.proofs.BelowLemmas.{all-joined, all-last}
 use Rattle.omega_label.specs.Raw.{RawLabelTree, alias, conjunction, constant, disjunction, group, negation, proposition, raw_propositions}
 use Rattle.omega_label.specs.private.layout.Propositions.{proposition_below}
-use Rattle.omega_label.specs.private.layout.Raw.{raw_postfix}
+use Rattle.omega_label.specs.Postfix.{raw_postfix}
 use Rattle.omega_label.specs.declared.label.LabelNode.TheVariants.{And, Group, Not, Or}
 
 -- a label's propositions

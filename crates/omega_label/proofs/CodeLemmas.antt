@@ -3,7 +3,7 @@ use Rattle.std.proofs.Common.{◌≡◌, ◌<◌, ◌+◌, ◌++◌, ◌&&◌, �
 use Rattle.std.proofs.lemmas.List.{map_more, map_push, take_more, take_more_set}
 use Rattle.std.specs.Prelude.{◌==◌, if◌then◌else◌}
 use Rattle.std.specs.List.{list_all, list_any}
-use Rattle.omega_label.specs.private.layout.Bare.{is_alias}
+use Rattle.omega_label.specs.Bare.{is_alias}
 use Rattle.omega_label.specs.private.layout.Codes.{code_of, node_of}
 use Rattle.omega_label.specs.declared.label.LabelNode.{LabelNode}
 use Rattle.omega_label.specs.declared.label.LabelNode.TheVariants.{Alias, And, Constant, Group, Not, Or, Proposition}

@@ -6,10 +6,9 @@ use Rattle.omega_expression.specs.Joins.{regrouped}
 use Rattle.omega_expression.specs.Limits.{most_depth, past_depth}
 use Rattle.omega_label.specs.Label.{LabelTree, label_depth, label_size}
 use Rattle.omega_label.specs.Label as label
-use Rattle.omega_label.specs.Postfix.{postfix}
+use Rattle.omega_label.specs.Postfix.{postfix, raw_postfix}
 use Rattle.omega_label.specs.Raw.{RawLabelTree, alias, conjunction, constant, disjunction, group, negation, proposition, raw_depth}
 use Rattle.omega_label.specs.private.layout.Depths.{depths_after}
-use Rattle.omega_label.specs.private.layout.Raw.{raw_postfix}
 use Rattle.omega_label.proofs.LabelLemmas.{length-postfix}
 use Rattle.omega_label.specs.declared.label.LabelNode.{LabelNode}
 use Rattle.omega_label.specs.declared.label.LabelNode.TheVariants.{And, Group, Not, Or}

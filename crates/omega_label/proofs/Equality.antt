@@ -6,7 +6,7 @@ use Rattle.std.specs.Bool.{Decides}
 use Rattle.std.specs.Cmp.{first_so, second_so}
 use Rattle.std.specs.Cmp.Lexicographic.{bytes_decides, pointwise, pointwise_decides}
 use Rattle.omega_label.specs.Label.{LabelTree}
-use Rattle.omega_label.specs.Postfix.{postfix}
+use Rattle.omega_label.specs.Postfix.{postfix, alias_names, raw_postfix}
 use Rattle.omega_label.specs.Raw.{RawLabelTree}
 use Rattle.omega_label.specs.contracts.label.LabelNodePartialEq.TheImpl as label_node
 use Rattle.omega_label.specs.contracts.label.LabelPartialEq.TheImpl as label
@@ -14,7 +14,7 @@ use Rattle.omega_label.specs.contracts.raw.RawLabelPartialEq.TheImpl as raw_labe
 use Rattle.omega_label.specs.declared.label.LabelNode.{LabelNode}
 use Rattle.omega_label.specs.declared.label.LabelNode.TheVariants as label_nodes
 use Rattle.omega_label.specs.private.layout.Label.{tree_of, tree_of-postfix}
-use Rattle.omega_label.specs.private.layout.Raw.{alias_names, raw_postfix, raw_tree_of, raw_tree_of-postfix}
+use Rattle.omega_label.specs.private.layout.Raw.{raw_tree_of, raw_tree_of-postfix}
 
 -- two tests that hold
 both : {one other : Bool} → one ≡ true → other ≡ true → (one && other) ≡ true

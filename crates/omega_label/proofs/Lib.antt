@@ -1,23 +1,12 @@
--- Lemmas on labels: building, aliases, expanding, comparing, and their texts.
-pub mod AliasLemmas
+-- Lemmas on labels: their nodes, putting them together, comparing them, and their texts.
 pub mod BareLemmas
-pub mod BeginLemmas
 pub mod BelowLemmas
 pub mod CodeLemmas
 pub mod DepthLemmas
-pub mod EmitLemmas
-pub mod EntryLemmas
 pub mod Equality
-pub mod ExpansionLemmas
-pub mod ExtentLemmas
-pub mod KeptLemmas
 pub mod LabelLemmas
 pub mod MovingLemmas
 pub mod PartLemmas
-pub mod PutLemmas
 pub mod RawLemmas
-pub mod ReadingLemmas
-pub mod ReadingUniqueness
-pub mod ReplacedAtLemmas
 pub mod ShapeLemmas
 pub mod TextLemmas

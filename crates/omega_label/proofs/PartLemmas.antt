@@ -3,12 +3,11 @@ use Rattle.std.proofs.Common.{◌≡◌, ℕ, Bool, true, false, nat_lt, nat_le,
 use Rattle.std.specs.List.{IsLastAndRest}
 use Rattle.omega_expression.specs.Joins.{regrouped}
 use Rattle.omega_label.specs.Label.{LabelTree, conjunction, constant, disjunction, negation, proposition}
-use Rattle.omega_label.specs.Postfix.{postfix}
+use Rattle.omega_label.specs.Postfix.{postfix, alias_names, raw_postfix}
 use Rattle.omega_label.specs.Raw.{RawLabelTree}
 use Rattle.omega_label.specs.Raw as raw
 use Rattle.omega_label.specs.Writing.{grouped, label_text, label_written}
 use Rattle.omega_label.specs.private.layout.Parts.{Part, nodes_before, part_of, part_with, parts_after, within, within_rank}
-use Rattle.omega_label.specs.private.layout.Raw.{alias_names, raw_postfix}
 use Rattle.omega_label.specs.declared.label.LabelNode.{LabelNode}
 use Rattle.omega_label.specs.declared.label.LabelNode.TheVariants.{And, Not, Or}
 

@@ -2,15 +2,11 @@
 use Rattle.std.proofs.Common.{◌≡◌, ℕ, List, [], ◌∷◌, ◌++◌, ap, append_assoc, sym, ◌∙◌, ◌+◌, max, refl}
 use Rattle.omega_label.specs.Raw.{RawLabelTree, conjunction, disjunction, group, negation, raw_depth}
 use Rattle.omega_expression.specs.Depth.{counted}
-use Rattle.omega_label.specs.private.layout.Raw.{IsRawLabel, alias_names, raw_postfix, raw_tree_of, raw_tree_of-postfix}
+use Rattle.omega_label.specs.private.layout.Raw.{IsRawLabel, raw_tree_of, raw_tree_of-postfix}
+use Rattle.omega_label.specs.Postfix.{AreOf, alias_names, raw_postfix}
 use Rattle.omega_label.specs.private.layout.Joining.{IsJoining, joined_by}
 use Rattle.omega_label.specs.declared.label.LabelNode.{LabelNode}
 use Rattle.omega_label.specs.declared.label.LabelNode.TheVariants.{Alias, And, Constant, Group, Not, Or, Proposition}
-
--- nodes and names are those of a tree
-pub record AreOf (tree : RawLabelTree) (nodes : List LabelNode) (names : List ℕ) : Type 0 where
-  pub flat : nodes ≡ raw_postfix tree
-  pub named : names ≡ alias_names tree
 
 -- a tree's nodes and names give that tree
 pub raw_tree-is : (tree : RawLabelTree) (nodes : List LabelNode) (names : List ℕ) → AreOf tree nodes names → raw_tree_of nodes names ≡ tree

@@ -1,10 +1,8 @@
--- Labels: trees, how they are written and read, and what aliases stand for; in `private` what only private contracts
--- cite.
-pub mod Expanding
+-- Labels: trees, their nodes, and how they are written; in `private` what only private contracts cite.
+pub mod Bare
 pub mod Label
 pub mod Postfix
 pub mod Raw
-pub mod Reading
 pub mod Renumbering
 pub mod Shape
 pub mod Writing

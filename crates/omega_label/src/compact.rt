@@ -2,7 +2,7 @@ ghost use Rattle.std.specs.Prelude.{◌≡◌, ◌≤◌, ◌++◌, [], ◌∷�
 ghost use Rattle.std.specs.List.{list_all, list_any};
 ghost use Rattle.std.specs.Option.{SomeIff};
 ghost use Rattle.omega_text.specs.Cases.{IsMemory};
-ghost use Rattle.omega_label.specs.private.layout.Bare.{is_alias, is_bare};
+ghost use Rattle.omega_label.specs.Bare.{is_alias, is_bare};
 ghost use Rattle.omega_label.specs.private.layout.Codes.{node_of};
 ghost use Rattle.omega_label.specs.private.layout.Compact.{fits_in_place, notation_in};
 ghost use Rattle.omega_label.specs.private.layout.Propositions.{proposition_below};

@@ -52,7 +52,8 @@ impl Model for Label {
 
 impl Label {
     ghost use Rattle.omega_label.specs.Label.{label_depth, label_size};
-    ghost use Rattle.omega_label.specs.Postfix.{postfix};
+    ghost use Rattle.omega_label.specs.Label.{LabelTree};
+    ghost use Rattle.omega_label.specs.Postfix.{IsShallowInPostfix, postfix};
     ghost use Rattle.omega_label.specs.private.layout.Label.{IsLabelInPostfix, tree_of};
     ghost use Rattle.omega_expression.specs.Limits.{most_depth};
 
@@ -71,10 +72,10 @@ impl Label {
         self.written.len()
     }
 
-    /// Makes the label of `nodes` in postfix order.
-    pub(crate) fn of_nodes(alloc: Global, nodes: Vec<LabelNode>) -> Result<Label, Refusal>
-        requires { IsLabelInPostfix nodes.items }
-        ensures ok { IfOk result (λ label. label ≡ tree_of nodes.items) }
+    /// Makes the label of `nodes` in postfix order, in the memory that they have.
+    pub fn from_postfix(alloc: Global, nodes: Vec<LabelNode>) -> Result<Label, Refusal>
+        requires { IsShallowInPostfix nodes.items }
+        ensures ok { IfOk result (λ label. (tree : LabelTree) → nodes.items ≡ postfix tree → label ≡ tree) }
         ensures err { IfErr result IsMemory }
     {
         let notation = Notation {

@@ -4,15 +4,9 @@ ghost use Rattle.std.specs.Prelude.{◌≡◌};
 ghost use Rattle.std.specs.Bool.{Decides};
 ghost use Rattle.omega_label.specs.Label.{LabelTree};
 ghost use Rattle.omega_label.specs.Raw.{RawLabelTree};
-ghost use Rattle.omega_label.specs.Reading.{LabelsAreOne};
 
 use crate::label::Label;
 use crate::raw::RawLabel;
-
-/// States that at most one label is read from any tokens, and that at most one rest is left.
-pub fn labels_are_one()
-    ensures { LabelsAreOne }
-{}
 
 /// States that `==` of two labels, expanded or as they are written, decides whether they are the same tree.
 pub fn equal_labels_are_equal_trees()

@@ -1,7 +1,7 @@
 ghost use Rattle.std.specs.Prelude.{◌≡◌, count_by, false, filter, nat_lt};
 ghost use Rattle.std.specs.List.{list_all, list_any};
 ghost use Rattle.std.specs.Option.{SomeIff};
-ghost use Rattle.omega_label.specs.private.layout.Bare.{is_alias, is_bare};
+ghost use Rattle.omega_label.specs.Bare.{is_alias, is_bare};
 ghost use Rattle.omega_label.specs.private.layout.Propositions.{proposition_below};
 
 use crate::label::LabelNode;

@@ -5,10 +5,10 @@ ghost use Rattle.omega_label.specs.Raw.{alias as alias_tree, conjunction, consta
 ghost use Rattle.omega_expression.specs.Depth.{IsDeeper, counted};
 ghost use Rattle.omega_text.specs.Cases.{IsMemory};
 ghost use Rattle.omega_expression.specs.Limits.{most_depth, most_size};
-ghost use Rattle.omega_label.specs.private.layout.Bare.{bare, is_alias, is_bare};
+ghost use Rattle.omega_label.specs.Bare.{bare, is_alias, is_bare};
 ghost use Rattle.omega_label.specs.private.layout.Joining.{IsJoining, joined_by};
 
-use crate::codes::ROOM;
+use crate::codes::{MOST_IN_PLACE, ROOM};
 use crate::compact::Compact;
 use crate::label::{Label, LabelNode};
 use omega_expression::{MOST_DEPTH, MOST_SIZE, deeper};
@@ -42,7 +42,9 @@ impl Model for RawLabel {
 }
 
 impl RawLabel {
-    ghost use Rattle.omega_label.specs.private.layout.Raw.{IsRawLabel, alias_names, raw_postfix, raw_tree_of};
+    ghost use Rattle.omega_label.specs.private.layout.Raw.{IsRawLabel, raw_tree_of};
+    ghost use Rattle.omega_label.specs.Postfix.{AreOf, IsRawInPostfix, alias_names, raw_postfix};
+    ghost use Rattle.omega_label.specs.Raw.{RawLabelTree};
 
     /// Makes the label `t` or `f`.
     pub fn constant(alloc: Global, value: bool) -> Result<RawLabel, Refusal>
@@ -147,14 +149,14 @@ impl RawLabel {
     }
 
     /// Whether it has an alias.
-    pub(crate) fn has_alias(&self) -> bool
+    pub fn has_alias(&self) -> bool
         ensures { result ≡ list_any is_alias (raw_postfix self.now) }
     {
         self.written.has_alias()
     }
 
     /// Returns the number of its atoms and operators without parentheses, if it has no alias.
-    pub(crate) fn bare_size(&self) -> Option<usize>
+    pub fn bare_size(&self) -> Option<usize>
         ensures { SomeIff result (list_any is_alias (raw_postfix self.now) ≡ false)
             (count_by is_bare (raw_postfix self.now)) }
     {
@@ -163,7 +165,7 @@ impl RawLabel {
 
     /// Whether it has no alias, and its depth and number of nodes as it is written are within the limits of an expanded
     /// label. If so, it needs no counting.
-    pub(crate) fn is_within_limits(&self) -> bool
+    pub fn is_within_limits(&self) -> bool
         ensures no_alias { IsTrue result → list_any is_alias (raw_postfix self.now) ≡ false }
         ensures shallow { IsTrue result → raw_depth self.now ≤ most_depth }
         ensures small { IsTrue result → length (raw_postfix self.now) ≤ most_size }
@@ -173,12 +175,32 @@ impl RawLabel {
 
     /// Drops the parentheses, in the memory that it has.
     #[inline(always)]
-    pub(crate) fn without_parentheses(self) -> Label
+    pub fn without_parentheses(self) -> Label
         requires no_alias { list_any is_alias (raw_postfix self) ≡ false }
         requires shallow { raw_depth self ≤ most_depth }
         ensures { result ≡ bare self }
     {
         Label::of_written(self.written.without_parentheses())
+    }
+
+    /// Makes the label of `nodes` in postfix order, with its alias names and its depth as [`depth`](RawLabel::depth)
+    /// returns it. Nodes that are not kept in place stay in the memory that they have.
+    #[inline(always)]
+    pub fn from_postfix(
+        alloc: Global,
+        nodes: SmallVec<LabelNode, 24>,
+        names: Vec<u8>,
+        depth: u32,
+    ) -> Result<RawLabel, Refusal>
+        requires { IsRawInPostfix nodes.items names.items depth }
+        ensures ok { IfOk result (λ label. (tree : RawLabelTree) → AreOf tree nodes.items names.items → label ≡ tree) }
+        ensures err { IfErr result IsMemory }
+    {
+        if nodes.as_slice().len() > MOST_IN_PLACE {
+            RawLabel::keeping(alloc, nodes, names, depth)
+        } else {
+            RawLabel::of_nodes(alloc, nodes.as_slice(), names.as_slice(), depth)
+        }
     }
 
     /// Makes the label of `nodes` in postfix order, with its alias names and its depth.
@@ -199,7 +221,7 @@ impl RawLabel {
 
     /// Makes the label of `nodes` in postfix order, with its alias names and its depth, in the memory that they have.
     #[inline(never)]
-    pub(crate) fn keeping(
+    fn keeping(
         alloc: Global,
         nodes: SmallVec<LabelNode, 24>,
         names: Vec<u8>,
@@ -214,14 +236,14 @@ impl RawLabel {
     }
 
     /// Returns its nodes, parts before their operators; those kept in place are decoded into `room`.
-    pub(crate) fn nodes<'a>(&'a self, room: &'a mut [LabelNode; 21]) -> &'a [LabelNode]
+    pub fn nodes<'a>(&'a self, room: &'a mut [LabelNode; 21]) -> &'a [LabelNode]
         ensures { result.now ≡ raw_postfix self.now }
     {
         self.written.nodes(room)
     }
 
     /// Returns its alias names from left to right, joined.
-    pub(crate) fn names(&self) -> &[u8]
+    pub fn names(&self) -> &[u8]
         ensures { result.now ≡ alias_names self.now }
     {
         self.written.names()
@@ -236,7 +258,7 @@ impl PartialEq for RawLabel {
     ghost use Rattle.std.proofs.Common.{rules};
     ghost use Rattle.omega_label.specs.contracts.label.LabelNodePartialEq.TheImpl as node;
     ghost use Rattle.omega_label.specs.contracts.label.LabelNodePartialEq.TheImpl.Laws.{laws-law};
-    ghost use Rattle.omega_label.specs.private.layout.Raw.{alias_names, raw_postfix};
+    ghost use Rattle.omega_label.specs.Postfix.{alias_names, raw_postfix};
 
     ghost eq = { eq_of_both (on raw_postfix (pointwise node.ghosts.eq)) (on alias_names (pointwise nat_eq)) };
 
@@ -259,7 +281,7 @@ impl Eq for RawLabel {
 
 /// Returns the length of an alias name, as a node keeps it. Refused with [Refusal::Memory] if it does not fit in 32
 /// bits; no name in a text is that long.
-pub(crate) fn name_length(name: &[u8]) -> Result<u32, Refusal>
+pub fn name_length(name: &[u8]) -> Result<u32, Refusal>
     ensures ok { IfOk result (λ count. count ≡ length name.now) }
     ensures err { IfErr result IsMemory }
 {

@@ -54,7 +54,7 @@ impl Label {
         if nodes.len() > MOST_SIZE as usize {
             return Err(Refusal::Automaton(AutomatonFault::Expansion));
         }
-        Label::of_nodes(alloc, nodes)
+        Label::from_postfix(alloc, nodes)
     }
 }
 

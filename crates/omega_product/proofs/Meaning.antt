@@ -5,7 +5,7 @@ use Rattle.std.proofs.lemmas.List.{length-append, length-map}
 use Rattle.std.proofs.lemmas.List.Sums.{sum_by-cons}
 use Rattle.std.specs.List.{AllZip, filter_map, flat_map}
 use Rattle.omega_formula.specs.Acceptance.{AccTree}
-use Rattle.omega_label.specs.Expanding.{Defined, IsExpansion, Meaning}
+use Rattle.omega_aliases.specs.Expanding.{Defined, IsExpansion, Meaning}
 use Rattle.omega_label.specs.Writing.{label_written}
 use Rattle.omega_formula.specs.Writing.{acc_written}
 use Rattle.omega_acc.specs.WritingLaws.{WrittenFormulasMean, WrittenLabelsMean}

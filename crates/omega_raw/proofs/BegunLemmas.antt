@@ -10,7 +10,7 @@ use Rattle.omega_formula.specs.Reading.{BeginsAcc, ReadsAcc}
 use Rattle.omega_formula.specs.declared.name.Parameter.TheVariants as parameter
 use Rattle.omega_label.specs.Raw.{RawLabelTree}
 use Rattle.omega_label.specs.Raw as guard
-use Rattle.omega_label.specs.Reading.{BeginsLabel, Reads}
+use Rattle.omega_label_reading.specs.Reading.{BeginsLabel, Reads}
 use Rattle.omega_raw.proofs.SpellingLemmas.{next_is}
 use Rattle.omega_raw.specs.First.{FirstIs}
 use Rattle.omega_raw.specs.Grammar.{BeginsAutomaton, IsConj, IsRawEdge, IsRawItem, IsRawState, conj_row, each, edge_row, int_row, item_row, label_row, optional_row, parameter_row, sig_row, state_row, string_row, value_row, word_row}

@@ -2,7 +2,7 @@
 use Rattle.std.proofs.Common.{◌≡◌, ◌<◌, ◌≤◌, Bool, true, false, List, [], ◌∷◌, length, length-append, sym, ◌∙◌, subst, arith}
 use Rattle.omega_formula.specs.Reading.{ReadsAcc}
 use Rattle.omega_formula.specs.Raw.{RawAccTree}
-use Rattle.omega_label.specs.Reading.{Reads}
+use Rattle.omega_label_reading.specs.Reading.{Reads}
 use Rattle.omega_label.specs.Raw.{RawLabelTree}
 use Rattle.omega_expression.specs.Passing.{NextIsNot}
 use Rattle.omega_raw.specs.private.steps.Reading.{NextIs, NextMayBe}

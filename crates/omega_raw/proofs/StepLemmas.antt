@@ -8,7 +8,7 @@ use Rattle.omega_expression.specs.Unread.{AgreeThroughNext, IsFirstUnread, IsUnr
 use Rattle.omega_formula.specs.Raw.{RawAccTree}
 use Rattle.omega_formula.specs.Reading.{ReadsAcc}
 use Rattle.omega_label.specs.Raw.{RawLabelTree}
-use Rattle.omega_label.specs.Reading.{Reads}
+use Rattle.omega_label_reading.specs.Reading.{Reads}
 use Rattle.omega_expression.proofs.ClosingLemmas.{plain}
 use Rattle.omega_raw.proofs.BegunLemmas.{IsApart, alias_first, begun_after, begun_after_token}
 use Rattle.omega_raw.proofs.SpellingLemmas.{missing_symbol, token_taken}

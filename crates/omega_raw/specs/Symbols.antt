@@ -7,7 +7,7 @@ use Rattle.omega_text.specs.Lexeme.{Lexeme}
 use Rattle.omega_text.specs.declared.hoa.kind.HoaKind.{HoaKind}
 use Rattle.omega_text.specs.declared.hoa.kind.HoaKind.TheVariants as kind
 use Rattle.omega_formula.specs.Reading.{ReadsAcc}
-use Rattle.omega_label.specs.Reading.{Reads}
+use Rattle.omega_label_reading.specs.Reading.{Reads}
 use Rattle.omega_text.specs.Forms.{between_quotes}
 
 -- the tokens of a text

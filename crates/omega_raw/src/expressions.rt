@@ -5,7 +5,8 @@ ghost use Rattle.omega_raw.specs.private.steps.Rows.{formula_row, expression_row
 ghost use Rattle.omega_raw.specs.private.steps.Reading.{Anything, Finds, GivesRow, IsAny};
 
 use omega_formula::{RawAcc, formulas_are_one, read_raw_acc};
-use omega_label::{RawLabel, labels_are_one, read_raw_label};
+use omega_label::RawLabel;
+use omega_label_reading::{labels_are_one, read_raw_label};
 use omega_text::{HoaKind, Refusal, TokenSource};
 use std::alloc::Global;
 

@@ -3,7 +3,7 @@
 ghost use Rattle.omega_raw.specs.Laws.{RawsAreOne};
 
 use omega_formula::formulas_are_one;
-use omega_label::labels_are_one;
+use omega_label_reading::labels_are_one;
 
 /// States that tokens begin with at most one automaton, after which one rest is left. So the tokens decide the answer
 /// of `read_raw`, unless memory is refused.

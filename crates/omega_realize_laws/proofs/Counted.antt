@@ -18,7 +18,7 @@ use Rattle.omega_raw.specs.declared.raw_automaton.RawAutomaton.{RawAutomaton}
 use Rattle.omega_raw.specs.declared.raw_edge.RawEdge.{RawEdge}
 use Rattle.omega_raw.specs.declared.raw_item.RawItem.TheVariants as item
 use Rattle.omega_raw.specs.declared.raw_state.RawState.{RawState}
-use Rattle.omega_label.specs.Expanding.{Defined}
+use Rattle.omega_aliases.specs.Expanding.{Defined}
 use Rattle.omega_automaton.specs.Automaton.{Description}
 use Rattle.omega_automaton.specs.Faults.{definitions_of}
 use Rattle.omega_automaton.specs.Meaning.{IsEdgeOf, IsStateOf}

@@ -1,7 +1,8 @@
 //! Texts of symbolic words, read.
 use crate::rows::assert_row;
 use crate::texts::is_text;
-use omega_label::{Aliases, RawLabel, expand, write_label};
+use omega_aliases::{Aliases, expand};
+use omega_label::{RawLabel, write_label};
 use omega_symbolic_word::SymbolicWord;
 use omega_text::{ByteString, Refusal};
 use omega_word_text::read_word;

@@ -8,7 +8,7 @@ use Rattle.omega_acc.specs.WritingLaws.{WrittenFormulasMean, WrittenLabelsMean}
 use Rattle.omega_formula.specs.Acceptance.{AccTree}
 use Rattle.omega_formula.specs.Meaning.{acc_meant}
 use Rattle.omega_formula.specs.declared.name.AccName.{AccName}
-use Rattle.omega_label.specs.Expanding.{Defined}
+use Rattle.omega_aliases.specs.Expanding.{Defined}
 use Rattle.omega_label.specs.Label.{LabelTree}
 use Rattle.omega_label.specs.Writing.{label_written}
 use Rattle.omega_automaton.specs.Automaton.{Description, IsAutomaton}

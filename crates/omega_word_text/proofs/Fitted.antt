@@ -12,7 +12,7 @@ use Rattle.std.proofs.lemmas.Slice.Eq.{bytes_eq-Decides}
 use Rattle.indexmap.specs.IndexSet.{insert_all, insert_key}
 use Rattle.omega_expression.specs.Symbols.{ExpressionSymbol, disjunctive, sign}
 use Rattle.omega_label.specs.Raw.{RawLabelTree}
-use Rattle.omega_label.specs.Reading.{IsOf}
+use Rattle.omega_label_reading.specs.Reading.{IsOf}
 use Rattle.omega_lasso_word.specs.Fitting.{Fits, along, text_of_letters}
 use Rattle.omega_lasso_word.specs.Formulas.{HasTruth}
 use Rattle.omega_lasso_word.specs.Formulas as part

@@ -6,7 +6,7 @@ use Rattle.omega_expression.specs.Unread.{AgreeThroughNext, IsFirstUnread, IsUnr
 use Rattle.omega_expression.proofs.ClosingLemmas.{plain}
 use Rattle.omega_expression.proofs.UnreadLemmas.{not_through}
 use Rattle.omega_label.specs.Raw.{RawLabelTree, constant}
-use Rattle.omega_label.specs.Reading.{BeginsLabel, LabelsAreOne, Reads, ReadsNoLabel, label_symbols}
+use Rattle.omega_label_reading.specs.Reading.{BeginsLabel, LabelsAreOne, Reads, ReadsNoLabel, label_symbols}
 use Rattle.omega_text.specs.Cursor.{next_place}
 use Rattle.omega_text.specs.Lexeme.{Lexeme, lexeme_of}
 use Rattle.omega_text.specs.declared.hoa.kind.HoaKind.{HoaKind}

@@ -6,7 +6,7 @@ use Rattle.std.specs.Str.{bytes_eq}
 use Rattle.std.proofs.lemmas.List.{map-append}
 use Rattle.omega_expression.specs.Symbols.{ExpressionSymbol, Rank, conjunctive, disjunctive, expression_symbol_of, number, seen_as, sign, unary}
 use Rattle.omega_label.specs.Raw.{RawLabelTree, conjunction, constant, disjunction, group, negation, proposition}
-use Rattle.omega_label.specs.Reading.{IsOf, label_symbols}
+use Rattle.omega_label_reading.specs.Reading.{IsOf, label_symbols}
 use Rattle.omega_lasso_word.specs.Names.{stands_bare}
 use Rattle.omega_symbolic_word.specs.Admitted.{is_true_letter}
 use Rattle.omega_text.specs.Lexeme.{Lexeme}

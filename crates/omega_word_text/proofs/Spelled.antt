@@ -7,7 +7,7 @@ use Rattle.omega_expression.specs.Symbols.{EndsThere, ExpressionSymbol, disjunct
 use Rattle.omega_expression.specs.Unread.{AgreeThroughNext, IsFirstUnread, IsUnread}
 use Rattle.omega_expression.proofs.ClosingLemmas.{plain}
 use Rattle.omega_label.specs.Raw.{RawLabelTree, constant}
-use Rattle.omega_label.specs.Reading.{BeginsLabel, IsOf, LabelsAreOne, Reads, ReadsNoLabel, label_symbols}
+use Rattle.omega_label_reading.specs.Reading.{BeginsLabel, IsOf, LabelsAreOne, Reads, ReadsNoLabel, label_symbols}
 use Rattle.omega_text.specs.Lexeme.{Lexeme}
 use Rattle.omega_text.specs.declared.hoa.kind.HoaKind.{HoaKind}
 use Rattle.omega_text.specs.declared.hoa.kind.HoaKind.TheVariants as kind

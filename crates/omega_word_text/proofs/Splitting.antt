@@ -3,7 +3,7 @@ use Rattle.std.proofs.Common.{◌≡◌, ◌≢◌, ℕ, true, false, List, [], 
 use Rattle.omega_expression.specs.Passing.{NextIsNot}
 use Rattle.omega_expression.specs.Symbols.{EndsThere, ExpressionSymbol, IsNoOperator, expression_symbol_of, seen_as, sign}
 use Rattle.omega_label.specs.Raw.{RawLabelTree, alias, conjunction, constant, disjunction, group, negation, proposition}
-use Rattle.omega_label.specs.Reading.{label_symbols}
+use Rattle.omega_label_reading.specs.Reading.{label_symbols}
 use Rattle.omega_text.specs.Lexeme.{Lexeme}
 use Rattle.omega_text.specs.declared.hoa.kind.HoaKind.{HoaKind}
 use Rattle.omega_text.specs.declared.hoa.kind.HoaKind.TheVariants as kind

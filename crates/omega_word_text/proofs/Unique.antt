@@ -8,7 +8,7 @@ use Rattle.indexmap.specs.IndexSet.{insert_all, insert_key}
 use Rattle.omega_expression.specs.Symbols.{EndsThere, ExpressionSymbol, expression_symbol_of, number, seen_as, sign}
 use Rattle.omega_expression.proofs.UnreadLemmas.{agree_same}
 use Rattle.omega_label.specs.Raw.{RawLabelTree}
-use Rattle.omega_label.specs.Reading.{LabelsAreOne, Reads, label_symbols}
+use Rattle.omega_label_reading.specs.Reading.{LabelsAreOne, Reads, label_symbols}
 use Rattle.omega_symbolic_word.specs.declared.symbolic_word.SymbolicWord.{SymbolicWord}
 use Rattle.omega_text.specs.Cut.{CutsAreOne, CutsHaveNoFault}
 use Rattle.omega_text.specs.Format.{GoesOneWay}

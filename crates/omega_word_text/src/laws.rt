@@ -4,7 +4,7 @@ ghost use Rattle.omega_text.specs.Format.{GoesOneWay};
 ghost use Rattle.omega_word_text.specs.Cut.{word_format};
 ghost use Rattle.omega_word_text.specs.Laws.{FittingTextsAreRead, NamesAreStrings, WordsAreNotRefused, WordsOfTextsAreOne};
 
-use omega_label::labels_are_one;
+use omega_label_reading::labels_are_one;
 use omega_text::hoa::laws::{closed_are_longest, numbers_are_longest, words_are_longest};
 use omega_text::{HoaKind, TokenKind};
 

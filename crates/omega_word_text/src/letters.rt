@@ -9,7 +9,8 @@ ghost use Rattle.omega_word_text.specs.private.Parts.{BeginsPart, ReadsBraced, R
 ghost use Rattle.omega_word_text.specs.private.Stems.{LeadsToWord};
 
 use omega_expression::{is_passed, pass};
-use omega_label::{RawLabel, labels_are_one, read_raw_label};
+use omega_label::RawLabel;
+use omega_label_reading::{labels_are_one, read_raw_label};
 use omega_text::{HoaKind, Refusal, TextFault, TokenSource};
 use std::alloc::Global;
 

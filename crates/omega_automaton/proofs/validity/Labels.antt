@@ -6,7 +6,7 @@ use Rattle.std.specs.Str.{bytes_eq}
 use Rattle.std.proofs.lemmas.Bool.{and_from, and_parts, ltb-false, ltb-true, not-false}
 use Rattle.std.proofs.lemmas.List.Elements.{All-cons, All-head, All-nil, All-push, All-tail}
 use Rattle.std.proofs.lemmas.List.Folds.{list_all-append}
-use Rattle.omega_label.specs.Expanding.{Defined, Entry, Meaning, both, entries_of, expansion, fault_of_meaning, in_parentheses, negated, replaced, stands_for}
+use Rattle.omega_aliases.specs.Expanding.{Defined, Entry, Meaning, both, entries_of, expansion, fault_of_meaning, in_parentheses, negated, replaced, stands_for}
 use Rattle.omega_label.specs.Label.{LabelTree, label_depth, label_size, propositions}
 use Rattle.omega_label.specs.Label as label
 use Rattle.omega_expression.specs.Limits.{most_depth, most_size}
@@ -15,7 +15,7 @@ use Rattle.omega_text.specs.declared.refusal.automaton.AutomatonFault.{Automaton
 use Rattle.omega_text.specs.declared.refusal.automaton.AutomatonFault.TheVariants.{Expansion, TooDeep}
 use Rattle.omega_automaton.specs.Automaton.{AreBelow}
 use Rattle.omega_automaton.specs.Faults.{is_beyond, size_of_meaning}
-use Rattle.omega_label.proofs.EntryLemmas.{IsShallow, shallow-entries, shallow-replaced}
+use Rattle.omega_aliases.proofs.EntryLemmas.{IsShallow, shallow-entries, shallow-replaced}
 
 -- whether all of some numbers are below a count
 abbrev pub are_below : ℕ → List ℕ → Bool

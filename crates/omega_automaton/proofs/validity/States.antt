@@ -3,7 +3,7 @@ use Rattle.std.proofs.Common.{◌≡◌, ℕ, ◌<◌, false, nat_le, List, [], 
 use Rattle.std.specs.List.{list_any}
 use Rattle.std.proofs.lemmas.Bool.{leb-false}
 use Rattle.std.proofs.lemmas.List.Elements.{All-contains, All-nil, Contains-get_or}
-use Rattle.omega_label.specs.Expanding.{Defined, expansion}
+use Rattle.omega_aliases.specs.Expanding.{Defined, expansion}
 use Rattle.omega_label.specs.Label.{LabelTree}
 use Rattle.omega_label.specs.Raw.{RawLabelTree}
 use Rattle.omega_raw.specs.declared.raw_edge.RawEdge.{RawEdge}

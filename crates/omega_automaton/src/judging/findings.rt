@@ -2,14 +2,15 @@ ghost use Rattle.std.specs.Prelude.{◌≡◌, ◌≤◌, ◌+◌, Option, Some,
 ghost use Rattle.std.specs.List.{list_any};
 ghost use Rattle.std.specs.Option.{option_copied};
 ghost use Rattle.omega_text.specs.Cases.{IsMemory};
-ghost use Rattle.omega_label.specs.Expanding.{Meaning, expansion, extent_of};
+ghost use Rattle.omega_aliases.specs.Expanding.{Meaning, expansion, extent_of};
 ghost use Rattle.omega_automaton.specs.Faults.{is_labelled, label_total, passes, size_of_meaning, size_under};
 ghost use Rattle.omega_automaton.specs.Limits.{most_total_size};
 ghost use Rattle.omega_automaton.specs.private.layout.Findings.{AreFound, AreJoinedFindings, labels_pass};
 
 use crate::limits::MOST_TOTAL_SIZE;
 use omega_expression::{MOST_DEPTH, MOST_SIZE};
-use omega_label::{Aliases, Extent, RawLabel};
+use omega_aliases::{Aliases, Extent};
+use omega_label::RawLabel;
 use omega_raw::{RawEdges, RawState};
 use omega_text::Refusal;
 use std::alloc::Global;

@@ -12,7 +12,7 @@ use crate::making::edges::count_edges;
 use crate::making::states::states_of;
 use crate::state::State;
 use omega_formula::{Acc, RawAcc};
-use omega_label::Aliases;
+use omega_aliases::Aliases;
 use omega_raw::RawState;
 use omega_text::{Refusal, Seq};
 use std::alloc::Global;

@@ -2,7 +2,8 @@ ghost use Rattle.std.specs.Prelude.{◌≡◌, [], false, IfErr, OnOk};
 ghost use Rattle.omega_automaton.specs.private.layout.Definitions.{HasDefined, IsUndefinable};
 
 use crate::judging::findings_of;
-use omega_label::{Aliases, RawLabel};
+use omega_aliases::Aliases;
+use omega_label::RawLabel;
 use omega_text::{AutomatonFault, Refusal, Seq};
 use std::alloc::Global;
 

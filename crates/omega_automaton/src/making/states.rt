@@ -1,7 +1,7 @@
 ghost use Rattle.std.specs.Prelude.{◌≡◌, false, IfErr, IfOk};
 ghost use Rattle.std.specs.List.{AllZip, list_any};
 ghost use Rattle.omega_text.specs.Cases.{IsMemory};
-ghost use Rattle.omega_label.specs.Expanding.{IsExpansion, expansion};
+ghost use Rattle.omega_aliases.specs.Expanding.{IsExpansion, expansion};
 ghost use Rattle.omega_automaton.specs.Faults.{is_labelled, passes};
 ghost use Rattle.omega_automaton.specs.Meaning.{IsEdgeOf, IsLabelOf, IsStateOf};
 ghost use Rattle.omega_automaton.specs.private.layout.Findings.{is_faulty, labels_pass};
@@ -10,7 +10,8 @@ use crate::edge::Edge;
 use crate::edges::Edges;
 use crate::making::marks::marks_of;
 use crate::state::State;
-use omega_label::{Aliases, Label, RawLabel, expand_in_place};
+use omega_aliases::{Aliases, expand_in_place};
+use omega_label::{Label, RawLabel};
 use omega_raw::{HeldEdges, RawEdge, RawEdges, RawState};
 use omega_text::{Refusal, Seq};
 use std::alloc::Global;

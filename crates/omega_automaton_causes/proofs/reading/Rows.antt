@@ -6,7 +6,7 @@ use Rattle.std.proofs.lemmas.Slice.Eq.{bytes_eq-Decides}
 use Rattle.omega_formula.specs.Raw.{RawAccTree}
 use Rattle.omega_formula.specs.declared.name.Parameter.{Parameter}
 use Rattle.omega_formula.specs.declared.name.Parameter.TheVariants as parameter
-use Rattle.omega_label.specs.Expanding.{Defined}
+use Rattle.omega_aliases.specs.Expanding.{Defined}
 use Rattle.omega_label.specs.Raw.{RawLabelTree}
 use Rattle.omega_raw.specs.Grammar.{IsRawItem, ReadsAutomaton, automaton_symbols, boolean_row, conj_row, each, edge_row, header_named, int_row, item_row, joined_row, label_row, optional_row, parameter_row, sig_row, state_row, string_row, value_row, word_row}
 use Rattle.omega_raw.specs.Symbols.{AutomatonSymbol, IsNext, ReadsSymbols, Shows, Splits, Tokens, alias, formula, header, label, number, sign, text, word}

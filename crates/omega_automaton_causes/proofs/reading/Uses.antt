@@ -7,7 +7,7 @@ use Rattle.omega_formula.specs.Raw.{RawAccTree}
 use Rattle.omega_formula.specs.Raw as formula
 use Rattle.omega_formula.specs.Reading.{ReadsAcc, formula_symbols}
 use Rattle.omega_label.specs.Raw.{RawLabelTree, alias, conjunction, constant, disjunction, group, negation, proposition}
-use Rattle.omega_label.specs.Reading.{Reads, label_symbols}
+use Rattle.omega_label_reading.specs.Reading.{Reads, label_symbols}
 use Rattle.omega_text.specs.Lexeme.{Lexeme}
 use Rattle.omega_text.specs.declared.hoa.kind.HoaKind.{HoaKind}
 use Rattle.omega_text.specs.declared.hoa.kind.HoaKind.TheVariants as kind

@@ -4,7 +4,7 @@ use Rattle.std.specs.List.{AllByRecursion, flat_map, list_any}
 use Rattle.std.specs.Str.{bytes_eq}
 use Rattle.std.proofs.lemmas.Bool.{false≢true, not-false}
 use Rattle.std.proofs.lemmas.List.{map-append}
-use Rattle.omega_label.specs.Expanding.{Defined, Entry, Meaning, both, entries_of, in_parentheses, negated, replaced, stands_for}
+use Rattle.omega_aliases.specs.Expanding.{Defined, Entry, Meaning, both, entries_of, in_parentheses, negated, replaced, stands_for}
 use Rattle.omega_label.specs.Label.{LabelTree}
 use Rattle.omega_label.specs.Label as label
 use Rattle.omega_label.specs.Raw.{RawLabelTree, alias, conjunction, constant, disjunction, group, negation, proposition}

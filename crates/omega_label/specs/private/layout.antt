@@ -1,12 +1,7 @@
 -- How labels lie in memory, and how they are built.
-pub mod Aliases
-pub mod Bare
-pub mod Building
 pub mod Codes
 pub mod Compact
 pub mod Depths
-pub mod Emitting
-pub mod Extents
 pub mod Joining
 pub mod Label
 pub mod Moving

@@ -1,7 +1,7 @@
 -- Tokens begin with at most one automaton.
 use Rattle.std.proofs.Common.{◌≡◌, List, [], ◌∷◌, refl, sym, ◌∙◌}
 use Rattle.omega_formula.specs.Reading.{FormulasAreOne}
-use Rattle.omega_label.specs.Reading.{LabelsAreOne}
+use Rattle.omega_label_reading.specs.Reading.{LabelsAreOne}
 use Rattle.omega_raw.proofs.uniqueness.Body.{state_one, state_part}
 use Rattle.omega_raw.proofs.uniqueness.Items.{item_one, item_part}
 use Rattle.omega_raw.proofs.uniqueness.Rows.{each_one}

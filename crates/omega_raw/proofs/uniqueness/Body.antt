@@ -1,6 +1,6 @@
 -- Tokens begin with at most one conj, label, sig, edge and state.
 use Rattle.std.proofs.Common.{◌≡◌, List, [], ◌∷◌, refl, ap, ◌∙◌, arith}
-use Rattle.omega_label.specs.Reading.{LabelsAreOne, Reads}
+use Rattle.omega_label_reading.specs.Reading.{LabelsAreOne, Reads}
 use Rattle.omega_raw.proofs.FollowLemmas.{all_any, edges_begin, edges_end, guard_ends, joined_end, name_ends, sig_ends, some_any, targets_end}
 use Rattle.omega_raw.proofs.PartLemmas.{IsPart}
 use Rattle.omega_raw.proofs.RowLemmas.{edge_same, state_same}

@@ -3,7 +3,7 @@ use Rattle.std.proofs.Common.{◌≡◌, ℕ, List, Option, ◌∷◌, refl, sym
 use Rattle.omega_formula.specs.Reading.{FormulasAreOne, ReadsAcc}
 use Rattle.omega_formula.specs.Raw.{RawAccTree}
 use Rattle.omega_label.specs.Raw.{RawLabelTree}
-use Rattle.omega_label.specs.Reading.{LabelsAreOne, Reads}
+use Rattle.omega_label_reading.specs.Reading.{LabelsAreOne, Reads}
 use Rattle.omega_formula.specs.declared.name.AccName.{AccName}
 use Rattle.omega_raw.proofs.ContentLemmas.{acc_name_same, header_named-item_name, of_acc_name, of_acceptance, of_alias, of_properties, of_propositions, of_start, of_state_count, of_title, of_tool, of_unknown}
 use Rattle.omega_raw.proofs.FollowLemmas.{all_any, parameters_end, some_any, start_ends, strings_end, values_end, words_end}

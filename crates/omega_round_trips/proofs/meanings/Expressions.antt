@@ -10,12 +10,12 @@ use Rattle.omega_formula.specs.Meaning.{acc_meant, acc_sets}
 use Rattle.omega_formula.specs.Reading.{IsAccOf}
 use Rattle.omega_formula.specs.Acceptance.{AccTree}
 use Rattle.omega_formula.specs.Acceptance as acc
-use Rattle.omega_label.specs.Expanding.{Defined, IsExpansion, Meaning, expansion, fault_of_meaning}
+use Rattle.omega_aliases.specs.Expanding.{Defined, IsExpansion, Meaning, expansion, fault_of_meaning}
 use Rattle.omega_label.specs.Label.{LabelTree, conjunction, constant, disjunction, negation, proposition, propositions}
 use Rattle.omega_expression.specs.Limits.{most_depth}
 use Rattle.omega_formula.specs.Raw.{RawAccTree, raw_acc_depth}
 use Rattle.omega_label.specs.Raw.{RawLabelTree, raw_depth, raw_propositions}
-use Rattle.omega_label.specs.Reading.{IsOf}
+use Rattle.omega_label_reading.specs.Reading.{IsOf}
 use Rattle.omega_expression.specs.Symbols.{disjunctive}
 use Rattle.omega_label.specs.Writing.{label_text}
 use Rattle.omega_formula.specs.Writing.{acc_text}

@@ -6,7 +6,7 @@ use Rattle.std.specs.Str.{bytes_eq}
 use Rattle.std.proofs.lemmas.Bool.{le-ltb, lt-leb, or_from}
 use Rattle.std.proofs.lemmas.List.Elements.{recursion_from_All}
 use Rattle.omega_formula.specs.Meaning.{acc_meant}
-use Rattle.omega_label.specs.Expanding.{Defined, Meaning, entries_of, expansion}
+use Rattle.omega_aliases.specs.Expanding.{Defined, Meaning, entries_of, expansion}
 use Rattle.omega_label.specs.Label.{LabelTree, label_size, propositions}
 use Rattle.omega_expression.specs.Limits.{most_depth, most_size}
 use Rattle.omega_formula.specs.Raw.{raw_acc_depth}

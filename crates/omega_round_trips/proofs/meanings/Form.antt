@@ -5,7 +5,7 @@ use Rattle.std.specs.List.{AllZip, filter_map, list_any}
 use Rattle.std.proofs.lemmas.Bool.{eqb-true}
 use Rattle.omega_text.specs.declared.refusal.automaton.AutomatonFault.{AutomatonFault}
 use Rattle.omega_text.specs.declared.refusal.automaton.AutomatonFault.TheVariants.{ImplicitCount, MixedLabels, Proposition, UnknownHeader}
-use Rattle.omega_label.specs.Expanding.{Defined}
+use Rattle.omega_aliases.specs.Expanding.{Defined}
 use Rattle.omega_label.specs.Label.{LabelTree}
 use Rattle.omega_label.specs.Raw.{RawLabelTree}
 use Rattle.omega_label.specs.Writing.{label_written}

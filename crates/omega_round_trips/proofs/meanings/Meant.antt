@@ -8,12 +8,12 @@ use Rattle.std.proofs.lemmas.List.Elements.{recursion_from_All}
 use Rattle.omega_text.specs.declared.refusal.automaton.AutomatonFault.TheVariants.{Expansion, TooDeep}
 use Rattle.omega_formula.specs.Meaning.{acc_meant}
 use Rattle.omega_formula.specs.Reading.{IsAccOf}
-use Rattle.omega_label.specs.Expanding.{Defined, fault_of_meaning}
+use Rattle.omega_aliases.specs.Expanding.{Defined, fault_of_meaning}
 use Rattle.omega_label.specs.Label.{LabelTree, label_size}
 use Rattle.omega_expression.specs.Limits.{most_depth, most_size}
 use Rattle.omega_formula.specs.Raw.{raw_acc_depth}
 use Rattle.omega_label.specs.Raw.{RawLabelTree, raw_depth}
-use Rattle.omega_label.specs.Reading.{IsOf}
+use Rattle.omega_label_reading.specs.Reading.{IsOf}
 use Rattle.omega_expression.specs.Symbols.{disjunctive}
 use Rattle.omega_label.specs.Writing.{label_written}
 use Rattle.omega_formula.specs.Writing.{acc_written}

@@ -6,7 +6,7 @@ use Rattle.std.proofs.lemmas.List.Elements.{recursion_from_All}
 use Rattle.omega_text.specs.hoa.Forms.{IsQuotable}
 use Rattle.omega_formula.specs.Acceptance.{AccTree}
 use Rattle.omega_formula.specs.Acceptance as acc
-use Rattle.omega_label.specs.Expanding.{Defined}
+use Rattle.omega_aliases.specs.Expanding.{Defined}
 use Rattle.omega_label.specs.Label.{LabelTree, conjunction, constant, disjunction, negation, proposition, propositions}
 use Rattle.omega_label.specs.Writing.{NumbersFit}
 use Rattle.omega_formula.specs.Writing.{SetsFit}

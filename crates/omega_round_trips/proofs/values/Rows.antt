@@ -6,7 +6,7 @@ use Rattle.omega_text.specs.Forms.{IsWord}
 use Rattle.omega_text.specs.hoa.Forms.{IsQuotable}
 use Rattle.omega_formula.specs.Reading.{IsAccOf}
 use Rattle.omega_label.specs.Raw.{RawLabelTree}
-use Rattle.omega_label.specs.Reading.{IsOf}
+use Rattle.omega_label_reading.specs.Reading.{IsOf}
 use Rattle.omega_expression.specs.Symbols.{disjunctive}
 use Rattle.omega_formula.specs.declared.name.Parameter.TheVariants as parameter
 use Rattle.omega_raw.specs.Grammar.{boolean_row, conj_row, each, edge_row, int_row, item_row, joined_row, label_row, optional_row, parameter_row, sig_row, automaton_symbols, state_row, string_row, value_row, word_row}

@@ -9,7 +9,7 @@ use Rattle.omega_text.specs.declared.hoa.kind.HoaKind.TheVariants as kind
 use Rattle.omega_text.specs.hoa.Forms.{IsForm, IsQuotable}
 use Rattle.omega_text.specs.hoa.Forms as forms
 use Rattle.omega_formula.specs.Reading.{IsAccOf}
-use Rattle.omega_label.specs.Reading.{IsOf}
+use Rattle.omega_label_reading.specs.Reading.{IsOf}
 use Rattle.omega_expression.specs.Symbols.{disjunctive}
 use Rattle.omega_raw.specs.Symbols.{IsNext, Shows, ReadsSymbols, AutomatonSymbol, Tokens, alias, formula, header, label, number, sign, text, without_last, word}
 use Rattle.omega_round_trips.specs.Writable.{IsWritableNumber, IsIdentifier}

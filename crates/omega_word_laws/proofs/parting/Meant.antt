@@ -11,7 +11,7 @@ use Rattle.omega_formula.specs.Acceptance as acc
 use Rattle.omega_formula.specs.Meaning.{acc_meant}
 use Rattle.omega_label.specs.Writing.{label_written}
 use Rattle.omega_formula.specs.Writing.{acc_written}
-use Rattle.omega_label.specs.Expanding.{Defined, IsExpansion, Meaning}
+use Rattle.omega_aliases.specs.Expanding.{Defined, IsExpansion, Meaning}
 use Rattle.omega_label.specs.Label.{LabelTree, truth}
 use Rattle.omega_label.specs.Label as label
 use Rattle.omega_label.specs.Raw.{RawLabelTree}

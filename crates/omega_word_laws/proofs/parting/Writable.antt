@@ -14,7 +14,7 @@ use Rattle.omega_label.specs.Writing.{grouped, label_written}
 use Rattle.omega_formula.specs.Writing.{acc_grouped, acc_written}
 use Rattle.omega_formula.specs.Meaning.{acc_meant, acc_sets}
 use Rattle.omega_formula.specs.Raw.{RawAccTree}
-use Rattle.omega_label.specs.Expanding.{Defined, Entry, entries_of, expansion}
+use Rattle.omega_aliases.specs.Expanding.{Defined, Entry, entries_of, expansion}
 use Rattle.omega_label.specs.Label.{LabelTree, propositions}
 use Rattle.omega_label.specs.Label as label
 use Rattle.omega_label.specs.Raw.{RawLabelTree, raw_propositions}

@@ -3,7 +3,7 @@ use Rattle.std.specs.Prelude.{◌≡◌, ◌≢◌, ℕ, ◌<◌, List, [], ◌�
 use Rattle.std.specs.List.{AllByRecursion}
 use Rattle.omega_expression.specs.Symbols.{disjunctive, expression_symbol_of, sign}
 use Rattle.omega_label.specs.Raw.{RawLabelTree}
-use Rattle.omega_label.specs.Reading.{IsOf}
+use Rattle.omega_label_reading.specs.Reading.{IsOf}
 use Rattle.omega_text.specs.Lexeme.{Lexeme}
 use Rattle.omega_text.specs.declared.hoa.kind.HoaKind.{HoaKind}
 use Rattle.omega_text.specs.declared.hoa.kind.HoaKind.TheVariants.{CloseBrace, OpenBrace}

@@ -6,7 +6,7 @@ use Rattle.omega_text.specs.Cases.{never, or_automaton, or_memory}
 use Rattle.omega_text.specs.declared.refusal.Refusal.{Refusal}
 use Rattle.omega_text.specs.declared.refusal.automaton.AutomatonFault.TheVariants.{Alias}
 use Rattle.omega_text.specs.Cases.{IsMemory}
-use Rattle.omega_label.specs.Expanding.{Defined, entries_of, expansion}
+use Rattle.omega_aliases.specs.Expanding.{Defined, entries_of, expansion}
 use Rattle.omega_label.specs.Raw.{RawLabelTree}
 use Rattle.omega_raw.specs.declared.raw_item.RawItem.{RawItem}
 use Rattle.omega_automaton.specs.Automaton.{has_repeat}

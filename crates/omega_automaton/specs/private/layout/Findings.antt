@@ -1,7 +1,7 @@
 -- The faults of labels with their aliases replaced, and the size of all together.
 use Rattle.std.specs.Prelude.{◌≡◌, ℕ, ◌+◌, ◌≤◌, Bool, false, ◌||◌, List, Option, is_none, is_some, min}
 use Rattle.std.specs.List.{list_any}
-use Rattle.omega_label.specs.Expanding.{Defined, Meaning, expansion, fault_of_meaning}
+use Rattle.omega_aliases.specs.Expanding.{Defined, Meaning, expansion, fault_of_meaning}
 use Rattle.omega_raw.specs.declared.raw_state.RawState.{RawState}
 use Rattle.omega_automaton.specs.Faults.{is_deep, is_labelled, is_large}
 use Rattle.omega_automaton.specs.Limits.{most_total_size}

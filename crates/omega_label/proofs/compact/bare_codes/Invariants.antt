@@ -1,6 +1,6 @@
 -- The bytes so far that stand for no parentheses are kept.
 use Rattle.std.proofs.Common.{◌≡◌, ◌≤◌, filter, length, map, take}
-use Rattle.omega_label.specs.private.layout.Bare.{is_bare}
+use Rattle.omega_label.specs.Bare.{is_bare}
 use Rattle.omega_label.specs.private.layout.Codes.{node_of}
 use Rattle.omega_label.proofs.compact.bare_codes.Given as goal
 

@@ -1,6 +1,6 @@
 -- The bytes so far that stand for no parentheses are counted.
 use Rattle.std.proofs.Common.{◌≡◌, ◌≤◌, count_by, map, take}
-use Rattle.omega_label.specs.private.layout.Bare.{is_bare}
+use Rattle.omega_label.specs.Bare.{is_bare}
 use Rattle.omega_label.specs.private.layout.Codes.{node_of}
 use Rattle.omega_label.proofs.compact.count_bare_codes.Given as goal
 

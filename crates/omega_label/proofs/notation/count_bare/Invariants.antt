@@ -1,7 +1,7 @@
 -- What holds in the loop of `count_bare`: no alias so far, and those that are no parentheses are counted.
 use Rattle.std.proofs.Common.{◌≡◌, ◌≤◌, count_by, false, take}
 use Rattle.std.specs.List.{list_any}
-use Rattle.omega_label.specs.private.layout.Bare.{is_alias, is_bare}
+use Rattle.omega_label.specs.Bare.{is_alias, is_bare}
 use Rattle.omega_label.proofs.notation.count_bare.Given as goal
 
 abbrev pub invariant-loop-node : goal.invariant-loop-node

@@ -3,7 +3,7 @@ use Rattle.std.specs.Prelude.{ℕ, Bool, nat_lt, if◌then◌else◌, List, [], 
 use Rattle.omega_expression.specs.Depths.{depths_below, top_depth}
 use Rattle.omega_label.specs.Label.{LabelTree}
 use Rattle.omega_label.specs.Writing.{label_text, label_written}
-use Rattle.omega_label.specs.private.layout.Raw.{raw_postfix}
+use Rattle.omega_label.specs.Postfix.{raw_postfix}
 use Rattle.omega_label.specs.declared.grouping.Grouping.{Grouping}
 use Rattle.omega_label.specs.declared.label.LabelNode.{LabelNode}
 use Rattle.omega_label.specs.declared.label.LabelNode.TheVariants.{Alias, And, Constant, Group, Not, Or, Proposition}

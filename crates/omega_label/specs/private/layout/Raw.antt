@@ -4,31 +4,12 @@ use Rattle.std.specs.Coded.{Coded, code_by, coded_list, coded×, coded_ℕ}
 use Rattle.omega_label.specs.Raw.{RawLabelTree, alias, conjunction, constant, disjunction, group, negation, proposition, raw_depth}
 use Rattle.omega_expression.specs.Depth.{counted}
 use Rattle.omega_expression.specs.Joins.{regrouped}
+use Rattle.omega_label.specs.Postfix.{alias_names, raw_postfix}
 use Rattle.omega_label.specs.contracts.label.LabelNode as node
 use Rattle.omega_label.specs.declared.label.LabelNode.{LabelNode}
 use Rattle.omega_label.specs.declared.label.LabelNode.TheVariants.{Alias, And, Constant, Group, Not, Or, Proposition}
 use Rattle.std.proofs.Common.{append_assoc, append-nil, ap, refl, sym, ◌∙◌}
 use Rattle.std.proofs.Math.Seq.{drop-append_seam, take-append_seam}
-
--- a tree in postfix order: its parts, and then its operator; of an alias the length of its name
-abbrev pub raw_postfix : RawLabelTree → List LabelNode
-raw_postfix (constant value) = Constant value ∷ []
-raw_postfix (proposition number) = Proposition number ∷ []
-raw_postfix (alias name) = Alias (length name) ∷ []
-raw_postfix (negation part) = raw_postfix part ++ Not ∷ []
-raw_postfix (conjunction left right) = raw_postfix left ++ (raw_postfix right ++ And ∷ [])
-raw_postfix (disjunction left right) = raw_postfix left ++ (raw_postfix right ++ Or ∷ [])
-raw_postfix (group part) = raw_postfix part ++ Group ∷ []
-
--- the alias names of a tree from left to right, joined
-abbrev pub alias_names : RawLabelTree → List ℕ
-alias_names (constant value) = []
-alias_names (proposition number) = []
-alias_names (alias name) = name
-alias_names (negation part) = alias_names part
-alias_names (conjunction left right) = alias_names left ++ alias_names right
-alias_names (disjunction left right) = alias_names left ++ alias_names right
-alias_names (group part) = alias_names part
 
 -- the tree on top, or a constant if there is none
 abbrev pub raw_top : List RawLabelTree → RawLabelTree

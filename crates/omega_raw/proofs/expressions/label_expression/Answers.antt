@@ -1,6 +1,6 @@
 -- The label that is read is the one that was written.
 use Rattle.omega_raw.proofs.BegunLemmas.{label_begun}
-use Rattle.omega_label.specs.Reading.{BeginsLabel, Reads}
+use Rattle.omega_label_reading.specs.Reading.{BeginsLabel, Reads}
 use Rattle.omega_raw.proofs.StepLemmas.{expression_found, label_again}
 use Rattle.omega_raw.specs.private.steps.Rows.{expression_row}
 use Rattle.omega_raw.proofs.expressions.label_expression.Goals as goal

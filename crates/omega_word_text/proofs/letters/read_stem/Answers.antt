@@ -3,7 +3,7 @@ use Rattle.std.proofs.Common.{◌≡◌, List, refl, sym, subst, ◌∙◌}
 use Rattle.omega_expression.proofs.PassingLemmas.{error_then}
 use Rattle.omega_expression.proofs.UnreadLemmas.{first_same}
 use Rattle.omega_label.specs.Raw.{RawLabelTree}
-use Rattle.omega_label.specs.Reading.{Reads}
+use Rattle.omega_label_reading.specs.Reading.{Reads}
 use Rattle.omega_word_text.specs.Grammar.{BeginsWord, ReadsNoWord}
 use Rattle.omega_word_text.specs.private.Stems.{LeadsOn}
 use Rattle.omega_word_text.proofs.Following.{Tokens}

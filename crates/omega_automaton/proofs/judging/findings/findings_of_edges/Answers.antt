@@ -1,6 +1,6 @@
 -- `findings_of_edges`: one more edge.
 use Rattle.std.proofs.Common.{Option, subst, arith}
-use Rattle.omega_label.specs.Expanding.{expansion}
+use Rattle.omega_aliases.specs.Expanding.{expansion}
 use Rattle.omega_label.specs.Raw.{RawLabelTree}
 use Rattle.omega_raw.specs.declared.raw_edge.RawEdge.{RawEdge}
 use Rattle.omega_automaton.specs.Faults.{passes, size_under}

@@ -1,7 +1,7 @@
 -- What holds in the loop of `findings_of_edges`: it is found of the edges so far.
 use Rattle.std.proofs.Common.{sum_by, take}
 use Rattle.std.specs.List.{list_any}
-use Rattle.omega_label.specs.Expanding.{expansion}
+use Rattle.omega_aliases.specs.Expanding.{expansion}
 use Rattle.omega_raw.specs.declared.raw_edge.RawEdge.{RawEdge}
 use Rattle.omega_automaton.specs.Faults.{passes, size_under}
 use Rattle.omega_automaton.specs.private.layout.Findings.{AreFound}

@@ -1,7 +1,7 @@
 -- `findings_of_state`: of its own label and of its edges.
 use Rattle.std.proofs.Common.{Option, subst, sum_by}
 use Rattle.std.specs.List.{list_any}
-use Rattle.omega_label.specs.Expanding.{expansion}
+use Rattle.omega_aliases.specs.Expanding.{expansion}
 use Rattle.omega_label.specs.Raw.{RawLabelTree}
 use Rattle.omega_raw.specs.declared.raw_edge.RawEdge.{RawEdge}
 use Rattle.omega_automaton.specs.Faults.{passes, size_under}

@@ -1,5 +1,5 @@
 -- `findings_of_states`: one more state.
-use Rattle.omega_label.specs.Expanding.{expansion}
+use Rattle.omega_aliases.specs.Expanding.{expansion}
 use Rattle.omega_automaton.specs.Faults.{is_labelled, label_total}
 use Rattle.omega_automaton.proofs.FindingLemmas.{found-step}
 use Rattle.omega_automaton.proofs.judging.findings.findings_of_states.Goals as goal

@@ -3,7 +3,7 @@ use Rattle.std.proofs.Common.{◌≡◌, refl, sym, ◌∙◌}
 use Rattle.std.proofs.lemmas.Iterator.Adapters.{YieldsList-from_vec}
 use Rattle.std.proofs.lemmas.Iterator.Consumers.{YieldsList-end, YieldsList-turn}
 use Rattle.std.proofs.lemmas.List.Folds.{map_fixed}
-use Rattle.omega_label.specs.Expanding.{expansion}
+use Rattle.omega_aliases.specs.Expanding.{expansion}
 use Rattle.omega_automaton.specs.Faults.{is_labelled}
 use Rattle.omega_automaton.specs.Meaning.{IsStateOf}
 use Rattle.omega_automaton.specs.private.layout.Findings.{is_faulty}

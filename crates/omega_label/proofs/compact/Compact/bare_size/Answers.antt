@@ -1,7 +1,7 @@
 -- In place no byte stands for an alias, and those that stand for no parentheses are counted.
 use Rattle.std.proofs.Common.{◌≡◌, ap, count_by, sym, take, ◌∙◌}
 use Rattle.std.specs.List.{list_any}
-use Rattle.omega_label.specs.private.layout.Bare.{is_alias, is_bare}
+use Rattle.omega_label.specs.Bare.{is_alias, is_bare}
 use Rattle.omega_label.specs.private.layout.Compact.{notation_in}
 use Rattle.omega_label.specs.declared.compact.Held.TheVariants.{Short}
 use Rattle.omega_label.proofs.CodeLemmas.{no_alias-codes}

@@ -1,7 +1,7 @@
 -- In place no byte stands for an alias.
 use Rattle.std.proofs.Common.{ap, sym, take, ◌∙◌}
 use Rattle.std.specs.List.{list_any}
-use Rattle.omega_label.specs.private.layout.Bare.{is_alias}
+use Rattle.omega_label.specs.Bare.{is_alias}
 use Rattle.omega_label.specs.private.layout.Compact.{notation_in}
 use Rattle.omega_label.proofs.CodeLemmas.{no_alias-codes}
 use Rattle.omega_label.proofs.compact.Compact.has_alias.Goals as goal

@@ -2,9 +2,8 @@
 use Rattle.std.proofs.Common.{◌≡◌, ◌++◌, length, ap, arith, subst, sym, ◌∙◌}
 use Rattle.omega_label.specs.Shape.{FitsALabel, label_tree_of_shape}
 use Rattle.omega_label.specs.Postfix.{postfix}
-use Rattle.omega_label.specs.private.layout.Label.{tree_of}
 use Rattle.omega_label.proofs.LabelLemmas.{length-postfix}
-use Rattle.omega_label.proofs.ShapeLemmas.{IsLabel-of, label_tree-is, too-large, value_then}
+use Rattle.omega_label.proofs.ShapeLemmas.{too-large, value_then}
 use Rattle.omega_label.proofs.label.Label.of_shape.Goals as goal
 
 pub returns-then-len-clause-err : goal.returns-then-len-clause-err
@@ -14,18 +13,18 @@ returns-then-len-clause-err c =
     too-large tree (omega (arith, c.in_ok-put_nodes.ensures.shallow))
     (omega (arith, c.if-len.true, c.len.ensures, ap length flat, length-postfix tree))
 
-pub of_nodes-requires : goal.of_nodes-requires
-of_nodes-requires c =
-    let tree = label_tree_of_shape c.args.shape.now in
-    IsLabel-of tree _ (c.in_ok-put_nodes.ensures.nodes ∙ ap (λ nodes. nodes ++ postfix tree) c.new-nodes.ensures.items)
-    (omega (arith, c.in_ok-put_nodes.ensures.shallow))
+pub from_postfix-requires : goal.from_postfix-requires
+from_postfix-requires c = record {
+  tree = label_tree_of_shape c.args.shape.now;
+  flat = c.in_ok-put_nodes.ensures.nodes ∙ ap (λ nodes. nodes ++ postfix (label_tree_of_shape c.args.shape.now)) c.new-nodes.ensures.items;
+  shallow = omega (arith, c.in_ok-put_nodes.ensures.shallow);
+}
 
 pub returns-clause-ok : goal.returns-clause-ok
 returns-clause-ok c =
     let tree = label_tree_of_shape c.args.shape.now in
     let flat = c.in_ok-put_nodes.ensures.nodes ∙ ap (λ nodes. nodes ++ postfix tree) c.new-nodes.ensures.items in
-    value_then c.of_nodes.result (λ label. label ≡ tree_of c.put_nodes.new.nodes.items) _ c.of_nodes.ensures.ok
-    (λ label is. is ∙ label_tree-is tree _ flat)
+    value_then c.from_postfix.result _ _ c.from_postfix.ensures.ok (λ label is. is tree flat)
 
 pub returns-clause-fits : goal.returns-clause-fits
 returns-clause-fits c =
@@ -35,5 +34,4 @@ returns-clause-fits c =
       shallow = omega (arith, c.in_ok-put_nodes.ensures.shallow);
       small = omega (arith, c.if-len.false, c.len.ensures, ap length flat, length-postfix tree);
     } in
-    value_then c.of_nodes.result (λ label. label ≡ tree_of c.put_nodes.new.nodes.items) _ c.of_nodes.ensures.ok
-    (λ label is. subst FitsALabel (sym (is ∙ label_tree-is tree _ flat)) fits)
+    value_then c.from_postfix.result _ _ c.from_postfix.ensures.ok (λ label is. subst FitsALabel (sym (is tree flat)) fits)

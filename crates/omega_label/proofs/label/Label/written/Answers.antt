@@ -2,15 +2,15 @@
 use Rattle.std.proofs.Common.{◌≡◌, ◌≤◌, [], List, arith, refl, sym, ◌∙◌}
 use Rattle.omega_expression.specs.Limits.{most_depth}
 use Rattle.omega_label.specs.Label.{LabelTree}
-use Rattle.omega_label.specs.Postfix.{postfix}
+use Rattle.omega_label.specs.Postfix.{postfix, raw_postfix, AreOf}
 use Rattle.omega_label.specs.Raw.{raw_depth}
 use Rattle.omega_label.specs.Writing.{label_written}
 use Rattle.omega_label.specs.declared.label.LabelNode.{LabelNode}
 use Rattle.omega_label.specs.private.layout.Parts.{nodes_before, parts_after}
-use Rattle.omega_label.specs.private.layout.Raw.{raw_postfix, raw_tree_of}
+use Rattle.omega_label.specs.private.layout.Raw.{raw_tree_of}
 use Rattle.omega_label.proofs.DepthLemmas.{depth-raw}
 use Rattle.omega_label.proofs.PartLemmas.{names-written, whole-written}
-use Rattle.omega_label.proofs.RawLemmas.{AreOf, IsRawLabel-of, raw_tree-is}
+use Rattle.omega_label.proofs.RawLemmas.{IsRawLabel-of, raw_tree-is}
 use Rattle.omega_label.proofs.ShapeLemmas.{anyway, value_then}
 use Rattle.omega_label.proofs.label.Label.written.Goals as goal
 

@@ -1,6 +1,6 @@
 -- The nodes that are left are those of the label without parentheses.
 use Rattle.std.proofs.Common.{ap, ◌∙◌}
-use Rattle.omega_label.specs.private.layout.Bare.{bare}
+use Rattle.omega_label.specs.Bare.{bare}
 use Rattle.omega_label.specs.private.layout.Label.{tree_of, tree_of-postfix}
 use Rattle.omega_label.proofs.BareLemmas.{IsLabel-bare, nodes-bare}
 use Rattle.omega_label.proofs.RawLemmas.{AreOf-seen}

@@ -1,0 +1,2 @@
+-- How a label is built from its tokens.
+pub mod Building
