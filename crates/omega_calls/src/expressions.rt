@@ -67,12 +67,21 @@ fn over_given(
     aliases: Result<Aliases, Refusal>,
 ) -> Result<Vec<u8>, Refusal> {
     match aliases {
-        Ok(aliases) if call == "expanded_size" => size(alloc, raw, &aliases),
-        Ok(aliases) if call == "shape of a label" => {
-            written(alloc, again(alloc, expand(alloc, raw, &aliases)))
-        }
-        Ok(aliases) => written(alloc, expand(alloc, raw, &aliases)),
+        Ok(aliases) => over_aliases(alloc, call, raw, &aliases),
         Err(refusal) => Err(refusal),
+    }
+}
+
+fn over_aliases(
+    alloc: Global,
+    call: &str,
+    raw: &RawLabel,
+    aliases: &Aliases,
+) -> Result<Vec<u8>, Refusal> {
+    match call {
+        "expanded_size" => size(alloc, raw, aliases),
+        "shape of a label" => written(alloc, again(alloc, expand(alloc, raw, aliases))),
+        _ => written(alloc, expand(alloc, raw, aliases)),
     }
 }
 
@@ -261,10 +270,16 @@ fn of_raw(
     other: &[u8],
 ) -> Result<Vec<u8>, Refusal> {
     match raw {
-        Ok(raw) if call == "depth of a formula" => formula_depth(alloc, &raw, other),
-        Ok(raw) if call == "is RawAcc" => compared(alloc, &raw, raw_built(alloc)),
-        Ok(raw) => formula_written(alloc, raw.formula(alloc)),
+        Ok(raw) => of_read(alloc, call, &raw, other),
         Err(refusal) => Err(refusal),
+    }
+}
+
+fn of_read(alloc: Global, call: &str, raw: &RawAcc, other: &[u8]) -> Result<Vec<u8>, Refusal> {
+    match call {
+        "depth of a formula" => formula_depth(alloc, raw, other),
+        "is RawAcc" => compared(alloc, raw, raw_built(alloc)),
+        _ => formula_written(alloc, raw.formula(alloc)),
     }
 }
 

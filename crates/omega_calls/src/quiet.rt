@@ -57,17 +57,25 @@ fn put_tokens(alloc: Global, text: &[u8], out: &mut Vec<u8>) -> Result<(), Refus
     }
     put_pg_fault(text, out)?;
     put_answer(out, next_pg_number(text, 0).is_some())?;
+    put_checked(text, out)?;
+    put_new(alloc, out)
+}
+
+fn put_checked(text: &[u8], out: &mut Vec<u8>) -> Result<(), Refusal> {
     if check_tokens::<HoaKind>(text).is_ok() {
         put_places(&mut TextCursor::<HoaKind>::new(text), out)?;
     }
-    if let Err(fault) = check_tokens::<PgKind>(text) {
-        put(out, Refusal::Text(fault).at().unwrap_or(0) as u128)?;
+    match check_tokens::<PgKind>(text) {
+        Ok(()) => Ok(()),
+        Err(fault) => put(out, Refusal::Text(fault).at().unwrap_or(0) as u128),
     }
-    let outcome = Stream::new(alloc).finish();
-    put_answer(out, outcome.is_ok())?;
-    put(out, u128::from(exit_code(&Ok(Exit::No))))?;
+}
+
+/// Puts the end of a stream without a text, and a status, and makes a list of no aliases.
+fn put_new(alloc: Global, out: &mut Vec<u8>) -> Result<(), Refusal> {
     let _none = Aliases::new(alloc);
-    Ok(())
+    put_answer(out, Stream::new(alloc).finish().is_ok())?;
+    put(out, u128::from(exit_code(&Ok(Exit::No))))
 }
 
 /// Puts what is at fault with the first token of a text as a game text.

@@ -102,34 +102,38 @@ pub(crate) fn put_judged(
     }
     match call {
         "places_given" => put_all(out, given),
-        "check_strategy" => put_answer(
+        "check_strategy" => put_judgement(
             out,
-            check_strategy(alloc, game.forward(), player, given, strategy)?,
+            check_strategy(alloc, game.forward(), player, given, strategy),
         ),
-        "check_strategy_fast" => {
-            put_said(
-                out,
-                check_strategy_fast(alloc, game.forward(), player, given, strategy)?,
-            )
-        }
-        "check_strategy_by_order" => {
-            put_answer(
-                out,
-                check_strategy_by_order(alloc, game.forward(), player, given, strategy, order)?,
-            )
-        }
+        "check_strategy_fast" => put_said(
+            out,
+            check_strategy_fast(alloc, game.forward(), player, given, strategy),
+        ),
+        "check_strategy_by_order" => put_judgement(
+            out,
+            check_strategy_by_order(alloc, game.forward(), player, given, strategy, order),
+        ),
         _ => put_lasso(
             out,
-            counterexample(alloc, game.forward(), player, given, strategy)?,
+            counterexample(alloc, game.forward(), player, given, strategy),
         ),
     }
 }
 
+fn put_judgement(out: &mut Vec<u8>, judged: Result<bool, Refusal>) -> Result<(), Refusal> {
+    match judged {
+        Ok(wins) => put_answer(out, wins),
+        Err(refusal) => Err(refusal),
+    }
+}
+
 /// Puts an answer, or `?` if there is none.
-fn put_said(out: &mut Vec<u8>, said: Option<bool>) -> Result<(), Refusal> {
+fn put_said(out: &mut Vec<u8>, said: Result<Option<bool>, Refusal>) -> Result<(), Refusal> {
     match said {
-        Some(said) => put_answer(out, said),
-        None => Ok(out.push(b'?')?),
+        Ok(Some(said)) => put_answer(out, said),
+        Ok(None) => Ok(out.push(b'?')?),
+        Err(refusal) => Err(refusal),
     }
 }
 
@@ -140,12 +144,15 @@ fn are_places(game: &Game, places: &[u32]) -> bool
     places.iter().all(|place| (*place as usize) < count)
 }
 
-fn put_lasso(out: &mut Vec<u8>, lasso: Option<Lasso>) -> Result<(), Refusal> {
+fn put_lasso(out: &mut Vec<u8>, lasso: Result<Option<Lasso>, Refusal>) -> Result<(), Refusal> {
     match lasso {
-        None => put_answer(out, true),
-        Some(lasso) => {
-            put_all(out, lasso.stem.as_slice())?;
-            put_all(out, lasso.cycle.as_slice())
-        }
+        Ok(Some(lasso)) => put_parts(out, lasso.stem.as_slice(), lasso.cycle.as_slice()),
+        Ok(None) => put_answer(out, true),
+        Err(refusal) => Err(refusal),
     }
+}
+
+fn put_parts(out: &mut Vec<u8>, stem: &[u32], cycle: &[u32]) -> Result<(), Refusal> {
+    put_all(out, stem)?;
+    put_all(out, cycle)
 }
