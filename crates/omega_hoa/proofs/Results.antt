@@ -1,5 +1,5 @@
 -- Facts of what calls answer, and of lists that values are appended to.
-use Rattle.std.proofs.Common.{List, [], ◌++◌, sym, ap, subst, ◌∙◌, append_assoc, append-nil}
+use Rattle.std.proofs.Common.{◌≡◌, List, [], ◌++◌, sym, ap, subst, ◌∙◌, append_assoc, append-nil}
 use Rattle.std.proofs.lemmas.List.{append_cancel_left}
 use Rattle.std.specs.Prelude.{Result, Ok, Err, IfErr, IfOk, IsErrAnd}
 use Rattle.omega_hoa.specs.Feeding.{Appends}
@@ -44,3 +44,12 @@ extends_then old middle new first more = (first.0 ++ more.0, more.1 ∙ ap (λ l
 pub holds_after : {X : Type 0} (old new values : List X) (Holds : List X → Type 0) (extends : Extends old new) → Appends old new values Holds → Holds (values ++ extends.0)
 holds_after old new values Holds extends more =
     subst (λ added. Holds (values ++ added)) (append_cancel_left old more.added extends.0 (sym more.is ∙ extends.1)) more.holds
+
+-- the error of a result, or another without one
+abbrev error_in : {A E : Type 0} → E → Result A E → E
+error_in other (Ok value) = other
+error_in other (Err error) = error
+
+-- results with errors are the same only if these are
+pub err_same : {A E : Type 0} (one other : E) → ◌≡◌ {A = Result A E} (Err one) (Err other) → one ≡ other
+err_same one other same = ap (error_in one) same

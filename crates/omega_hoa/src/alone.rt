@@ -45,10 +45,8 @@ fn read_at_once(alloc: Global, bytes: &[u8]) -> Option<Automaton>
     ensures { IfSome result (IsAutomatonText bytes.now) }
 {
     HoaKind::goes_on_one_way();
-    match read_front(alloc, bytes) {
-        Some((automaton, end)) if ends_after(bytes, end) => Some(automaton),
-        _ => None,
-    }
+    let (automaton, end) = read_front(alloc, bytes)?;
+    ends_after(bytes, end).then_some(automaton)
 }
 
 /// Whether no token of `bytes` follows from `at` on, and no fault.

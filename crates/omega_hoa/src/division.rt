@@ -11,7 +11,7 @@ use std::alloc::Global;
 
 /// How the tokens of a stream are divided so far: the end of the last whole segment, and whether another has begun
 /// after it.
-#[derive(Clone, Copy, Debug, PartialEq, Eq)]
+#[derive(Clone, Copy)]
 pub(crate) struct Division {
     pub(crate) begins: usize,
     pub(crate) inside: bool,

@@ -9,7 +9,7 @@ use crate::division::opens;
 use omega_text::{HoaKind, TextFault, Token, next_hoa_token};
 
 /// The tokens of a text that is to hold one segment, ended by `--END--`, without the inside of the segment.
-#[derive(Clone, Copy, Debug, PartialEq, Eq)]
+#[derive(Clone, Copy)]
 pub(crate) enum TextOutline {
     /// There is no token.
     Empty,

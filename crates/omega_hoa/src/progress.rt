@@ -8,7 +8,7 @@ use omega_text::{ByteTokenizer, HoaTokenizer, Refusal, Settled};
 use std::alloc::Global;
 
 /// How far the bytes of a stream were read.
-#[derive(Clone, Copy, Debug, PartialEq, Eq)]
+#[derive(Clone, Copy)]
 pub(crate) struct ReadProgress {
     pub(crate) tokenizer: HoaTokenizer,
     pub(crate) division: Division,

@@ -3,7 +3,7 @@ use Rattle.std.proofs.Common.{[], ◌++◌, append-nil, sym, subst, inr}
 use Rattle.omega_text.specs.hoa.Pieces.{lexemes_in}
 use Rattle.omega_hoa.specs.Feeding.{IsDivided}
 use Rattle.omega_hoa.specs.private.dividing.Next.{IsRefusedNow}
-use Rattle.omega_hoa.proofs.Results.{error_then, more_says, then_more}
+use Rattle.omega_hoa.proofs.Results.{error_then, extends_then, more_says, then_more}
 use Rattle.omega_hoa.proofs.Settling.{both_divided, fault_next, first_next, refused_after, second_next}
 use Rattle.omega_hoa.proofs.division.take_all.Goals as goal
 
@@ -74,3 +74,15 @@ returns-in-Some-clause-forward c = tt
 
 pub returns-in-Some-clause-sound : goal.returns-in-Some-clause-sound
 returns-in-Some-clause-sound c = tt
+
+pub returns-in_err-middle-clause-extends : goal.returns-in_err-middle-clause-extends
+returns-in_err-middle-clause-extends c = c.in_err-middle.ensures.extends
+
+pub returns-in_err-after-clause-extends : goal.returns-in_err-after-clause-extends
+returns-in_err-after-clause-extends c = extends_then _ _ _ c.in_ok-middle.ensures.extends c.in_err-after.ensures.extends
+
+pub returns-in-None-clause-extends : goal.returns-in-None-clause-extends
+returns-in-None-clause-extends c = extends_then _ _ _ c.in_ok-middle.ensures.extends c.in_ok-after.ensures.extends
+
+pub returns-in-Some-clause-extends : goal.returns-in-Some-clause-extends
+returns-in-Some-clause-extends c = extends_then _ _ _ c.in_ok-middle.ensures.extends c.in_ok-after.ensures.extends

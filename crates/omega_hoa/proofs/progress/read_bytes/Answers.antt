@@ -36,3 +36,9 @@ returns-clause-read c = λ prior items so_far.
     let end : c.loop-place.place ≡ length c.args.bytes.now = omega (arith, c.loop-place.invariant.within, c.loop-place-test.false) in
     subst (λ place. (Appends c.args.out.now.items c.loop-place.out.items items (IsProgress c.args.bytes.now c.args.first place c.loop-place.reached prior))) end
     (c.loop-place.invariant.read prior items so_far)
+
+pub returns-clause-extends : goal.returns-clause-extends
+returns-clause-extends c = c.loop-place.invariant.extends
+
+pub returns-in_err-after-clause-extends : goal.returns-in_err-after-clause-extends
+returns-in_err-after-clause-extends c = extends_then _ _ _ c.loop-place.invariant.extends c.in_err-after.ensures.extends

@@ -5,7 +5,7 @@ use Rattle.omega_hoa.specs.Kept.{Kept}
 use Rattle.omega_hoa.specs.Stream.{IsStreamFault}
 use Rattle.omega_hoa.specs.private.dividing.Next.{IsProgress}
 use Rattle.omega_hoa.proofs.Feeds.{begins_within, fed_of, fits_of, kept_after, known_after, known_of, known_some, long_of, progress_before, refused_after, taken_of, too_long, with_piece}
-use Rattle.omega_hoa.proofs.Results.{more_says, nothing_more}
+use Rattle.omega_hoa.proofs.Results.{err_same, more_says, nothing_more}
 use Rattle.omega_hoa.proofs.stream.Stream.feed_sound.Goals as goal
 
 pub invariant_of-self : goal.invariant_of-self
@@ -144,3 +144,9 @@ returns-then-piece-self-clause-taken c = λ no_memory seen items fed.
     let count : c.len-held.result ≡ length kept.bytes = c.len-held.ensures ∙ c.self.inside.bytes.ok.0 in
     let taken : IsTaken seen items kept = subst (IsTaken seen items) (sym c.self.view_is) (taken_of seen items c.args.self.now c.requires fed) in
     nothing_more _ _ _ (too_long seen items kept c.args.piece.now taken (long_of kept c.len-held.result (length c.args.piece.now) count c.if-piece-self.true))
+
+pub returns-in-Ok-clause-extends : goal.returns-in-Ok-clause-extends
+returns-in-Ok-clause-extends c = λ no_memory. c.in-Ok.ensures.extends (λ e. cc)
+
+pub returns-in_default-clause-extends : goal.returns-in_default-clause-extends
+returns-in_default-clause-extends c = λ no_memory. c.in-Err.ensures.extends (λ e. c.in_default.not-Memory (err_same _ _ e))
