@@ -1,5 +1,5 @@
 -- A formula that is judged on some edges and on all.
-use Rattle.std.proofs.Common.{◌≡◌, ℕ, Bool, not, List, refl}
+use Rattle.std.proofs.Common.{◌≡◌, ℕ, not, List, refl}
 use Rattle.omega_formula.specs.Acceptance.{AccTree, conjunction, constant, disjunction, fin, inf, occurs}
 use Rattle.omega_formula.specs.Judging.{holds_by_atoms}
 use Rattle.omega_walk_laws.specs.Marks.{accepts_apart}

@@ -52,6 +52,10 @@ state_written state = record {
   edges = map edge_written state.edges;
 }
 
+-- a header and a body together
+abbrev pub raw_of : List RawItem → List RawState → RawAutomaton
+raw_of items states = record { version = codes "v1"; items = items; states = states }
+
 -- the automaton
 abbrev pub written : Description → RawAutomaton
-written a = record { version = codes "v1"; items = header a; states = map state_written a.defined }
+written a = raw_of (header a) (map state_written a.defined)

@@ -1,24 +1,22 @@
-//! A trimmed automaton as a text writes it, and the automaton that this means.
+//! A trimmed automaton, by way of what a text writes of it.
 
-ghost use Rattle.std.specs.Prelude.{◌≡◌, Some, IfErr, IfOk};
-ghost use Rattle.omega_text.specs.declared.refusal.automaton.AutomatonFault.{AutomatonFault};
-ghost use Rattle.omega_automaton.specs.Faults.{automaton_fault_of};
-ghost use Rattle.omega_automaton.specs.Meaning.{Means};
+ghost use Rattle.std.specs.Prelude.{◌≡◌, IfErr, IfOk};
 ghost use Rattle.omega_edge_labels.specs.Fitting.{IsLarge};
 ghost use Rattle.omega_trim.specs.Refusing.{IsTooLarge, PassesLimit};
 ghost use Rattle.omega_trim.specs.Trimmed.{IsTrimmed, trimmed};
 ghost use Rattle.omega_trim.specs.Useful.{AreUsefulStates};
-ghost use Rattle.omega_trim.specs.Written.{written as written_form};
+ghost use Rattle.omega_trim.specs.Written.{header as header_of, written as written_form};
 ghost use Rattle.omega_trim.specs.private.Placed.{IsFew};
-ghost use Rattle.omega_trim.specs.private.Writing.{BreaksLimit};
+ghost use Rattle.omega_trim.specs.private.Writing.{StatesHaveDeepLabel};
 
+use crate::assembling::{assembled, meaning};
 use crate::header::header;
 use crate::states::kept_states;
 use indexmap::IndexSet;
 use omega_acc::{written_formulas_mean, written_labels_mean};
-use omega_automaton::{Automaton, RawAutomaton, automaton_of};
+use omega_automaton::{Automaton, RawAutomaton, Refusal};
 use omega_edge_labels::written_formula;
-use omega_text::{ByteString, Refusal, Seq, TaskFault};
+use omega_raw::RawItem;
 use std::alloc::Global;
 
 /// Returns `automaton` with the states of `kept` alone, which are the useful ones. Fails with [TaskFault::TooLarge] if
@@ -36,9 +34,10 @@ pub(crate) fn formed(
     automaton.keeps_limits();
     written_labels_mean();
     written_formulas_mean();
-    let raw = written(alloc, automaton, kept)?;
-    let trimmed = meaning(alloc, raw)?;
-    Ok(trimmed)
+    match written(alloc, automaton, kept) {
+        Ok(raw) => meaning(alloc, raw),
+        Err(refusal) => Err(refusal),
+    }
 }
 
 /// Returns the trimmed automaton as a text writes it. Fails with [TaskFault::TooLarge] if the acceptance or a label is
@@ -53,24 +52,27 @@ fn written(
     ensures err { IfErr result (IsLarge (PassesLimit (trimmed kept.now.keys automaton.now))) }
 {
     let formula = written_formula(alloc, automaton.acceptance())?;
-    let items = header(alloc, automaton, kept, formula)?;
-    let states = kept_states(alloc, automaton, kept)?;
-    let version = ByteString::from_slice(alloc, b"v1")?;
-    Ok(RawAutomaton {
-        version,
-        items: Seq::from_vec(items),
-        states: Seq::from_vec(states),
-    })
+    match header(alloc, automaton, kept, formula) {
+        Ok(items) => written_under(alloc, automaton, kept, items),
+        Err(refusal) => Err(refusal),
+    }
 }
 
-/// Returns the meaning of `raw`. Fails with [TaskFault::TooLarge] if `raw` breaks a limit of automata.
-fn meaning(alloc: Global, raw: RawAutomaton) -> Result<Automaton, Refusal>
-    ensures means { IfOk result (Means raw) }
-    ensures err { IfErr result (IsLarge (BreaksLimit raw)) }
+/// Returns the trimmed automaton as a text writes it, under the header `items`. Fails with [TaskFault::TooLarge] if a
+/// label is then deeper than `MOST_DEPTH`.
+fn written_under(
+    alloc: Global,
+    automaton: &Automaton,
+    kept: &IndexSet<u32>,
+    items: Vec<RawItem>,
+) -> Result<RawAutomaton, Refusal>
+    requires few { IsFew kept.now.keys }
+    requires header { items.items ≡ header_of (trimmed kept.now.keys automaton.now) }
+    ensures written { IfOk result (λ raw. raw ≡ written_form (trimmed kept.now.keys automaton.now)) }
+    ensures err { IfErr result (IsLarge (StatesHaveDeepLabel (trimmed kept.now.keys automaton.now).defined)) }
 {
-    match automaton_of(alloc, raw) {
-        Ok(automaton) => Ok(automaton),
-        Err(Refusal::Automaton(_fault)) => Err(Refusal::Task(TaskFault::TooLarge)),
+    match kept_states(alloc, automaton, kept) {
+        Ok(states) => assembled(alloc, items, states),
         Err(refusal) => Err(refusal),
     }
 }

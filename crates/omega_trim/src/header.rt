@@ -29,16 +29,69 @@ pub(crate) fn header(
     ensures memory { IsOkUnless result Refusal.Memory }
 {
     let mut items = Vec::new(alloc);
+    match push_items(alloc, &mut items, automaton, kept, formula) {
+        Ok(()) => Ok(items),
+        Err(refusal) => Err(refusal),
+    }
+}
+
+/// Appends the items of the header, whose acceptance is `formula`.
+fn push_items(
+    alloc: Global,
+    items: &mut Vec<RawItem>,
+    automaton: &Automaton,
+    kept: &IndexSet<u32>,
+    formula: RawAcc,
+) -> Result<(), Refusal>
+    requires few { IsFew kept.now.keys }
+    requires formula { formula ≡ acc_written automaton.now.acceptance }
+    ensures items { OnOk result (items.new.items ≡ items.old.items ++ header (trimmed kept.now.keys automaton.now)) }
+    ensures memory { IsOkUnless result Refusal.Memory }
+{
+    match push_counts(alloc, items, automaton, kept) {
+        Ok(()) => push_others(alloc, items, automaton, kept, formula),
+        Err(refusal) => Err(refusal),
+    }
+}
+
+/// Appends the number of states that stay, and the propositions.
+fn push_counts(
+    alloc: Global,
+    items: &mut Vec<RawItem>,
+    automaton: &Automaton,
+    kept: &IndexSet<u32>,
+) -> Result<(), Refusal>
+    requires { IsFew kept.now.keys }
+    ensures items { OnOk result (items.new.items ≡ items.old.items ++ item.States (length kept.now.keys)
+        ∷ item.Propositions (length automaton.now.propositions) automaton.now.propositions ∷ []) }
+    ensures memory { IsOkUnless result Refusal.Memory }
+{
     items.push(RawItem::States(kept.len() as u32))?;
     items.push(propositions(alloc, automaton)?)?;
+    Ok(())
+}
+
+/// Appends the acceptance `formula`, both names, and the starts that stay.
+fn push_others(
+    alloc: Global,
+    items: &mut Vec<RawItem>,
+    automaton: &Automaton,
+    kept: &IndexSet<u32>,
+    formula: RawAcc,
+) -> Result<(), Refusal>
+    requires { IsFew kept.now.keys }
+    ensures items { OnOk result (items.new.items ≡ items.old.items ++ item.Acceptance automaton.now.sets formula
+        ∷ (name_items automaton.now.name ++ (acc_name_items automaton.now.acc_name
+        ++ map start_item (starts_kept kept.now.keys automaton.now.starts)))) }
+    ensures memory { IsOkUnless result Refusal.Memory }
+{
     items.push(RawItem::Acceptance {
         count: automaton.set_count(),
         formula,
     })?;
-    push_name(alloc, &mut items, automaton)?;
-    push_acc_name(alloc, &mut items, automaton)?;
-    push_starts(alloc, &mut items, automaton, kept)?;
-    Ok(items)
+    push_name(alloc, items, automaton)?;
+    push_acc_name(alloc, items, automaton)?;
+    push_starts(alloc, items, automaton, kept)
 }
 
 /// Appends the name of `automaton`, if it has one.

@@ -3,6 +3,7 @@
 //! docs/formats.md says when each refusal comes.
 #![tactic(auto)]
 
+mod assembling;
 mod edges;
 mod forming;
 mod goals;
@@ -19,6 +20,7 @@ mod states;
 mod trimming;
 mod useful;
 
-pub use names::copied_acc_name;
+pub use assembling::{assembled, meaning};
+pub use names::{copied_acc_name, copied_state_name};
 pub use omega_automaton::{Automaton, Refusal};
 pub use trimming::trim;

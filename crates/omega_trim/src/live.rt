@@ -26,8 +26,7 @@ pub(crate) fn live_states(
 {
     let goals = goals_of(alloc, automaton, graph, edges)?;
     let back = reversed(alloc, graph)?;
-    let flags = reached(alloc, &back, edges, goals.as_slice())?;
-    Ok(flags)
+    reached(alloc, &back, edges, goals.as_slice())
 }
 
 /// Returns states from which `edges` lead to accepting closed walks, and to one of which they lead from each such walk.
@@ -43,7 +42,11 @@ fn goals_of(
     ensures memory { IsOkUnless result Refusal.Memory }
 {
     let marks = edge_marks(alloc, automaton)?;
-    let formula = automaton.acceptance();
-    let goals = goals(alloc, graph, marks.as_slice(), edges, formula)?;
-    Ok(goals)
+    goals(
+        alloc,
+        graph,
+        marks.as_slice(),
+        edges,
+        automaton.acceptance(),
+    )
 }

@@ -2,7 +2,7 @@
 
 ghost use Rattle.std.specs.Prelude.{◌≡◌, IfOk, IsOkUnless};
 
-use omega_automaton::Refusal;
+use omega_automaton::{Refusal, State, StateName};
 use omega_formula::{AccName, Parameter};
 use omega_text::{ByteString, Seq};
 use std::alloc::Global;
@@ -17,6 +17,20 @@ pub(crate) fn copied_names(alloc: Global, names: &[ByteString]) -> Result<Vec<By
         same.push(ByteString::from_slice(alloc, name.as_slice())?)?;
     }
     Ok(same)
+}
+
+/// Copies the name of `state`.
+pub fn copied_state_name(alloc: Global, state: &State) -> Result<StateName, Refusal>
+    ensures name { IfOk result (λ name. name ≡ state.now.name) }
+    ensures memory { IsOkUnless result Refusal.Memory }
+{
+    match state.name.as_slice() {
+        None => Ok(StateName::absent()),
+        Some(bytes) => {
+            let bytes = ByteString::from_slice(alloc, bytes)?;
+            Ok(StateName::of(alloc, bytes)?)
+        }
+    }
 }
 
 /// Copies the name of an acceptance.

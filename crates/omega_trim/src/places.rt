@@ -16,15 +16,30 @@ pub(crate) fn places_of(alloc: Global, automaton: &Automaton) -> Result<IndexSet
     ensures few { IfOk result (λ numbers. IsFew numbers.keys) }
     ensures memory { IsOkUnless result Refusal.Memory }
 {
-    automaton.keeps_limits();
     let mut numbers = IndexSet::new(alloc);
+    match add_defined(&mut numbers, automaton) {
+        Ok(()) => Ok(numbers),
+        Err(refusal) => Err(refusal),
+    }
+}
+
+/// Appends the numbers of the states that `automaton` defines to an empty set. Fails with [Refusal::Memory] also if
+/// there are over 2^32 - 2 of them.
+fn add_defined(numbers: &mut IndexSet<u32>, automaton: &Automaton) -> Result<(), Refusal>
+    requires { numbers.old.keys ≡ [] }
+    ensures numbers { OnOk result (numbers.new.keys ≡ defined_numbers automaton.now) }
+    ensures few { OnOk result (IsFew numbers.new.keys) }
+    ensures memory { IsOkUnless result Refusal.Memory }
+{
+    automaton.keeps_limits();
     for state in automaton.defined() {
-        add(&mut numbers, state.number)?;
+        add(numbers, state.number)?;
     }
-    if numbers.len() >= u32::MAX as usize {
-        return Err(Refusal::Memory);
+    if numbers.len() < u32::MAX as usize {
+        Ok(())
+    } else {
+        Err(Refusal::Memory)
     }
-    Ok(numbers)
 }
 
 /// Appends `number`, which the set does not have.

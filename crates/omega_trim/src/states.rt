@@ -1,6 +1,6 @@
 //! The states that stay, as a text writes them.
 
-ghost use Rattle.std.specs.Prelude.{◌≡◌, length, map, IfErr, IfOk, IsOkUnless};
+ghost use Rattle.std.specs.Prelude.{◌≡◌, length, map, IfErr, IfOk};
 ghost use Rattle.omega_edge_labels.specs.Fitting.{IsLarge};
 ghost use Rattle.omega_trim.specs.Trimmed.{state_kept, states_kept};
 ghost use Rattle.omega_trim.specs.Written.{state_written};
@@ -9,12 +9,13 @@ ghost use Rattle.omega_trim.specs.private.Writing.{HasDeepLabel, StatesHaveDeepL
 
 use crate::edges::kept_edges;
 use crate::labels::same_label;
+use crate::names::copied_state_name;
 use crate::numbers::stays;
 use crate::places::place_in;
 use indexmap::IndexSet;
-use omega_automaton::{Automaton, Refusal, State, StateName};
+use omega_automaton::{Automaton, Refusal, State};
 use omega_raw::RawState;
-use omega_text::{ByteString, Marks, Numbers};
+use omega_text::{Marks, Numbers};
 use std::alloc::Global;
 
 /// Returns the states of `automaton` that stay, in their order. Fails with [TaskFault::TooLarge] if a label is deeper
@@ -53,7 +54,7 @@ fn kept_state(
     ensures err { IfErr result (IsLarge (HasDeepLabel (state_kept kept.now.keys count state.now))) }
 {
     let label = same_label(alloc, state.label.as_ref())?;
-    let name = name_of(alloc, state)?;
+    let name = copied_state_name(alloc, state)?;
     let marks = Marks::of(Numbers::from_slice(alloc, state.marks.as_slice())?);
     let edges = kept_edges(alloc, kept, count, state)?;
     Ok(RawState {
@@ -63,18 +64,4 @@ fn kept_state(
         marks,
         edges,
     })
-}
-
-/// Copies the name of `state`.
-fn name_of(alloc: Global, state: &State) -> Result<StateName, Refusal>
-    ensures name { IfOk result (λ name. name ≡ state.now.name) }
-    ensures memory { IsOkUnless result Refusal.Memory }
-{
-    match state.name.as_slice() {
-        None => Ok(StateName::absent()),
-        Some(bytes) => {
-            let bytes = ByteString::from_slice(alloc, bytes)?;
-            Ok(StateName::of(alloc, bytes)?)
-        }
-    }
 }

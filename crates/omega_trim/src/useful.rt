@@ -1,6 +1,6 @@
 //! The useful states of an automaton.
 
-ghost use Rattle.std.specs.Prelude.{◌≡◌, ◌+◌, ◌<◌, ◌&&◌, false, if◌then◌else◌, length, nat_eq, IfErr, IfOk, IsOkUnless, OnOk, vec_len};
+ghost use Rattle.std.specs.Prelude.{◌≡◌, [], ◌+◌, ◌<◌, ◌&&◌, false, if◌then◌else◌, length, nat_eq, IfErr, IfOk, IsOkUnless, OnOk, vec_len};
 ghost use Rattle.std.specs.List.Sorted.{IsPermutation, IsStrictlyIncreasing};
 ghost use Rattle.indexmap.specs.IndexSet.{insert_key};
 ghost use Rattle.omega_automaton.specs.Branching.{has_universal_branching};
@@ -35,8 +35,7 @@ pub(crate) fn useful_states(alloc: Global, automaton: &Automaton) -> Result<Inde
     ensures refused { IfErr result (GivesUpOn (HasHardLabel automaton.now)) }
 {
     let edges = usable_edges(alloc, automaton)?;
-    let kept = useful_along(alloc, automaton, edges.as_slice())?;
-    Ok(kept)
+    useful_along(alloc, automaton, edges.as_slice())
 }
 
 /// Returns the numbers of the useful states, given the usable `edges`.
@@ -51,17 +50,59 @@ fn useful_along(
     ensures few { IfOk result (λ kept. IsFew kept.keys) }
     ensures memory { IsOkUnless result Refusal.Memory }
 {
+    match places_of(alloc, automaton) {
+        Ok(places) => useful_among(alloc, automaton, &places, edges),
+        Err(refusal) => Err(refusal),
+    }
+}
+
+/// Returns the numbers of the useful states, given the usable `edges` and the numbers of the defined states.
+fn useful_among(
+    alloc: Global,
+    automaton: &Automaton,
+    places: &IndexSet<u32>,
+    edges: &[u32],
+) -> Result<IndexSet<u32>, Refusal>
+    requires plain { has_universal_branching automaton.now ≡ false }
+    requires places { places.now.keys ≡ defined_numbers automaton.now }
+    requires few { IsFew places.now.keys }
+    requires usable { AreUsableEdges automaton.now edges.now }
+    ensures useful { IfOk result (λ kept. AreUsefulStates automaton.now kept.keys) }
+    ensures few { IfOk result (λ kept. IsFew kept.keys) }
+    ensures memory { IsOkUnless result Refusal.Memory }
+{
+    match graph_of(alloc, automaton, places) {
+        Ok(graph) => useful_in(alloc, automaton, places, &graph, edges),
+        Err(refusal) => Err(refusal),
+    }
+}
+
+/// Returns the numbers of the useful states, given the usable `edges`, the numbers of the defined states, and the
+/// `graph` of `automaton`.
+fn useful_in(
+    alloc: Global,
+    automaton: &Automaton,
+    places: &IndexSet<u32>,
+    graph: &Graph,
+    edges: &[u32],
+) -> Result<IndexSet<u32>, Refusal>
+    requires plain { has_universal_branching automaton.now ≡ false }
+    requires places { places.now.keys ≡ defined_numbers automaton.now }
+    requires few { IsFew places.now.keys }
+    requires graph { graph.now ≡ shape_of automaton.now }
+    requires usable { AreUsableEdges automaton.now edges.now }
+    ensures useful { IfOk result (λ kept. AreUsefulStates automaton.now kept.keys) }
+    ensures few { IfOk result (λ kept. IsFew kept.keys) }
+    ensures memory { IsOkUnless result Refusal.Memory }
+{
     automaton.keeps_limits();
-    let places = places_of(alloc, automaton)?;
-    let graph = graph_of(alloc, automaton, &places)?;
-    let reached = reached_states(alloc, automaton, &places, &graph, edges)?;
-    let live = live_states(alloc, automaton, &graph, edges)?;
+    let reached = reached_states(alloc, automaton, places, graph, edges)?;
+    let live = live_states(alloc, automaton, graph, edges)?;
     let flags = Flags {
         reached: reached.as_slice(),
         live: live.as_slice(),
     };
-    let kept = with_both(alloc, automaton, &places, &flags)?;
-    Ok(kept)
+    with_both(alloc, automaton, places, &flags)
 }
 
 /// Returns for each state of `graph` whether `edges` lead to it from a start.
@@ -82,8 +123,7 @@ fn reached_states(
     ensures memory { IsOkUnless result Refusal.Memory }
 {
     let sources = sources_of(alloc, automaton, places)?;
-    let flags = reached(alloc, graph, edges, sources.as_slice())?;
-    Ok(flags)
+    reached(alloc, graph, edges, sources.as_slice())
 }
 
 /// Returns the numbers of the defined states with both flags, in ascending order.
@@ -103,12 +143,34 @@ fn with_both(
     ensures memory { IsOkUnless result Refusal.Memory }
 {
     let mut kept = IndexSet::new(alloc);
+    match add_both(&mut kept, automaton, places, flags) {
+        Ok(()) => Ok(kept),
+        Err(refusal) => Err(refusal),
+    }
+}
+
+/// Adds the numbers of the defined states with both flags to an empty set, in ascending order.
+fn add_both(
+    kept: &mut IndexSet<u32>,
+    automaton: &Automaton,
+    places: &IndexSet<u32>,
+    flags: &Flags<'_>,
+) -> Result<(), Refusal>
+    requires empty { kept.old.keys ≡ [] }
+    requires places { places.now.keys ≡ defined_numbers automaton.now }
+    requires few { IsFew places.now.keys }
+    requires reached { length flags.now.reached.now ≡ length automaton.now.defined + 1 }
+    requires live { length flags.now.live.now ≡ length automaton.now.defined + 1 }
+    ensures both { OnOk result (HaveBoth automaton.now flags.now.reached.now flags.now.live.now kept.new.keys) }
+    ensures few { OnOk result (IsFew kept.new.keys) }
+    ensures memory { IsOkUnless result Refusal.Memory }
+{
     for state in automaton.defined() {
         let place = place_in(places, state.number) as usize;
-        add_if(&mut kept, state.number, both(flags, place))?;
+        add_if(kept, state.number, both(flags, place))?;
     }
-    let kept = sorted(kept)?;
-    Ok(kept)
+    sort(kept)?;
+    Ok(())
 }
 
 /// Whether both flags at `place` are set.
@@ -133,16 +195,15 @@ fn add_if(numbers: &mut IndexSet<u32>, number: u32, flag: bool) -> Result<(), Re
 }
 
 /// Sorts `numbers`. Fails with [Refusal::Memory] also if there are over 2^32 - 2 of them.
-fn sorted(numbers: IndexSet<u32>) -> Result<IndexSet<u32>, Refusal>
-    ensures same { IfOk result (λ sorted. IsPermutation numbers.keys sorted.keys) }
-    ensures rising { IfOk result (λ sorted. IsStrictlyIncreasing sorted.keys) }
-    ensures few { IfOk result (λ sorted. IsFew sorted.keys) }
+fn sort(numbers: &mut IndexSet<u32>) -> Result<(), Refusal>
+    ensures same { OnOk result (IsPermutation numbers.old.keys numbers.new.keys) }
+    ensures rising { OnOk result (IsStrictlyIncreasing numbers.new.keys) }
+    ensures few { OnOk result (IsFew numbers.new.keys) }
     ensures memory { IsOkUnless result Refusal.Memory }
 {
-    let mut sorted = numbers;
-    sorted.sort()?;
-    if sorted.len() >= u32::MAX as usize {
+    numbers.sort()?;
+    if numbers.len() >= u32::MAX as usize {
         return Err(Refusal::Memory);
     }
-    Ok(sorted)
+    Ok(())
 }

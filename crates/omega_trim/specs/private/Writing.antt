@@ -1,8 +1,5 @@
--- Edges as they stay, and why a state or an edge that stays, or the whole automaton, can't be written.
-use Rattle.std.specs.Prelude.{◌≡◌, ℕ, if◌then◌else◌, List, [], ◌∷◌, Contains, Some}
-use Rattle.omega_text.specs.declared.refusal.automaton.AutomatonFault.{AutomatonFault}
-use Rattle.omega_automaton.specs.Faults.{automaton_fault_of}
-use Rattle.omega_raw.specs.declared.raw_automaton.RawAutomaton.{RawAutomaton}
+-- Edges as they stay, and why a state or an edge that stays can't be written.
+use Rattle.std.specs.Prelude.{ℕ, if◌then◌else◌, List, [], ◌∷◌, Contains}
 use Rattle.omega_automaton.specs.declared.edge.Edge.{Edge}
 use Rattle.omega_automaton.specs.declared.state.State.{State}
 use Rattle.omega_runs.specs.Judging.{HasLabelWith, IsLabelWith}
@@ -31,7 +28,3 @@ HasDeepLabel state = HasLabelWith IsDeepLabel state
 -- one of some states or of their edges has one
 abbrev pub StatesHaveDeepLabel : List State → Type 0
 StatesHaveDeepLabel states = (state : State) × Contains states state × HasDeepLabel state
-
--- an automaton that is written breaks a limit of automata
-abbrev pub BreaksLimit : RawAutomaton → Type 0
-BreaksLimit raw = (fault : AutomatonFault) × (automaton_fault_of raw ≡ Some fault)

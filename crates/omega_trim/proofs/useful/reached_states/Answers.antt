@@ -1,5 +1,6 @@
 -- the sources are those of the automaton
 use Rattle.std.proofs.Common.{ℕ, List, sym, subst, ◌∙◌}
+use Rattle.std.proofs.lemmas.Result.{IfOk-weaker}
 use Rattle.omega_components.specs.Graph.{AreStates, Shape}
 use Rattle.omega_components.specs.Reaching.{TellReached}
 use Rattle.omega_trim.specs.private.Placed.{shape_of}
@@ -13,5 +14,7 @@ reached-requires-clause-sources c =
 
 pub returns-clause-reached : goal.returns-clause-reached
 returns-clause-reached c =
-    subst (λ (sources : List ℕ). TellReached (shape_of c.args.automaton.now) c.args.edges.now sources c.in_ok-flags.flags.items) (c.as_slice.ensures.value ∙ c.in_ok-sources.ensures.sources)
-    (subst (λ (shape : Shape). TellReached shape c.args.edges.now c.as_slice.result.now c.in_ok-flags.flags.items) c.requires.graph c.in_ok-flags.ensures.reached)
+    IfOk-weaker c.reached.result _ _
+    (λ flags told. subst (λ (sources : List ℕ). TellReached (shape_of c.args.automaton.now) c.args.edges.now sources flags.items) (c.as_slice.ensures.value ∙ c.in_ok-sources.ensures.sources)
+    (subst (λ (shape : Shape). TellReached shape c.args.edges.now c.as_slice.result.now flags.items) c.requires.graph told))
+    c.reached.ensures.reached

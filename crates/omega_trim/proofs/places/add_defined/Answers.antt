@@ -2,7 +2,7 @@
 use Rattle.std.proofs.Common.{◌≡◌, ◌<◌, length, get_or, ap, arith}
 use Rattle.omega_automaton.specs.declared.state.State.{State}
 use Rattle.omega_edge_labels.proofs.NewNumbers.{number_is_new}
-use Rattle.omega_trim.proofs.places.places_of.Goals as goal
+use Rattle.omega_trim.proofs.places.add_defined.Goals as goal
 
 pub add-requires : goal.add-requires
 add-requires c =

@@ -5,7 +5,7 @@ use Rattle.omega_automaton.specs.declared.state.State.{State}
 use Rattle.omega_trim.specs.private.Placed.{defined_numbers, flag_at}
 use Rattle.omega_trim.proofs.Among.{mapped_more, place_bound}
 use Rattle.omega_trim.proofs.Flags.{Have, have_both, have_next, no_both}
-use Rattle.omega_trim.proofs.useful.with_both.Goals as goal
+use Rattle.omega_trim.proofs.useful.add_both.Goals as goal
 
 pub both-requires-clause-reached : goal.both-requires-clause-reached
 both-requires-clause-reached c =
@@ -20,7 +20,7 @@ both-requires-clause-live c =
     omega (arith, bound, c.place_in-place.ensures, c.requires.live, ap length c.requires.places, long)
 
 pub loop-state-init : goal.loop-state-init
-loop-state-init c = no_both c.args.places.now.keys c.args.flags.now.reached.now c.args.flags.now.live.now c.new-kept.result.keys c.new-kept.ensures.empty
+loop-state-init c = no_both c.args.places.now.keys c.args.flags.now.reached.now c.args.flags.now.live.now c.args.kept.now.keys c.requires.empty
 
 pub loop-state-preserved : goal.loop-state-preserved
 loop-state-preserved c =
@@ -43,7 +43,7 @@ returns-clause-both c =
     let live : List Bool = c.args.flags.now.live.now in
     let states : List State = c.args.automaton.now.defined in
     let all : take c.loop-state.state-index states ≡ states = take_all c.loop-state.state-index states (omega (arith, ap length c.defined-state-items.ensures)) in
-    have_both c.args.automaton.now reached live c.loop-state.kept.keys c.in_ok-kept.kept.keys
+    have_both c.args.automaton.now reached live c.loop-state.kept.keys c.sort.new.numbers.keys
     (subst (λ (places : List ℕ). Have places reached live (defined_numbers c.args.automaton.now) c.loop-state.kept.keys) c.requires.places
     (subst (λ (list : List State). Have c.args.places.now.keys reached live (map (λ (s : State). s.number) list) c.loop-state.kept.keys) all c.loop-state.invariant))
-    c.in_ok-kept.ensures.same c.in_ok-kept.ensures.rising
+    c.in_ok-sort.ensures.same c.in_ok-sort.ensures.rising

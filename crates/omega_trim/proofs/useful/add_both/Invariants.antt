@@ -2,7 +2,7 @@
 use Rattle.std.proofs.Common.{map, take}
 use Rattle.omega_automaton.specs.declared.state.State.{State}
 use Rattle.omega_trim.proofs.Flags.{Have}
-use Rattle.omega_trim.proofs.useful.with_both.Given as goal
+use Rattle.omega_trim.proofs.useful.add_both.Given as goal
 
 abbrev pub invariant-loop-state : goal.invariant-loop-state
 invariant-loop-state l =
