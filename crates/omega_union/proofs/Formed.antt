@@ -1,7 +1,7 @@
 -- What a union is formed of is the union, and why it is too large.
-use Rattle.std.proofs.Common.{◌≡◌, ℕ, ◌+◌, ◌<◌, ◌≤◌, inl, inr, Option, List, [], ◌++◌, map, refl, sym, ap, ap₂, subst, ◌∙◌}
+use Rattle.std.proofs.Common.{◌≡◌, ℕ, ◌+◌, ◌<◌, ◌≤◌, inl, inr, Option, List, ◌++◌, map, refl, sym, ap, ap₂, subst, ◌∙◌}
 use Rattle.std.proofs.lemmas.Bool.{cases_lt}
-use Rattle.std.proofs.lemmas.List.{map-append}
+use Rattle.std.proofs.lemmas.List.{append_assoc, map-append}
 use Rattle.std.proofs.lemmas.List.Elements.{Contains-append_left, Contains-append_right}
 use Rattle.omega_acc.specs.WritingLaws.{WrittenFormulasMean, WrittenLabelsMean}
 use Rattle.omega_automaton.specs.Automaton.{Description, IsAutomaton, edge_count}
@@ -10,7 +10,7 @@ use Rattle.omega_automaton.specs.declared.state.State.{State}
 use Rattle.omega_raw.specs.declared.raw_automaton.RawAutomaton.{RawAutomaton}
 use Rattle.omega_raw.specs.declared.raw_state.RawState.{RawState}
 use Rattle.omega_edge_labels.specs.Limits.{most_edges, most_states}
-use Rattle.omega_product.specs.Joining.{joined_names, places_among}
+use Rattle.omega_product.specs.Joining.{places_among}
 use Rattle.omega_product.specs.Limits.{IsWithin}
 use Rattle.omega_text.specs.Limits.{most_number}
 use Rattle.omega_trim.specs.Written.{state_written, written}
@@ -19,8 +19,8 @@ use Rattle.omega_trim.proofs.Meant.{automaton_meant}
 use Rattle.omega_union.specs.Parts.{Part}
 use Rattle.omega_union.specs.Refusing.{IsOversized, many_edges, many_states}
 use Rattle.omega_union.specs.Sharing.{IsSharing}
-use Rattle.omega_union.specs.Union.{first_part, second_part, united}
-use Rattle.omega_union.specs.private.Operands.{AreLarge}
+use Rattle.omega_union.specs.Union.{united}
+use Rattle.omega_union.specs.private.Operands.{AreLarge, first_over, second_over}
 use Rattle.omega_union.specs.declared.sharing.Sharing.{Sharing}
 use Rattle.omega_union.proofs.Counted.{edges_of_both}
 use Rattle.omega_union.proofs.Rising.{united_rises}
@@ -36,24 +36,24 @@ pub deep_right : (xs ys : List State) → StatesHaveDeepLabel ys → StatesHaveD
 deep_right xs ys (state, has, deep) = (state, Contains-append_right xs ys state has, deep)
 
 -- the states of one automaton and of the other
-pub both_written : (xs ys : List State) (none first all : List RawState) → none ≡ [] → first ≡ none ++ map state_written xs → all ≡ first ++ map state_written ys
-    → all ≡ map state_written (xs ++ ys)
-both_written xs ys none first all empty one other =
+pub both_written : (xs ys : List State) (before first all : List RawState) → first ≡ before ++ map state_written xs → all ≡ first ++ map state_written ys
+    → all ≡ before ++ map state_written (xs ++ ys)
+both_written xs ys before first all one other =
     other
-    ∙ ap (λ (rows : List RawState). rows ++ map state_written ys) (one ∙ ap (λ (rows : List RawState). rows ++ map state_written xs) empty)
-    ∙ sym (map-append state_written xs ys)
+    ∙ ap (λ (rows : List RawState). rows ++ map state_written ys) one
+    ∙ append_assoc before (map state_written xs) (map state_written ys)
+    ∙ ap (λ (rows : List RawState). before ++ rows) (sym (map-append state_written xs ys))
+
+-- how the union has each of the two over some names
+pub first_is : (sharing : Sharing) (names : List (List ℕ)) (one : Description) (places : List ℕ) → places ≡ places_among names one.propositions
+    → part_with places 0 0 sharing.first ≡ first_over sharing names one
+first_is sharing names one places is = ap (λ (p : List ℕ). part_with p 0 0 sharing.first) is
+
+pub second_is : (sharing : Sharing) (names : List (List ℕ)) (one other : Description) (places : List ℕ) (states : ℕ) → places ≡ places_among names other.propositions
+    → states ≡ one.states → part_with places states sharing.before sharing.second ≡ second_over sharing names one other
+second_is sharing names one other places states is count = ap₂ (λ (p : List ℕ) (n : ℕ). part_with p n sharing.before sharing.second) is count
 
 module _ (sharing : Sharing) (one other : Description) where
-  abbrev joined : List (List ℕ)
-  joined = joined_names one.propositions other.propositions
-
-  pub first_is : (places : List ℕ) → places ≡ places_among joined one.propositions → part_with places 0 0 sharing.first ≡ first_part sharing one other
-  first_is places is = ap (λ (p : List ℕ). part_with p 0 0 sharing.first) is
-
-  pub second_is : (places : List ℕ) (states : ℕ) → places ≡ places_among joined other.propositions → states ≡ one.states
-      → part_with places states sharing.before sharing.second ≡ second_part sharing one other
-  second_is places states is count = ap₂ (λ (p : List ℕ) (n : ℕ). part_with p n sharing.before sharing.second) is count
-
   -- too many states or edges
   pub large_oversized : AreLarge one other → IsOversized (united sharing one other)
   large_oversized (inl states) = many_states states

@@ -1,20 +1,122 @@
 //! The states of a union, as a text writes them.
 
-ghost use Rattle.std.specs.Prelude.{◌≡◌, ◌++◌, map, IfErr, IfOk, IsOkUnless, OnOk};
+ghost use Rattle.std.specs.Prelude.{◌≡◌, ◌++◌, ◌≤◌, length, map, IfErr, IfOk, OnOk};
+ghost use Rattle.omega_automaton.specs.Limits.{most_propositions};
 ghost use Rattle.omega_edge_labels.specs.Fitting.{IsLarge};
+ghost use Rattle.omega_product.specs.Joining.{joined_names};
 ghost use Rattle.omega_trim.specs.Written.{state_written};
 ghost use Rattle.omega_trim.specs.private.Writing.{HasDeepLabel, StatesHaveDeepLabel};
 ghost use Rattle.omega_union.specs.Parts.{state_in as state_of_part, states_in};
-ghost use Rattle.omega_union.specs.private.Operands.{part_of};
+ghost use Rattle.omega_union.specs.Union.{united};
+ghost use Rattle.omega_union.specs.private.Operands.{first_over, part_of, second_over};
 
 use crate::edges::edges_in;
 use crate::labels::state_label;
 use crate::numbers::{following, moved};
 use crate::operand::Operand;
-use omega_automaton::{State, StateName};
+use crate::sharing::Sharing;
+use omega_automaton::{Automaton, State};
+use omega_product::places_among;
 use omega_raw::RawState;
 use omega_text::{ByteString, Marks, Refusal};
+use omega_trim::copied_state_name;
 use std::alloc::Global;
+
+/// Returns the states of both over the joined `names`. Fails with [TaskFault::TooLarge] if a label is deeper than
+/// `MOST_DEPTH` as it is written.
+pub(crate) fn states_of(
+    alloc: Global,
+    sharing: &Sharing,
+    one: &Automaton,
+    other: &Automaton,
+    names: &[ByteString],
+) -> Result<Vec<RawState>, Refusal>
+    requires names { names.now ≡ joined_names one.now.propositions other.now.propositions }
+    requires few { length names.now ≤ most_propositions }
+    ensures states { IfOk result (λ states.
+        states.items ≡ map state_written (united sharing.now one.now other.now).defined) }
+    ensures err { IfErr result (IsLarge (StatesHaveDeepLabel (united sharing.now one.now other.now).defined)) }
+{
+    let mut states = Vec::new(alloc);
+    match push_both(alloc, &mut states, sharing, one, other, names) {
+        Ok(()) => Ok(states),
+        Err(refusal) => Err(refusal),
+    }
+}
+
+/// Appends the states of both over the joined `names`. Fails with [TaskFault::TooLarge] if a label is deeper than
+/// `MOST_DEPTH` as it is written.
+fn push_both(
+    alloc: Global,
+    states: &mut Vec<RawState>,
+    sharing: &Sharing,
+    one: &Automaton,
+    other: &Automaton,
+    names: &[ByteString],
+) -> Result<(), Refusal>
+    requires names { names.now ≡ joined_names one.now.propositions other.now.propositions }
+    requires few { length names.now ≤ most_propositions }
+    ensures states { OnOk result (states.new.items ≡
+        states.old.items ++ map state_written (united sharing.now one.now other.now).defined) }
+    ensures err { IfErr result (IsLarge (StatesHaveDeepLabel (united sharing.now one.now other.now).defined)) }
+{
+    push_first(alloc, states, sharing, one, names)?;
+    push_second(alloc, states, sharing, one, other, names)?;
+    Ok(())
+}
+
+/// Appends the states of `one` over the joined `names`. Fails with [TaskFault::TooLarge] if a label is deeper than
+/// `MOST_DEPTH` as it is written.
+fn push_first(
+    alloc: Global,
+    states: &mut Vec<RawState>,
+    sharing: &Sharing,
+    one: &Automaton,
+    names: &[ByteString],
+) -> Result<(), Refusal>
+    requires { length names.now ≤ most_propositions }
+    ensures states { OnOk result (states.new.items ≡ states.old.items
+        ++ map state_written (states_in (first_over sharing.now names.now one.now) one.now.defined)) }
+    ensures err { IfErr result
+        (IsLarge (StatesHaveDeepLabel (states_in (first_over sharing.now names.now one.now) one.now.defined))) }
+{
+    let places = places_among(alloc, names, one.propositions())?;
+    let first = Operand {
+        automaton: one,
+        places: places.as_slice(),
+        states: 0,
+        sets: 0,
+        guard: sharing.first,
+    };
+    push_states(alloc, states, &first)
+}
+
+/// Appends the states of `other` over the joined `names`. Fails with [TaskFault::TooLarge] if a label is deeper than
+/// `MOST_DEPTH` as it is written.
+fn push_second(
+    alloc: Global,
+    states: &mut Vec<RawState>,
+    sharing: &Sharing,
+    one: &Automaton,
+    other: &Automaton,
+    names: &[ByteString],
+) -> Result<(), Refusal>
+    requires { length names.now ≤ most_propositions }
+    ensures states { OnOk result (states.new.items ≡ states.old.items
+        ++ map state_written (states_in (second_over sharing.now names.now one.now other.now) other.now.defined)) }
+    ensures err { IfErr result
+        (IsLarge (StatesHaveDeepLabel (states_in (second_over sharing.now names.now one.now other.now) other.now.defined))) }
+{
+    let other_places = places_among(alloc, names, other.propositions())?;
+    let second = Operand {
+        automaton: other,
+        places: other_places.as_slice(),
+        states: one.state_count(),
+        sets: sharing.before,
+        guard: sharing.second,
+    };
+    push_states(alloc, states, &second)
+}
 
 /// Appends the states of `operand` as the union has them. Fails with [TaskFault::TooLarge] if a label is deeper than
 /// `MOST_DEPTH` as it is written.
@@ -43,7 +145,7 @@ fn state_in(alloc: Global, operand: &Operand<'_>, state: &State) -> Result<RawSt
 {
     let label = state_label(alloc, operand.places, state.label.as_ref())?;
     let number = following(operand.states, state.number)?;
-    let name = name_of(alloc, state)?;
+    let name = copied_state_name(alloc, state)?;
     let marks = moved(alloc, operand.sets, state.marks.as_slice())?;
     let edges = edges_in(alloc, operand, state)?;
     Ok(RawState {
@@ -53,18 +155,4 @@ fn state_in(alloc: Global, operand: &Operand<'_>, state: &State) -> Result<RawSt
         marks: Marks::of(marks),
         edges,
     })
-}
-
-/// Copies the name of `state`.
-fn name_of(alloc: Global, state: &State) -> Result<StateName, Refusal>
-    ensures name { IfOk result (λ name. name ≡ state.now.name) }
-    ensures memory { IsOkUnless result Refusal.Memory }
-{
-    match state.name.as_slice() {
-        None => Ok(StateName::absent()),
-        Some(bytes) => {
-            let bytes = ByteString::from_slice(alloc, bytes)?;
-            Ok(StateName::of(alloc, bytes)?)
-        }
-    }
 }

@@ -10,23 +10,21 @@ ghost use Rattle.omega_product.specs.Joining.{joined_names as names_of_both};
 ghost use Rattle.omega_product.specs.Limits.{IsWithin};
 ghost use Rattle.omega_product.specs.Refusing.{HaveNoBranch};
 ghost use Rattle.omega_trim.specs.Written.{state_written, written as written_form};
-ghost use Rattle.omega_trim.specs.private.Writing.{BreaksLimit, StatesHaveDeepLabel};
 ghost use Rattle.omega_union.specs.Refusing.{IsOversized, IsUnionRefusal, IsUnionTooLarge};
 ghost use Rattle.omega_union.specs.Union.{IsUnion, united};
-ghost use Rattle.omega_union.specs.private.Operands.{AreLarge};
+ghost use Rattle.omega_union.specs.private.Operands.{AreLarge, IsDeepFormula};
 
-use crate::acceptance::written_acceptance;
 use crate::header::header;
-use crate::operand::Operand;
 use crate::sets::sharing_of;
 use crate::sharing::Sharing;
-use crate::states::push_states;
+use crate::states::states_of;
 use omega_acc::{written_formulas_mean, written_labels_mean};
-use omega_automaton::{Automaton, MOST_PROPOSITIONS, automaton_of, has_universal_branching};
+use omega_automaton::{Automaton, MOST_PROPOSITIONS, has_universal_branching};
 use omega_edge_labels::{MOST_EDGES, MOST_STATES};
-use omega_product::{joined_names, places_among};
+use omega_product::joined_names;
 use omega_raw::{RawAutomaton, RawState};
-use omega_text::{ByteString, Refusal, Seq, TaskFault};
+use omega_text::{ByteString, Refusal, TaskFault};
+use omega_trim::{assembled, meaning};
 use std::alloc::Global;
 
 /// Returns the union of two automata without universal branching. It accepts a word over the propositions of both
@@ -88,9 +86,10 @@ fn formed(alloc: Global, one: &Automaton, other: &Automaton) -> Result<Automaton
     if are_large(one, other) {
         return Err(Refusal::Task(TaskFault::TooLarge));
     }
-    let raw = written(alloc, &sharing, one, other)?;
-    let union = meaning(alloc, raw)?;
-    Ok(union)
+    match written(alloc, &sharing, one, other) {
+        Ok(raw) => meaning(alloc, raw),
+        Err(refusal) => Err(refusal),
+    }
 }
 
 /// Whether both automata together have over `MOST_STATES` states or over `MOST_EDGES` edges.
@@ -114,16 +113,54 @@ fn written(
     ensures written { IfOk result (λ raw. raw ≡ written_form (united sharing.now one.now other.now)) }
     ensures err { IfErr result (IsLarge (IsOversized (united sharing.now one.now other.now))) }
 {
-    let names = names_of(alloc, sharing, one, other)?;
-    let states = states_of(alloc, sharing, one, other, names.as_slice())?;
-    let formula = written_acceptance(alloc, sharing, one, other)?;
-    let items = header(alloc, sharing, one, other, names, formula)?;
-    let version = ByteString::from_slice(alloc, b"v1")?;
-    Ok(RawAutomaton {
-        version,
-        items: Seq::from_vec(items),
-        states: Seq::from_vec(states),
-    })
+    match names_of(alloc, sharing, one, other) {
+        Ok(names) => written_over(alloc, sharing, one, other, names),
+        Err(refusal) => Err(refusal),
+    }
+}
+
+/// Returns the union over the joined `names` as a text writes it. Fails with [TaskFault::TooLarge] if the acceptance or
+/// a label is deeper than `MOST_DEPTH` as it is written.
+fn written_over(
+    alloc: Global,
+    sharing: &Sharing,
+    one: &Automaton,
+    other: &Automaton,
+    names: Vec<ByteString>,
+) -> Result<RawAutomaton, Refusal>
+    requires names { names.items ≡ names_of_both one.now.propositions other.now.propositions }
+    requires few { length names.items ≤ most_propositions }
+    requires states { one.now.states + other.now.states ≤ most_states }
+    ensures written { IfOk result (λ raw. raw ≡ written_form (united sharing.now one.now other.now)) }
+    ensures err { IfErr result (IsLarge (IsOversized (united sharing.now one.now other.now))) }
+{
+    match states_of(alloc, sharing, one, other, names.as_slice()) {
+        Ok(states) => written_with(alloc, sharing, one, other, names, states),
+        Err(refusal) => Err(refusal),
+    }
+}
+
+/// Returns the union over the joined `names` as a text writes it, given its `states`. Fails with [TaskFault::TooLarge]
+/// if the acceptance is deeper than `MOST_DEPTH` as it is written.
+fn written_with(
+    alloc: Global,
+    sharing: &Sharing,
+    one: &Automaton,
+    other: &Automaton,
+    names: Vec<ByteString>,
+    states: Vec<RawState>,
+) -> Result<RawAutomaton, Refusal>
+    requires names { names.items ≡ names_of_both one.now.propositions other.now.propositions }
+    requires few { length names.items ≤ most_propositions }
+    requires states { one.now.states + other.now.states ≤ most_states }
+    requires body { states.items ≡ map state_written (united sharing.now one.now other.now).defined }
+    ensures written { IfOk result (λ raw. raw ≡ written_form (united sharing.now one.now other.now)) }
+    ensures err { IfErr result (IsLarge (IsDeepFormula (united sharing.now one.now other.now).acceptance)) }
+{
+    match header(alloc, sharing, one, other, names) {
+        Ok(items) => assembled(alloc, items, states),
+        Err(refusal) => Err(refusal),
+    }
 }
 
 /// Returns the names of the propositions of both. Fails with [TaskFault::TooLarge] if they are too many.
@@ -142,53 +179,4 @@ fn names_of(
         return Err(Refusal::Task(TaskFault::TooLarge));
     }
     Ok(names)
-}
-
-/// Returns the states of both over the joined `names`. Fails with [TaskFault::TooLarge] if a label is deeper than
-/// `MOST_DEPTH` as it is written.
-fn states_of(
-    alloc: Global,
-    sharing: &Sharing,
-    one: &Automaton,
-    other: &Automaton,
-    names: &[ByteString],
-) -> Result<Vec<RawState>, Refusal>
-    requires names { names.now ≡ names_of_both one.now.propositions other.now.propositions }
-    requires few { length names.now ≤ most_propositions }
-    ensures states { IfOk result (λ states.
-        states.items ≡ map state_written (united sharing.now one.now other.now).defined) }
-    ensures err { IfErr result (IsLarge (StatesHaveDeepLabel (united sharing.now one.now other.now).defined)) }
-{
-    let places = places_among(alloc, names, one.propositions())?;
-    let first = Operand {
-        automaton: one,
-        places: places.as_slice(),
-        states: 0,
-        sets: 0,
-        guard: sharing.first,
-    };
-    let other_places = places_among(alloc, names, other.propositions())?;
-    let second = Operand {
-        automaton: other,
-        places: other_places.as_slice(),
-        states: one.state_count(),
-        sets: sharing.before,
-        guard: sharing.second,
-    };
-    let mut states = Vec::new(alloc);
-    push_states(alloc, &mut states, &first)?;
-    push_states(alloc, &mut states, &second)?;
-    Ok(states)
-}
-
-/// Returns the meaning of `raw`. Fails with [TaskFault::TooLarge] if `raw` breaks a limit of automata.
-fn meaning(alloc: Global, raw: RawAutomaton) -> Result<Automaton, Refusal>
-    ensures means { IfOk result (Means raw) }
-    ensures err { IfErr result (IsLarge (BreaksLimit raw)) }
-{
-    match automaton_of(alloc, raw) {
-        Ok(automaton) => Ok(automaton),
-        Err(Refusal::Automaton(_fault)) => Err(Refusal::Task(TaskFault::TooLarge)),
-        Err(refusal) => Err(refusal),
-    }
 }

@@ -1,5 +1,5 @@
 -- What a union is formed of, in the words of unions, and why it can't be.
-use Rattle.std.specs.Prelude.{◌⊎◌, ◌+◌, ◌<◌}
+use Rattle.std.specs.Prelude.{◌⊎◌, ℕ, ◌+◌, ◌<◌, List}
 use Rattle.omega_text.specs.Limits.{most_number}
 use Rattle.omega_expression.specs.Limits.{most_depth}
 use Rattle.omega_formula.specs.Acceptance.{AccTree, disjunction}
@@ -9,6 +9,7 @@ use Rattle.omega_automaton.specs.Automaton.{Description, edge_count}
 use Rattle.omega_edge_labels.specs.Limits.{most_edges, most_states}
 use Rattle.omega_union.specs.Parts.{Part}
 use Rattle.omega_product.specs.Acceptance.{moved_after}
+use Rattle.omega_product.specs.Joining.{places_among}
 use Rattle.omega_union.specs.Sharing.{IsSharing, guarded}
 use Rattle.omega_union.specs.declared.operand.Operand.{Operand}
 use Rattle.omega_union.specs.declared.sharing.Sharing.{Sharing}
@@ -20,6 +21,24 @@ part_of operand = record {
   states = operand.states;
   sets = operand.sets;
   guard = operand.guard;
+}
+
+-- the first automaton over some names, which keeps the numbers of its states and sets
+abbrev pub first_over : Sharing → List (List ℕ) → Description → Part
+first_over sharing names one = record {
+  places = places_among names one.propositions;
+  states = 0;
+  sets = 0;
+  guard = sharing.first;
+}
+
+-- the second automaton over some names, whose states are numbered after those of the first
+abbrev pub second_over : Sharing → List (List ℕ) → Description → Description → Part
+second_over sharing names one other = record {
+  places = places_among names other.propositions;
+  states = one.states;
+  sets = sharing.before;
+  guard = sharing.second;
 }
 
 -- a text has no number for some set of the union

@@ -1,11 +1,11 @@
 -- what is formed is the union, and why none is formed
 use Rattle.std.proofs.Common.{refl, sym, ap, subst, ◌∙◌, true≢false}
+use Rattle.std.proofs.lemmas.Result.{IfErr-weaker, IfOk-weaker}
 use Rattle.omega_automaton.specs.Automaton.{Description}
 use Rattle.omega_automaton.specs.Faults.{automaton_fault_of}
 use Rattle.omega_edge_labels.proofs.Refusals.{large_weaker, passed_on}
 use Rattle.omega_product.specs.Limits.{IsWithin}
-use Rattle.omega_trim.specs.Refusing.{broken_limit}
-use Rattle.omega_trim.specs.private.Writing.{BreaksLimit}
+use Rattle.omega_trim.specs.Refusing.{BreaksLimit, broken_limit}
 use Rattle.omega_union.specs.Refusing.{IsOversized, IsUnionTooLarge, many_sets, passes_limit}
 use Rattle.omega_union.specs.Union.{united}
 use Rattle.omega_union.specs.private.Operands.{HaveManySets}
@@ -35,45 +35,54 @@ pub written-requires : goal.written-requires
 written-requires c =
     few_states c.in_ok-sharing.sharing c.args.one.now c.args.other.now (λ large. absurd (true≢false (sym (c.are_large.ensures.1 large) ∙ c.if-are_large.false)))
 
-pub returns-in_err-raw-clause-err : goal.returns-in_err-raw-clause-err
-returns-in_err-raw-clause-err c =
+pub returns-in-Err-clause-err : goal.returns-in-Err-clause-err
+returns-in-Err-clause-err c =
     let sharing : Sharing = c.in_ok-sharing.sharing in
     let union : Description = united sharing c.args.one.now c.args.other.now in
-    passed_on c.from_residual-in_err-raw.result _ _ c.from_residual-in_err-raw.ensures.1
-    (large_weaker (IsOversized union) (IsUnionTooLarge c.args.one.now c.args.other.now)
+    large_weaker (IsOversized union) (IsUnionTooLarge c.args.one.now c.args.other.now)
     (λ over. (union, record { sharing = sharing; shared = c.in_ok-sharing.ensures.sharing; is = refl }, over))
-    _ c.in_err-raw.ensures.err)
+    _ c.in-Err.ensures.err
 
-pub returns-in_err-union-clause-err : goal.returns-in_err-union-clause-err
-returns-in_err-union-clause-err c =
+pub returns-in-Ok-clause-err : goal.returns-in-Ok-clause-err
+returns-in-Ok-clause-err c =
     let sharing : Sharing = c.in_ok-sharing.sharing in
     let union : Description = united sharing c.args.one.now c.args.other.now in
-    passed_on c.from_residual-in_err-union.result _ _ c.from_residual-in_err-union.ensures.1
-    (large_weaker (BreaksLimit c.in_ok-raw.raw) (IsUnionTooLarge c.args.one.now c.args.other.now)
+    IfErr-weaker c.meaning.result _ _
+    (λ refusal is. large_weaker (BreaksLimit c.in-Ok.raw) (IsUnionTooLarge c.args.one.now c.args.other.now)
     (λ broken. (
       union,
       record { sharing = sharing; shared = c.in_ok-sharing.ensures.sharing; is = refl },
-      passes_limit (broken_limit broken.0 (ap automaton_fault_of (sym c.in_ok-raw.ensures.written) ∙ broken.1)),
+      passes_limit (broken_limit broken.0 (ap automaton_fault_of (sym c.in-Ok.ensures.written) ∙ broken.1)),
     ))
-    _ c.in_err-union.ensures.err)
+    refusal is)
+    c.meaning.ensures.err
 
-pub returns-clause-union : goal.returns-clause-union
-returns-clause-union c = record {
-  sharing = c.in_ok-sharing.sharing;
-  shared = c.in_ok-sharing.ensures.sharing;
-  is = united_meant c.in_ok-sharing.sharing c.args.one.now c.args.other.now c.written_labels_mean.ensures c.written_formulas_mean.ensures c.in_ok-sharing.ensures.sharing
-      c.keeps_limits.ensures c.keeps_limits-2.ensures c.in_ok-raw.raw c.in_ok-union.union c.in_ok-raw.ensures.written c.in_ok-union.ensures.means;
-}
+pub returns-in-Ok-clause-union : goal.returns-in-Ok-clause-union
+returns-in-Ok-clause-union c =
+    IfOk-weaker c.meaning.result _ _
+    (λ union means. record {
+      sharing = c.in_ok-sharing.sharing;
+      shared = c.in_ok-sharing.ensures.sharing;
+      is = united_meant c.in_ok-sharing.sharing c.args.one.now c.args.other.now c.written_labels_mean.ensures c.written_formulas_mean.ensures c.in_ok-sharing.ensures.sharing
+          c.keeps_limits.ensures c.keeps_limits-2.ensures c.in-Ok.raw union c.in-Ok.ensures.written means;
+    })
+    c.meaning.ensures.means
 
-pub returns-clause-written : goal.returns-clause-written
-returns-clause-written c =
+pub returns-in-Ok-clause-written : goal.returns-in-Ok-clause-written
+returns-in-Ok-clause-written c =
+    IfOk-weaker c.meaning.result _ _
+    (λ union means.
     let is = united_meant c.in_ok-sharing.sharing c.args.one.now c.args.other.now c.written_labels_mean.ensures c.written_formulas_mean.ensures c.in_ok-sharing.ensures.sharing
-    c.keeps_limits.ensures c.keeps_limits-2.ensures c.in_ok-raw.raw c.in_ok-union.union c.in_ok-raw.ensures.written c.in_ok-union.ensures.means in
-    united_written c.in_ok-sharing.sharing c.args.one.now c.args.other.now c.in_ok-raw.raw c.in_ok-union.union c.in_ok-raw.ensures.written is c.in_ok-union.ensures.means
+    c.keeps_limits.ensures c.keeps_limits-2.ensures c.in-Ok.raw union c.in-Ok.ensures.written means in
+    united_written c.in_ok-sharing.sharing c.args.one.now c.args.other.now c.in-Ok.raw union c.in-Ok.ensures.written is means)
+    c.meaning.ensures.means
 
-pub returns-clause-within : goal.returns-clause-within
-returns-clause-within c =
+pub returns-in-Ok-clause-within : goal.returns-in-Ok-clause-within
+returns-in-Ok-clause-within c =
+    IfOk-weaker c.meaning.result _ _
+    (λ union means.
     let is = united_meant c.in_ok-sharing.sharing c.args.one.now c.args.other.now c.written_labels_mean.ensures c.written_formulas_mean.ensures c.in_ok-sharing.ensures.sharing
-    c.keeps_limits.ensures c.keeps_limits-2.ensures c.in_ok-raw.raw c.in_ok-union.union c.in_ok-raw.ensures.written c.in_ok-union.ensures.means in
+    c.keeps_limits.ensures c.keeps_limits-2.ensures c.in-Ok.raw union c.in-Ok.ensures.written means in
     subst IsWithin (sym is)
-    (united_within c.in_ok-sharing.sharing c.args.one.now c.args.other.now (λ large. absurd (true≢false (sym (c.are_large.ensures.1 large) ∙ c.if-are_large.false))) c.in_ok-sharing.ensures.few)
+    (united_within c.in_ok-sharing.sharing c.args.one.now c.args.other.now (λ large. absurd (true≢false (sym (c.are_large.ensures.1 large) ∙ c.if-are_large.false))) c.in_ok-sharing.ensures.few))
+    c.meaning.ensures.means
