@@ -5,7 +5,9 @@ ghost use Rattle.omega_automaton.specs.Automaton.{Description};
 ghost use Rattle.omega_containment.specs.Containing.{IsContainment, IsCounterexample};
 ghost use Rattle.omega_containment.specs.Refusing.{AreComparable, IsContainmentRefusal};
 ghost use Rattle.omega_containment.specs.private.Letters.{joint_word};
-ghost use Rattle.omega_containment.specs.private.Telling.{IsDifference, IsLassoOn, IsVerdictOn};
+ghost use Rattle.omega_containment.specs.private.Telling.{IsComplemented, IsDifference, IsLassoOn, IsVerdictOn};
+ghost use Rattle.omega_product.specs.PairGraph.{IsPairGraph};
+ghost use Rattle.omega_product.specs.Refusing.{HaveNoBranch};
 
 use crate::containment::{Containment, Counterexample};
 use crate::joints::Joints;
@@ -41,20 +43,58 @@ pub fn contained(alloc: Global, one: &Automaton, other: &Automaton) -> Result<Co
     ensures given { OnOk result (AreComparable one.now other.now) }
     ensures refused { IfErr result (IsContainmentRefusal one.now other.now) }
 {
-    one.keeps_limits();
     other.keeps_limits();
-    let rest = complement(alloc, other)?;
+    match complement(alloc, other) {
+        Ok(rest) => contained_beside(alloc, one, &rest),
+        Err(refusal) => Err(refusal),
+    }
+}
+
+/// Returns what [contained] returns for `one` and each automaton of which `rest` is the complement.
+fn contained_beside(
+    alloc: Global,
+    one: &Automaton,
+    rest: &Automaton,
+) -> Result<Containment, Refusal>
+    ensures right { IfOk result (λ answer. (other : Description) →
+        IsComplemented other rest.now → IsContainment one.now other answer) }
+    ensures given { OnOk result (HaveNoBranch one.now rest.now) }
+    ensures refused { IfErr result (λ refusal. (other : Description) →
+        IsComplemented other rest.now → IsContainmentRefusal one.now other refusal) }
+{
+    match pair_graph(alloc, one, rest) {
+        Ok(graph) => searched(alloc, one, rest, &graph),
+        Err(refusal) => Err(refusal),
+    }
+}
+
+/// Looks for an accepting lasso in the graph of the product of `one` with `rest`, the complement of another automaton,
+/// and returns what it says of the two.
+fn searched(
+    alloc: Global,
+    one: &Automaton,
+    rest: &Automaton,
+    graph: &PairGraph,
+) -> Result<Containment, Refusal>
+    requires graph { IsPairGraph one.now rest.now graph.now }
+    requires plain { HaveNoBranch one.now rest.now }
+    requires named { length graph.now.propositions.items < 2 ^ 32 }
+    ensures right { IfOk result (λ answer. (other : Description) →
+        IsComplemented other rest.now → IsContainment one.now other answer) }
+    ensures memory { IsOkUnless result Refusal.Memory }
+{
+    one.keeps_limits();
     rest.keeps_limits();
-    let graph = pair_graph(alloc, one, &rest)?;
-    let verdict = lasso_in_table(
+    match lasso_in_table(
         alloc,
         graph.starts.as_slice(),
         graph.edges.ends.as_slice(),
         graph.edges.marks.as_slice(),
         &graph.acceptance,
-    )?;
-    let answer = told(alloc, one, &rest, &graph, &verdict)?;
-    Ok(answer)
+    ) {
+        Ok(verdict) => told(alloc, one, rest, graph, &verdict),
+        Err(refusal) => Err(refusal),
+    }
 }
 
 /// Returns what a verdict on the graph of the product of `one` with `rest`, the complement of another automaton, says

@@ -10,6 +10,12 @@ use Rattle.omega_runs.specs.Lasso.{IsAcceptingLasso}
 use Rattle.omega_runs.specs.Verdict.{IsVerdict}
 use Rattle.omega_runs.specs.declared.verdict.Verdict.{Verdict}
 
+-- an automaton has a complement, which is `rest`
+pub record IsComplemented (other rest : Description) : Type 0 where
+  pub is_other : IsAutomaton other
+  pub given : HasComplement other
+  pub is_rest : IsComplement other rest
+
 -- a graph is that of the product of one automaton with the complement of another
 pub record IsDifference (one other complement : Description) (graph : PairGraph) : Type 0 where
   pub is_one : IsAutomaton one
