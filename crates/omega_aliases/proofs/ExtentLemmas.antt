@@ -1,16 +1,16 @@
 -- The extent that nodes make is that of what their label means.
-use Rattle.std.proofs.Common.{◌≡◌, ℕ, List, [], ◌∷◌, ◌++◌, Option, Some, None, option_map, length, drop, ap, append-nil, append_assoc, refl, sym, ◌∙◌, arith}
+use Rattle.std.proofs.Common.{◌≡◌, ◌⊎◌, inl, inr, Bool, ℕ, suc, ◌+◌, ◌<◌, get_or, drop-cons, List, [], ◌∷◌, ◌++◌, Option, Some, None, option_map, length, drop, ap, append-nil, append_assoc, refl, sym, ◌∙◌, arith}
 use Rattle.std.proofs.Math.Seq.{drop-append_seam, take-append_seam}
 use Rattle.omega_aliases.specs.Expanding.{Entry, Meaning, both, extent_of, in_parentheses, negated, replaced, stands_for}
 use Rattle.omega_label.specs.Label.{LabelTree, label_size}
 use Rattle.omega_label.specs.Label as label
 use Rattle.omega_label.specs.Raw.{RawLabelTree, alias, conjunction, constant, disjunction, group, negation, proposition}
-use Rattle.omega_aliases.specs.private.Extents.{atom_extent, both_extents, deeper_extent, extent_named, extents_after, negated_extent}
+use Rattle.omega_aliases.specs.private.Extents.{atom_extent, both_extents, deeper_extent, extent_named, extents_after, extents_below, negated_extent, top_extent}
 use Rattle.omega_expression.specs.Joins.{regrouped}
 use Rattle.omega_label.specs.Postfix.{alias_names, raw_postfix}
 use Rattle.omega_aliases.specs.declared.extents.Extent.{Extent}
 use Rattle.omega_label.specs.declared.label.LabelNode.{LabelNode}
-use Rattle.omega_label.specs.declared.label.LabelNode.TheVariants.{And, Group, Not, Or}
+use Rattle.omega_label.specs.declared.label.LabelNode.TheVariants.{And, Constant, Group, Not, Or, Proposition}
 
 -- the extent of a label, where names have these extents
 abbrev measured : (List ℕ → Option Extent) → RawLabelTree → Option Extent
@@ -96,3 +96,37 @@ extents_after-label entries tree =
     ap (λ names. extents_after (extent_named entries) [] names (raw_postfix tree)) (sym (append-nil (alias_names tree)))
     ∙ (ap (extents_after (extent_named entries) [] (alias_names tree ++ [])) (sym (append-nil (raw_postfix tree)))
     ∙ (extents_after-postfix (extent_named entries) tree [] [] [] ∙ ap (λ part. part ∷ []) (measured-replaced entries tree)))
+
+-- the next node at a place is measured first
+pub extents-next : (named : List ℕ → Option Extent) (stack new after : List (Option Extent)) (names more rest : List ℕ) (nodes : List LabelNode) (place : ℕ) (node d : LabelNode) (whole : List (Option Extent))
+    → place < length nodes → get_or nodes place d ≡ node
+    → extents_after named stack names (node ∷ drop (place + 1) nodes) ≡ extents_after named after rest (drop (place + 1) nodes)
+    → extents_after named stack names (drop place nodes) ≡ whole → new ≡ after → more ≡ rest
+    → extents_after named new more (drop (place + 1) nodes) ≡ whole
+extents-next named stack new after names more rest nodes place node d whole within here first so_far put same =
+    let next : suc place ≡ place + 1 = omega arith in
+    ap (λ extents. extents_after named extents more (drop (place + 1) nodes)) put
+    ∙ (ap (λ left. extents_after named after left (drop (place + 1) nodes)) same
+    ∙ (sym
+    (ap (extents_after named stack names) (drop-cons nodes place d within)
+    ∙ (ap (λ head. extents_after named stack names (head ∷ drop (suc place) nodes)) here
+    ∙ (ap (λ n. extents_after named stack names (node ∷ drop n nodes)) next ∙ first)))
+    ∙ so_far))
+
+-- an extent that is pushed is on top
+pub pushed-is : (new stack below : List (Option Extent)) (extent top : Option Extent) → new ≡ extent ∷ stack → extent ≡ top → stack ≡ below → new ≡ top ∷ below
+pushed-is new stack below extent top pushed tops belows = pushed ∙ (ap (λ first. first ∷ stack) tops ∙ ap (λ rest. top ∷ rest) belows)
+
+-- a node that joins two parts takes both extents
+pub extents-joined : (named : List ℕ → Option Extent) (stack : List (Option Extent)) (names : List ℕ) (node : LabelNode) (rest : List LabelNode) → (node ≡ And) ⊎ (node ≡ Or)
+    → extents_after named stack names (node ∷ rest)
+    ≡ extents_after named (both_extents (top_extent (extents_below stack)) (top_extent stack) ∷ extents_below (extents_below stack)) names rest
+extents-joined named stack names node rest (inl is) = ap (λ first. extents_after named stack names (first ∷ rest)) is
+extents-joined named stack names node rest (inr is) = ap (λ first. extents_after named stack names (first ∷ rest)) is
+
+-- an atom has its own extent
+pub extents-atom : (named : List ℕ → Option Extent) (stack : List (Option Extent)) (names : List ℕ) (node : LabelNode) (rest : List LabelNode)
+    → ((value : Bool) × (node ≡ Constant value)) ⊎ ((number : ℕ) × (node ≡ Proposition number))
+    → extents_after named stack names (node ∷ rest) ≡ extents_after named (atom_extent ∷ stack) names rest
+extents-atom named stack names node rest (inl is) = ap (λ first. extents_after named stack names (first ∷ rest)) is.1
+extents-atom named stack names node rest (inr is) = ap (λ first. extents_after named stack names (first ∷ rest)) is.1
