@@ -32,6 +32,8 @@ from program import OMEGA, ROOT, SECONDS, Cases, help_of, output_of, subcommands
 from widths import width_checks
 
 MARK = "\x01done\x01"
+# The folder of the examples of docs/library.md.
+EXAMPLES = os.path.join("crates", "omega_tests", "src", "examples")
 SHELL = "sh"
 # Programs that a command may need, and without which it is passed over, by how the command calls them.
 PERHAPS = {"dot": r"\bdot -T", "parallel": r"\bparallel -"}
@@ -156,15 +158,15 @@ def made_checks(texts: Iterable[str]) -> Cases:
 
 
 def example_checks() -> Cases:
-    """The examples of the page on the library stand in their crate, word for word."""
+    """The examples of the page on the library stand in their folder, word for word."""
     held = ""
-    for path in sorted(glob.glob(os.path.join(ROOT, "crates", "omega_examples", "src", "*.rt"))):
+    for path in sorted(glob.glob(os.path.join(ROOT, EXAMPLES, "*.rt"))):
         with open(path) as file:
             held += file.read() + "\n"
     with open(os.path.join(ROOT, "docs", "library.md")) as file:
         blocks = re.findall(r"^```rust\n(.*?)^```$", file.read(), re.MULTILINE | re.DOTALL)
     for block in blocks:
-        fault = None if block in held else "it is not in omega_examples"
+        fault = None if block in held else f"it is not in {EXAMPLES}"
         yield f"docs/library.md: the example {block.splitlines()[0]}", fault
 
 

@@ -1,0 +1,2 @@
+-- Lemmas of tokenizers.
+pub mod Passing

@@ -1,0 +1,2 @@
+-- How far a text was read.
+pub mod Read

@@ -1,0 +1,3 @@
+//! Refusals, and tokens of texts that come byte by byte.
+mod refusals;
+mod tokenizer;
