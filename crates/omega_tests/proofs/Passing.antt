@@ -1,5 +1,5 @@
 -- How far a tokenizer has read that has passed bytes.
-use Rattle.std.proofs.Common.{◌+◌, ◌-◌, ◌≤◌, ℕ, List, ◌++◌, length, take, drop, arith, length-append}
+use Rattle.std.proofs.Common.{◌-◌, ◌≤◌, ℕ, List, ◌++◌, length, take, drop, arith, length-append}
 use Rattle.std.proofs.lemmas.List.{length-drop, length-take-le}
 use Rattle.omega_text.specs.Lexeme.{Lexeme}
 use Rattle.omega_text.specs.declared.hoa.kind.HoaKind.{HoaKind}
