@@ -3,6 +3,7 @@ pub mod Built
 pub mod Changes
 pub mod Decided
 pub mod Grammar
+pub mod Lines
 pub mod Listed
 pub mod Pieces
 pub mod Players
