@@ -1,5 +1,5 @@
 -- A piece is read after the bytes before, or all stays as it was.
-use Rattle.std.proofs.Common.{◌≡◌, ◌-◌, ◌∙◌, ◌++◌, None, ℕ, List, length, take, drop, sym, ap, subst, inr, arith}
+use Rattle.std.proofs.Common.{◌≡◌, ◌-◌, ◌∙◌, ◌++◌, None, ℕ, List, length, take, drop, sym, refl, ap, subst, inr, arith}
 use Rattle.omega_hoa.specs.Feeding.{IsRefusedThen, IsTaken}
 use Rattle.omega_hoa.specs.Kept.{Kept}
 use Rattle.omega_hoa.specs.Stream.{IsStreamFault}
@@ -150,3 +150,33 @@ returns-in-Ok-clause-extends c = λ no_memory. c.in-Ok.ensures.extends (λ e. cc
 
 pub returns-in_default-clause-extends : goal.returns-in_default-clause-extends
 returns-in_default-clause-extends c = λ no_memory. c.in-Err.ensures.extends (λ e. c.in_default.not-Memory (err_same _ _ e))
+
+pub returns-in-Ok-clause-memory : goal.returns-in-Ok-clause-memory
+returns-in-Ok-clause-memory c = λ e. cc
+
+pub returns-in_default-clause-kept : goal.returns-in_default-clause-kept
+returns-in_default-clause-kept c = inr refl
+
+pub returns-in-Ok-clause-refused : goal.returns-in-Ok-clause-refused
+returns-in-Ok-clause-refused c = λ within. tt
+
+pub returns-in_default-clause-memory : goal.returns-in_default-clause-memory
+returns-in_default-clause-memory c = λ e. absurd (c.in_default.not-Memory (err_same _ _ e))
+
+pub returns-in-Ok-clause-too_long : goal.returns-in-Ok-clause-too_long
+returns-in-Ok-clause-too_long c = λ over.
+    let kept : Kept = record { bytes = c.self.inside.bytes.items; begins = c.self.inside.begins; inside = c.self.inside.inside; refused = c.self.inside.refused } in
+    let none : kept.refused ≡ None = ap (λ (value : Kept). value.refused) c.self.view_is ∙ c.requires in
+    let count : c.len-held.result ≡ length kept.bytes = c.len-held.ensures ∙ c.self.inside.bytes.ok.0 in
+    let some = known_of kept c.self.inside.tokenizer none c.self.invariant in
+    let fits = fits_of some.seen some.items kept c.len-held.result (length c.args.piece.now) some.taken count c.if-piece-self.false in
+    absurd (omega (arith, over, count, fits, ap (λ (value : Kept). value.begins) c.self.view_is, ap (λ (value : Kept). length value.bytes) c.self.view_is))
+
+pub returns-in_default-clause-too_long : goal.returns-in_default-clause-too_long
+returns-in_default-clause-too_long c = λ over.
+    let kept : Kept = record { bytes = c.self.inside.bytes.items; begins = c.self.inside.begins; inside = c.self.inside.inside; refused = c.self.inside.refused } in
+    let none : kept.refused ≡ None = ap (λ (value : Kept). value.refused) c.self.view_is ∙ c.requires in
+    let count : c.len-held.result ≡ length kept.bytes = c.len-held.ensures ∙ c.self.inside.bytes.ok.0 in
+    let some = known_of kept c.self.inside.tokenizer none c.self.invariant in
+    let fits = fits_of some.seen some.items kept c.len-held.result (length c.args.piece.now) some.taken count c.if-piece-self.false in
+    absurd (omega (arith, over, count, fits, ap (λ (value : Kept). value.begins) c.self.view_is, ap (λ (value : Kept). length value.bytes) c.self.view_is))
