@@ -1,5 +1,5 @@
 /// The part of a lasso that a node or an edge is on.
-#[derive(Clone, Copy, Debug, PartialEq, Eq)]
+#[derive(Clone, Copy)]
 pub(crate) enum Role {
     /// It is on neither part.
     Plain,

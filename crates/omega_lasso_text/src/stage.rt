@@ -1,5 +1,5 @@
 /// The stage of a lasso text between two tokens: the word that was read last.
-#[derive(Clone, Copy, Debug, PartialEq, Eq)]
+#[derive(Clone, Copy)]
 pub(crate) enum Stage {
     /// No word yet.
     Start,

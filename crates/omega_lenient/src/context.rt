@@ -5,7 +5,7 @@ ghost use Rattle.omega_lenient.specs.Plain.{after_outside, after_slash, is_close
 use crate::bytes::{byte_at, tail};
 
 /// Where a lenient text is between two of its bytes.
-#[derive(Clone, Copy, Debug, PartialEq, Eq)]
+#[derive(Clone, Copy)]
 pub(crate) enum Context {
     /// Outside names and comments.
     Outside,

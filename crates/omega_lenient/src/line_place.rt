@@ -5,7 +5,7 @@ ghost use Rattle.omega_lenient.specs.SolutionLines.{after_byte, after_quote, cou
 use crate::bytes::{byte_at, tail};
 
 /// Where a line of a plain solution text is between two of its bytes.
-#[derive(Clone, Copy, Debug, PartialEq, Eq)]
+#[derive(Clone, Copy)]
 pub(crate) enum LineContext {
     /// Outside numbers and names.
     Between,
