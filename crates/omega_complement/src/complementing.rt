@@ -1,15 +1,19 @@
 //! The complement of a deterministic automaton.
 
-ghost use Rattle.std.specs.Prelude.{IfErr, IfOk, OnOk};
+ghost use Rattle.std.specs.Prelude.{◌≡◌, false, IfErr, IfOk, OnOk};
+ghost use Rattle.omega_automaton.specs.Branching.{has_universal_branching};
 ghost use Rattle.omega_complement.specs.Complement.{HasComplement, IsComplement};
-ghost use Rattle.omega_complement.specs.Refusing.{IsUncomplemented};
+ghost use Rattle.omega_complement.specs.Refusing.{HasStart, IsUncomplemented};
+ghost use Rattle.omega_complement.specs.Written.{written_dual};
+ghost use Rattle.omega_complement.specs.private.Turned.{AreTurned};
 
 use crate::acceptance::dual_acceptance;
 use crate::determinism::judge_starts;
 use crate::forming::{formed, written_complement};
 use crate::limits::exceeds_limits;
-use crate::states::turned_states;
+use crate::states::{Body, turned_states};
 use omega_automaton::{Automaton, has_universal_branching};
+use omega_formula::RawAcc;
 use omega_text::{Refusal, TaskFault};
 use std::alloc::Global;
 
@@ -50,13 +54,60 @@ pub fn complement(alloc: Global, automaton: &Automaton) -> Result<Automaton, Ref
     if has_universal_branching(automaton) {
         return Err(Refusal::Task(TaskFault::UniversalBranch));
     }
-    let dual = dual_acceptance(alloc, automaton)?;
-    if exceeds_limits(automaton, &dual) {
+    match dual_acceptance(alloc, automaton) {
+        Ok(dual) => complement_with(alloc, automaton, dual),
+        Err(refusal) => Err(refusal),
+    }
+}
+
+/// Returns the complement of an automaton without universal branching, whose dual acceptance is `dual`. Fails as
+/// [`complement`] does.
+fn complement_with(alloc: Global, automaton: &Automaton, dual: RawAcc) -> Result<Automaton, Refusal>
+    requires plain { has_universal_branching automaton.now ≡ false }
+    requires dual { dual ≡ written_dual automaton.now }
+    ensures complement { IfOk result (IsComplement automaton.now) }
+    ensures given { OnOk result (HasComplement automaton.now) }
+    ensures refused { IfErr result (IsUncomplemented automaton.now) }
+{
+    match complement_body(alloc, automaton, &dual) {
+        Ok(body) => complement_of(alloc, automaton, dual, body),
+        Err(refusal) => Err(refusal),
+    }
+}
+
+/// Returns the states of the complement, if there is room for it and at most one start. Fails as [`complement`] does.
+fn complement_body(alloc: Global, automaton: &Automaton, dual: &RawAcc) -> Result<Body, Refusal>
+    requires plain { has_universal_branching automaton.now ≡ false }
+    requires dual { dual.now ≡ written_dual automaton.now }
+    ensures start { OnOk result (HasStart automaton.now) }
+    ensures turned { IfOk result (λ body. AreTurned automaton.now automaton.now.states body.states.items body.lacks) }
+    ensures refused { IfErr result (IsUncomplemented automaton.now) }
+{
+    if exceeds_limits(automaton, dual) {
         return Err(Refusal::Task(TaskFault::TooLarge));
     }
     judge_starts(automaton)?;
     let body = turned_states(alloc, automaton)?;
-    let raw = written_complement(alloc, automaton, dual, body)?;
-    let complement = formed(alloc, raw)?;
-    Ok(complement)
+    Ok(body)
+}
+
+/// Returns the complement, from the dual acceptance and the states. Fails with [TaskFault::TooLarge] if all labels
+/// together pass their limit.
+fn complement_of(
+    alloc: Global,
+    automaton: &Automaton,
+    dual: RawAcc,
+    body: Body,
+) -> Result<Automaton, Refusal>
+    requires start { HasStart automaton.now }
+    requires dual { dual ≡ written_dual automaton.now }
+    requires turned { AreTurned automaton.now automaton.now.states body.states.items body.lacks }
+    ensures complement { IfOk result (IsComplement automaton.now) }
+    ensures given { OnOk result (HasComplement automaton.now) }
+    ensures refused { IfErr result (IsUncomplemented automaton.now) }
+{
+    match written_complement(alloc, automaton, dual, body) {
+        Ok(raw) => formed(alloc, raw),
+        Err(refusal) => Err(refusal),
+    }
 }

@@ -47,9 +47,20 @@ pub fn judge_states(alloc: Global, automaton: &Automaton) -> Result<(), Refusal>
     ensures apart { OnOk result (AreExclusiveBelow automaton.now automaton.now.states) }
     ensures refused { IfErr result (AreUnjudged automaton.now) }
 {
-    let places = places_of(alloc, automaton)?;
+    match places_of(alloc, automaton) {
+        Ok(places) => judge_among(alloc, automaton, &places),
+        Err(refusal) => Err(refusal),
+    }
+}
+
+/// Judges the states of `automaton` as `judge_states` does. `places` has the numbers of the defined ones.
+fn judge_among(alloc: Global, automaton: &Automaton, places: &IndexSet<u32>) -> Result<(), Refusal>
+    requires { places.now.keys ≡ defined_numbers automaton.now }
+    ensures apart { OnOk result (AreExclusiveBelow automaton.now automaton.now.states) }
+    ensures refused { IfErr result (AreUnjudged automaton.now) }
+{
     for number in 0..automaton.state_count() {
-        judge_state(alloc, automaton, &places, number)?;
+        judge_state(alloc, automaton, places, number)?;
     }
     Ok(())
 }

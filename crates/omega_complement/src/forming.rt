@@ -1,10 +1,11 @@
 //! A complement as a text writes it, and the automaton that this means.
 
-ghost use Rattle.std.specs.Prelude.{◌≡◌, ◌↔◌, ◌++◌, IsTrue, false, IfErr, IfOk, IsOkUnless};
+ghost use Rattle.std.specs.Prelude.{◌≡◌, ◌↔◌, ◌∷◌, [], ◌++◌, ◌+◌, IsTrue, false, IfErr, IfOk, IsOkUnless, OnOk};
 ghost use Rattle.omega_formula.specs.Writing.{acc_written};
+ghost use Rattle.omega_raw.specs.declared.raw_item.RawItem.TheVariants as item;
 ghost use Rattle.omega_automaton.specs.Meaning.{Means};
 ghost use Rattle.omega_complement.specs.Complement.{exceeds_limits};
-ghost use Rattle.omega_complement.specs.Written.{IsWrittenComplement, NeedsSink, SomeLacksLetter, complement_acceptance, header, propositions_item, sink_state, sinks, start_or_sink, written_dual};
+ghost use Rattle.omega_complement.specs.Written.{IsWrittenComplement, NeedsSink, SomeLacksLetter, complement_acceptance, header, one_if, propositions_item, sink_state, sinks, start_or_sink, written_dual};
 ghost use Rattle.omega_complement.specs.private.Turned.{AreTurned, IsUnformed};
 
 use crate::states::Body;
@@ -80,17 +81,85 @@ fn header(
     ensures items { IfOk result (λ items. items.items ≡ header automaton.now sink) }
     ensures memory { IsOkUnless result Refusal.Memory }
 {
-    let further = u32::from(sink);
-    let acceptance = acceptance_of(alloc, automaton, formula, sink)?;
+    match acceptance_of(alloc, automaton, formula, sink) {
+        Ok(acceptance) => items_of(alloc, automaton, acceptance, sink),
+        Err(refusal) => Err(refusal),
+    }
+}
+
+/// Returns the header with the acceptance `formula`, for a complement with or without a sink.
+fn items_of(
+    alloc: Global,
+    automaton: &Automaton,
+    formula: RawAcc,
+    sink: bool,
+) -> Result<Vec<RawItem>, Refusal>
+    requires limits { exceeds_limits automaton.now ≡ false }
+    requires formula { formula ≡ acc_written (complement_acceptance automaton.now sink) }
+    ensures items { IfOk result (λ items. items.items ≡ header automaton.now sink) }
+    ensures memory { IsOkUnless result Refusal.Memory }
+{
     let mut items = Vec::new(alloc);
-    items.push(RawItem::States(automaton.state_count() + further))?;
+    match push_items(alloc, &mut items, automaton, formula, sink) {
+        Ok(()) => Ok(items),
+        Err(refusal) => Err(refusal),
+    }
+}
+
+/// Appends the items of the header with the acceptance `formula`.
+fn push_items(
+    alloc: Global,
+    items: &mut Vec<RawItem>,
+    automaton: &Automaton,
+    formula: RawAcc,
+    sink: bool,
+) -> Result<(), Refusal>
+    requires limits { exceeds_limits automaton.now ≡ false }
+    requires formula { formula ≡ acc_written (complement_acceptance automaton.now sink) }
+    ensures items { OnOk result (items.new.items ≡ items.old.items ++ header automaton.now sink) }
+    ensures memory { IsOkUnless result Refusal.Memory }
+{
+    match push_counts(alloc, items, automaton, sink) {
+        Ok(()) => push_acceptance(items, automaton, formula, sink),
+        Err(refusal) => Err(refusal),
+    }
+}
+
+/// Appends the number of states, the start and the propositions.
+fn push_counts(
+    alloc: Global,
+    items: &mut Vec<RawItem>,
+    automaton: &Automaton,
+    sink: bool,
+) -> Result<(), Refusal>
+    requires { exceeds_limits automaton.now ≡ false }
+    ensures items { OnOk result (items.new.items ≡ items.old.items ++ item.States (automaton.now.states + one_if sink)
+        ∷ item.Start (start_or_sink automaton.now) ∷ propositions_item automaton.now ∷ []) }
+    ensures memory { IsOkUnless result Refusal.Memory }
+{
+    items.push(RawItem::States(automaton.state_count() + u32::from(sink)))?;
     items.push(RawItem::Start(start_of(alloc, automaton)?))?;
     items.push(propositions(alloc, automaton)?)?;
+    Ok(())
+}
+
+/// Appends the number of sets and the acceptance `formula`.
+fn push_acceptance(
+    items: &mut Vec<RawItem>,
+    automaton: &Automaton,
+    formula: RawAcc,
+    sink: bool,
+) -> Result<(), Refusal>
+    requires { exceeds_limits automaton.now ≡ false }
+    ensures items { OnOk result (items.new.items ≡ items.old.items
+        ++ item.Acceptance (automaton.now.sets + one_if sink) formula ∷ []) }
+    ensures memory { IsOkUnless result Refusal.Memory }
+{
     items.push(RawItem::Acceptance {
-        count: automaton.set_count() + further,
-        formula: acceptance,
+        count: automaton.set_count() + u32::from(sink),
+        formula,
     })?;
-    Ok(items)
+    Ok(())
 }
 
 /// Returns the acceptance, for a complement with or without a sink.

@@ -1,6 +1,6 @@
 //! The states of a complement.
 
-ghost use Rattle.std.specs.Prelude.{◌≡◌, ◌↔◌, ◌||◌, IsTrue, IfErr, IfOk, OnOk};
+ghost use Rattle.std.specs.Prelude.{◌≡◌, ◌↔◌, ◌||◌, [], IsTrue, IfErr, IfOk, OnOk};
 ghost use Rattle.omega_complement.specs.Complement.{AreFittingAt};
 ghost use Rattle.omega_complement.specs.Labels.{defined_numbers, labels_at, state_at, undefined as undefined_state};
 ghost use Rattle.omega_complement.specs.Letters.{AreExclusive, LacksLetter};
@@ -28,15 +28,50 @@ pub(crate) fn turned_states(alloc: Global, automaton: &Automaton) -> Result<Body
     ensures turned { IfOk result (λ body. AreTurned automaton.now automaton.now.states body.states.items body.lacks) }
     ensures err { IfErr result (AreRefused automaton.now) }
 {
-    let places = places_of(alloc, automaton)?;
+    match places_of(alloc, automaton) {
+        Ok(places) => turned_among(alloc, automaton, &places),
+        Err(refusal) => Err(refusal),
+    }
+}
+
+/// Returns the states of `automaton` by their numbers, as `turned_states` does. `places` has the numbers of the defined
+/// states.
+fn turned_among(
+    alloc: Global,
+    automaton: &Automaton,
+    places: &IndexSet<u32>,
+) -> Result<Body, Refusal>
+    requires { places.now.keys ≡ defined_numbers automaton.now }
+    ensures turned { IfOk result (λ body. AreTurned automaton.now automaton.now.states body.states.items body.lacks) }
+    ensures err { IfErr result (AreRefused automaton.now) }
+{
     let mut states = Vec::new(alloc);
+    match push_turned(alloc, &mut states, automaton, places) {
+        Ok(lacks) => Ok(Body { states, lacks }),
+        Err(refusal) => Err(refusal),
+    }
+}
+
+/// Appends the states of `automaton` to an empty list by their numbers, each with an edge for each letter, and returns
+/// whether one of them lacked a letter. Fails as `turned_states` does.
+fn push_turned(
+    alloc: Global,
+    states: &mut Vec<RawState>,
+    automaton: &Automaton,
+    places: &IndexSet<u32>,
+) -> Result<bool, Refusal>
+    requires empty { states.old.items ≡ [] }
+    requires places { places.now.keys ≡ defined_numbers automaton.now }
+    ensures turned { IfOk result (AreTurned automaton.now automaton.now.states states.new.items) }
+    ensures err { IfErr result (AreRefused automaton.now) }
+{
     let mut lacks = false;
     for number in 0..automaton.state_count() {
-        let next = turned_at(alloc, automaton, &places, number)?;
+        let next = turned_at(alloc, automaton, places, number)?;
         lacks = either(lacks, next.lacks);
         states.push(next.state)?;
     }
-    Ok(Body { states, lacks })
+    Ok(lacks)
 }
 
 /// Whether one of two flags is set.

@@ -44,9 +44,28 @@ pub(crate) fn turned_state(
     ensures err { IfErr result (IsRefusalOf count state.now) }
 {
     let labels = labels_of(alloc, count, state)?;
-    let missing = judged(alloc, count, state, labels.as_slice())?;
+    turned_by(alloc, count, sink, state, labels.as_slice())
+}
+
+/// Returns `state` with an edge for each letter, as `turned_state` does. `labels` are those of its edges.
+fn turned_by(
+    alloc: Global,
+    count: usize,
+    sink: u32,
+    state: &State,
+    labels: &[Label],
+) -> Result<Turned, Refusal>
+    requires labels { labels.now ≡ labels_of_state count state.now }
+    requires fits { All FitsALabel labels.now }
+    ensures turned { IfOk result (λ turned. IsTurned count sink state.now turned.state) }
+    ensures lacks { IfOk result (λ turned. IsTrue turned.lacks ↔ LacksLetter (labels_of_state count state.now)) }
+    ensures apart { OnOk result (AreExclusive (labels_of_state count state.now)) }
+    ensures fitting { OnOk result (AreFittingOf count state.now) }
+    ensures err { IfErr result (IsRefusalOf count state.now) }
+{
+    let missing = judged(alloc, count, state, labels)?;
     let lacks = missing.is_some();
-    let mut edges = turned_edges(alloc, count, state, labels.as_slice())?;
+    let mut edges = turned_edges(alloc, count, state, labels)?;
     add_further(alloc, &mut edges, missing, sink)?;
     let name = name_of(alloc, state)?;
     Ok(Turned {

@@ -1,28 +1,7 @@
--- the states so far
-use Rattle.std.proofs.Common.{◌≡◌, ◌+◌, ◌++◌, ◌∷◌, [], Bool, List, ℕ, subst, sym, arith}
-use Rattle.std.proofs.lemmas.Result.{err_from_is_err_and}
-use Rattle.omega_raw.specs.declared.raw_state.RawState.{RawState}
-use Rattle.omega_complement.specs.private.Turned.{AreTurned}
-use Rattle.omega_complement.proofs.Faults.{state_refused}
-use Rattle.omega_complement.proofs.Turned.{turned_more}
+-- memory is refused for the places
+use Rattle.omega_complement.specs.Refusing.{IsFirstFault}
+use Rattle.omega_edge_labels.proofs.Refusals.{memory_task}
 use Rattle.omega_complement.proofs.states.turned_states.Goals as goal
 
-pub returns-in_err-next-clause-err : goal.returns-in_err-next-clause-err
-returns-in_err-next-clause-err c =
-    let p = err_from_is_err_and c.from_residual-in_err-next.result c.from_residual-in_err-next.ensures.1 in
-    rw (p.1, p.2)
-    (state_refused c.args.automaton.now c.loop-number.number (omega (arith, c.loop-number-test.true, c.state_count-number-end.ensures)) c.loop-number.invariant.apart c.loop-number.invariant.fitting
-    c.in_err-next.field-0.0 c.in_err-next.ensures.err)
-
-pub loop-number-preserved : goal.loop-number-preserved
-loop-number-preserved c =
-    subst (λ (ss : List RawState). AreTurned c.args.automaton.now (c.loop-number.number + 1) ss c.either-lacks.result) (sym c.in_ok-push.ensures.items)
-    (subst (λ (b : Bool). AreTurned c.args.automaton.now (c.loop-number.number + 1) (c.loop-number.states.items ++ c.in_ok-next.next.state ∷ []) b) (sym c.either-lacks.ensures)
-    (turned_more c.args.automaton.now c.loop-number.number c.loop-number.states.items c.loop-number.lacks c.in_ok-next.next.state c.in_ok-next.next.lacks c.loop-number.invariant
-    c.in_ok-next.ensures.turned c.in_ok-next.ensures.apart c.in_ok-next.ensures.fitting c.in_ok-next.ensures.lacks))
-
-pub returns-clause-turned : goal.returns-clause-turned
-returns-clause-turned c =
-    let all : c.loop-number.number ≡ c.args.automaton.now.states =
-    omega (arith, c.loop-number-test.false, c.loop-number.auto.number-end, c.state_count-number-end.ensures) in
-    subst (λ (n : ℕ). AreTurned c.args.automaton.now n c.loop-number.states.items c.loop-number.lacks) all c.loop-number.invariant
+pub returns-in-Err-clause-err : goal.returns-in-Err-clause-err
+returns-in-Err-clause-err c = memory_task (IsFirstFault c.args.automaton.now) _ c.in-Err.ensures.memory
