@@ -1,6 +1,6 @@
 //! Lists that occur for the first time.
 
-ghost use Rattle.std.specs.Prelude.{◌≡◌, ◌<◌, ◌^◌, IfOk, IsOkUnless, length};
+ghost use Rattle.std.specs.Prelude.{◌≡◌, ◌<◌, ◌^◌, [], IfOk, IsOkUnless, length};
 ghost use Rattle.omega_realizability_game.specs.Firsts.{AreFirstPlaces};
 
 use indexmap::IndexSet;
@@ -15,6 +15,21 @@ pub(crate) fn first_places(alloc: Global, lists: &[Numbers]) -> Result<Vec<u32>,
     ensures memory { IsOkUnless result Refusal.Memory }
 {
     let mut seen = IndexSet::new(alloc);
+    places_of_new(alloc, lists, &mut seen)
+}
+
+/// Returns the places of those of `lists` that occur at no place before, in rising order. Adds them to the empty set
+/// `seen`.
+fn places_of_new<'a>(
+    alloc: Global,
+    lists: &'a [Numbers],
+    seen: &mut IndexSet<&'a [u32]>,
+) -> Result<Vec<u32>, Refusal>
+    requires few { length lists.now < 2 ^ 32 }
+    requires empty { seen.old.keys ≡ [] }
+    ensures firsts { IfOk result (λ firsts. AreFirstPlaces lists.now (length lists.now) firsts.items) }
+    ensures memory { IsOkUnless result Refusal.Memory }
+{
     let mut firsts = Vec::new(alloc);
     for (place, list) in lists.iter().enumerate() {
         if seen.insert(list.as_slice())? {

@@ -1,7 +1,7 @@
 -- the lists seen are those at the first places so far
 use Rattle.std.proofs.Common.{◌≡◌, List, ℕ, map, Bor}
 use Rattle.omega_realizability_game.specs.Firsts.{AreFirstPlaces, list_at}
-use Rattle.omega_realizability_game.proofs.firsts.first_places.Given as goal
+use Rattle.omega_realizability_game.proofs.firsts.places_of_new.Given as goal
 
 abbrev pub invariant-loop-place : goal.invariant-loop-place
 invariant-loop-place l =

@@ -3,8 +3,8 @@ use Rattle.std.proofs.Common.{◌≡◌, ◌<◌, [], ℕ, List, length, Bor, �
 use Rattle.std.proofs.lemmas.List.{get_or_read}
 use Rattle.omega_realizability_game.specs.Firsts.{list_at}
 use Rattle.omega_realizability_game.proofs.FirstPlaces.{seen_before, seen_first}
-use Rattle.omega_realizability_game.proofs.firsts.first_places.Goals as goal
-use Rattle.omega_realizability_game.proofs.firsts.first_places.Goals.{then-branch+in_ok-push, else-branch}
+use Rattle.omega_realizability_game.proofs.firsts.places_of_new.Goals as goal
+use Rattle.omega_realizability_game.proofs.firsts.places_of_new.Goals.{then-branch+in_ok-push, else-branch}
 
 pub loop-place-preserved : goal.loop-place-preserved
 loop-place-preserved c =
