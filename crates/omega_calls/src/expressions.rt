@@ -3,7 +3,7 @@ use crate::lists::{answer, each, is_front, numbers, put, put_answer};
 use omega_aliases::{Aliases, expand, expanded_size};
 use omega_formula::{Acc, RawAcc, read_acc, read_raw_acc, write_acc};
 use omega_label::{Label, RawLabel, write_label};
-use omega_label_reading::read_label;
+use omega_label_reading::{read_label, read_raw_label};
 use omega_text::{Cursor, HoaKind, Refusal, TextCursor, check_tokens, hoa_tokens};
 use std::alloc::Global;
 
@@ -18,7 +18,7 @@ pub(crate) fn called(
             over_definitions(alloc, call, label_in(alloc, text), other)
         }
         "RawLabel" => over_definitions(alloc, call, label_built(alloc), other),
-        "depth of a label" => depth_of(alloc, label_in(alloc, text), other),
+        "depth of a label" => depth_of(alloc, raw_label_in(alloc, text), other),
         "read_acc" => formula_written(alloc, formula_in(alloc, text)),
         "shape of a formula" => formula_written(
             alloc,
@@ -34,6 +34,14 @@ pub(crate) fn called(
 pub(crate) fn label_in(alloc: Global, text: &[u8]) -> Result<RawLabel, Refusal> {
     let tokens = hoa_tokens(alloc, text)?;
     read_label(alloc, &mut Cursor::new(tokens.as_slice(), text.len()))
+}
+
+/// Returns the same over the bytes, of any depth.
+fn raw_label_in(alloc: Global, text: &[u8]) -> Result<RawLabel, Refusal> {
+    match check_tokens::<HoaKind>(text) {
+        Ok(()) => read_raw_label(alloc, &mut TextCursor::<HoaKind>::new(text)),
+        Err(fault) => Err(Refusal::Text(fault)),
+    }
 }
 
 /// Returns `(!0)&t|@a`.
