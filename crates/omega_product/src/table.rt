@@ -1,11 +1,11 @@
-ghost use Rattle.std.specs.Prelude.{◌≡◌, ◌<◌, None, get_or, length, IfErr, IfOk, IfSome, IsOkUnless, OnOk};
+ghost use Rattle.std.specs.Prelude.{◌≡◌, ◌<◌, None, get_or, length, replicate, IfErr, IfOk, IfSome, IsOkUnless, OnOk};
 ghost use Rattle.std.specs.Prelude.{ℕ, ◌∷◌, [], ◌++◌, false, nat_eq, true};
 ghost use Rattle.std.specs.List.{list_any};
 ghost use Rattle.omega_edge_labels.specs.Fitting.{IsLarge};
 ghost use Rattle.omega_product.specs.Refusing.{HasUnfitEdge};
 ghost use Rattle.omega_product.specs.Transitions.{View, transitions_at};
 ghost use Rattle.omega_product.specs.private.Meeting.{AreByValuation};
-ghost use Rattle.omega_product.specs.private.Tables.{HasRow, IsRowIn, IsTableOf, row_of as edges_of, view_at, view_in};
+ghost use Rattle.omega_product.specs.private.Tables.{AreNumbered, HasRow, IsRowIn, IsTableOf, row_of as edges_of, view_at, view_in};
 
 use crate::numbers::number_after;
 use crate::renumbering::Renumbering;
@@ -46,24 +46,19 @@ impl Table {
         ensures memory { IsOkUnless result Refusal.Memory }
     {
         let count = automaton.defined().len();
-        let mut numbers = IndexSet::with_capacity(alloc, count)?;
         let mut firsts = Vec::with_capacity(alloc, count)?;
         let mut rows = Vec::with_capacity(alloc, count)?;
-        automaton.keeps_limits();
-        let mut first = 0;
-        for state in automaton.defined() {
-            add_number(&mut numbers, state.number)?;
-            firsts.push(first)?;
-            rows.push(None)?;
-            first = number_after(first, state.edges.len())?;
+        let mut numbers = IndexSet::with_capacity(alloc, count)?;
+        match add_states(automaton, &mut numbers, &mut firsts, &mut rows) {
+            Ok(()) => Ok(Table {
+                places,
+                before,
+                numbers,
+                firsts,
+                rows,
+            }),
+            Err(refusal) => Err(refusal),
         }
-        Ok(Table {
-            places,
-            before,
-            numbers,
-            firsts,
-            rows,
-        })
     }
 
     /// Makes the edges of the state with the number `number`, if there is such a state and they are not made.
@@ -158,6 +153,31 @@ impl Table {
             None => &[],
         }
     }
+}
+
+/// Appends, for each state that `automaton` defines, its number, the number of its first edge, and no row.
+fn add_states(
+    automaton: &Automaton,
+    numbers: &mut IndexSet<u32>,
+    firsts: &mut Vec<u32>,
+    rows: &mut Vec<Option<Seq<Tabled>>>,
+) -> Result<(), Refusal>
+    requires numbers { numbers.old.keys ≡ [] }
+    requires firsts { firsts.old.items ≡ [] }
+    requires rows { rows.old.items ≡ [] }
+    ensures numbered { OnOk result (AreNumbered automaton.now.defined numbers.new.keys firsts.new.items) }
+    ensures rows { OnOk result (rows.new.items ≡ replicate (length automaton.now.defined) None) }
+    ensures memory { IsOkUnless result Refusal.Memory }
+{
+    automaton.keeps_limits();
+    let mut first = 0;
+    for state in automaton.defined() {
+        add_number(numbers, state.number)?;
+        firsts.push(first)?;
+        rows.push(None)?;
+        first = number_after(first, state.edges.len())?;
+    }
+    Ok(())
 }
 
 /// Adds a number, which is not among `numbers` yet.

@@ -1,10 +1,10 @@
 use Rattle.std.proofs.Common.{◌≡◌, ◌<◌, ◌+◌, ℕ, List, [], ◌∷◌, ◌++◌, None, length, take, sym, ap, subst, ◌∙◌, arith, get_or}
-use Rattle.std.proofs.lemmas.List.{replicate_more}
+use Rattle.std.proofs.lemmas.List.{replicate_more, take_all}
 use Rattle.omega_automaton.specs.declared.state.State.{State}
 use Rattle.omega_product.specs.private.Tables.{AreNumbered}
 use Rattle.omega_product.proofs.Rows.{edges_more, numbered_more}
 use Rattle.omega_edge_labels.proofs.NewNumbers.{number_is_new}
-use Rattle.omega_product.proofs.table.Table.of.Goals as goal
+use Rattle.omega_product.proofs.table.add_states.Goals as goal
 
 pub add_number-requires : goal.add_number-requires
 add_number-requires c =
@@ -29,3 +29,9 @@ loop-state-preserved c =
       c.in_ok-first.ensures.ok ∙ ap (λ n. c.loop-state.first + n) c.len.ensures ∙ ap (λ n. n + length state.edges) c.loop-state.invariant.2
           ∙ sym (edges_more states at state below here),
     )
+
+pub returns-clause-numbered : goal.returns-clause-numbered
+returns-clause-numbered c =
+    let states : List State = c.args.automaton.now.defined in
+    let all : take c.loop-state.state-index states ≡ states = take_all c.loop-state.state-index states (omega (arith, ap length c.defined-state-items.ensures)) in
+    subst (λ (some : List State). AreNumbered some c.loop-state.numbers.keys c.loop-state.firsts.items) all c.loop-state.invariant.0

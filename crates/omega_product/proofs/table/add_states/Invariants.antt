@@ -1,7 +1,7 @@
 -- the numbers of the states so far, how many edges these have, and no edges
 use Rattle.std.proofs.Common.{◌≡◌, None, replicate, take}
 use Rattle.omega_product.specs.private.Tables.{AreNumbered, edges_in}
-use Rattle.omega_product.proofs.table.Table.of.Given as goal
+use Rattle.omega_product.proofs.table.add_states.Given as goal
 
 abbrev pub invariant-loop-state : goal.invariant-loop-state
 invariant-loop-state l =
