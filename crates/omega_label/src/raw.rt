@@ -169,6 +169,8 @@ impl RawLabel {
         ensures no_alias { IsTrue result → list_any is_alias (raw_postfix self.now) ≡ false }
         ensures shallow { IsTrue result → raw_depth self.now ≤ most_depth }
         ensures small { IsTrue result → length (raw_postfix self.now) ≤ most_size }
+        ensures each { list_any is_alias (raw_postfix self.now) ≡ false → raw_depth self.now ≤ most_depth →
+            length (raw_postfix self.now) ≤ most_size → IsTrue result }
     {
         !self.has_alias() && !self.is_too_deep() && self.written.len() <= MOST_SIZE as usize
     }
