@@ -15,7 +15,6 @@ use std::marker::Model;
 ///
 /// States are numbers from 0 up to their count, and so are sets and propositions. A state that is not among the defined
 /// ones has no edges. Edges are numbered from 0 through all defined states, in the order written.
-#[derive(Drop)]
 pub struct Automaton {
     tool: Option<Tool>,
     name: Option<ByteString>,
@@ -46,6 +45,26 @@ impl Model for Automaton {
     ghost view = { description_of };
 
     ghost invariant = { IsLaidOut };
+}
+
+impl Drop for Automaton {
+    // By hand, so that an automaton is dropped by a call at each exit of a function that owns it, and not field by field.
+    fn drop(self) {
+        let Automaton {
+            tool: _,
+            name: _,
+            state_count: _,
+            starts: _,
+            propositions: _,
+            acc_name: _,
+            set_count: _,
+            acceptance: _,
+            properties: _,
+            unknown: _,
+            defined: _,
+            edge_count: _,
+        } = self;
+    }
 }
 
 impl Automaton {

@@ -3,7 +3,7 @@ use omega_formula::Acc;
 use omega_text::ByteString;
 
 /// The graph of the product of two automata: what the product is but for its labels and its names of states.
-#[derive(Debug, Drop)]
+#[derive(Debug)]
 pub struct PairGraph {
     /// The names of the propositions of both.
     pub propositions: Vec<ByteString>,
@@ -13,4 +13,16 @@ pub struct PairGraph {
     pub edges: JointEdges,
     /// The acceptance formula of the product.
     pub acceptance: Acc,
+}
+
+impl Drop for PairGraph {
+    // By hand, so that a graph is dropped by a call at each exit of a function that owns it, and not field by field.
+    fn drop(self) {
+        let PairGraph {
+            propositions: _,
+            starts: _,
+            edges: _,
+            acceptance: _,
+        } = self;
+    }
 }

@@ -8,8 +8,8 @@ ghost use Rattle.omega_automaton.specs.Limits.{most_total_size};
 ghost use Rattle.omega_automaton.specs.private.layout.Findings.{AreFound, AreJoinedFindings, labels_pass};
 
 use crate::limits::MOST_TOTAL_SIZE;
-use omega_expression::{MOST_DEPTH, MOST_SIZE};
 use omega_aliases::{Aliases, Extent};
+use omega_expression::{MOST_DEPTH, MOST_SIZE};
 use omega_label::RawLabel;
 use omega_raw::{RawEdges, RawState};
 use omega_text::Refusal;
