@@ -66,13 +66,16 @@ mod tests {
     // In state 1 the environment does not give `e`, which was guessed there, and in state 2 it does.
     #[test]
     fn what_was_not_guessed_is_given(rt: HostRuntime) -> Result<(), Fail> {
-        match realizability_in(rt.alloc(), GUESS)? {
+        let answer = realizability_in(rt.alloc(), GUESS)?;
+        match &answer {
             Realizability::Realizable { .. } => assert!(rt; false, "there is no controller"),
             Realizability::Unrealizable { kept, letters } => {
                 assert_eq!(rt; kept.as_slice(), [0, 1].as_slice());
-                assert!(rt;
-                    is_letter(letters.as_slice(), 1, &[]) && is_letter(letters.as_slice(), 2, &[0])
+                let (one, two) = (
+                    is_letter(letters.as_slice(), 1, &[]),
+                    is_letter(letters.as_slice(), 2, &[0]),
                 );
+                assert!(rt; one && two);
             }
         }
         Ok(())
