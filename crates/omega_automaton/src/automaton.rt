@@ -48,7 +48,7 @@ impl Model for Automaton {
 }
 
 impl Drop for Automaton {
-    // By hand, so that an automaton is dropped by a call at each exit of a function that owns it, and not field by field.
+    // By hand, so that an automaton is dropped by a call at each exit of a function that owns it, not field by field.
     fn drop(self) {
         let Automaton {
             tool: _,
