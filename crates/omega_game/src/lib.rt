@@ -1,5 +1,5 @@
-//! Whether a strategy wins a parity game, and if not, why. Hands on `omega_parity_game`, and the parts of games, for
-//! those who use them too.
+//! Whether a strategy wins a parity game, and if not, why. Hands on `omega_parity_game`, the bound on lifts, and the
+//! parts of games, for those who use them too.
 //!
 //! A search suggests an order of the places, or a place at which the player loses (`checking::top_nodes`,
 //! `checking::nesting`). Only its safety is proved: a proved pass judges what it suggests (`checking::deciding`). A
@@ -17,6 +17,7 @@ pub use checking::{
     check_solution_by_order, check_strategy, check_strategy_by_order, check_strategy_fast,
 };
 pub use lasso::Lasso;
+pub use omega_lift_bound::bound;
 pub use omega_parity_game::{
     ForwardGame, Game, GameBuilder, GameFault, MOST_NODES, MOST_NUMBER, MOST_SUCCESSORS, NodeSpec,
     Player, PriorityCount, Refusal, Seq, Solution, Strategy, TaskFault, choices_are_entries,
