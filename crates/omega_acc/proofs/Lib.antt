@@ -1,3 +1,2 @@
--- Lemmas, by what they are about: kinds and priorities, and canonical texts.
-pub mod kinds
+-- Lemmas on canonical texts.
 pub mod written

@@ -1,6 +1,5 @@
-//! Laws of every kind and of all canonical texts. Each function does nothing and states one law.
+//! Laws of all canonical texts. Each function does nothing and states one law.
 
-ghost use Rattle.omega_acc.specs.KindLaws.{BuchiIsEverySet, ParityIsPriority};
 ghost use Rattle.omega_acc.specs.WritingLaws.{AccTextsAreFormulas, LabelTextsAreLabels, WrittenFormulasAreShallowest, WrittenFormulasMean, WrittenLabelsAreShallowest, WrittenLabelsMean};
 
 use omega_text::HoaKind;
@@ -8,16 +7,6 @@ use omega_text::hoa::laws::{
     closed_are_longest, numbers_are_longest, numbers_are_plain, words_are_longest,
 };
 use omega_text::laws::cuts_join;
-
-/// States that a parity formula holds of mark sets exactly if the greatest of their priorities is even.
-pub fn parity_is_priority()
-    ensures { ParityIsPriority }
-{}
-
-/// States that a generalized Büchi formula holds of mark sets exactly if every set occurs in one of them.
-pub fn buchi_is_every_set()
-    ensures { BuchiIsEverySet }
-{}
 
 /// States that the canonical text of a label, if it does not run into what follows, is cut into the tokens of that
 /// label as it is written.

@@ -7,7 +7,7 @@ use Rattle.omega_parity_kind.specs.Priority.{greatest_number, priority_of}
 use Rattle.omega_parity_kind.specs.declared.kind.ParityKind.{ParityKind}
 use Rattle.omega_formula.specs.Acceptance.{AccTree, accepts, holds, occurs}
 use Rattle.omega_formula.specs.Kind.{buchi_formula, parity_formula}
-use Rattle.omega_acc.specs.KindLaws.{BuchiIsEverySet, ParityIsPriority}
+use Rattle.omega_formula.specs.KindLaws.{BuchiIsEverySet, ParityIsPriority}
 use Rattle.omega_formula.specs.declared.kind.AccKind.{AccKind}
 use Rattle.omega_formula.specs.declared.kind.AccKind.TheVariants.{Parity, GenBuchi}
 use Rattle.omega_empty.specs.Counters.{counter_after, counters, priority_at_counter}

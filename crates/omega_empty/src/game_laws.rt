@@ -2,7 +2,7 @@
 
 ghost use Rattle.omega_empty.specs.GameLaws.{UnwonIsEmpty, WonStartsAccept, WonWalksAccept};
 
-use omega_acc::{buchi_is_every_set, parity_is_priority};
+use omega_formula::{buchi_is_every_set, parity_is_priority};
 use omega_region_laws::regions_cover;
 
 /// States that two walks of the game pass the edges of an accepting lasso, which begins at a start. The first leads

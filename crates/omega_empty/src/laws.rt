@@ -2,7 +2,7 @@
 
 ghost use Rattle.omega_empty.specs.Laws.{AcceptingLassosAreWon};
 
-use omega_acc::{buchi_is_every_set, parity_is_priority};
+use omega_formula::{buchi_is_every_set, parity_is_priority};
 use omega_region_laws::regions_cover;
 
 /// States that player 0 wins the emptiness game from the node of each start, at the first counter, at which an

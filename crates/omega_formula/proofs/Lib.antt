@@ -14,3 +14,4 @@ pub mod RewritingLemmas
 pub mod TextLemmas
 pub mod Unread
 pub mod WrittenLemmas
+pub mod kinds

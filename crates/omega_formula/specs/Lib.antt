@@ -4,6 +4,7 @@ pub mod Acceptance
 pub mod Dual
 pub mod Judging
 pub mod Kind
+pub mod KindLaws
 pub mod Meaning
 pub mod Moving
 pub mod Names

@@ -1,8 +1,9 @@
-//! Laws of all acceptance formulas. Each function does nothing and states one law.
+//! Laws of all acceptance formulas and kinds. Each function does nothing and states one law.
 
 ghost use Rattle.std.specs.Prelude.{◌≡◌};
 ghost use Rattle.std.specs.Bool.{Decides};
 ghost use Rattle.omega_formula.specs.Acceptance.{AccTree};
+ghost use Rattle.omega_formula.specs.KindLaws.{BuchiIsEverySet, ParityIsPriority};
 ghost use Rattle.omega_formula.specs.Raw.{RawAccTree};
 ghost use Rattle.omega_formula.specs.Reading.{FormulasAreOne};
 
@@ -19,4 +20,14 @@ pub fn formulas_are_one()
 pub fn equal_formulas_are_equal_trees()
     ensures formulas { (one other : AccTree) → Decides (⟦<Acc as PartialEq>⟧.eq one other) (one ≡ other) }
     ensures raw_formulas { (one other : RawAccTree) → Decides (⟦<RawAcc as PartialEq>⟧.eq one other) (one ≡ other) }
+{}
+
+/// States that a parity formula holds of mark sets exactly if the greatest of their priorities is even.
+pub fn parity_is_priority()
+    ensures { ParityIsPriority }
+{}
+
+/// States that a generalized Büchi formula holds of mark sets exactly if every set occurs in one of them.
+pub fn buchi_is_every_set()
+    ensures { BuchiIsEverySet }
 {}

@@ -24,7 +24,9 @@ mod written;
 pub use formula::{Acc, AccNode};
 pub use judging::AtomJudge;
 pub use kind::AccKind;
-pub use laws::{equal_formulas_are_equal_trees, formulas_are_one};
+pub use laws::{
+    buchi_is_every_set, equal_formulas_are_equal_trees, formulas_are_one, parity_is_priority,
+};
 pub use name::{AccName, Parameter};
 pub use omega_parity_kind::{Order, Parity, ParityKind, priority};
 pub use raw::RawAcc;

@@ -8,7 +8,7 @@ use Rattle.std.proofs.lemmas.Option.{slice_get_within}
 use Rattle.omega_parity_kind.specs.Priority.{greatest_number, priority_of}
 use Rattle.omega_formula.specs.Acceptance.{accepts}
 use Rattle.omega_formula.specs.Kind.{parity_formula}
-use Rattle.omega_acc.specs.KindLaws.{ParityIsPriority}
+use Rattle.omega_formula.specs.KindLaws.{ParityIsPriority}
 use Rattle.omega_label.specs.Label.{LabelTree}
 use Rattle.omega_automaton.specs.Automaton.{AreBelow, BodyEdge, Description, edge_at, edges_of}
 use Rattle.omega_runs.specs.Lasso.{IsStep, IsUsable, Leads, label_of, marks_at}

@@ -2,7 +2,7 @@
 
 ghost use Rattle.omega_realizability_game.specs.Laws.{AnsweringsAreControllers, AskingsAreCounterStrategies, NoStartIsRefused};
 
-use omega_acc::parity_is_priority;
+use omega_formula::parity_is_priority;
 
 /// States that edges that win the rounds of an automaton for player 0 are a controller of the automaton.
 pub fn answerings_are_controllers()

@@ -13,7 +13,7 @@ use Rattle.omega_parity_kind.proofs.PriorityLemmas.{least_mark-le}
 use Rattle.omega_parity_kind.proofs.Parities.{least_from-le}
 use Rattle.omega_formula.specs.Acceptance.{AccTree, accepts, conjunction, disjunction, fin, holds, inf, occurs}
 use Rattle.omega_formula.specs.Kind.{formula_of, joined_to, parity_formula, sets_left}
-use Rattle.omega_acc.specs.KindLaws.{ParityIsPriority}
+use Rattle.omega_formula.specs.KindLaws.{ParityIsPriority}
 use Rattle.omega_runs.specs.Parity.{IsLimit, ParityIsLimit}
 use Rattle.omega_runs.specs.Runs.{AtLastNever, ForEver, Satisfies}
 use Rattle.omega_runs.proofs.Leads.{or_false}

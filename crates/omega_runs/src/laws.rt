@@ -7,7 +7,7 @@ ghost use Rattle.omega_runs.specs.Parity.{ParityIsLimit};
 ghost use Rattle.omega_runs.specs.Runs.{AcceptingRunsHaveLassos, LassosAreAcceptingRuns};
 ghost use Rattle.omega_runs.specs.Words.{AcceptedWordsHaveLassos, AcceptingRunsHaveWords, LassosHaveAcceptedWords};
 
-use omega_acc::parity_is_priority;
+use omega_formula::parity_is_priority;
 
 /// States that an automaton without universal branching that has an accepting run, of any acceptance formula, has an
 /// accepting lasso.

@@ -6,7 +6,7 @@ use Rattle.std.proofs.lemmas.List.{length-map}
 use Rattle.std.proofs.lemmas.List.Elements.{All-contains, All-head, All-map}
 use Rattle.omega_parity_kind.specs.Priority.{greatest_number}
 use Rattle.omega_formula.specs.Acceptance.{accepts}
-use Rattle.omega_acc.specs.KindLaws.{BuchiIsEverySet, ParityIsPriority}
+use Rattle.omega_formula.specs.KindLaws.{BuchiIsEverySet, ParityIsPriority}
 use Rattle.omega_formula.specs.declared.kind.AccKind.{AccKind}
 use Rattle.omega_formula.specs.declared.kind.AccKind.TheVariants as kinds
 use Rattle.omega_automaton.specs.Automaton.{AreTargets, BodyEdge, Description, IsAutomaton, edge_at}

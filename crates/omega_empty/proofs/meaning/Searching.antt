@@ -2,7 +2,7 @@
 -- until a place comes again.
 use Rattle.std.proofs.Common.{◌≡◌, ℕ, zero, suc, ◌+◌, ◌-◌, ◌%◌, ◌<◌, ◌⊎◌, inl, inr, List, length, map, IsTrue, sym, ap, refl, ◌∙◌, subst, arith, eq-eqb}
 use Rattle.std.proofs.lemmas.Bool.{cases_eq}
-use Rattle.omega_acc.specs.KindLaws.{BuchiIsEverySet, ParityIsPriority}
+use Rattle.omega_formula.specs.KindLaws.{BuchiIsEverySet, ParityIsPriority}
 use Rattle.omega_automaton.specs.Automaton.{Description, IsAutomaton}
 use Rattle.omega_parity_game.specs.Game.{Node, identifier_at}
 use Rattle.omega_parity_game.specs.Player.{loses}

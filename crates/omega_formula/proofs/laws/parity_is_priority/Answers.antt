@@ -2,8 +2,8 @@
 use Rattle.std.proofs.Common.{eq-eqb, ◌%◌, map, sym, ◌∙◌}
 use Rattle.std.proofs.lemmas.Bool.{eqb-true}
 use Rattle.omega_parity_kind.specs.Priority.{greatest_number, priority_of}
-use Rattle.omega_acc.proofs.kinds.KindLemmas.{accepts-greatest}
-use Rattle.omega_acc.proofs.laws.parity_is_priority.Goals as goal
+use Rattle.omega_formula.proofs.kinds.KindLemmas.{accepts-greatest}
+use Rattle.omega_formula.proofs.laws.parity_is_priority.Goals as goal
 
 pub returns : goal.returns
 returns c = λ kind forever more within.
