@@ -2,7 +2,7 @@
 use Rattle.std.specs.Prelude.{◌⊎◌, ℕ, Bool, List}
 use Rattle.std.specs.List.{AllByRecursion}
 use Rattle.omega_automaton.specs.Automaton.{Description}
-use Rattle.omega_complement.specs.Complement.{IsDeterministic}
+use Rattle.omega_determinism.specs.Determinism.{IsDeterministic}
 use Rattle.omega_lasso_word.specs.Fitting.{Fits}
 use Rattle.omega_lasso_word.specs.Laws.{HasStrings}
 use Rattle.omega_symbolic_word.specs.Admitted.{Admits}

@@ -7,7 +7,7 @@ use Rattle.std.proofs.lemmas.List.{length-map}
 use Rattle.omega_automaton.specs.Automaton.{BodyEdge, Description, edge_count, edges_from}
 use Rattle.omega_automaton.specs.declared.edge.Edge.{Edge}
 use Rattle.omega_automaton.specs.declared.state.State.{State}
-use Rattle.omega_complement.specs.Labels.{labels_at, labels_of, state_among, state_at, undefined}
+use Rattle.omega_determinism.specs.Labels.{labels_at, labels_of, state_among, state_at, undefined}
 use Rattle.omega_choice_causes.specs.Choices.{edges_before}
 
 -- the states before an index have another number, and so many edges

@@ -7,9 +7,10 @@ use Rattle.omega_text.specs.declared.refusal.task.TaskFault.{TaskFault}
 use Rattle.omega_text.specs.declared.refusal.task.TaskFault.TheVariants.{NotDeterministic, TooLarge, TooManyPropositions}
 use Rattle.omega_label.specs.Label.{LabelTree, conjunction}
 use Rattle.omega_automaton.specs.Automaton.{Description}
-use Rattle.omega_complement.specs.Labels.{labels_at}
-use Rattle.omega_complement.specs.Letters.{HasClash}
-use Rattle.omega_complement.specs.Refusing.{IsComplementFault, IsFirstClash, IsFirstFault, IsUndecidedFault}
+use Rattle.omega_determinism.specs.Labels.{labels_at}
+use Rattle.omega_determinism.specs.Letters.{HasClash}
+use Rattle.omega_complement.specs.Refusing.{IsComplementFault, IsFirstFault}
+use Rattle.omega_determinism.specs.Refusing.{IsFirstClash, IsUndecidedFault}
 use Rattle.omega_choice_causes.specs.ChoiceCauses.{HasNoChoiceToTell, IsChoiceLine, TellsChoice}
 use Rattle.omega_choice_causes.specs.Choices.{AreAllPassedOver, MayBeUndecided}
 use Rattle.omega_choice_causes.specs.Laws.{ChoicesAreTold, IsUndecidedUpTo, TellsRefusal, TellsState}

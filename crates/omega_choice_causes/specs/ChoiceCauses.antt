@@ -4,9 +4,9 @@ use Rattle.std.specs.Prelude.{◌≡◌, ◌⊎◌, ℕ, ◌+◌, ◌<◌, ◌�
 use Rattle.omega_text.specs.declared.refusal.task.TaskFault.{TaskFault}
 use Rattle.omega_automaton.specs.Automaton.{Description}
 use Rattle.omega_hoa.specs.Alone.{IsAutomatonText}
-use Rattle.omega_complement.specs.Complement.{AreExclusiveBelow}
-use Rattle.omega_complement.specs.Labels.{labels_at}
-use Rattle.omega_complement.specs.Refusing.{IsFirstClash, IsFirstUndecided}
+use Rattle.omega_determinism.specs.Determinism.{AreExclusiveBelow}
+use Rattle.omega_determinism.specs.Labels.{labels_at}
+use Rattle.omega_determinism.specs.Refusing.{IsFirstClash, IsFirstUndecided}
 use Rattle.omega_choice_causes.specs.Choices.{AreAllPassedOver, IsFirstChoice, edges_before}
 
 -- the line about the count of starts

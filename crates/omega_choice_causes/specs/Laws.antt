@@ -5,8 +5,9 @@ use Rattle.omega_text.specs.declared.refusal.task.TaskFault.{TaskFault}
 use Rattle.omega_text.specs.declared.refusal.task.TaskFault.TheVariants.{NotDeterministic}
 use Rattle.omega_automaton.specs.Automaton.{Description}
 use Rattle.omega_hoa.specs.Alone.{IsAutomatonText}
-use Rattle.omega_complement.specs.Labels.{labels_at}
-use Rattle.omega_complement.specs.Refusing.{IsUncomplemented, IsUndecidedFault}
+use Rattle.omega_determinism.specs.Labels.{labels_at}
+use Rattle.omega_complement.specs.Refusing.{IsUncomplemented}
+use Rattle.omega_determinism.specs.Refusing.{IsUndecidedFault}
 use Rattle.omega_choice_causes.specs.ChoiceCauses.{IsChoiceCause, edges_line, starts_line}
 use Rattle.omega_choice_causes.specs.Choices.{IsFirstChoice, edges_before}
 

@@ -2,7 +2,7 @@
 
 ghost use Rattle.std.specs.Prelude.{◌≡◌, [], IfOk, IsOkUnless};
 ghost use Rattle.omega_text.specs.declared.refusal.Refusal.TheVariants.{Memory};
-ghost use Rattle.omega_complement.specs.Refusing.{IsFirstClash};
+ghost use Rattle.omega_determinism.specs.Refusing.{IsFirstClash};
 ghost use Rattle.omega_choice_causes.specs.ChoiceCauses.{IsChoiceCause, IsChoiceLine};
 ghost use Rattle.omega_choice_causes.specs.private.Found.{IsClashFound, IsStatesLine, clash_in};
 
@@ -11,7 +11,7 @@ use crate::labels::labels_of;
 use crate::lines::{edges_line, starts_line};
 use crate::rows::row_of;
 use omega_automaton::Automaton;
-use omega_complement::judge_states;
+use omega_determinism::check_deterministic_states;
 use omega_hoa::{automata_are_one, automata_are_unrefused, read_one};
 use omega_text::{Refusal, TaskFault};
 use std::alloc::Global;
@@ -27,7 +27,7 @@ use std::alloc::Global;
 ///
 /// - if `text` is not that of one automaton;
 /// - if the automaton has one start at most, and of no state two edges can be taken at one letter;
-/// - if that is not decided of a state, as `judge_states` of `omega_complement` says, before there is such a state.
+/// - if that is not decided of a state, as `check_deterministic_states` says, before there is such a state.
 ///
 /// Two edges of the state are passed over if it is not decided whether they can be taken at one letter.
 ///
@@ -85,7 +85,7 @@ fn first_clash(alloc: Global, automaton: &Automaton) -> Result<Option<usize>, Re
     ensures clash { IfOk result (IsClashFound automaton.now) }
     ensures memory { IsOkUnless result Refusal.Memory }
 {
-    match judge_states(alloc, automaton) {
+    match check_deterministic_states(alloc, automaton) {
         Ok(()) => Ok(None),
         Err(refusal) => clash_in(refusal),
     }

@@ -1,5 +1,5 @@
 ghost use Rattle.std.specs.Prelude.{◌≡◌, IfOk, IsOkUnless};
-ghost use Rattle.omega_complement.specs.Labels.{labels_of as labels_of_state};
+ghost use Rattle.omega_determinism.specs.Labels.{labels_of as labels_of_state};
 
 use omega_automaton::State;
 use omega_edge_labels::{EdgeLabel, edge_label};

@@ -1,9 +1,8 @@
 -- Refusals of a label that is judged are those of its state.
-use Rattle.std.proofs.Common.{◌≡◌, ℕ, ◌<◌, ◌⊎◌, inl, inr, Bool, false, List, length, Some, refl, sym, subst, arith}
+use Rattle.std.proofs.Common.{◌≡◌, ℕ, ◌<◌, inl, inr, Bool, false, List, length, Some, refl, sym, subst, arith}
 use Rattle.omega_label.specs.Label.{LabelTree}
 use Rattle.omega_label.specs.Raw.{raw_depth}
-use Rattle.omega_satisfying.specs.Undecided.{IsHardLabel}
-use Rattle.omega_label.specs.Shape.{FitsALabel}
+use Rattle.omega_satisfying.specs.Undecided.{IsHardLabel, IsUndecidedLabel}
 use Rattle.omega_formula.specs.Raw.{raw_acc_depth}
 use Rattle.omega_expression.specs.Limits.{most_depth}
 use Rattle.omega_label.specs.Writing.{label_written}
@@ -18,16 +17,19 @@ use Rattle.omega_automaton.specs.Automaton.{Description}
 use Rattle.omega_automaton.specs.Branching.{has_universal_branching}
 use Rattle.omega_automaton.specs.Faults.{automaton_fault_of}
 use Rattle.omega_raw.specs.declared.raw_automaton.RawAutomaton.{RawAutomaton}
-use Rattle.omega_complement.specs.Complement.{AreExclusiveBelow, AreFittingBelow}
-use Rattle.omega_complement.specs.Dual.{dual}
-use Rattle.omega_complement.specs.Judged.{HasLargeEdge, HasLargeRest, IsBoth, IsJudgedLabel, IsWrittenLabel}
-use Rattle.omega_complement.specs.Labels.{is_full_at, labels_at, state_at}
+use Rattle.omega_determinism.specs.Determinism.{AreExclusiveBelow}
+use Rattle.omega_complement.specs.Complement.{AreFittingBelow}
+use Rattle.omega_formula.specs.Dual.{dual}
+use Rattle.omega_determinism.specs.Judged.{HasLargeEdge}
+use Rattle.omega_complement.specs.Judged.{HasLargeRest, IsJudgedLabel, IsWrittenLabel}
+use Rattle.omega_determinism.specs.Labels.{labels_at, state_at}
 use Rattle.omega_edge_labels.specs.Labels.{is_full}
-use Rattle.omega_complement.specs.Refusing.{AreUnjudged, HasStart, IsClashFault, IsComplementFault, IsFirstFault, IsStateFault, IsStatesFault, IsUncomplemented}
+use Rattle.omega_determinism.specs.Refusing.{IsClashFault}
+use Rattle.omega_complement.specs.Refusing.{HasStart, IsComplementFault, IsFirstFault, IsStateFault, IsUncomplemented}
 use Rattle.omega_complement.specs.Written.{IsWrittenComplement}
-use Rattle.omega_complement.specs.private.Turned.{AreRefused, IsPartialFault, IsStateRefusal, IsUnformed, IsUnjudgedAt}
+use Rattle.omega_complement.specs.private.Turned.{AreRefused, IsStateRefusal, IsUnformed}
 use Rattle.omega_complement.proofs.LimitTests.{deep_formula}
-use Rattle.omega_edge_labels.specs.Fitting.{FitsAText, IsLarge, IsUnjudged}
+use Rattle.omega_edge_labels.specs.Fitting.{FitsAText, IsLarge}
 use Rattle.omega_edge_labels.proofs.Depths.{deep_text, unfit_text}
 use Rattle.omega_edge_labels.proofs.Refusals.{large_task, memory_task, task_weaker}
 
@@ -41,27 +43,10 @@ module _ (full : Bool) (labels : List LabelTree) (number : ℕ) (label : LabelTr
   deep_refused refusal written is =
       large_task (most_depth < raw_depth (label_written label)) (IsStateFault full labels number) (λ deep. inr (label, written, deep_text label deep)) refusal is
 
-  pub unjudged_refused : (refusal : Refusal) → IsJudgedLabel full labels label → IsUnjudged label refusal → IsStateRefusal full labels number refusal
-  unjudged_refused refusal judged is =
-      task_weaker (λ fault. ((fault ≡ TooLarge) × (FitsALabel label → ⊥)) ⊎ ((fault ≡ TooManyPropositions) × IsHardLabel label))
-      (IsStateFault full labels number) go refusal is
-    where
-      go : (fault : TaskFault) → ((fault ≡ TooLarge) × (FitsALabel label → ⊥)) ⊎ ((fault ≡ TooManyPropositions) × IsHardLabel label)
-          → IsStateFault full labels number fault
-      go fault (inl large) = subst (IsStateFault full labels number) (sym large.0) (inl (label, judged, large.1))
-      go fault (inr wide) = subst (IsStateFault full labels number) (sym wide.0) (label, judged, wide.1)
-
-module _ (labels : List LabelTree) (number : ℕ) (label : LabelTree) where
-  -- two labels that are judged together
-  pub both_refused : (refusal : Refusal) → IsBoth labels label → IsUnjudged label refusal → or_task (IsClashFault labels number) (or_memory never) refusal
-  both_refused refusal both is =
-      task_weaker (λ fault. ((fault ≡ TooLarge) × (FitsALabel label → ⊥)) ⊎ ((fault ≡ TooManyPropositions) × IsHardLabel label))
-      (IsClashFault labels number) go refusal is
-    where
-      go : (fault : TaskFault) → ((fault ≡ TooLarge) × (FitsALabel label → ⊥)) ⊎ ((fault ≡ TooManyPropositions) × IsHardLabel label)
-          → IsClashFault labels number fault
-      go fault (inl large) = inr (inr (large.0, inr (label, both, large.1)))
-      go fault (inr wide) = inr (inl (wide.0, (label, both, wide.1)))
+  pub undecided_refused : (refusal : Refusal) → IsJudgedLabel full labels label → IsUndecidedLabel label refusal → IsStateRefusal full labels number refusal
+  undecided_refused refusal judged is =
+      task_weaker (λ fault. (fault ≡ TooManyPropositions) × IsHardLabel label) (IsStateFault full labels number)
+      (λ fault wide. subst (IsStateFault full labels number) (sym wide.0) (label, judged, wide.1)) refusal is
 
 module _ (full : Bool) (labels : List LabelTree) (number : ℕ) where
   -- the label of an edge that is too deep or too large
@@ -69,17 +54,6 @@ module _ (full : Bool) (labels : List LabelTree) (number : ℕ) where
   edge_refused refusal is =
       large_task (HasLargeEdge labels) (IsStateFault full labels number)
       (λ large. inr (large.0, inl large.1, unfit_text large.0 large.2)) refusal is
-
-  -- it is one of judging the edges, too
-  pub edge_partial : full ≡ false → (refusal : Refusal) → IsLarge (HasLargeEdge labels) refusal
-      → or_task (IsPartialFault full labels number) (or_memory never) refusal
-  edge_partial partial refusal is =
-      large_task (HasLargeEdge labels) (IsPartialFault full labels number) (λ large. (partial, inr (inr (refl, inl large)))) refusal is
-
-  pub clash_partial : full ≡ false → (refusal : Refusal) → or_task (IsClashFault labels number) (or_memory never) refusal
-      → or_task (IsPartialFault full labels number) (or_memory never) refusal
-  clash_partial partial refusal is =
-      task_weaker (IsClashFault labels number) (IsPartialFault full labels number) (λ fault here. (partial, here)) refusal is
 
   -- the fault of judging the edges is one of the state
   pub clash_refused : full ≡ false → (refusal : Refusal) → or_task (IsClashFault labels number) (or_memory never) refusal
@@ -100,17 +74,6 @@ pub rest_refused : (labels : List LabelTree) (number : ℕ) (refusal : Refusal) 
 rest_refused labels number refusal is =
     large_task (HasLargeRest labels) (IsStateFault false labels number)
     (λ large. inl (large.0, (refl, inr large.1), large.2)) refusal is
-
--- the fault of judging a state is that of judging all, where those before it are apart
-pub first_refused : (a : Description) (number : ℕ) → number < a.states → AreExclusiveBelow a number → (refusal : Refusal)
-    → IsUnjudgedAt a number refusal → AreUnjudged a refusal
-first_refused a number below apart refusal is =
-    task_weaker (IsPartialFault (is_full_at a number) (labels_at a number) number) (IsStatesFault a) go refusal is
-  where
-    go : (fault : TaskFault) → IsPartialFault (is_full_at a number) (labels_at a number) number fault → IsStatesFault a fault
-    go fault (partial, inl clash) = inl (number, clash.0, record { below = below; apart = apart; clash = clash.1 })
-    go fault (partial, inr undecided) =
-        inr (record { number = number; below = below; apart = apart; partial = partial; undecided = undecided })
 
 -- want of memory
 pub memory_refused : (full : Bool) (labels : List LabelTree) (number : ℕ) (refusal : Refusal) → refusal ≡ Memory → IsStateRefusal full labels number refusal

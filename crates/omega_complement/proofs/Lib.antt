@@ -5,6 +5,4 @@ pub mod Judged
 pub mod Puts
 pub mod Rests
 pub mod LimitTests
-pub mod Rows
-pub mod StateNumbers
 pub mod Turned

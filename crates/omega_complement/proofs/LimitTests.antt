@@ -6,7 +6,7 @@ use Rattle.omega_formula.specs.Writing.{acc_written}
 use Rattle.omega_formula.specs.Raw.{raw_acc_depth}
 use Rattle.omega_automaton.specs.Automaton.{Description, edge_count}
 use Rattle.omega_complement.specs.Complement.{exceeds_limits}
-use Rattle.omega_complement.specs.Dual.{dual}
+use Rattle.omega_formula.specs.Dual.{dual}
 use Rattle.omega_edge_labels.specs.Limits.{most_edges, most_states}
 
 le_true : (m n : ℕ) → m ≤ n → nat_le m n ≡ true

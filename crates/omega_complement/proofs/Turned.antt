@@ -5,11 +5,11 @@ use Rattle.std.specs.Prelude.{IsTrue}
 use Rattle.std.proofs.lemmas.Bool.{cases_lt}
 use Rattle.omega_automaton.specs.Automaton.{Description}
 use Rattle.omega_raw.specs.declared.raw_state.RawState.{RawState}
-use Rattle.omega_complement.specs.Complement.{AreExclusiveBelow}
 use Rattle.omega_complement.specs.Judged.{AreFitting}
-use Rattle.omega_complement.specs.Labels.{labels_at, state_at}
+use Rattle.omega_determinism.specs.Labels.{labels_at, state_at}
 use Rattle.omega_edge_labels.specs.Labels.{is_full}
-use Rattle.omega_complement.specs.Letters.{AreExclusive, LacksLetter}
+use Rattle.omega_determinism.specs.Letters.{AreExclusive}
+use Rattle.omega_complement.specs.Letters.{LacksLetter}
 use Rattle.omega_complement.specs.Written.{IsTurned}
 use Rattle.omega_complement.specs.private.Turned.{AreTurned}
 
@@ -88,11 +88,3 @@ module _ (a : Description) where
       reported number below lack (inr past) =
           let last : number ≡ count = omega arith in
           or_right lacks more (lacking.1 (subst (λ n. LacksLetter (labels_at a n)) last lack))
-
--- at most one edge at each letter, of one state more
-pub exclusive_more : (a : Description) (count : ℕ) → AreExclusiveBelow a count → AreExclusive (labels_at a count) → AreExclusiveBelow a (count + 1)
-exclusive_more a count before here number below = go (cases_lt number count)
-  where
-    go : (number < count) ⊎ (count ≤ number) → AreExclusive (labels_at a number)
-    go (inl less) = before number less
-    go (inr past) = let last : count ≡ number = omega arith in subst (λ n. AreExclusive (labels_at a n)) last here

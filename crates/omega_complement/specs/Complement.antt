@@ -1,16 +1,15 @@
 -- The complement of a deterministic automaton, which accepts exactly the words that the automaton does not. It has the
 -- same states and edges, an edge more for the letters that a state lacks, and the dual acceptance.
-use Rattle.std.specs.Prelude.{◌≡◌, ℕ, ◌+◌, ◌<◌, ◌≤◌, Bool, false, ◌||◌, nat_le, length}
+use Rattle.std.specs.Prelude.{◌≡◌, ℕ, ◌+◌, ◌<◌, Bool, false, ◌||◌, nat_le}
 use Rattle.omega_text.specs.Limits.{most_number}
 use Rattle.omega_expression.specs.Limits.{most_depth}
 use Rattle.omega_formula.specs.Raw.{raw_acc_depth}
 use Rattle.omega_automaton.specs.Automaton.{Description, edge_count}
-use Rattle.omega_automaton.specs.Branching.{has_universal_branching}
 use Rattle.omega_automaton.specs.Meaning.{Means}
 use Rattle.omega_raw.specs.declared.raw_automaton.RawAutomaton.{RawAutomaton}
 use Rattle.omega_complement.specs.Judged.{AreFitting}
-use Rattle.omega_complement.specs.Labels.{is_full_at, labels_at}
-use Rattle.omega_complement.specs.Letters.{AreExclusive}
+use Rattle.omega_determinism.specs.Determinism.{IsDeterministic}
+use Rattle.omega_determinism.specs.Labels.{is_full_at, labels_at}
 use Rattle.omega_complement.specs.Written.{IsWrittenComplement, written_dual}
 use Rattle.omega_edge_labels.specs.Limits.{most_edges, most_states}
 
@@ -24,16 +23,6 @@ abbrev pub exceeds_limits : Description → Bool
 exceeds_limits a =
     nat_le most_states a.states || nat_le most_edges (edge_count a + a.states) || nat_le most_number a.sets
     || nat_le most_depth (raw_acc_depth (written_dual a))
-
--- of each state with a number below `count`, at most one edge can be taken at each letter
-abbrev pub AreExclusiveBelow : Description → ℕ → Type 0
-AreExclusiveBelow a count = (number : ℕ) → number < count → AreExclusive (labels_at a number)
-
--- an automaton is deterministic: it has at most one start, and each state at most one edge at each letter
-pub record IsDeterministic (a : Description) : Type 0 where
-  pub plain : has_universal_branching a ≡ false
-  pub one_start : length a.starts ≤ 1
-  pub apart : AreExclusiveBelow a a.states
 
 -- the labels to be judged and the labels to be written of the state with a number fit the limits
 abbrev pub AreFittingAt : Description → ℕ → Type 0

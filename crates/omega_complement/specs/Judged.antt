@@ -1,20 +1,12 @@
 -- The labels of a state that are judged, whether they can be true, and the labels that are written, and whether they
 -- fit.
-use Rattle.std.specs.Prelude.{◌≡◌, ◌⊎◌, ℕ, Bool, false, List, slice_get, Some}
-use Rattle.omega_label.specs.Label.{LabelTree, conjunction}
+use Rattle.std.specs.Prelude.{◌≡◌, ◌⊎◌, Bool, false, List}
+use Rattle.omega_label.specs.Label.{LabelTree}
 use Rattle.omega_satisfying.specs.Undecided.{IsHardLabel}
 use Rattle.omega_label.specs.Shape.{FitsALabel}
-use Rattle.omega_complement.specs.Letters.{IsPair, IsRestLabel, LacksLetter}
+use Rattle.omega_determinism.specs.Judged.{IsBoth, IsOne}
+use Rattle.omega_complement.specs.Letters.{IsRestLabel, LacksLetter}
 use Rattle.omega_edge_labels.specs.Fitting.{FitsAText}
-
--- the label of an edge
-abbrev pub IsOne : List LabelTree → LabelTree → Type 0
-IsOne labels label = (index : ℕ) × (slice_get labels index ≡ Some label)
-
--- the conjunction of two of the labels
-abbrev pub IsBoth : List LabelTree → LabelTree → Type 0
-IsBoth labels label =
-    (one : LabelTree) × ((other : LabelTree) × IsPair labels one other × (label ≡ conjunction one other))
 
 -- a label to be judged of a state without an edge for each valuation: two edges together, or the missing letters
 abbrev pub IsJudgedLabel : Bool → List LabelTree → LabelTree → Type 0
@@ -24,25 +16,9 @@ IsJudgedLabel full labels label = (full ≡ false) × (IsBoth labels label ⊎ I
 abbrev pub IsWrittenLabel : List LabelTree → LabelTree → Type 0
 IsWrittenLabel labels label = IsOne labels label ⊎ (LacksLetter labels × IsRestLabel labels label)
 
--- the label of an edge is too deep or too large
-abbrev pub HasLargeEdge : List LabelTree → Type 0
-HasLargeEdge labels = (label : LabelTree) × IsOne labels label × (FitsALabel label → ⊥)
-
--- the labels of two edges together are too deep or too large
-abbrev pub HasLargeBoth : List LabelTree → Type 0
-HasLargeBoth labels = (label : LabelTree) × IsBoth labels label × (FitsALabel label → ⊥)
-
 -- the label of the missing letters is too deep or too large
 abbrev pub HasLargeRest : List LabelTree → Type 0
 HasLargeRest labels = (label : LabelTree) × IsRestLabel labels label × (FitsALabel label → ⊥)
-
--- the labels of two edges together may be left undecided
-abbrev pub HasUndecidedBoth : List LabelTree → Type 0
-HasUndecidedBoth labels = (label : LabelTree) × IsBoth labels label × IsHardLabel label
-
--- the conjunction of each two labels is neither too deep nor too large
-abbrev pub BothFit : List LabelTree → Type 0
-BothFit labels = (label : LabelTree) → IsBoth labels label → FitsALabel label
 
 -- each label to be judged is neither too deep nor too large
 abbrev pub JudgedFit : Bool → List LabelTree → Type 0

@@ -18,8 +18,8 @@ use Rattle.omega_raw.specs.declared.raw_edge.RawEdge.{RawEdge}
 use Rattle.omega_raw.specs.declared.raw_item.RawItem.{RawItem}
 use Rattle.omega_raw.specs.declared.raw_item.RawItem.TheVariants as item
 use Rattle.omega_raw.specs.declared.raw_state.RawState.{RawState}
-use Rattle.omega_complement.specs.Dual.{dual}
-use Rattle.omega_complement.specs.Labels.{each_by_index, labels_at, labels_of, state_at}
+use Rattle.omega_formula.specs.Dual.{dual}
+use Rattle.omega_determinism.specs.Labels.{each_by_index, labels_at, labels_of, state_at}
 use Rattle.omega_complement.specs.Letters.{IsRestLabel, LacksLetter}
 use Rattle.omega_edge_labels.specs.Labels.{label_at}
 

@@ -1,4 +1,3 @@
 -- What private contracts alone cite.
-pub mod Apart
 pub mod Rests
 pub mod Turned

@@ -8,11 +8,11 @@ ghost use Rattle.omega_complement.specs.Written.{written_dual};
 ghost use Rattle.omega_complement.specs.private.Turned.{AreTurned};
 
 use crate::acceptance::dual_acceptance;
-use crate::determinism::judge_starts;
 use crate::forming::{formed, written_complement};
 use crate::limits::exceeds_limits;
 use crate::states::{Body, turned_states};
 use omega_automaton::{Automaton, has_universal_branching};
+use omega_determinism::check_one_start;
 use omega_formula::RawAcc;
 use omega_text::{Refusal, TaskFault};
 use std::alloc::Global;
@@ -86,7 +86,7 @@ fn complement_body(alloc: Global, automaton: &Automaton, dual: &RawAcc) -> Resul
     if exceeds_limits(automaton, dual) {
         return Err(Refusal::Task(TaskFault::TooLarge));
     }
-    judge_starts(automaton)?;
+    check_one_start(automaton)?;
     let body = turned_states(alloc, automaton)?;
     Ok(body)
 }

@@ -1,6 +1,7 @@
 //! The letters at which no edge of a state can be taken.
 
 ghost use Rattle.std.specs.Prelude.{◌<◌, length, IfErr, IfOk, IsOkUnless, OnOk};
+ghost use Rattle.omega_label.specs.Shape.{FitsALabel};
 ghost use Rattle.omega_complement.specs.Judged.{HasLargeRest, RestFits, RestFitsAText};
 ghost use Rattle.omega_complement.specs.Letters.{IsRestLabel};
 ghost use Rattle.omega_complement.specs.Written.{IsMissing};
@@ -8,14 +9,15 @@ ghost use Rattle.omega_complement.specs.private.Rests.{IsAnyPut, IsRestPut};
 ghost use Rattle.omega_complement.specs.private.Turned.{IsJudgingRefusal};
 ghost use Rattle.omega_edge_labels.specs.Fitting.{IsLarge};
 
-use crate::state_labels::StateLabels;
-use omega_edge_labels::{can_hold, fitting_nodes, written_form};
+use omega_determinism::StateLabels;
+use omega_edge_labels::{fitting_nodes, written_form};
 use omega_label::{Label, LabelNode, LabelNodes, RawLabel};
+use omega_satisfying::is_satisfiable;
 use omega_text::Refusal;
 use std::alloc::Global;
 
 /// Returns the label of the letters at which no edge of `state` can be taken, or none if there is no such letter. Fails
-/// with [TaskFault::TooLarge] if it is too deep or too large, and else as `can_hold` does.
+/// with [TaskFault::TooLarge] if it is too deep or too large, and else as `is_satisfiable` does.
 pub(crate) fn missing(alloc: Global, state: &StateLabels<'_>) -> Result<Option<RawLabel>, Refusal>
     ensures missing { IfOk result (IsMissing state.now.labels.now) }
     ensures judged { OnOk result (RestFits state.now.labels.now) }
@@ -23,7 +25,7 @@ pub(crate) fn missing(alloc: Global, state: &StateLabels<'_>) -> Result<Option<R
     ensures err { IfErr result (IsJudgingRefusal state.now) }
 {
     let rest = rest_of(alloc, state.labels)?;
-    if can_hold(alloc, &rest)? {
+    if is_satisfiable(alloc, &rest)? {
         Ok(Some(written_form(alloc, &rest)?))
     } else {
         Ok(None)
@@ -34,6 +36,7 @@ pub(crate) fn missing(alloc: Global, state: &StateLabels<'_>) -> Result<Option<R
 /// than `MOST_DEPTH` or has over `MOST_SIZE` atoms and operators.
 fn rest_of(alloc: Global, labels: &[Label]) -> Result<Label, Refusal>
     ensures rest { IfOk result (IsRestLabel labels.now) }
+    ensures fits { IfOk result FitsALabel }
     ensures err { IfErr result (IsLarge (HasLargeRest labels.now)) }
 {
     let mut nodes = LabelNodes::new(alloc);

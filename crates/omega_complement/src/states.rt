@@ -2,17 +2,17 @@
 
 ghost use Rattle.std.specs.Prelude.{◌≡◌, ◌↔◌, ◌||◌, [], IsTrue, IfErr, IfOk, OnOk};
 ghost use Rattle.omega_complement.specs.Complement.{AreFittingAt};
-ghost use Rattle.omega_complement.specs.Labels.{defined_numbers, labels_at, state_at, undefined as undefined_state};
-ghost use Rattle.omega_complement.specs.Letters.{AreExclusive, LacksLetter};
+ghost use Rattle.omega_determinism.specs.Labels.{labels_at};
+ghost use Rattle.omega_determinism.specs.Letters.{AreExclusive};
+ghost use Rattle.omega_complement.specs.Letters.{LacksLetter};
 ghost use Rattle.omega_complement.specs.Written.{IsTurnedAt};
 ghost use Rattle.omega_complement.specs.private.Turned.{AreRefused, AreTurned, IsRefusalAt};
 
-use crate::places::places_of;
 use crate::turning::{Turned, turned_state};
-use indexmap::IndexSet;
-use omega_automaton::{Automaton, Edges, State, StateName};
+use omega_automaton::Automaton;
+use omega_determinism::{StatesByNumber, undefined_state};
 use omega_raw::RawState;
-use omega_text::{Numbers, Refusal, Seq};
+use omega_text::Refusal;
 use std::alloc::Global;
 
 /// The states of a complement except the sink, and whether one of them has an edge to it.
@@ -28,25 +28,24 @@ pub(crate) fn turned_states(alloc: Global, automaton: &Automaton) -> Result<Body
     ensures turned { IfOk result (λ body. AreTurned automaton.now automaton.now.states body.states.items body.lacks) }
     ensures err { IfErr result (AreRefused automaton.now) }
 {
-    match places_of(alloc, automaton) {
-        Ok(places) => turned_among(alloc, automaton, &places),
+    match StatesByNumber::of(alloc, automaton) {
+        Ok(found) => turned_among(alloc, automaton, &found),
         Err(refusal) => Err(refusal),
     }
 }
 
-/// Returns the states of `automaton` by their numbers, as `turned_states` does. `places` has the numbers of the defined
-/// states.
+/// Returns the states of `automaton` by their numbers, as `turned_states` does. `found` has those of `automaton`.
 fn turned_among(
     alloc: Global,
     automaton: &Automaton,
-    places: &IndexSet<u32>,
+    found: &StatesByNumber<'_>,
 ) -> Result<Body, Refusal>
-    requires { places.now.keys ≡ defined_numbers automaton.now }
+    requires { found.now ≡ automaton.now }
     ensures turned { IfOk result (λ body. AreTurned automaton.now automaton.now.states body.states.items body.lacks) }
     ensures err { IfErr result (AreRefused automaton.now) }
 {
     let mut states = Vec::new(alloc);
-    match push_turned(alloc, &mut states, automaton, places) {
+    match push_turned(alloc, &mut states, automaton, found) {
         Ok(lacks) => Ok(Body { states, lacks }),
         Err(refusal) => Err(refusal),
     }
@@ -58,16 +57,16 @@ fn push_turned(
     alloc: Global,
     states: &mut Vec<RawState>,
     automaton: &Automaton,
-    places: &IndexSet<u32>,
+    found: &StatesByNumber<'_>,
 ) -> Result<bool, Refusal>
     requires empty { states.old.items ≡ [] }
-    requires places { places.now.keys ≡ defined_numbers automaton.now }
+    requires found { found.now ≡ automaton.now }
     ensures turned { IfOk result (AreTurned automaton.now automaton.now.states states.new.items) }
     ensures err { IfErr result (AreRefused automaton.now) }
 {
     let mut lacks = false;
     for number in 0..automaton.state_count() {
-        let next = turned_at(alloc, automaton, places, number)?;
+        let next = turned_at(alloc, automaton, found, number)?;
         lacks = either(lacks, next.lacks);
         states.push(next.state)?;
     }
@@ -86,10 +85,10 @@ fn either(one: bool, other: bool) -> bool
 fn turned_at(
     alloc: Global,
     automaton: &Automaton,
-    places: &IndexSet<u32>,
+    found: &StatesByNumber<'_>,
     number: u32,
 ) -> Result<Turned, Refusal>
-    requires { places.now.keys ≡ defined_numbers automaton.now }
+    requires { found.now ≡ automaton.now }
     ensures turned { IfOk result (λ turned. IsTurnedAt automaton.now number turned.state) }
     ensures lacks { IfOk result (λ turned. IsTrue turned.lacks ↔ LacksLetter (labels_at automaton.now number)) }
     ensures apart { OnOk result (AreExclusive (labels_at automaton.now number)) }
@@ -98,37 +97,7 @@ fn turned_at(
 {
     let count = automaton.propositions().len();
     let sink = automaton.state_count();
-    let spare = undefined(alloc, number);
-    let state = state_of(automaton, places, number, &spare);
+    let spare = undefined_state(alloc, number);
+    let state = found.find(number).unwrap_or(&spare);
     turned_state(alloc, count, sink, state)
-}
-
-/// Returns the state with the number `number`, or `spare` if the body does not define it.
-pub(crate) fn state_of<'a>(
-    automaton: &'a Automaton,
-    places: &IndexSet<u32>,
-    number: u32,
-    spare: &'a State,
-) -> &'a State
-    requires places { places.now.keys ≡ defined_numbers automaton.now }
-    requires spare { spare.now ≡ undefined_state number }
-    ensures { result.now ≡ state_at automaton.now number }
-{
-    match places.get_index_of(&number) {
-        Some(place) => &automaton.defined()[place],
-        None => spare,
-    }
-}
-
-/// Makes the state for a number that the body does not define: it has no edges.
-pub(crate) fn undefined(alloc: Global, number: u32) -> State
-    ensures { result ≡ undefined_state number }
-{
-    State {
-        label: None,
-        number,
-        name: StateName::absent(),
-        marks: Numbers::new(),
-        edges: Edges::from_seq(Seq::new(alloc)),
-    }
 }

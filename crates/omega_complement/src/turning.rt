@@ -4,18 +4,17 @@ ghost use Rattle.std.specs.Prelude.{◌≡◌, ◌↔◌, ◌++◌, IsTrue, IfEr
 ghost use Rattle.std.specs.List.{All};
 ghost use Rattle.omega_label.specs.Shape.{FitsALabel};
 ghost use Rattle.omega_complement.specs.Judged.{JudgedFit, RestFitsAText};
-ghost use Rattle.omega_complement.specs.Labels.{labels_of as labels_of_state};
-ghost use Rattle.omega_complement.specs.Letters.{AreExclusive, LacksLetter};
+ghost use Rattle.omega_determinism.specs.Labels.{labels_of as labels_of_state};
+ghost use Rattle.omega_determinism.specs.Letters.{AreExclusive};
+ghost use Rattle.omega_complement.specs.Letters.{LacksLetter};
 ghost use Rattle.omega_complement.specs.Written.{IsMissing, IsTurned, further_edges, turned_edges as edges_turned, turned_with};
 ghost use Rattle.omega_complement.specs.private.Turned.{AreFittingOf, IsRefusalOf, IsStateRefusal};
 ghost use Rattle.omega_edge_labels.specs.Fitting.{FitsAText, IsLarge};
 ghost use Rattle.omega_edge_labels.specs.Labels.{is_full as has_all_edges};
 
-use crate::judging::judge_apart;
-use crate::labels::labels_of;
 use crate::rest::missing;
-use crate::state_labels::StateLabels;
 use omega_automaton::{EdgeRef, State, StateName};
+use omega_determinism::{StateLabels, check_exclusive_labels, labels_of};
 use omega_edge_labels::{is_full, written_form};
 use omega_label::{Label, RawLabel};
 use omega_raw::{RawEdge, RawEdges, RawState};
@@ -103,7 +102,7 @@ fn judged(
         number: state.number,
         labels,
     };
-    judge_apart(alloc, &state)?;
+    check_exclusive_labels(alloc, &state)?;
     missing(alloc, &state)
 }
 

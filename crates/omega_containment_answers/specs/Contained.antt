@@ -7,7 +7,7 @@ use Rattle.omega_text.specs.declared.refusal.Refusal.TheVariants.{Memory, Task}
 use Rattle.omega_text.specs.declared.refusal.task.TaskFault.TheVariants.{NotDeterministic}
 use Rattle.omega_automaton.specs.Automaton.{Description}
 use Rattle.omega_automaton.specs.Branching.{has_universal_branching}
-use Rattle.omega_complement.specs.Complement.{IsDeterministic}
+use Rattle.omega_determinism.specs.Determinism.{IsDeterministic}
 use Rattle.omega_containment.specs.Containing.{IsContainment}
 use Rattle.omega_containment.specs.Refusing.{IsContainmentRefusal}
 use Rattle.omega_containment.specs.declared.containment.Containment.{Containment}

@@ -4,7 +4,7 @@ use Rattle.std.specs.Prelude.{◌≡◌, ◌⊎◌, Bool, List, ℕ, codes}
 use Rattle.omega_text.specs.declared.refusal.Refusal.{Refusal}
 use Rattle.omega_text.specs.declared.refusal.Refusal.TheVariants.{Memory}
 use Rattle.omega_automaton.specs.Automaton.{Description}
-use Rattle.omega_complement.specs.Complement.{IsDeterministic}
+use Rattle.omega_determinism.specs.Determinism.{IsDeterministic}
 use Rattle.omega_containment.specs.Equality.{IsEquality}
 use Rattle.omega_containment.specs.declared.equality.Equality.{Equality}
 use Rattle.omega_containment.specs.declared.equality.Equality.TheVariants.{Equal, OnlyFirst, OnlySecond}

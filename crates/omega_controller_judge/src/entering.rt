@@ -13,7 +13,8 @@ ghost use Rattle.omega_controller_judge.specs.private.Searching.{IsSearch};
 use crate::meeting::{Entry, Met};
 use crate::search::Search;
 use omega_automaton::{Automaton, EdgeRef, Refusal, State};
-use omega_runs::{EdgePlace, can_hold};
+use omega_runs::EdgePlace;
+use omega_satisfying::can_hold;
 use std::alloc::Global;
 
 /// Adds the states that the usable ones of the edges with these `numbers` enter. The edges leave the state at the place

@@ -9,7 +9,7 @@ use Rattle.omega_runs.specs.Lasso.{IsStep, marks_at}
 use Rattle.omega_runs.specs.Runs.{IsRun, Satisfies}
 use Rattle.omega_runs.proofs.Repeats.{Repeats, repeats}
 use Rattle.omega_runs.proofs.runs.Segments.{enough, segment_accepts, settled}
-use Rattle.omega_complement.specs.Dual.{dual}
+use Rattle.omega_formula.specs.Dual.{dual}
 use Rattle.omega_controllers.specs.Controllers.{IsController, IsKeptCycle}
 use Rattle.omega_controllers.specs.Laws.{KeptRunsAreAccepting}
 use Rattle.omega_controllers.proofs.Duals.{dual_accepts, satisfies_one}

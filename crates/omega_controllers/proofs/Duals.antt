@@ -4,7 +4,7 @@ use Rattle.std.proofs.Common.{◌≡◌, ℕ, ◌⊎◌, inl, inr, Bool, true, f
 use Rattle.omega_formula.specs.Acceptance.{AccTree, accepts, conjunction, constant, disjunction, fin, inf, occurs}
 use Rattle.omega_walk_laws.specs.Marks.{meets}
 use Rattle.omega_runs.specs.Runs.{AtLastNever, ForEver, Satisfies}
-use Rattle.omega_complement.specs.Dual.{dual}
+use Rattle.omega_formula.specs.Dual.{dual}
 use Rattle.omega_controllers.specs.Laws.{RecursOrCeases}
 
 twice_not : (b : Bool) → b ≡ not (not b)

@@ -10,10 +10,10 @@ use Rattle.omega_runs.specs.Lasso.{IsStep}
 use Rattle.omega_runs.specs.Laws.{IsIndexLabel}
 use Rattle.omega_runs.specs.Words.{CanBeTaken, index_in}
 use Rattle.omega_runs.proofs.Taken.{edges_are_taken_where_true}
-use Rattle.omega_complement.specs.Labels.{each_by_index, labels_at, state_among, state_at}
-use Rattle.omega_complement.specs.Letters.{AreExclusive}
+use Rattle.omega_determinism.specs.Labels.{each_by_index, labels_at, state_among, state_at}
+use Rattle.omega_determinism.specs.Letters.{AreExclusive}
 use Rattle.omega_edge_labels.proofs.Bits.{both_true, valuation_held, valuation_true}
-use Rattle.omega_complement.proofs.Rows.{each_get}
+use Rattle.omega_determinism.proofs.Rows.{each_get}
 use Rattle.omega_controllers.proofs.Numbers.{IsFound, edge_found, never_some, same_some, state_is}
 
 module _ (given : ℕ → Edge → LabelTree) (held : ℕ → Bool) where

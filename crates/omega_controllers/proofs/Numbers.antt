@@ -9,8 +9,8 @@ use Rattle.omega_automaton.specs.declared.edge.Edge.{Edge}
 use Rattle.omega_automaton.specs.declared.state.State.{State}
 use Rattle.omega_runs.specs.Words.{index_in}
 use Rattle.omega_runs.proofs.Standing.{left_part, right_part}
-use Rattle.omega_complement.specs.Labels.{state_among}
-use Rattle.omega_complement.proofs.Full.{any_at}
+use Rattle.omega_determinism.specs.Labels.{state_among}
+use Rattle.omega_determinism.proofs.Full.{any_at}
 
 pub same_some : {X : Type 0} (x y : X) → Some x ≡ Some y → x ≡ y
 same_some x y e = cc

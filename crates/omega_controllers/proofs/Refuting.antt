@@ -7,7 +7,7 @@ use Rattle.omega_automaton.specs.Automaton.{AreBelow, AreTargets, Description, I
 use Rattle.omega_runs.specs.Lasso.{IsStart, IsStep}
 use Rattle.omega_runs.specs.Words.{IsAccepted}
 use Rattle.omega_runs.proofs.Kept.{edge_kept}
-use Rattle.omega_complement.specs.Complement.{IsDeterministic}
+use Rattle.omega_determinism.specs.Determinism.{IsDeterministic}
 use Rattle.omega_controllers.specs.Controllers.{AgreeOnInputs, Answers, IsCounterStrategy, IsMet}
 use Rattle.omega_controllers.specs.Laws.{CounterStrategiesRefute, RealizingExcludesCounterStrategies}
 use Rattle.omega_controllers.specs.Strategies.{System, joined, so_far, word_of}

@@ -3,7 +3,7 @@ use Rattle.std.specs.Prelude.{◌≡◌, ◌⊎◌, ℕ, ◌≤◌, Bool, false,
 use Rattle.omega_automaton.specs.Automaton.{Description, IsAutomaton}
 use Rattle.omega_runs.specs.Lasso.{marks_at}
 use Rattle.omega_runs.specs.Runs.{IsRun, Satisfies}
-use Rattle.omega_complement.specs.Complement.{IsDeterministic}
+use Rattle.omega_determinism.specs.Determinism.{IsDeterministic}
 use Rattle.omega_controllers.specs.Controllers.{IsController, IsCounterStrategy}
 use Rattle.omega_controllers.specs.Strategies.{HasKeptRun, IsRefuted, Realizes, RealizesBy, System, word_of}
 

@@ -1,4 +1,4 @@
-//! Whether labels can be true, one alone and two together.
+//! Whether two labels can be true together.
 
 ghost use Rattle.std.specs.Prelude.{◌↔◌, IsTrue, IfErr, IfOk, IfSome, OnOk};
 ghost use Rattle.omega_label.specs.Label.{conjunction};
@@ -7,7 +7,7 @@ ghost use Rattle.omega_satisfying.specs.Satisfiable.{IsSatisfiable};
 ghost use Rattle.omega_satisfying.specs.Tables.{IsTruthTable};
 ghost use Rattle.omega_edge_labels.specs.Fitting.{IsUnjudged};
 
-use crate::fitting::{fitting_conjunction, judge_size};
+use crate::fitting::fitting_conjunction;
 use omega_label::Label;
 use omega_satisfying::{TruthTable, is_satisfiable, satisfiable_together};
 use omega_text::Refusal;
@@ -17,20 +17,8 @@ use std::alloc::Global;
 /// than it has atoms and operators.
 const MOST_SMALL: usize = 127;
 
-/// Whether a label can be true. Fails with [TaskFault::TooLarge] if it has over `MOST_SIZE` atoms and operators. Fails
-/// with [TaskFault::TooManyPropositions] if it mentions over `MOST_MENTIONED` propositions and `is_satisfiable` gave it
-/// up.
-pub fn can_hold(alloc: Global, label: &Label) -> Result<bool, Refusal>
-    ensures judged { IfOk result (λ possible. IsTrue possible ↔ IsSatisfiable label.now) }
-    ensures fits { OnOk result (FitsALabel label.now) }
-    ensures err { IfErr result (IsUnjudged label.now) }
-{
-    judge_size(label)?;
-    is_satisfiable(alloc, label)
-}
-
-/// Whether two labels can be true together. Fails as [`can_hold`] does for their conjunction, and with
-/// [TaskFault::TooLarge] if that is deeper than `MOST_DEPTH`.
+/// Whether two labels can be true together. Fails as `is_satisfiable` does for their conjunction, and with
+/// [TaskFault::TooLarge] if that is deeper than `MOST_DEPTH` or has over `MOST_SIZE` atoms and operators.
 ///
 /// Two labels with at most 127 atoms and operators each, which mention at most `MOST_MENTIONED` propositions together,
 /// are judged without memory.

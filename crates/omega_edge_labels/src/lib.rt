@@ -20,7 +20,7 @@ pub use edge_labels::has_bit;
 pub use fitting::{fitting_nodes, judge_size};
 pub use formula_writing::{conjoined_formula, disjoined_formula, written_formula};
 pub use full_states::is_full;
-pub use judging::{can_hold, can_hold_together, table_of};
+pub use judging::{can_hold_together, table_of};
 pub use label_writing::written_form;
 pub use lending::{EdgeLabel, edge_label};
 pub use limits::{MOST_EDGES, MOST_STATES, written_limits_are_stated};

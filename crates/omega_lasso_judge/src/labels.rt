@@ -7,7 +7,7 @@ ghost use Rattle.omega_lasso_judge.specs.private.EdgeTable.{IsTable, automaton_o
 
 use crate::edge_table::EdgeTable;
 use omega_automaton::Refusal;
-use omega_runs::can_hold;
+use omega_satisfying::can_hold;
 use std::alloc::Global;
 
 /// Returns the first of the edges in `numbers` whose label is never true. Fails with [TaskFault::TooManyPropositions]

@@ -1,15 +1,13 @@
 //! Which edges of an automaton are usable.
-ghost use Rattle.std.specs.Prelude.{◌≡◌, ◌++◌, ◌↔◌, [], ◌∷◌, if◌then◌else◌, IfErr, IfOk, IfSome, IsOkUnless, IsTrue, OnOk};
+ghost use Rattle.std.specs.Prelude.{◌≡◌, ◌++◌, [], ◌∷◌, if◌then◌else◌, IfErr, IfOk, IsOkUnless, OnOk};
 ghost use Rattle.std.specs.List.Sorted.{IsStrictlyIncreasing};
-ghost use Rattle.omega_satisfying.specs.Satisfiable.{IsSatisfiable};
 ghost use Rattle.omega_automaton.specs.Automaton.{edges_from};
-ghost use Rattle.omega_runs.specs.Judging.{AreUsable, GivesUpOn, HasHard, HasHardLabel, IsHard};
-ghost use Rattle.omega_runs.specs.Lasso.{IsUsable};
+ghost use Rattle.omega_runs.specs.Judging.{AreUsable, GivesUpOn, HasHard, HasHardLabel};
 ghost use Rattle.omega_lasso_search.specs.private.Judged.{AddsJudged};
 ghost use Rattle.omega_lasso_search.specs.Tabled.{AreUsableEdges};
 
-use omega_automaton::{Automaton, EdgeRef, Refusal, State};
-use omega_runs::can_hold;
+use omega_automaton::{Automaton, Refusal, State};
+use omega_runs::JudgedState;
 use std::alloc::Global;
 
 /// Returns the numbers of the usable edges, in ascending order. A label of a state is judged once, and then those of
@@ -44,31 +42,13 @@ fn judge_edges(alloc: Global, state: &State, usable: &mut Vec<bool>) -> Result<(
     ensures judged { OnOk result (AddsJudged (edges_from state.now) usable.old.items usable.new.items) }
     ensures refused { IfErr result (GivesUpOn (HasHard state.now)) }
 {
-    let possible = can_hold(alloc, state.label.as_ref())?;
+    let judged_state = JudgedState::of(alloc, state)?;
     for at in 0..state.edges.len() {
         let edge = state.edges.edge(at);
-        let judged = is_usable(alloc, state, possible, &edge)?;
+        let judged = judged_state.is_usable(alloc, &edge)?;
         usable.push(judged)?;
     }
     Ok(())
-}
-
-/// Whether `edge` of `state` is usable, given in `possible` whether the label of `state` can be true. Fails with
-/// [TaskFault::TooManyPropositions] if the label of `edge` is given up.
-fn is_usable(
-    alloc: Global,
-    state: &State,
-    possible: bool,
-    edge: &EdgeRef<'_>,
-) -> Result<bool, Refusal>
-    requires { IsTrue possible ↔ IfSome state.now.label IsSatisfiable }
-    ensures judged { IfOk result (λ judged. IsTrue judged ↔ IsUsable (record { source = state.now; edge = edge.now })) }
-    ensures refused { IfErr result (GivesUpOn (IsHard edge.now.label)) }
-{
-    match &state.label {
-        Some(_) => Ok(possible),
-        None => can_hold(alloc, edge.label()),
-    }
 }
 
 /// Returns the numbers of the edges whose `flags` are set, in ascending order.

@@ -15,10 +15,10 @@ use Rattle.omega_automaton.specs.Automaton.{Description}
 use Rattle.omega_automaton.specs.declared.edge.Edge.{Edge}
 use Rattle.omega_automaton.specs.declared.state.State.{State}
 use Rattle.omega_edge_labels.specs.Labels.{label_at, valuation_label}
-use Rattle.omega_complement.specs.Complement.{AreExclusiveBelow}
-use Rattle.omega_complement.specs.Labels.{labels_of, state_among, undefined}
-use Rattle.omega_complement.specs.Letters.{AreExclusive, IsPair}
-use Rattle.omega_complement.proofs.Rows.{each_at}
+use Rattle.omega_determinism.specs.Determinism.{AreExclusiveBelow}
+use Rattle.omega_determinism.specs.Labels.{labels_of, state_among, undefined}
+use Rattle.omega_determinism.specs.Letters.{AreExclusive, IsPair}
+use Rattle.omega_determinism.proofs.Rows.{each_at}
 use Rattle.omega_realizability_game.specs.Classes.{input_mentions}
 use Rattle.omega_realizability_game.specs.Exclusive.{AreApartIn, AreMentionedBelow, HasLabelAt, block_word}
 use Rattle.omega_realizability_game.specs.Lanes.{is_one_of, is_set}

@@ -2,9 +2,9 @@
 
 ghost use Rattle.std.specs.Prelude.{◌≡◌, ◌≤◌, None, ℕ, IfOk, IfSome, IsOkUnless, IsTrue, length};
 ghost use Rattle.omega_expression.specs.Limits.{most_mentioned};
-ghost use Rattle.omega_complement.specs.Complement.{AreExclusiveBelow};
-ghost use Rattle.omega_complement.specs.Labels.{labels_of};
-ghost use Rattle.omega_complement.specs.Letters.{AreExclusive};
+ghost use Rattle.omega_determinism.specs.Determinism.{AreExclusiveBelow};
+ghost use Rattle.omega_determinism.specs.Labels.{labels_of};
+ghost use Rattle.omega_determinism.specs.Letters.{AreExclusive};
 ghost use Rattle.omega_realizability_game.specs.Exclusive.{AreApartIn, AreMentionedBelow};
 
 use crate::inputs::add_inputs_of;
@@ -20,7 +20,8 @@ use std::alloc::Global;
 /// propositions.
 ///
 /// Only a `true` is promised to be right: a `false` says nothing, and no clause keeps it from coming too often. Whoever
-/// gets it has to judge each two edges, as `judge_states` of `omega_complement` does, and loses no more than time.
+/// gets it has to judge each two edges, as `check_deterministic_states` of `omega_determinism` does, and loses no more
+/// than time.
 ///
 /// The labels of a state are gone through once for each 64 letters over the propositions that they mention.
 pub fn are_seen_apart(alloc: Global, automaton: &Automaton) -> Result<bool, Refusal>

@@ -14,8 +14,8 @@ use Rattle.omega_automaton.specs.Branching.{has_universal_branching}
 use Rattle.omega_parity_game.specs.Game.{Node}
 use Rattle.omega_parity_game.specs.declared.player.Player.{Player}
 use Rattle.omega_budget.specs.Observing.{IsObserved}
-use Rattle.omega_complement.specs.Complement.{IsDeterministic}
-use Rattle.omega_complement.specs.Refusing.{AreUnjudged, IsFirstUndecided, IsStartRefusal, IsStatesFault}
+use Rattle.omega_determinism.specs.Determinism.{IsDeterministic}
+use Rattle.omega_determinism.specs.Refusing.{AreUnjudged, IsFirstUndecided, IsStartRefusal, IsStatesFault}
 use Rattle.omega_rounds.specs.declared.rounds.Rounds.{Rounds}
 use Rattle.omega_rounds_solving.specs.Solving.{IsUndecided, LiftsRounds}
 use Rattle.omega_rounds_solving.proofs.Strategies.{lifted_refused}

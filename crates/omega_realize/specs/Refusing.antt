@@ -14,8 +14,8 @@ use Rattle.omega_automaton.specs.AcceptanceKind.{HasKind}
 use Rattle.omega_automaton.specs.Automaton.{Description}
 use Rattle.omega_automaton.specs.Branching.{has_universal_branching}
 use Rattle.omega_runs.specs.Lasso.{IsStart}
-use Rattle.omega_complement.specs.Complement.{AreExclusiveBelow, IsDeterministic}
-use Rattle.omega_complement.specs.Refusing.{IsFirstClash, IsFirstUndecided, IsSecondStart}
+use Rattle.omega_determinism.specs.Determinism.{AreExclusiveBelow, IsDeterministic}
+use Rattle.omega_determinism.specs.Refusing.{IsFirstClash, IsFirstUndecided, IsSecondStart}
 use Rattle.omega_rounds.specs.RoundsGame.{IsRoundsFault}
 use Rattle.omega_rounds.specs.declared.rounds.Rounds.{Rounds}
 use Rattle.omega_rounds_solving.specs.Solving.{IsUnsolved}

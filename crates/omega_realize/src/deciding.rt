@@ -27,9 +27,9 @@ use std::alloc::Global;
 /// - [TaskFault::UniversalBranch] if a start or an edge lists several states.
 /// - [TaskFault::NotDeterministic] with the state of the second start, if there are two.
 /// - [TaskFault::NotDeterministic] with the first state by number of which two edges can be taken at one letter, as
-///   `judge_states` finds it.
+///   `check_deterministic_states` finds it.
 /// - [TaskFault::NotParity] unless the acceptance has the name and the formula of a parity kind.
-/// - [TaskFault::TooManyPropositions] or [TaskFault::TooLarge] if `judge_states` fails so.
+/// - [TaskFault::TooManyPropositions] or [TaskFault::TooLarge] if `check_deterministic_states` fails so.
 /// - If there is a start, [TaskFault::TooManyPropositions] or [TaskFault::TooLarge] if the labels of a state mention
 ///   over `MOST_MENTIONED` inputs or if it is not decided whether an edge answers a letter, and
 ///   [GameFault::TooManyNodes] if the states have over `MOST_NODES` questions, one for each class of letters that the

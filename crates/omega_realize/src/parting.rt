@@ -8,7 +8,7 @@ ghost use Rattle.omega_runs.specs.Lasso.{IsStart};
 ghost use Rattle.omega_realizability_game.specs.Laws.{IsParted};
 ghost use Rattle.omega_realize.specs.Refusing.{IsJudgeable, IsUnparted};
 
-use crate::posing::judged_kind;
+use crate::posing::deterministic_parity_kind;
 use omega_automaton::Automaton;
 use omega_formula::ParityKind;
 use omega_realizability_game::rounds_of;
@@ -25,7 +25,7 @@ pub(crate) struct Parted {
 }
 
 /// Returns the rounds of `automaton` where the system controls the propositions `controlled`, or none if there is no
-/// start. Fails as `judged_kind` and `rounds_of` do.
+/// start. Fails as `deterministic_parity_kind` and `rounds_of` do.
 pub(crate) fn parted_rounds(
     alloc: Global,
     automaton: &Automaton,
@@ -38,7 +38,7 @@ pub(crate) fn parted_rounds(
     ensures judgeable { OnOk result (IsJudgeable automaton.now) }
     ensures refused { IfErr result (IsUnparted automaton.now controlled.now) }
 {
-    let kind = judged_kind(alloc, automaton)?;
+    let kind = deterministic_parity_kind(alloc, automaton)?;
     automaton.keeps_limits();
     match automaton.starts().first() {
         None => Ok(None),

@@ -2,24 +2,27 @@
 
 ghost use Rattle.std.specs.Prelude.{◌≡◌, IfErr, IfOk, OnOk};
 ghost use Rattle.omega_automaton.specs.AcceptanceKind.{HasKind};
-ghost use Rattle.omega_complement.specs.Refusing.{AreUnjudged};
+ghost use Rattle.omega_determinism.specs.Refusing.{AreUnjudged};
 ghost use Rattle.omega_formula.specs.Names.{IsNotParity};
 ghost use Rattle.omega_formula.specs.declared.kind.AccKind.TheVariants as kinds;
 ghost use Rattle.omega_realize.specs.Refusing.{HasParityKind, IsJudgeable, IsSingle, IsUnjudgeable};
 ghost use Rattle.omega_realize.specs.private.Undecided.{is_undecided};
 
 use omega_automaton::{Automaton, has_universal_branching};
-use omega_complement::{judge_starts, judge_states};
+use omega_determinism::{check_deterministic_states, check_one_start};
 use omega_formula::{ParityKind, parity_of};
 use omega_realizability_game::are_seen_apart;
 use omega_text::{Refusal, TaskFault};
 use std::alloc::Global;
 
-/// Judges that `automaton` is deterministic, and returns its parity kind. Fails with the first of
+/// Returns the parity kind of `automaton` if that is deterministic. Fails with the first of
 /// [TaskFault::UniversalBranch], [TaskFault::NotDeterministic], [TaskFault::NotParity], and
 /// [TaskFault::TooManyPropositions] or [TaskFault::TooLarge] where it is not decided whether it is deterministic. Each
 /// two edges of a state are judged together only if not all states are seen to be deterministic at once.
-pub(crate) fn judged_kind(alloc: Global, automaton: &Automaton) -> Result<ParityKind, Refusal>
+pub(crate) fn deterministic_parity_kind(
+    alloc: Global,
+    automaton: &Automaton,
+) -> Result<ParityKind, Refusal>
     ensures judgeable { OnOk result (IsJudgeable automaton.now) }
     ensures kind { IfOk result (λ kind. HasKind automaton.now (kinds.Parity kind)) }
     ensures refused { IfErr result (IsUnjudgeable automaton.now) }
@@ -27,12 +30,12 @@ pub(crate) fn judged_kind(alloc: Global, automaton: &Automaton) -> Result<Parity
     if has_universal_branching(automaton) {
         return Err(Refusal::Task(TaskFault::UniversalBranch));
     }
-    judge_starts(automaton)?;
+    check_one_start(automaton)?;
     let apart = are_seen_apart(alloc, automaton)?;
     if apart {
         return kind_of(automaton);
     }
-    match judge_states(alloc, automaton) {
+    match check_deterministic_states(alloc, automaton) {
         Ok(()) => kind_of(automaton),
         Err(refusal) => Err(unless_no_kind(automaton, refusal)),
     }

@@ -17,7 +17,7 @@ use Rattle.omega_automaton.specs.Meaning.{IsEdgeOf, IsStateOf}
 use Rattle.omega_automaton.specs.declared.edge.Edge.{Edge}
 use Rattle.omega_automaton.specs.declared.state.State.{State}
 use Rattle.omega_complement.specs.Complement.{IsComplement}
-use Rattle.omega_complement.specs.Labels.{each_by_index, state_among, state_at}
+use Rattle.omega_determinism.specs.Labels.{each_by_index, state_among, state_at}
 use Rattle.omega_complement.specs.Written.{IsTurnedAt, further_edges, header, sinks, turned_edge, turned_edges}
 use Rattle.omega_winner_text.specs.Winner.{is_kept_edge, kept_edge, kept_edges, kept_state, kept_states, number_of}
 use Rattle.omega_controller_answers.specs.Laws.{controller_of}

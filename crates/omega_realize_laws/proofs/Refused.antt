@@ -14,7 +14,7 @@ use Rattle.omega_raw.specs.declared.header_value.HeaderValue.TheVariants as valu
 use Rattle.omega_automaton.specs.Automaton.{Description, has_repeat}
 use Rattle.omega_automaton.specs.Branching.{has_universal_branching, state_branches}
 use Rattle.omega_automaton.specs.Laws.{MeaningsAreAutomata}
-use Rattle.omega_complement.specs.Complement.{IsDeterministic}
+use Rattle.omega_determinism.specs.Determinism.{IsDeterministic}
 use Rattle.omega_complement.specs.Refusing.{IsUncomplemented}
 use Rattle.omega_containment.specs.Refusing.{IsContainmentRefusal, no_memory, not_complemented, not_met}
 use Rattle.omega_controllable.specs.Controllable.{IsControlled, controllable_items}

@@ -1,12 +1,10 @@
 -- Which edges are usable, judged one by one; which labels are wide, and which may be given up undecided.
 use Rattle.std.specs.Prelude.{◌≡◌, ◌⊎◌, ◌↔◌, ℕ, ◌<◌, ◌≤◌, Bool, true, IsTrue, List, [], ◌∷◌, Contains, length, Option, Some, IfSome, slice_get}
-use Rattle.omega_text.specs.Cases.{never, or_memory, or_task}
-use Rattle.omega_text.specs.declared.refusal.Refusal.{Refusal}
-use Rattle.omega_text.specs.declared.refusal.task.TaskFault.TheVariants.{TooManyPropositions}
 use Rattle.omega_label.specs.Label.{LabelTree}
 use Rattle.omega_expression.specs.Limits.{most_mentioned}
 use Rattle.omega_satisfying.specs.Satisfiable.{mentioned}
 use Rattle.omega_satisfying.specs.Undecided.{IsHardLabel}
+pub use Rattle.omega_satisfying.specs.Undecided.{GivesUpOn, IsHard, IsLabelWith}
 use Rattle.omega_automaton.specs.Automaton.{BodyEdge, Description, edge_at, edge_count, edges_of}
 use Rattle.omega_automaton.specs.declared.edge.Edge.{Edge}
 use Rattle.omega_automaton.specs.declared.state.State.{State}
@@ -33,21 +31,9 @@ IsNarrow label = IfSome label (λ tree. length (mentioned tree) ≤ most_mention
 abbrev pub IsWideLabel : LabelTree → Type 0
 IsWideLabel tree = most_mentioned < length (mentioned tree)
 
--- there is a label, and it has the property
-abbrev pub IsLabelWith : (LabelTree → Type 0) → Option LabelTree → Type 0
-IsLabelWith Has label = (tree : LabelTree) × (label ≡ Some tree) × Has tree
-
 -- there is a label, and it is wide
 abbrev pub IsWide : Option LabelTree → Type 0
 IsWide label = IsLabelWith IsWideLabel label
-
--- there is a label, and it may be given up undecided
-abbrev pub IsHard : Option LabelTree → Type 0
-IsHard label = IsLabelWith IsHardLabel label
-
--- the refusal is `TooManyPropositions`, and there is such a label, or it is `Memory`
-abbrev pub GivesUpOn : Type 0 → Refusal → Type 0
-GivesUpOn There = or_task (λ fault. (fault ≡ TooManyPropositions) × There) (or_memory never)
 
 -- the labels of the state and of its edges are narrow
 pub record HasNarrow (state : State) : Type 0 where

@@ -5,13 +5,14 @@
 #![tactic(auto)]
 
 mod finding;
+mod judged_state;
 mod laws;
 mod place;
 mod placing;
-mod usable;
 mod verdict;
 
 pub use finding::{FoundEdge, edge_of};
+pub use judged_state::JudgedState;
 pub use laws::{
     accepted_words_have_lassos, accepting_runs_have_lassos, accepting_runs_have_words,
     edges_are_taken_where_true, empty_accepts_no_word, lassos_are_accepting_runs,
@@ -20,5 +21,4 @@ pub use laws::{
 pub use omega_automaton::{Automaton, Refusal};
 pub use place::EdgePlace;
 pub use placing::edge_places;
-pub use usable::can_hold;
 pub use verdict::Verdict;

@@ -1,8 +1,9 @@
 ghost use Rattle.std.specs.Prelude.{◌*◌, ◌≤◌, ◌↔◌, IfErr, IfNone, IfOk, IfSome, IsOkUnless, IsTrue};
+ghost use Rattle.std.specs.Option.{option_copied};
 ghost use Rattle.omega_satisfying.specs.Cubes.{literal_count};
 ghost use Rattle.omega_satisfying.specs.Limits.{most_visited};
 ghost use Rattle.omega_satisfying.specs.Satisfiable.{IsSatisfiable};
-ghost use Rattle.omega_satisfying.specs.Undecided.{IsUndecidedLabel};
+ghost use Rattle.omega_satisfying.specs.Undecided.{GivesUpOn, IsHard, IsUndecidedLabel};
 
 use crate::encoding::append_label;
 use crate::exits::Exits;
@@ -30,6 +31,24 @@ pub fn is_satisfiable(alloc: Global, label: &Label) -> Result<bool, Refusal>
             Some(possible) => Ok(possible),
             None => Err(Refusal::Task(TaskFault::TooManyPropositions)),
         },
+    }
+}
+
+/// Whether `label` can be true. A label that is absent always is.
+///
+/// Fails with [TaskFault::TooManyPropositions] if [`is_satisfiable`] gives `label` up, which mentions over
+/// `MOST_MENTIONED` propositions then.
+pub fn can_hold(alloc: Global, label: Option<&Label>) -> Result<bool, Refusal>
+    ensures judged { IfOk result (λ possible.
+        IsTrue possible ↔ IfSome (option_copied label.entry) IsSatisfiable) }
+    ensures refused { IfErr result (GivesUpOn (IsHard (option_copied label.entry))) }
+{
+    match label {
+        None => Ok(true),
+        Some(label) => {
+            let possible = is_satisfiable(alloc, label)?;
+            Ok(possible)
+        }
     }
 }
 

@@ -25,9 +25,9 @@ mod tables;
 mod together;
 mod words;
 
-pub use answer::is_satisfiable;
+pub use answer::{can_hold, is_satisfiable};
 pub use laws::{labels_are_their_cubes, normal_forms_are_decided};
 pub use limits::{MOST_VISITED, visits_limit_is_stated};
-pub use satisfying::satisfiable;
+pub use satisfying::{is_narrow, satisfiable};
 pub use tables::TruthTable;
 pub use together::satisfiable_together;

@@ -27,6 +27,18 @@ pub fn satisfiable(label: &Label) -> Result<bool, Refusal>
     Ok(is_true_somewhere(label, &found))
 }
 
+/// Whether `label` mentions at most `MOST_MENTIONED` propositions, so that [`satisfiable`] judges it. Takes no memory.
+pub fn is_narrow(label: &Label) -> bool
+    ensures narrow { IsTrue result → length (mentioned label.now) ≤ most_mentioned }
+    ensures wide { result ≡ false → most_mentioned < length (mentioned label.now) }
+{
+    let mut found = Mentioned::new();
+    let has_room = mention(label, &mut found);
+    // The set is read, since only then a proof knows that it has at most that many.
+    let _count = found.len();
+    has_room
+}
+
 /// Adds the propositions of `label` to `found`. Returns false if there is no room for one.
 pub(crate) fn mention(label: &Label, found: &mut Mentioned) -> bool
     ensures added { IsTrue result → found.new ≡ each_once found.old (propositions label.now) }

@@ -7,7 +7,7 @@ use Rattle.omega_label.specs.Label.{LabelTree}
 use Rattle.omega_automaton.specs.declared.edge.Edge.{Edge}
 use Rattle.omega_automaton.specs.declared.state.State.{State}
 use Rattle.omega_walk_laws.proofs.Walking.{first_or_later, has_first, has_later}
-use Rattle.omega_complement.specs.Labels.{state_among, undefined}
+use Rattle.omega_determinism.specs.Labels.{state_among, undefined}
 use Rattle.omega_edge_labels.specs.Labels.{label_at, valuation_label}
 use Rattle.omega_trim.specs.Trimmed.{edge_kept, edge_stays, edges_kept, keeps_labels, new_number, state_kept, states_kept, stays}
 use Rattle.omega_trim.proofs.Among.{place_one}

@@ -5,7 +5,7 @@ use Rattle.omega_label.specs.Label.{truth}
 use Rattle.omega_automaton.specs.Automaton.{Description}
 use Rattle.omega_automaton.specs.declared.edge.Edge.{Edge}
 use Rattle.omega_automaton.specs.declared.state.State.{State}
-use Rattle.omega_complement.specs.Labels.{state_among, state_at}
+use Rattle.omega_determinism.specs.Labels.{state_among, state_at}
 use Rattle.omega_edge_labels.specs.Labels.{label_at}
 use Rattle.omega_trim.specs.Trimmed.{edge_kept, edge_stays, edges_kept, keeps_labels, new_number, state_kept, states_kept, stays, trimmed}
 use Rattle.omega_word_laws.proofs.parting.Moves.{IsMove, IsMoveOf}

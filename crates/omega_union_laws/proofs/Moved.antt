@@ -6,7 +6,7 @@ use Rattle.omega_label.specs.Label.{truth}
 use Rattle.omega_automaton.specs.Automaton.{Description, IsAutomaton}
 use Rattle.omega_automaton.specs.declared.edge.Edge.{Edge}
 use Rattle.omega_automaton.specs.declared.state.State.{State}
-use Rattle.omega_complement.specs.Labels.{state_at}
+use Rattle.omega_determinism.specs.Labels.{state_at}
 use Rattle.omega_edge_labels.specs.Labels.{label_at}
 use Rattle.omega_product.specs.Joining.{number_among}
 use Rattle.omega_product.proofs.Membership.{Contains-here}

@@ -3,7 +3,7 @@ use Rattle.std.proofs.Common.{◌≡◌, ℕ, ◌+◌, ◌<◌, ◌==◌, Bool, 
 use Rattle.std.proofs.lemmas.List.Elements.{All-contains}
 use Rattle.omega_automaton.specs.Automaton.{Description, IsAutomaton, IsState}
 use Rattle.omega_automaton.specs.declared.state.State.{State}
-use Rattle.omega_complement.specs.Labels.{state_among, state_at, undefined}
+use Rattle.omega_determinism.specs.Labels.{state_among, state_at, undefined}
 use Rattle.omega_product.proofs.Membership.{Contains-here, Contains-there}
 use Rattle.omega_union.specs.Parts.{Part, state_in, states_in}
 use Rattle.omega_union.specs.Union.{first_part, second_part, united}

@@ -3,7 +3,7 @@ use Rattle.std.proofs.Common.{◌≡◌, ℕ, zero, suc, ◌+◌, ◌<◌, Bool,
 use Rattle.std.proofs.lemmas.List.Elements.{All-contains}
 use Rattle.omega_formula.specs.Acceptance.{AccTree, holds}
 use Rattle.omega_automaton.specs.Automaton.{Description, IsAutomaton}
-use Rattle.omega_complement.specs.Labels.{state_at}
+use Rattle.omega_determinism.specs.Labels.{state_at}
 use Rattle.omega_product.specs.Acceptance.{moved_after}
 use Rattle.omega_product.specs.Joining.{part_of_word}
 use Rattle.omega_runs.specs.Lasso.{IsStart, marks_at}

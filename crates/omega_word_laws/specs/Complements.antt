@@ -7,7 +7,8 @@ use Rattle.omega_automaton.specs.Automaton.{Description, IsAutomaton}
 use Rattle.omega_automaton.specs.Faults.{automaton_fault_of}
 use Rattle.omega_runs.specs.Words.{IsAccepted}
 use Rattle.omega_raw.specs.declared.raw_automaton.RawAutomaton.{RawAutomaton}
-use Rattle.omega_complement.specs.Complement.{IsComplement, IsDeterministic}
+use Rattle.omega_complement.specs.Complement.{IsComplement}
+use Rattle.omega_determinism.specs.Determinism.{IsDeterministic}
 use Rattle.omega_complement.specs.Written.{IsWrittenComplement}
 
 -- no word is accepted by a deterministic automaton and by its complement

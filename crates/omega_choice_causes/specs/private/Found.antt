@@ -6,8 +6,8 @@ use Rattle.omega_text.specs.declared.refusal.task.TaskFault.{TaskFault}
 use Rattle.omega_text.specs.declared.refusal.task.TaskFault.TheVariants.{NotDeterministic}
 use Rattle.omega_label.specs.Label.{LabelTree}
 use Rattle.omega_automaton.specs.Automaton.{Description}
-use Rattle.omega_complement.specs.Labels.{labels_at, state_at}
-use Rattle.omega_complement.specs.Refusing.{IsFirstClash}
+use Rattle.omega_determinism.specs.Labels.{labels_at, state_at}
+use Rattle.omega_determinism.specs.Refusing.{IsFirstClash}
 use Rattle.omega_choice_causes.specs.ChoiceCauses.{HasNoChoiceToTell, TellsChoice}
 use Rattle.omega_choice_causes.specs.Choices.{AreAllPassedOver, CanBeTakenTogether, IsFirstChoice, IsPassedOver, edges_before}
 use Rattle.omega_choice_causes.specs.declared.choosing.Choice.{Choice}

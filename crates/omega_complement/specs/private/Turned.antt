@@ -1,21 +1,21 @@
 -- Results and refusals of the private functions of the complement.
-use Rattle.std.specs.Prelude.{◌≡◌, ◌↔◌, ℕ, Bool, false, IsTrue, List}
+use Rattle.std.specs.Prelude.{◌↔◌, ℕ, Bool, false, IsTrue, List}
 use Rattle.std.specs.List.{AllZip, range_with_len}
 use Rattle.omega_text.specs.Cases.{never, or_memory, or_task}
 use Rattle.omega_text.specs.declared.refusal.Refusal.{Refusal}
-use Rattle.omega_text.specs.declared.refusal.task.TaskFault.{TaskFault}
 use Rattle.omega_label.specs.Label.{LabelTree}
 use Rattle.omega_automaton.specs.Automaton.{Description}
 use Rattle.omega_automaton.specs.declared.state.State.{State}
 use Rattle.omega_raw.specs.declared.raw_automaton.RawAutomaton.{RawAutomaton}
 use Rattle.omega_raw.specs.declared.raw_state.RawState.{RawState}
-use Rattle.omega_complement.specs.Complement.{AreExclusiveBelow, AreFittingBelow}
+use Rattle.omega_determinism.specs.Determinism.{AreExclusiveBelow}
+use Rattle.omega_complement.specs.Complement.{AreFittingBelow}
 use Rattle.omega_complement.specs.Judged.{AreFitting}
-use Rattle.omega_complement.specs.Labels.{is_full_at, labels_at, labels_of}
+use Rattle.omega_determinism.specs.Labels.{is_full_at, labels_at, labels_of}
 use Rattle.omega_edge_labels.specs.Labels.{is_full}
-use Rattle.omega_complement.specs.Refusing.{BreaksLimit, IsClashFault, IsFirstFault, IsStateFault}
+use Rattle.omega_complement.specs.Refusing.{BreaksLimit, IsFirstFault, IsStateFault}
 use Rattle.omega_complement.specs.Written.{IsTurnedAt, SomeLacksLetter}
-use Rattle.omega_complement.specs.declared.state_labels.StateLabels.{StateLabels}
+use Rattle.omega_determinism.specs.declared.state_labels.StateLabels.{StateLabels}
 use Rattle.omega_edge_labels.specs.Fitting.{IsLarge}
 
 -- the refusal of a state; `full` says whether it has an edge for each valuation
@@ -37,23 +37,6 @@ IsRefusalAt a number = IsStateRefusal (is_full_at a number) (labels_at a number)
 -- the refusal of a state that is judged, as it has no edge for some valuation
 abbrev pub IsJudgingRefusal : StateLabels → Refusal → Type 0
 IsJudgingRefusal state = IsStateRefusal false state.labels.now state.number
-
--- the refusal of judging the edges of a state
-abbrev pub IsClashRefusal : StateLabels → Refusal → Type 0
-IsClashRefusal state = or_task (IsClashFault state.labels.now state.number) (or_memory never)
-
--- the fault of judging the edges of a state, unless it has an edge for each valuation
-abbrev pub IsPartialFault : Bool → List LabelTree → ℕ → TaskFault → Type 0
-IsPartialFault full labels number fault = (full ≡ false) × IsClashFault labels number fault
-
--- the refusal of judging a state over `count` propositions
-abbrev pub IsUnjudgedOf : ℕ → State → Refusal → Type 0
-IsUnjudgedOf count state =
-    or_task (IsPartialFault (is_full count state) (labels_of count state) state.number) (or_memory never)
-
--- the refusal of judging the state with a number
-abbrev pub IsUnjudgedAt : Description → ℕ → Refusal → Type 0
-IsUnjudgedAt a number = or_task (IsPartialFault (is_full_at a number) (labels_at a number) number) (or_memory never)
 
 -- the states below `count` have an edge for each letter, and `lacks` says whether one of them lacked a letter
 pub record AreTurned (a : Description) (count : ℕ) (states : List RawState) (lacks : Bool) : Type 0 where

@@ -15,7 +15,7 @@ use Rattle.omega_automaton.specs.declared.edge.Edge.{Edge}
 use Rattle.omega_automaton.specs.declared.state.State.{State}
 use Rattle.omega_canon.specs.Canonical.{canonical_automaton}
 use Rattle.omega_complement.specs.Complement.{HasComplement, IsComplement}
-use Rattle.omega_complement.specs.Labels.{each_by_index, labels_of, state_among, state_at}
+use Rattle.omega_determinism.specs.Labels.{each_by_index, labels_of, state_among, state_at}
 use Rattle.omega_complement.specs.Written.{IsMissing, IsTurned, complement_acceptance, further_edges, header, one_if, sinks, turned_edge, turned_edges}
 use Rattle.omega_complement.proofs.LimitTests.{fits}
 use Rattle.omega_edge_labels.specs.Labels.{label_at}

@@ -15,15 +15,15 @@ use Rattle.omega_runs.specs.Lasso.{marks_at}
 use Rattle.omega_runs.specs.Runs.{Satisfies}
 use Rattle.omega_runs.specs.Words.{IsAccepted}
 use Rattle.omega_raw.specs.declared.raw_automaton.RawAutomaton.{RawAutomaton}
-use Rattle.omega_complement.specs.Complement.{IsDeterministic}
-use Rattle.omega_complement.specs.Dual.{dual}
-use Rattle.omega_complement.specs.Labels.{labels_at, state_at}
+use Rattle.omega_determinism.specs.Determinism.{IsDeterministic}
+use Rattle.omega_formula.specs.Dual.{dual}
+use Rattle.omega_determinism.specs.Labels.{labels_at, state_at}
 use Rattle.omega_edge_labels.specs.Labels.{label_at}
-use Rattle.omega_complement.specs.Letters.{AreExclusive}
+use Rattle.omega_determinism.specs.Letters.{AreExclusive}
 use Rattle.omega_complement.specs.Written.{IsWrittenComplement}
 use Rattle.omega_edge_labels.proofs.Bits.{both_true}
-use Rattle.omega_complement.proofs.Full.{any_at}
-use Rattle.omega_complement.proofs.Rows.{each_there}
+use Rattle.omega_determinism.proofs.Full.{any_at}
+use Rattle.omega_determinism.proofs.Rows.{each_there}
 use Rattle.omega_word_laws.proofs.parting.Formulas.{AreSame, no_both}
 use Rattle.omega_word_laws.proofs.parting.Meant.{HoldSame, IsLost, IsOwn, acceptance_plain, acceptance_sink, held_contains, move_is, starts_are}
 use Rattle.omega_word_laws.proofs.parting.Moves.{IsMove, step_moves}

@@ -13,12 +13,12 @@ use Rattle.omega_runs.specs.Lasso.{IsStart, IsStep, marks_at}
 use Rattle.omega_runs.specs.Runs.{Satisfies}
 use Rattle.omega_runs.specs.Words.{IsAccepted}
 use Rattle.omega_raw.specs.declared.raw_automaton.RawAutomaton.{RawAutomaton}
-use Rattle.omega_complement.specs.Complement.{IsDeterministic}
-use Rattle.omega_complement.specs.Dual.{dual}
-use Rattle.omega_complement.specs.Labels.{labels_at, state_at}
+use Rattle.omega_determinism.specs.Determinism.{IsDeterministic}
+use Rattle.omega_formula.specs.Dual.{dual}
+use Rattle.omega_determinism.specs.Labels.{labels_at, state_at}
 use Rattle.omega_edge_labels.specs.Labels.{label_at}
 use Rattle.omega_complement.specs.Written.{IsWrittenComplement}
-use Rattle.omega_complement.proofs.Rows.{each_at}
+use Rattle.omega_determinism.proofs.Rows.{each_at}
 use Rattle.omega_word_laws.proofs.parting.Apart.{move_within}
 use Rattle.omega_word_laws.proofs.parting.Formulas.{AreSame, one_of_both}
 use Rattle.omega_word_laws.proofs.parting.Meant.{HoldSame, acceptance_plain, acceptance_sink, lost_moves, own_moves, sink_moves, starts_are}

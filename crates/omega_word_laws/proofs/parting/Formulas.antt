@@ -3,7 +3,7 @@ use Rattle.std.proofs.Common.{◌≡◌, ℕ, ◌⊎◌, inl, inr, Bool, true, f
 use Rattle.omega_formula.specs.Acceptance.{AccTree, conjunction, constant, disjunction, fin, holds, inf}
 use Rattle.omega_walk_laws.specs.Marks.{meets}
 use Rattle.omega_runs.specs.Runs.{AtLastNever, ForEver, Satisfies}
-use Rattle.omega_complement.specs.Dual.{dual}
+use Rattle.omega_formula.specs.Dual.{dual}
 use Rattle.omega_word_laws.specs.Complements.{RecursOrCeases}
 
 -- marks hold the same sets, index by index

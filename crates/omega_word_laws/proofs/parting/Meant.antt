@@ -25,13 +25,13 @@ use Rattle.omega_raw.specs.declared.raw_automaton.RawAutomaton.{RawAutomaton}
 use Rattle.omega_raw.specs.declared.raw_edge.RawEdge.{RawEdge}
 use Rattle.omega_raw.specs.declared.raw_item.RawItem.{RawItem}
 use Rattle.omega_raw.specs.declared.raw_state.RawState.{RawState}
-use Rattle.omega_complement.specs.Dual.{dual}
-use Rattle.omega_complement.specs.Labels.{labels_at, state_among, state_at}
+use Rattle.omega_formula.specs.Dual.{dual}
+use Rattle.omega_determinism.specs.Labels.{labels_at, state_among, state_at}
 use Rattle.omega_complement.specs.Written.{IsMissing, IsTurned, IsWrittenComplement, complement_acceptance, further_edges, sink_state, sinks, turned_edge, turned_edges}
-use Rattle.omega_complement.proofs.Full.{any_at}
+use Rattle.omega_determinism.proofs.Full.{any_at}
 use Rattle.omega_complement.proofs.Rests.{rest_true}
-use Rattle.omega_complement.proofs.Rows.{each_at, each_there}
-use Rattle.omega_complement.proofs.StateNumbers.{state_number}
+use Rattle.omega_determinism.proofs.Rows.{each_at, each_there}
+use Rattle.omega_determinism.proofs.StateNumbers.{state_number}
 use Rattle.omega_acc.proofs.written.Formulas.{acc-means-itself}
 use Rattle.omega_acc.proofs.written.Labels.{means-itself}
 use Rattle.omega_edge_labels.specs.Labels.{label_at, valuation_label}

@@ -10,9 +10,9 @@ use Rattle.omega_runs.specs.Lasso.{IsStep, label_of, marks_at, marks_of}
 use Rattle.omega_runs.specs.Laws.{IsIndexLabel}
 use Rattle.omega_runs.specs.Words.{CanBeTaken, index_in}
 use Rattle.omega_runs.proofs.Taken.{edges_are_taken_where_true}
-use Rattle.omega_complement.specs.Labels.{state_among, state_at}
+use Rattle.omega_determinism.specs.Labels.{state_among, state_at}
 use Rattle.omega_edge_labels.proofs.Bits.{valuation_held, valuation_true}
-use Rattle.omega_complement.proofs.StateNumbers.{state_number}
+use Rattle.omega_determinism.proofs.StateNumbers.{state_number}
 use Rattle.omega_edge_labels.specs.Labels.{label_at, valuation_label}
 use Rattle.omega_word_laws.proofs.parting.Numbered.{IsFound, IsNumbered, edge_found, edge_numbered, state_is, state_there}
 

@@ -12,7 +12,7 @@ use Rattle.omega_raw.specs.declared.raw_automaton.RawAutomaton.{RawAutomaton}
 use Rattle.omega_raw.specs.declared.raw_edge.RawEdge.{RawEdge}
 use Rattle.omega_raw.specs.declared.raw_item.RawItem.{RawItem}
 use Rattle.omega_raw.specs.declared.raw_state.RawState.{RawState}
-use Rattle.omega_complement.specs.Labels.{labels_of, state_at}
+use Rattle.omega_determinism.specs.Labels.{labels_of, state_at}
 use Rattle.omega_complement.specs.Written.{IsMissing, IsTurned, IsWrittenComplement, further_edges, header, sinks, turned_edges}
 use Rattle.omega_complement.proofs.Rests.{rest_one}
 use Rattle.omega_word_laws.specs.Complements.{ComplementsAreOne}

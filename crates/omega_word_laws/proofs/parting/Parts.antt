@@ -18,13 +18,13 @@ use Rattle.omega_automaton.specs.declared.edge.Edge.{Edge}
 use Rattle.omega_raw.specs.declared.raw_automaton.RawAutomaton.{RawAutomaton}
 use Rattle.omega_raw.specs.declared.raw_edge.RawEdge.{RawEdge}
 use Rattle.omega_raw.specs.declared.raw_state.RawState.{RawState}
-use Rattle.omega_complement.specs.Complement.{IsDeterministic}
-use Rattle.omega_complement.specs.Labels.{labels_at, state_at}
+use Rattle.omega_determinism.specs.Determinism.{IsDeterministic}
+use Rattle.omega_determinism.specs.Labels.{labels_at, state_at}
 use Rattle.omega_complement.specs.Letters.{IsAnyOf, IsRestLabel, alone, halves}
 use Rattle.omega_complement.specs.Written.{IsMissing, IsTurned, IsWrittenComplement, further_edges, one_if, sink_state, sinks, turned_edge, turned_edges}
 use Rattle.omega_edge_labels.proofs.Bits.{both_true}
-use Rattle.omega_complement.proofs.Rows.{each_at}
-use Rattle.omega_complement.proofs.StateNumbers.{state_number}
+use Rattle.omega_determinism.proofs.Rows.{each_at}
+use Rattle.omega_determinism.proofs.StateNumbers.{state_number}
 use Rattle.omega_edge_labels.specs.Labels.{label_at, literal, valuation_label}
 use Rattle.omega_word_laws.proofs.parting.Apart.{edge_of, get_Contains}
 use Rattle.omega_word_laws.proofs.parting.Meant.{range_at}

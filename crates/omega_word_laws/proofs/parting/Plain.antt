@@ -7,10 +7,10 @@ use Rattle.omega_automaton.specs.Automaton.{AreTargets, Description, IsAutomaton
 use Rattle.omega_automaton.specs.Branching.{state_branches}
 use Rattle.omega_automaton.specs.declared.edge.Edge.{Edge}
 use Rattle.omega_runs.specs.Lasso.{IsStart}
-use Rattle.omega_complement.specs.Complement.{IsDeterministic}
-use Rattle.omega_complement.specs.Labels.{state_at}
+use Rattle.omega_determinism.specs.Determinism.{IsDeterministic}
+use Rattle.omega_determinism.specs.Labels.{state_at}
 use Rattle.omega_complement.specs.Written.{NeedsSink}
-use Rattle.omega_complement.proofs.Full.{any_at}
+use Rattle.omega_determinism.proofs.Full.{any_at}
 use Rattle.omega_word_laws.proofs.parting.Apart.{edge_of, get_Contains}
 use Rattle.omega_word_laws.proofs.parting.Numbered.{state_there}
 

@@ -27,11 +27,11 @@ use Rattle.omega_raw.specs.declared.raw_automaton.RawAutomaton.{RawAutomaton}
 use Rattle.omega_raw.specs.declared.raw_edge.RawEdge.{RawEdge}
 use Rattle.omega_raw.specs.declared.raw_item.RawItem.{RawItem}
 use Rattle.omega_raw.specs.declared.raw_state.RawState.{RawState}
-use Rattle.omega_complement.specs.Complement.{IsDeterministic}
-use Rattle.omega_complement.specs.Dual.{dual}
-use Rattle.omega_complement.specs.Labels.{state_at}
+use Rattle.omega_determinism.specs.Determinism.{IsDeterministic}
+use Rattle.omega_formula.specs.Dual.{dual}
+use Rattle.omega_determinism.specs.Labels.{state_at}
 use Rattle.omega_complement.specs.Written.{IsTurned, IsWrittenComplement, complement_acceptance, header, one_if, sinks}
-use Rattle.omega_complement.proofs.StateNumbers.{state_number}
+use Rattle.omega_determinism.proofs.StateNumbers.{state_number}
 use Rattle.omega_complement.proofs.Turned.{range_push}
 use Rattle.omega_acc.proofs.written.Formulas.{acc-means-itself}
 use Rattle.omega_acc.proofs.written.Labels.{means-itself}

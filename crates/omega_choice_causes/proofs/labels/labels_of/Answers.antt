@@ -1,6 +1,6 @@
 -- `labels_of`: one label more.
 use Rattle.std.proofs.Common.{◌<◌, length, arith, ◌∙◌}
-use Rattle.omega_complement.proofs.Rows.{each_grown}
+use Rattle.omega_determinism.proofs.Rows.{each_grown}
 use Rattle.omega_edge_labels.specs.Labels.{label_at}
 use Rattle.omega_choice_causes.proofs.labels.labels_of.Goals as goal
 

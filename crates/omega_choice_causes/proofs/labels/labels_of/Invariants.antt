@@ -1,6 +1,6 @@
 -- `labels_of`: the labels so far.
 use Rattle.std.proofs.Common.{◌≡◌, take}
-use Rattle.omega_complement.specs.Labels.{each_by_index}
+use Rattle.omega_determinism.specs.Labels.{each_by_index}
 use Rattle.omega_edge_labels.specs.Labels.{label_at}
 use Rattle.omega_choice_causes.proofs.labels.labels_of.Given as goal
 

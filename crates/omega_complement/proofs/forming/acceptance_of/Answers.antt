@@ -4,7 +4,7 @@ use Rattle.std.proofs.lemmas.Result.{IfErr-weaker, IfOk-weaker}
 use Rattle.omega_formula.specs.Writing.{acc_written}
 use Rattle.omega_expression.specs.Limits.{most_depth}
 use Rattle.omega_formula.specs.Raw.{atom, disjunction, raw_acc_depth}
-use Rattle.omega_complement.specs.Dual.{dual}
+use Rattle.omega_formula.specs.Dual.{dual}
 use Rattle.omega_complement.specs.Written.{complement_acceptance}
 use Rattle.omega_complement.proofs.Depths.{atom_joins, with_atom}
 use Rattle.omega_complement.proofs.LimitTests.{fits}

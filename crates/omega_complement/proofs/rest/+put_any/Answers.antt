@@ -5,7 +5,7 @@ use Rattle.std.proofs.lemmas.Result.{on_ok_weaker}
 use Rattle.omega_label.specs.Label.{LabelTree}
 use Rattle.omega_complement.specs.private.Rests.{IsAnyPut}
 use Rattle.omega_complement.proofs.Puts.{put_halves, put_one}
-use Rattle.omega_complement.proofs.Rows.{take_all}
+use Rattle.omega_determinism.proofs.Rows.{take_all}
 use Rattle.omega_complement.proofs.rest.+put_any.Goals as goal
 
 pub returns-then-labels-eq1-clause-any : goal.returns-then-labels-eq1-clause-any

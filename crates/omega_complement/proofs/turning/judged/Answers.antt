@@ -2,10 +2,12 @@
 use Rattle.std.proofs.Common.{List, subst, sym, ◌∙◌, true≢false}
 use Rattle.std.proofs.lemmas.Result.{on_ok_weaker}
 use Rattle.omega_label.specs.Label.{LabelTree}
-use Rattle.omega_complement.specs.Letters.{HasClash, LacksLetter}
+use Rattle.omega_determinism.specs.Letters.{HasClash}
+use Rattle.omega_complement.specs.Letters.{LacksLetter}
 use Rattle.omega_edge_labels.specs.Labels.{is_full}
 use Rattle.omega_complement.proofs.Faults.{clash_refused}
-use Rattle.omega_complement.proofs.Full.{full_apart, full_lacks_none}
+use Rattle.omega_determinism.proofs.Full.{full_apart}
+use Rattle.omega_complement.proofs.Full.{full_lacks_none}
 use Rattle.omega_complement.proofs.Judged.{judged_fit}
 use Rattle.omega_edge_labels.proofs.Refusals.{passed_on}
 use Rattle.omega_complement.proofs.turning.judged.Goals as goal
@@ -28,10 +30,10 @@ returns-then-is_full-clause-written c =
 
 pub returns-clause-judged : goal.returns-clause-judged
 returns-clause-judged c =
-    on_ok_weaker c.missing.result (judged_fit (is_full c.args.count c.args.state.now) c.args.labels.now c.in_ok-judge_apart.ensures.fits) c.missing.ensures.judged
+    on_ok_weaker c.missing.result (judged_fit (is_full c.args.count c.args.state.now) c.args.labels.now c.in_ok-check_exclusive_labels.ensures.fits) c.missing.ensures.judged
 
-pub returns-in_err-judge_apart-clause-err : goal.returns-in_err-judge_apart-clause-err
-returns-in_err-judge_apart-clause-err c =
+pub returns-in_err-check_exclusive_labels-clause-err : goal.returns-in_err-check_exclusive_labels-clause-err
+returns-in_err-check_exclusive_labels-clause-err c =
     passed_on c.from_residual.result _ _ c.from_residual.ensures.1
     (clash_refused (is_full c.args.count c.args.state.now) c.args.labels.now c.args.state.now.number
-    (sym c.is_full.ensures ∙ c.if-is_full.false) _ c.in_err-judge_apart.ensures.err)
+    (sym c.is_full.ensures ∙ c.if-is_full.false) _ c.in_err-check_exclusive_labels.ensures.err)

@@ -4,7 +4,7 @@ use Rattle.std.specs.List.{All}
 use Rattle.omega_label.specs.Label.{LabelTree}
 use Rattle.omega_label.specs.Shape.{FitsALabel}
 use Rattle.omega_complement.specs.Judged.{IsJudgedLabel}
-use Rattle.omega_complement.specs.Labels.{labels_of}
+use Rattle.omega_determinism.specs.Labels.{labels_of}
 use Rattle.omega_edge_labels.specs.Labels.{is_full}
 use Rattle.omega_complement.specs.Letters.{IsRestLabel, LacksLetter}
 use Rattle.omega_complement.proofs.Judged.{all_fitting}

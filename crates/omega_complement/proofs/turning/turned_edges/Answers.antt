@@ -7,10 +7,10 @@ use Rattle.std.proofs.lemmas.Option.{slice_get_read}
 use Rattle.omega_label.specs.Label.{LabelTree}
 use Rattle.omega_label.specs.Shape.{FitsALabel}
 use Rattle.omega_automaton.specs.declared.edge.Edge.{Edge}
-use Rattle.omega_complement.specs.Labels.{each_by_index}
+use Rattle.omega_determinism.specs.Labels.{each_by_index}
 use Rattle.omega_complement.specs.Written.{turned_edge, turned_with}
 use Rattle.omega_complement.proofs.Faults.{unwritten_refused}
-use Rattle.omega_complement.proofs.Rows.{each_grown, each_length, each_read, take_all}
+use Rattle.omega_determinism.proofs.Rows.{each_grown, each_length, each_read, take_all}
 use Rattle.omega_edge_labels.specs.Fitting.{FitsAText}
 use Rattle.omega_edge_labels.specs.Labels.{is_full, label_at}
 use Rattle.omega_edge_labels.proofs.Refusals.{passed_on}

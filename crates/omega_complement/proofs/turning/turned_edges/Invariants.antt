@@ -1,7 +1,7 @@
 -- the edges so far
 use Rattle.std.proofs.Common.{◌≡◌, take}
 use Rattle.std.specs.List.{All}
-use Rattle.omega_complement.specs.Labels.{each_by_index}
+use Rattle.omega_determinism.specs.Labels.{each_by_index}
 use Rattle.omega_complement.specs.Written.{turned_edge}
 use Rattle.omega_edge_labels.specs.Fitting.{FitsAText}
 use Rattle.omega_complement.proofs.turning.turned_edges.Given as goal

@@ -1,5 +1,5 @@
 -- a label that is no label
-use Rattle.omega_complement.specs.Labels.{labels_of}
+use Rattle.omega_determinism.specs.Labels.{labels_of}
 use Rattle.omega_edge_labels.specs.Labels.{is_full}
 use Rattle.omega_complement.proofs.Faults.{edge_refused}
 use Rattle.omega_edge_labels.proofs.Refusals.{passed_on}

@@ -1,9 +1,12 @@
 -- one edge more
-use Rattle.std.proofs.Common.{◌≡◌, ℕ, ◌++◌, ◌<◌, inr, Bool, List, [], ◌∷◌, length, get_or, take, sym, ap, ◌∙◌, subst, append_assoc, arith}
+use Rattle.std.proofs.Common.{◌≡◌, ◌↔◌, ℕ, ◌++◌, ◌<◌, inr, Bool, List, [], ◌∷◌, length, get_or, take, sym, ap, ◌∙◌, subst, append_assoc, arith}
+use Rattle.std.specs.Prelude.{IsTrue}
 use Rattle.std.proofs.lemmas.Result.{err_from_is_err_and}
 use Rattle.omega_automaton.specs.Automaton.{BodyEdge, edges_from}
 use Rattle.omega_automaton.specs.declared.edge.Edge.{Edge}
+use Rattle.omega_automaton.specs.declared.state.State.{State}
 use Rattle.omega_runs.specs.Judging.{AreJudged, HasHard, IsHard}
+use Rattle.omega_runs.specs.Lasso.{IsUsable}
 use Rattle.omega_runs.proofs.Flat.{wide_refused}
 use Rattle.omega_runs.proofs.Judged.{judged_on, judged_one}
 use Rattle.omega_runs.proofs.Edges.{edges_take}
@@ -32,5 +35,6 @@ loop-at-preserved c =
           ∙ append_assoc c.args.usable.now.items so_far.0 (c.in_ok-judged.judged ∷ []),
       subst P (sym (edges_take c.args.state.now index edge below here))
           (judged_on (take index (edges_from c.args.state.now)) so_far.0 (one ∷ []) (c.in_ok-judged.judged ∷ []) so_far.2
-          (judged_one one c.in_ok-judged.judged c.in_ok-judged.ensures.judged)),
+          (judged_one one c.in_ok-judged.judged
+          (subst (λ (s : State). IsTrue c.in_ok-judged.judged ↔ IsUsable (record { source = s; edge = edge })) c.in_ok-judged_state.ensures.state c.in_ok-judged.ensures.judged))),
     )

@@ -2,8 +2,8 @@
 use Rattle.std.proofs.Common.{◌≡◌, ◌<◌, ℕ, List, true, length, get_or, below_more, subst, arith, rules}
 use Rattle.std.proofs.lemmas.List.{get_or_read}
 use Rattle.omega_automaton.specs.declared.state.State.{State}
-use Rattle.omega_complement.specs.Labels.{labels_of, undefined}
-use Rattle.omega_complement.specs.Letters.{AreExclusive}
+use Rattle.omega_determinism.specs.Labels.{labels_of, undefined}
+use Rattle.omega_determinism.specs.Letters.{AreExclusive}
 use Rattle.omega_realizability_game.proofs.ExclusiveStates.{states_apart}
 use Rattle.omega_realizability_game.proofs.exclusive.are_seen_apart.Goals as goal
 

@@ -1,7 +1,7 @@
 -- the states so far are exclusive
 use Rattle.std.proofs.Common.{ℕ, ◌<◌, get_or}
-use Rattle.omega_complement.specs.Labels.{labels_of, undefined}
-use Rattle.omega_complement.specs.Letters.{AreExclusive}
+use Rattle.omega_determinism.specs.Labels.{labels_of, undefined}
+use Rattle.omega_determinism.specs.Letters.{AreExclusive}
 use Rattle.omega_realizability_game.proofs.exclusive.are_seen_apart.Given as goal
 
 abbrev pub invariant-loop-state : goal.invariant-loop-state
