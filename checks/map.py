@@ -114,7 +114,7 @@ def ticked(names: list[str] | tuple[str, ...]) -> str:
 def stands_on(row: Row, by_name: dict[str, Row]) -> str:
     """What crates.txt says that a crate stands on, as its README.md should say it."""
     toolchain = f"of the toolchain {ticked(row.of_toolchain)}" if row.of_toolchain else ""
-    return "; ".join(part for part in (ticked(nearest(row, by_name)), toolchain) if part) + "."
+    return ("; ".join(part for part in (ticked(nearest(row, by_name)), toolchain) if part) or "no other crate") + "."
 
 
 def wrong_in(name: str) -> list[str]:

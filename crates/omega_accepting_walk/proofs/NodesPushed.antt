@@ -9,7 +9,7 @@ use Rattle.omega_formula.specs.Postfix.{acc_postfix}
 use Rattle.omega_formula.specs.declared.formula.AccNode.{AccNode}
 use Rattle.omega_formula.specs.declared.formula.AccNode.TheVariants as plain
 use Rattle.omega_accepting_walk.specs.declared.node.Node.{Node}
-use Rattle.omega_accepting_walk.specs.private.Formulas.{ArePartsOf, IsFormula, node_tree, tree_at, trees_at, trees_left, trees_with}
+use Rattle.omega_accepting_walk.specs.private.Formulas.{ArePartsOf, HaveParts, IsFormula, node_tree, tree_at, trees_at, trees_left, trees_with}
 use Rattle.omega_accepting_walk.specs.private.Lists.{Extends}
 use Rattle.omega_accepting_walk.proofs.Placing.{tree_at-append, tree_pushed}
 
@@ -23,6 +23,28 @@ trees-postfix (acc.conjunction left right) trees rest =
 trees-postfix (acc.disjunction left right) trees rest =
     ap (trees_left trees) (regrouped (acc_postfix left) (acc_postfix right) plain.Or rest)
     ∙ (trees-postfix left trees (acc_postfix right ++ plain.Or ∷ rest) ∙ trees-postfix right (left ∷ trees) (plain.Or ∷ rest))
+
+-- a formula's nodes have their parts, where those after them have theirs beside it
+parts-postfix : (tree : AccTree) (trees : List AccTree) (rest : List AccNode) → HaveParts (tree ∷ trees) rest
+    → HaveParts trees (acc_postfix tree ++ rest)
+parts-postfix (acc.constant value) trees rest given = (omega arith, given)
+parts-postfix (acc.inf negated set) trees rest given = (omega arith, given)
+parts-postfix (acc.fin negated set) trees rest given = (omega arith, given)
+parts-postfix (acc.conjunction left right) trees rest given =
+    subst (HaveParts trees) (sym (regrouped (acc_postfix left) (acc_postfix right) plain.And rest))
+    (parts-postfix left trees (acc_postfix right ++ plain.And ∷ rest)
+    (parts-postfix right (left ∷ trees) (plain.And ∷ rest) (omega arith, given)))
+parts-postfix (acc.disjunction left right) trees rest given =
+    subst (HaveParts trees) (sym (regrouped (acc_postfix left) (acc_postfix right) plain.Or rest))
+    (parts-postfix left trees (acc_postfix right ++ plain.Or ∷ rest)
+    (parts-postfix right (left ∷ trees) (plain.Or ∷ rest) (omega arith, given)))
+
+-- a formula's nodes have their parts, where no place is taken yet
+pub parts_formula : (tree : AccTree) (all : List AccNode) (nodes : List Node) (places : List ℕ) → all ≡ acc_postfix tree → places ≡ []
+    → HaveParts (trees_at nodes places) all
+parts_formula tree all nodes places is none =
+    subst (λ (list : List ℕ). HaveParts (trees_at nodes list) all) (sym none)
+    (subst (HaveParts []) (sym (is ∙ sym (append-nil (acc_postfix tree)))) (parts-postfix tree [] [] (omega arith)))
 
 -- a formula's nodes alone leave its tree alone
 pub trees_formula : (tree : AccTree) (nodes : List AccNode) → nodes ≡ acc_postfix tree → trees_left [] nodes ≡ tree ∷ []

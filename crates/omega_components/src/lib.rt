@@ -13,7 +13,6 @@ mod kept;
 mod links;
 mod met;
 mod numbering;
-mod numbers;
 mod plain;
 mod reaching;
 mod scratch;

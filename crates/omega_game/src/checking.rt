@@ -13,7 +13,6 @@ mod given;
 mod levels;
 mod nest;
 mod nesting;
-mod numbers;
 mod ordering;
 mod recurring;
 mod rounds;

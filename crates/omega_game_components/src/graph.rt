@@ -1,11 +1,10 @@
 //! The edges of a game as a table.
 ghost use Rattle.std.specs.Prelude.{◌≡◌, ◌++◌, ◌<◌, IfOk, IsOkUnless, OnOk, length};
-ghost use Rattle.std.specs.List.{range_with_len};
 ghost use Rattle.omega_game_components.specs.private.Table.{edges_from, shape_of};
 
 use omega_components::Graph;
 use omega_parity_game::{ForwardGame, Refusal};
-use std::alloc::{AllocError, Global};
+use std::alloc::Global;
 
 /// Returns the graph of `game`: its states are the places, its edges go from each place to the successors listed there.
 pub(crate) fn graph_of(alloc: Global, game: &ForwardGame) -> Result<Graph, Refusal>
@@ -33,15 +32,4 @@ fn add_edges(game: &ForwardGame, place: u32, graph: &mut Graph) -> Result<(), Re
         graph.add(place, *successor)?;
     }
     Ok(())
-}
-
-/// Returns the numbers below `count`.
-pub(crate) fn numbers_below(alloc: Global, count: u32) -> Result<Vec<u32>, AllocError>
-    ensures numbers { IfOk result (λ numbers. numbers.items ≡ range_with_len 0 count) }
-{
-    let mut numbers = Vec::with_capacity(alloc, count as usize)?;
-    for number in 0..count {
-        numbers.push(number)?;
-    }
-    Ok(numbers)
 }

@@ -6,7 +6,8 @@ ghost use Rattle.omega_components.specs.Graph.{AreEdges};
 ghost use Rattle.omega_game_components.specs.Components.{AreLeaders};
 ghost use Rattle.omega_game_components.specs.private.Groups.{AreLed, GetOneLeader, IsLeast};
 
-use crate::graph::{graph_of, numbers_below};
+use crate::graph::graph_of;
+use omega_component_search::numbers_below;
 use omega_components::{EdgeComponents, Graph, Scratch, components};
 use omega_parity_game::{ForwardGame, Refusal};
 use std::alloc::Global;

@@ -1,6 +1,5 @@
 //! An accepting lasso for any acceptance formula, found by a search of the automaton itself.
 ghost use Rattle.std.specs.Prelude.{◌≡◌, false, IfErr, IfNone, IfOk, IfSome, IsOkUnless, OnOk, length};
-ghost use Rattle.std.specs.List.{range_with_len};
 ghost use Rattle.omega_automaton.specs.Automaton.{Description};
 ghost use Rattle.omega_automaton.specs.Branching.{has_universal_branching};
 ghost use Rattle.omega_components.specs.Graph.{AreEdges};
@@ -18,6 +17,7 @@ use crate::turning::turned;
 use crate::usable::usable_edges;
 use omega_accepting_walk::accepting_walk;
 use omega_automaton::{Automaton, Refusal, has_universal_branching};
+use omega_component_search::numbers_below;
 use omega_components::{Edge, Graph, path, reached};
 use omega_formula::Acc;
 use omega_runs::Verdict;
@@ -63,7 +63,10 @@ pub fn lasso_in_table(
         IsTabled starts.now ends.now marks.now formula.now a → AllAreUsable a → IsVerdict a verdict) }
     ensures memory { IsOkUnless result Refusal.Memory }
 {
-    let edges = numbers_below(alloc, ends.len())?;
+    if ends.len() > u32::MAX as usize {
+        return Err(Refusal::Memory);
+    }
+    let edges = numbers_below(alloc, ends.len() as u32)?;
     let given = Given {
         starts,
         ends,
@@ -73,21 +76,6 @@ pub fn lasso_in_table(
     };
     let verdict = searched(alloc, &given)?;
     Ok(verdict)
-}
-
-/// Returns the numbers below `count` in ascending order. Also fails with [Refusal::Memory] if they are over 2^32 - 1.
-fn numbers_below(alloc: Global, count: usize) -> Result<Vec<u32>, Refusal>
-    ensures numbers { IfOk result (λ numbers. numbers.items ≡ range_with_len 0 count) }
-    ensures memory { IsOkUnless result Refusal.Memory }
-{
-    if count > u32::MAX as usize {
-        return Err(Refusal::Memory);
-    }
-    let mut numbers = Vec::with_capacity(alloc, count)?;
-    for number in 0..count {
-        numbers.push(number as u32)?;
-    }
-    Ok(numbers)
 }
 
 /// Returns the verdict on `automaton`, given its usable `edges`.

@@ -8,13 +8,11 @@
 mod components;
 mod filled_words;
 mod nested;
-mod numbers;
 mod pace;
 mod permutation;
 pub mod position_set;
 
 pub use filled_words::{FilledWords, least_from};
-pub use numbers::numbers_below;
 pub use omega_parity_game::ForwardGame;
 pub use pace::Pace;
 pub use permutation::Permutation;

@@ -2,7 +2,7 @@ ghost use Rattle.std.specs.Prelude.{◌≡◌, ℕ, ◌+◌, ◌<◌, ◌≤◌,
 ghost use Rattle.omega_schedules.specs.private.Worklist.{ClosesGap, queued, slot_of};
 
 use crate::schedule::Schedule;
-use omega_order::numbers_below;
+use omega_component_search::numbers_below;
 use omega_parity_game::Refusal;
 use std::alloc::Global;
 use std::marker::Model;

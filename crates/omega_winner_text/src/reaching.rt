@@ -6,8 +6,9 @@ ghost use Rattle.omega_winner_text.specs.Reaching.{TellsReached};
 ghost use Rattle.omega_winner_text.specs.private.Parts.{flag};
 ghost use Rattle.omega_winner_text.specs.private.Reached.{AreStarts};
 
-use crate::graph::{kept_graph, numbers_below};
+use crate::graph::kept_graph;
 use omega_automaton::Automaton;
+use omega_component_search::numbers_below;
 use omega_components::reached;
 use omega_text::Refusal;
 use std::alloc::Global;

@@ -1,5 +1,5 @@
 //! Which places are in play, and attractors: the places from which a player forces a visit to a set.
-use crate::numbers::{NONE, Numbers, number_of};
+use omega_component_search::{NONE, NumberTable, number_of};
 use omega_parity_game::{Game, Player};
 use std::alloc::{AllocError, Global};
 
@@ -14,9 +14,9 @@ pub(crate) const WAITING: u32 = 1;
 pub(crate) struct Board {
     // By place: that depth, or none while it is in play; the index of the successor that was last seen in play; and the
     // place that its owner moves to.
-    depth: Numbers,
-    watched: Numbers,
-    moves: Numbers,
+    depth: NumberTable,
+    watched: NumberTable,
+    moves: NumberTable,
     // The places taken out for the top nodes of the open subgames, in the order taken.
     trail: Vec<u32>,
     fuel: u64,
@@ -26,9 +26,9 @@ impl Board {
     /// Makes a board on which all places are waiting.
     pub(crate) fn new(alloc: Global, game: &Game, fuel: u64) -> Result<Board, AllocError> {
         let count = game.len();
-        let depth = Numbers::filled(alloc, count, WAITING)?;
-        let watched = Numbers::filled(alloc, count, 0)?;
-        let moves = Numbers::filled(alloc, count, NONE)?;
+        let depth = NumberTable::filled(alloc, count, WAITING)?;
+        let watched = NumberTable::filled(alloc, count, 0)?;
+        let moves = NumberTable::filled(alloc, count, NONE)?;
         let trail = Vec::with_capacity(alloc, count)?;
         Ok(Board {
             depth,

@@ -1,5 +1,5 @@
 //! Lists of places that are joined without being copied. Each place is in at most one list.
-use crate::numbers::{NONE, Numbers};
+use omega_component_search::{NONE, NumberTable};
 use std::alloc::{AllocError, Global};
 
 /// A list of places by its first and its last place, both `NONE` if it is empty.
@@ -24,13 +24,13 @@ impl Chain {
 /// The place after each place in its list.
 #[derive(Drop)]
 pub(crate) struct Chains {
-    following: Numbers,
+    following: NumberTable,
 }
 
 impl Chains {
     /// Makes empty lists only: no place has another after it.
     pub(crate) fn new(alloc: Global, places: usize) -> Result<Chains, AllocError> {
-        let following = Numbers::filled(alloc, places, NONE)?;
+        let following = NumberTable::filled(alloc, places, NONE)?;
         Ok(Chains { following })
     }
 

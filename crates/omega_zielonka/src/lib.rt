@@ -20,7 +20,6 @@
 mod board;
 mod chains;
 mod components;
-mod numbers;
 mod searching;
 mod sorting;
 mod subgame;

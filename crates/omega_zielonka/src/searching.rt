@@ -1,9 +1,9 @@
 use crate::chains::{Chain, Chains};
 use crate::components::Components;
-use crate::numbers::NONE;
 use crate::sorting::by_priority;
 use crate::suggestion::Suggestion;
 use crate::zielonka::Zielonka;
+use omega_component_search::NONE;
 use omega_parity_game::{Game, Player};
 use std::alloc::{AllocError, Global};
 

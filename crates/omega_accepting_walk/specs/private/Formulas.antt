@@ -1,5 +1,5 @@
 -- An acceptance formula as a list of nodes, each after its parts.
-use Rattle.std.specs.Prelude.{◌≡◌, ℕ, ◌<◌, false, List, [], ◌∷◌, ◌++◌, length, map, slice_index_or, All}
+use Rattle.std.specs.Prelude.{◌≡◌, ℕ, ◌<◌, ◌≤◌, false, List, [], ◌∷◌, ◌++◌, length, map, slice_index_or, All}
 use Rattle.omega_formula.specs.Acceptance.{AccTree, conjunction, constant, disjunction, fin, inf}
 use Rattle.omega_formula.specs.declared.formula.AccNode.{AccNode}
 use Rattle.omega_formula.specs.declared.formula.AccNode.TheVariants as plain
@@ -67,6 +67,19 @@ trees_with trees (plain.Fin negated set) = fin negated set ∷ trees
 trees_with (right ∷ left ∷ trees) plain.And = conjunction left right ∷ trees
 trees_with (right ∷ left ∷ trees) plain.Or = disjunction left right ∷ trees
 trees_with trees operator = trees
+
+-- how many parts a node has
+abbrev pub part_count : AccNode → ℕ
+part_count (plain.Constant value) = 0
+part_count (plain.Inf negated set) = 0
+part_count (plain.Fin negated set) = 0
+part_count plain.And = 2
+part_count plain.Or = 2
+
+-- formulas have the parts of each of these nodes, put in place of them one after the other, and at last one is left
+abbrev pub HaveParts : List AccTree → List AccNode → Type 0
+HaveParts trees [] = 0 < length trees
+HaveParts trees (node ∷ nodes) = (part_count node ≤ length trees) × HaveParts (trees_with trees node) nodes
 
 -- formulas with those of nodes in place of their parts
 abbrev pub trees_left : List AccTree → List AccNode → List AccTree

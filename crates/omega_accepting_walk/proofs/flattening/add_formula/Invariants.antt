@@ -1,9 +1,10 @@
--- The formulas at the places and the nodes that are left make the formula.
+-- The formulas at the places and the nodes that are left make the formula, and each node has its parts.
 use Rattle.std.proofs.Common.{◌≡◌, [], drop}
-use Rattle.omega_accepting_walk.specs.private.Formulas.{ArePartsOf, trees_at, trees_left}
+use Rattle.omega_accepting_walk.specs.private.Formulas.{ArePartsOf, HaveParts, trees_at, trees_left}
 use Rattle.omega_accepting_walk.proofs.flattening.add_formula.Given as goal
 
 abbrev pub invariant-loop-node : goal.invariant-loop-node
 invariant-loop-node l =
     ArePartsOf l.nodes.items l.places
     × (trees_left (trees_at l.nodes.items l.places) (drop l.node-index l.node-items) ≡ trees_left [] l.node-items)
+    × HaveParts (trees_at l.nodes.items l.places) (drop l.node-index l.node-items)

@@ -10,14 +10,14 @@ pub components-requires-clause-edges : goal.components-requires-clause-edges
 components-requires-clause-edges c =
     let edges : ℕ = length c.in_ok-graph.graph.edges in
     let numbers : c.as_slice.result.now ≡ range_with_len 0 edges =
-    c.as_slice.ensures.value ∙ c.in_ok-edges.ensures.numbers ∙ ap (range_with_len 0) c.len.ensures.count in
+    c.as_slice.ensures.value ∙ c.in_ok-edges.ensures ∙ ap (range_with_len 0) c.len.ensures.count in
     subst (λ (xs : List ℕ). All (λ k. k < edges) xs) (sym numbers) (range_all edges)
 
 pub lead_all-requires-clause-edges : goal.lead_all-requires-clause-edges
 lead_all-requires-clause-edges c =
     let edges : ℕ = length c.in_ok-graph.graph.edges in
     let numbers : c.as_slice.result.now ≡ range_with_len 0 edges =
-    c.as_slice.ensures.value ∙ c.in_ok-edges.ensures.numbers ∙ ap (range_with_len 0) c.len.ensures.count in
+    c.as_slice.ensures.value ∙ c.in_ok-edges.ensures ∙ ap (range_with_len 0) c.len.ensures.count in
     groups_inside c.in_ok-graph.graph c.in_ok-groups.groups
     (subst (λ (xs : List ℕ). AreAmong xs c.in_ok-groups.groups) numbers c.in_ok-groups.ensures.among)
 
@@ -27,7 +27,7 @@ returns-clause-leaders c =
     let groups = c.in_ok-groups.groups in
     let edges : ℕ = length c.in_ok-graph.graph.edges in
     let numbers : c.as_slice.result.now ≡ range_with_len 0 edges =
-    c.as_slice.ensures.value ∙ c.in_ok-edges.ensures.numbers ∙ ap (range_with_len 0) c.len.ensures.count in
+    c.as_slice.ensures.value ∙ c.in_ok-edges.ensures ∙ ap (range_with_len 0) c.len.ensures.count in
     leaders_from c.args.game.now shape c.keeps_limits.ensures.game c.in_ok-graph.ensures.graph groups c.lead_all.new.leaders.items
     (subst (λ (xs : List ℕ). AreAmong xs groups) numbers c.in_ok-groups.ensures.among)
     c.in_ok-groups.ensures.connected
