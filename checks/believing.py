@@ -100,7 +100,7 @@ EXPORTS = {"omega_solve": "solving", "omega_verify": "verifying", "omega_bound":
 # The forms of the lines that begin at the left edge, beside comments: what is used, by names or by a short name of its
 # module; what a library hands on, and its parts; a declaration; a case of a definition, which begins with its name; and
 # the end of a record. All other lines are indented and belong to the definition above them.
-USE = re.compile(r"(?:(?:ghost|pub) )?use (?:Rattle\.|mathlib\.|base\.|denote\.)([\w.]+?)(?:\.\{([^}]*)\}| as (\w+));?$")
+USE = re.compile(r"(?:(?:ghost|pub) )?use (?:Rattle|mathlib|base|denote)\.([\w.]+?)(?:\.\{([^}]*)\}| as (\w+));?$")
 LISTED = re.compile(r"pub use Rattle\.[\w.]+$|pub mod \w+$")
 # Names that a file hands on from another one.
 HANDED = re.compile(r"^(pub use Rattle\..*\})$", re.MULTILINE)
@@ -162,8 +162,9 @@ not among it: they are those of the rows `omega realize` and `omega verify --spe
 **How to read one.** `checks/believing.py check --format pg` prints all definitions of that promise, in an order in
 which nothing is cited before it was read. `checks/believing.py --whole` lists for each promise the files of
 `crates/CRATE/specs/` in this order, how many lines of each file are needed, and the types of the code that they name.
-These are enums and structs without behaviour of their own; they are declared in `src/` of the crates. [definitions.md](definitions.md) says the same in plain words, and [promises.md](promises.md)
-leads from each promise to its clause.
+These are enums and structs without behaviour of their own; they are declared in `src/` of the crates.
+[definitions.md](definitions.md) says the same in plain words, and [promises.md](promises.md) leads from each promise to
+its clause.
 
 **What lies outside**, and has to be trusted or is tested:
 
