@@ -110,6 +110,9 @@ CASE = re.compile(r"([^\s(:{]+)(?: .*)? =(?: |$)")
 END = "}"
 # A constructor of a definition of data.
 PART = re.compile(r"  (?:pub )?([^\s:(]+)\s*:")
+# An argument of a row, in parentheses or without, and one that is a variable.
+ARGUMENT = re.compile(r"\(([^()]*)\)|([^\s()]+)")
+VARIABLE = re.compile(r"[a-z]\w*")
 WORD = re.compile(r"[^\s(){}\[\],;:=λ×→↔¬⊎]+")
 
 
@@ -225,25 +228,32 @@ class Definition:
         return [word.rstrip(".") for line in lines for word in WORD.findall(line.split(" -- ")[0])]
 
     def rows(self, arguments: Rows) -> list[str]:
-        """The rows of a definition by cases whose first argument begins so, without their left sides."""
+        """The rows of a definition by cases whose argument begins so, perhaps after the definition's name and a colon,
+        without their left sides."""
         rows, is_wanted = [], False
         for index, line in enumerate(self.lines):
             begun = self.row_at(index)
             if begun:
-                is_wanted = begins_with_one(begun[0], arguments)
+                is_wanted = self.is_chosen(begun[0], arguments)
             if is_wanted:
                 rows.append(begun[1] if begun else line)
         return rows
 
+    def is_chosen(self, argument: str, beginnings: Rows) -> bool:
+        """Whether the row of this argument is one of those that begin so."""
+        return begins_with_one(argument, beginnings) or begins_with_one(f"{self.name}: {argument}", beginnings)
+
     def row_at(self, index: int) -> tuple[str, str] | None:
-        """The first argument of a row and what stands behind its `=`, or nothing where a line begins no row."""
+        """The argument by which a row is chosen, which is the first that is no variable, and what stands behind its
+        `=`; or nothing where a line begins no row."""
         line = self.lines[index]
         if not line.startswith(f"{self.name} "):
             return None
-        begun = re.match(r"(?:\(([^()]*)\)|([^\s()]+)) .*?=(.*)", line[len(self.name) + 1:])
-        if not begun:
+        left, equals, right = line[len(self.name) + 1:].partition(" =")
+        arguments = [one or other for one, other in ARGUMENT.findall(left)]
+        if not equals or not arguments:
             raise self.not_understood(index)
-        return begun.group(1) or begun.group(2), begun.group(3)
+        return next((one for one in arguments if not VARIABLE.fullmatch(one)), arguments[0]), right
 
 
 Believed = Definition | Place
@@ -476,7 +486,7 @@ def check_rows(answers: Definition) -> None:
     known = (*HANDED_ON, *(one for arguments in COMMANDS.values() for one in arguments))
     for index in range(len(answers.lines)):
         row = answers.row_at(index)
-        if row and not begins_with_one(row[0], known):
+        if row and not answers.is_chosen(row[0], known):
             raise answers.not_understood(index)
 
 
