@@ -5,7 +5,7 @@
     checks/believing.py --whole                  prints for each promise its files, in the order of reading
     checks/believing.py check --format pg        prints the definitions of that promise, in the order of reading
 
-A promise of a subcommand is the rows of `Answers` (crates/omega_run/specs/Respond.antt) for what the subcommand asks
+A promise of a subcommand is the rows of the tables in crates/omega_run/specs/Respond.antt for what the subcommand asks
 for. From the words of these rows the definitions are followed, each to the words of its body, as the
 `use` lines of its file lead. A file stands after the files that it cites. A line of a specs file that has none of the
 forms below is an error, with its file and number.
@@ -128,8 +128,8 @@ A proof shows that the code does what the definitions say. It does not show that
 that is for a reader to judge. This page says for each promise with which definitions to begin, and counts what has to
 be read. It is made from the sources by `checks/believing.py`, and `checks/run pages` fails where it is no longer true.
 
-The promise of a subcommand is its rows of the tables `Answers` and `AnswersBeside` in
-`crates/omega_run/specs/Respond.antt`, the second of which has what reads a file beside the input. A row says what is
+The promise of a subcommand is its rows of the tables in `crates/omega_run/specs/Respond.antt`, of which there is one
+for each kind: what reads one text, a stream, or the texts of a file and of the input. A row says what is
 written, and when nothing is written and which refusal comes. The definitions that these rows cite are those to begin
 with. They, and those that they cite in turn, are all that the promise rests on. A line is a line of a definition or of
 its comment; `use` lines are not counted. The promises share most of their definitions: whoever has read one of them has
