@@ -1,10 +1,11 @@
 #!/usr/bin/env python3
 """What has to be read to believe a promise: the definitions that it rests on, counted in the sources.
 
-    checks/believing.py                          writes docs/believe.md
+    checks/believing.py                          writes docs/believe.md: where each promise begins, and how much it is
+    checks/believing.py --whole                  prints for each promise its files, in the order of reading
     checks/believing.py check --format pg        prints the definitions of that promise, in the order of reading
 
-A promise of a subcommand is the rows of `Answers` (crates/omega_run/specs/Respond.antt) for what the subcommand asks
+A promise of a subcommand is the rows of the tables in crates/omega_run/specs/Respond.antt for what the subcommand asks
 for. From the words of these rows the definitions are followed, each to the words of its body, as the
 `use` lines of its file lead. A file stands after the files that it cites. A line of a specs file that has none of the
 forms below is an error, with its file and number.
@@ -13,12 +14,14 @@ import glob
 import os
 import re
 import sys
+from collections import Counter
 from collections.abc import Callable, Iterable, Iterator
 from dataclasses import dataclass, field
 
 from program import ROOT, Cases
 
 PAGE = os.path.join("docs", "believe.md")
+MOST_LINES = 400
 RESPOND = "omega_run.specs.Respond"
 # What one text is answered, each automaton of a stream, and the texts of a file and of the input; and the row of the
 # first that hands on to the second.
@@ -97,8 +100,7 @@ EXPORTS = {"omega_solve": "solving", "omega_verify": "verifying", "omega_bound":
 # The forms of the lines that begin at the left edge, beside comments: what is used, by names or by a short name of its
 # module; what a library hands on, and its parts; a declaration; a case of a definition, which begins with its name; and
 # the end of a record. All other lines are indented and belong to the definition above them.
-USE = re.compile(r"(?:(?:ghost|pub) )?use (?:Rattle\.|mathlib\.|(?=base\.|denote\.))([\w.]+?)(?:\.\{([^}]*)\}| as (\w+));?$")
-USE = re.compile(r"(?:(?:ghost|pub) )?use (?:Rattle\.|mathlib\.|base\.|denote\.)([\w.]+?)(?:\.\{([^}]*)\}| as (\w+));?$")
+USE = re.compile(r"(?:(?:ghost|pub) )?use (?:Rattle|mathlib|base|denote)\.([\w.]+?)(?:\.\{([^}]*)\}| as (\w+));?$")
 LISTED = re.compile(r"pub use Rattle\.[\w.]+$|pub mod \w+$")
 # Names that a file hands on from another one.
 HANDED = re.compile(r"^(pub use Rattle\..*\})$", re.MULTILINE)
@@ -108,6 +110,9 @@ CASE = re.compile(r"([^\s(:{]+)(?: .*)? =(?: |$)")
 END = "}"
 # A constructor of a definition of data.
 PART = re.compile(r"  (?:pub )?([^\s:(]+)\s*:")
+# An argument of a row, in parentheses or without, and one that is a variable.
+ARGUMENT = re.compile(r"\(([^()]*)\)|([^\s()]+)")
+VARIABLE = re.compile(r"[a-z]\w*")
 WORD = re.compile(r"[^\s(){}\[\],;:=λ×→↔¬⊎]+")
 
 
@@ -120,15 +125,15 @@ WRITTEN = ("written controllers, the laws `written_controllers_are_judged_right`
 FRONT = """# What to read to believe it
 
 A proof shows that the code does what the definitions say. It does not show that the definitions say what is meant:
-that is for a reader to judge. This page counts what such a reader has to read, promise by promise. It is made from
-the sources by `checks/believing.py`, and `checks/run pages` fails where it is no longer true.
+that is for a reader to judge. This page says for each promise with which definitions to begin, and counts what has to
+be read. It is made from the sources by `checks/believing.py`, and `checks/run pages` fails where it is no longer true.
 
-The promise of a subcommand is its rows of the tables `Answers` and `AnswersBeside` in
-`crates/omega_run/specs/Respond.antt`, the second of which has what reads a file beside the input. A row says what is
-written, and when nothing is written and which refusal comes. The definitions that these rows cite, and those
-that they cite in turn, are all that the promise rests on. A line is a line of a definition or of its comment; `use`
-lines are not counted. The promises share most of their definitions: whoever has read one of them has read the greater
-part of the next.
+The promise of a subcommand is its rows of the tables in `crates/omega_run/specs/Respond.antt`, of which there is one
+for each kind: what reads one text, a stream, or the texts of a file and of the input. A row says what is
+written, and when nothing is written and which refusal comes. The definitions that these rows cite are those to begin
+with. They, and those that they cite in turn, are all that the promise rests on. A line is a line of a definition or of
+its comment; `use` lines are not counted. The promises share most of their definitions: whoever has read one of them has
+read the greater part of the next.
 
 """
 
@@ -136,8 +141,8 @@ BEHIND = """The first row is a law of the solvers of the library. The program's 
 words of its own, and the law `answers_are_of_solvers` of `omega_budget` joins the two. The row of `read_words` is its
 contract, by which the words of the command line say what is to be done. The row of `obey` is all that the program does
 once its words are read: it contains every subcommand, the exit statuses, the lines of refusals, progress, and streams
-that fail. The last four rows are the contracts of what the library for C exports; that of `omega_run` is about the
-whole program.
+that fail. The rows of the library are the contracts of what it exports for C; that of `omega_run` is about the whole
+program.
 
 The row of containment is what the answers of `complement`, `meet` and `empty` say of two texts, one after the other. It
 counts what texts, runs and words are. What a product and a complement are is not among it, since the laws say what the
@@ -157,11 +162,12 @@ counter-strategy has is said by definitions of letters alone, in `omega_realizab
 The row of written controllers counts what a text of an automaton is. The answers and refusals of the two commands are
 not among it: they are those of the rows `omega realize` and `omega verify --specification`.
 
-**How to read one.** Each section below lists the files of `crates/CRATE/specs/` in an order in which nothing is cited
-before it was read, and how many lines of each file are needed. `checks/believing.py check --format pg` prints just
-these lines, in this order. Types of the code are enums and structs without behaviour of their own; they are declared
-in `src/` of the crates. [definitions.md](definitions.md) says the same in plain words, and [promises.md](promises.md)
-leads from each promise to its clause.
+**How to read one.** `checks/believing.py check --format pg` prints all definitions of that promise, in an order in
+which nothing is cited before it was read. `checks/believing.py --whole` lists for each promise the files of
+`crates/CRATE/specs/` in this order, how many lines of each file are needed, and the types of the code that they name.
+These are enums and structs without behaviour of their own; they are declared in `src/` of the crates.
+[definitions.md](definitions.md) says the same in plain words, and [promises.md](promises.md) leads from each promise to
+its clause.
 
 **What lies outside**, and has to be trusted or is tested:
 
@@ -179,6 +185,9 @@ leads from each promise to its clause.
   `omega_text` begins as nulls, is not copied, and is written by the library alone. No proof sees the caller;
 - the package in `python/omega/`, which turns Python's values into such arrays and texts, and back. It is not proved;
   `checks/run libomega` and `checks/run python` test it.
+
+**Crate by crate**, in the order of reading: how much of each crate the promises of the subcommands need together, and
+how many of these promises need some of it.
 
 """
 
@@ -219,28 +228,62 @@ class Definition:
         return [word.rstrip(".") for line in lines for word in WORD.findall(line.split(" -- ")[0])]
 
     def rows(self, arguments: Rows) -> list[str]:
-        """The rows of a definition by cases whose first argument begins so, without their left sides."""
+        """The rows of a definition by cases whose argument begins so, perhaps after the definition's name and a colon,
+        without their left sides."""
         rows, is_wanted = [], False
         for index, line in enumerate(self.lines):
             begun = self.row_at(index)
             if begun:
-                is_wanted = begins_with_one(begun[0], arguments)
+                is_wanted = self.is_chosen(begun[0], arguments)
             if is_wanted:
                 rows.append(begun[1] if begun else line)
         return rows
 
+    def is_chosen(self, argument: str, beginnings: Rows) -> bool:
+        """Whether the row of this argument is one of those that begin so."""
+        return begins_with_one(argument, beginnings) or begins_with_one(f"{self.name}: {argument}", beginnings)
+
     def row_at(self, index: int) -> tuple[str, str] | None:
-        """The first argument of a row and what stands behind its `=`, or nothing where a line begins no row."""
+        """The argument by which a row is chosen, which is the first that is no variable, and what stands behind its
+        `=`; or nothing where a line begins no row."""
         line = self.lines[index]
         if not line.startswith(f"{self.name} "):
             return None
-        begun = re.match(r"(?:\(([^()]*)\)|([^\s()]+)) .*?=(.*)", line[len(self.name) + 1:])
-        if not begun:
+        left, equals, right = line[len(self.name) + 1:].partition(" =")
+        arguments = [one or other for one, other in ARGUMENT.findall(left)]
+        if not equals or not arguments:
             raise self.not_understood(index)
-        return begun.group(1) or begun.group(2), begun.group(3)
+        return next((one for one in arguments if not VARIABLE.fullmatch(one)), arguments[0]), right
 
 
 Believed = Definition | Place
+
+
+@dataclass
+class Promise:
+    """A promise: the definitions with which it begins, and all that it rests on."""
+
+    label: str
+    begins: list[Believed]
+    believed: list[Believed]
+
+    def sizes(self) -> tuple[int, int, int]:
+        """How many definitions, lines and files it rests on."""
+        held = definitions_of(self.believed)
+        return len(held), sum(one.size() for one in held), len({one.module for one in held})
+
+    def begins_with(self) -> str:
+        """The definitions with which it begins, with the files that have them."""
+        files: dict[str, dict[str, None]] = {}
+        for one in definitions_of(self.begins):
+            files.setdefault(one.module, {})[f"`{one.name}`"] = None
+        return "; ".join(f"{', '.join(names)} (`{file_of(module).removeprefix('crates/')}`)"
+                         for module, names in sorted(files.items()))
+
+
+def definitions_of(believed: Iterable[Believed]) -> list[Definition]:
+    """Those that are definitions, and no types of the code."""
+    return [one for one in believed if isinstance(one, Definition)]
 
 
 def begins_with_one(argument: str, beginnings: Rows) -> bool:
@@ -443,31 +486,35 @@ def check_rows(answers: Definition) -> None:
     known = (*HANDED_ON, *(one for arguments in COMMANDS.values() for one in arguments))
     for index in range(len(answers.lines)):
         row = answers.row_at(index)
-        if row and not begins_with_one(row[0], known):
+        if row and not answers.is_chosen(row[0], known):
             raise answers.not_understood(index)
 
 
-def promises(sources: Sources) -> Iterator[tuple[str, list[Believed]]]:
+def promises(sources: Sources) -> Iterator[Promise]:
     """Each promise with all that it rests on."""
+
+    def promise(label: str, begins: Iterable[Believed], without: frozenset[str] = frozenset()) -> Promise:
+        begun = list(begins)
+        return Promise(label, begun, sources.reached(begun, without))
+
     for table in TABLES:
         check_rows(sources.held[RESPOND, table])
-    yield HEADLINE_ROW, sources.reached([sources.held[HEADLINE]])
+    yield promise(HEADLINE_ROW, [sources.held[HEADLINE]])
     for label, arguments in COMMANDS.items():
-        yield f"`omega {label}`", sources.reached(sources.rows_cite(arguments))
-    laws = [sources.held[CONTAINMENT, law] for law in CONTAINMENT_LAWS]
-    yield CONTAINED, sources.reached(laws, CONTAINMENT_ANSWERS)
-    yield CONTROLLED, sources.reached([sources.held[CONTROLLERS, law] for law in CONTROLLER_LAWS])
-    laws = [sources.held[WRITTEN_CONTROLLERS, law] for law in WRITTEN_CONTROLLER_LAWS]
-    yield WRITTEN, sources.reached(laws, WRITTEN_CONTROLLER_ANSWERS)
+        yield promise(f"`omega {label}`", sources.rows_cite(arguments))
+    yield promise(CONTAINED, [sources.held[CONTAINMENT, law] for law in CONTAINMENT_LAWS], CONTAINMENT_ANSWERS)
+    yield promise(CONTROLLED, [sources.held[CONTROLLERS, law] for law in CONTROLLER_LAWS])
+    written = [sources.held[WRITTEN_CONTROLLERS, law] for law in WRITTEN_CONTROLLER_LAWS]
+    yield promise(WRITTEN, written, WRITTEN_CONTROLLER_ANSWERS)
     for call, answer in CALLS.items():
-        yield f"answers of {call}", sources.reached([sources.held[answer]])
+        yield promise(f"answers of {call}", [sources.held[answer]])
     read_words = clause_words("crates/omega_command_line/src/words.rt", "read_words")
-    yield "the words of the command line, `read_words`", sources.reached(sources.cited(read_words))
+    yield promise("the words of the command line, `read_words`", sources.cited(read_words))
     obey = clause_words("crates/omega_run/src/obeying.rt", "obey")
-    yield "the whole program, `obey`", sources.reached(sources.cited(obey))
+    yield promise("the whole program, `obey`", sources.cited(obey))
     for export, file in EXPORTS.items():
         clauses = clause_words(f"crates/omega/src/{file}.rt", export)
-        yield f"`{export}` of the library", sources.reached(sources.cited(clauses))
+        yield promise(f"`{export}` of the library", sources.cited(clauses))
 
 
 def types_in(believed: list[Believed]) -> list[str]:
@@ -476,21 +523,16 @@ def types_in(believed: list[Believed]) -> list[str]:
     return sorted({name for module, name in declared if os.path.exists(os.path.join(ROOT, "crates", crate_of(module)))})
 
 
-def sizes_of(believed: list[Believed]) -> tuple[int, int, int]:
-    """How many definitions, lines and files."""
-    held = [one for one in believed if isinstance(one, Definition)]
-    return len(held), sum(one.size() for one in held), len({one.module for one in held})
-
-
-def section_of(sources: Sources, label: str, believed: list[Believed]) -> Iterator[str]:
-    """What is said of a promise: its files crate by crate, each with its lines."""
-    definitions, lines, files = sizes_of(believed)
-    yield f"## {label[0].upper() + label[1:]}\n\n{definitions} definitions, {lines:,} lines in {files} files:\n\n"
-    for crate, modules in in_order(sources, believed):
+def section_of(sources: Sources, promise: Promise) -> Iterator[str]:
+    """What is said of a promise at length: its files crate by crate, each with its lines."""
+    definitions, lines, files = promise.sizes()
+    yield f"## {promise.label[0].upper() + promise.label[1:]}\n\n"
+    yield f"{definitions} definitions, {lines:,} lines in {files} files:\n\n"
+    for crate, modules in in_order(sources, promise.believed):
         listed = ", ".join(f"`{module.partition('.specs.')[2].replace('.', '/')}` {sum(one.size() for one in held)}"
                            for module, held in modules)
         yield f"- `{crate}`: {listed}\n"
-    types = ", ".join(f"`{name}`" for name in types_in(believed))
+    types = ", ".join(f"`{name}`" for name in types_in(promise.believed))
     yield f"\nTypes of the code: {types or 'none'}.\n\n"
 
 
@@ -501,25 +543,43 @@ def unwrapped(text: str) -> str:
 
 def page() -> Iterator[str]:
     """The page, as it has to be."""
+    yield unwrapped(FRONT)
+    yield "| Promise | Begin with | Definitions | Lines | Files |\n|---|---|---|---|---|\n"
     sources = Sources()
     found = list(promises(sources))
-    yield unwrapped(FRONT)
-    yield "| Promise | Definitions | Lines | Files |\n|---|---|---|---|\n"
-    for label, believed in found:
-        definitions, lines, files = sizes_of(believed)
-        beside = BESIDE_HEADLINE if label == HEADLINE_ROW else ""
-        yield f"| {label}{beside} | {definitions} | {lines:,} | {files} |\n"
+    for promise in found:
+        definitions, lines, files = promise.sizes()
+        beside = BESIDE_HEADLINE if promise.label == HEADLINE_ROW else ""
+        yield f"| {promise.label}{beside} | {promise.begins_with()} | {definitions} | {lines:,} | {files} |\n"
     yield "\n" + unwrapped(BEHIND)
-    for label, believed in found:
-        yield from section_of(sources, label, believed)
+    yield from crates_table(sources, [promise for promise in found if promise.label.startswith("`omega ")])
+
+
+def crates_table(sources: Sources, found: list[Promise]) -> Iterator[str]:
+    """The crates in the order of reading, each with what these promises need of it, and how many of them do."""
+    needed = {(one.module, one.name): one for promise in found for one in definitions_of(promise.believed)}
+    needing = Counter(crate for promise in found
+                      for crate in {crate_of(one.module) for one in definitions_of(promise.believed)})
+    yield "| Crate | Definitions | Lines | Promises |\n|---|---|---|---|\n"
+    for crate, modules in in_order(sources, list(needed.values())):
+        held = [one for _, definitions in modules for one in definitions]
+        yield f"| `{crate}` | {len(held)} | {sum(one.size() for one in held):,} | {needing[crate]} |\n"
+
+
+def whole() -> Iterator[str]:
+    """What the page does not say: the files of each promise, in the order of reading."""
+    sources = Sources()
+    for promise in promises(sources):
+        yield from section_of(sources, promise)
 
 
 def printed(wanted: str) -> Iterator[str]:
     """The definitions of a promise themselves, in the order of reading."""
     sources = Sources()
-    for label, believed in promises(sources):
-        if wanted in label.split("`") or f"omega {wanted}" in label.split("`") or wanted == label:
-            for _, modules in in_order(sources, believed):
+    for promise in promises(sources):
+        names = [*promise.label.split("`"), promise.label]
+        if wanted in names or f"omega {wanted}" in names:
+            for _, modules in in_order(sources, promise.believed):
                 for module, held in modules:
                     yield f"\n==== {file_of(module)}\n"
                     for one in held:
@@ -537,12 +597,14 @@ def believing_checks() -> Cases:
     except ValueError as why:
         yield PAGE, str(why)
         return
+    yield f"{PAGE}, its length", None if came.count("\n") <= MOST_LINES else f"it has over {MOST_LINES} lines"
     yield PAGE, None if good else "the sources say something else: run checks/believing.py, and read what changed"
 
 
 def main() -> None:
     if len(sys.argv) > 1:
-        print("".join(printed(" ".join(sys.argv[1:]))), end="")
+        asked = " ".join(sys.argv[1:])
+        print("".join(whole() if asked == "--whole" else printed(asked)), end="")
         return
     made = "".join(page())
     with open(os.path.join(ROOT, PAGE), "w") as file:

@@ -14,7 +14,7 @@ CRATES = os.path.join(ROOT, "crates")
 GATE, OTHERS = "must-fail", "wrong"
 TIERS = (GATE, OTHERS)
 # What the gate tries, at most: each crate that has such edits is proved twice, so these crates are few and small.
-MOST_EDITS, MOST_CRATES = 50, 14
+MOST_EDITS, MOST_CRATES = 50, 13
 NAME = re.compile(r"[a-z][a-z0-9_]*\.edit")
 # The page that lists them, and a row of its table: the crate, or nothing where it is that of the row above, and names.
 PAGE = os.path.join(ROOT, "docs", "testing.md")

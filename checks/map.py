@@ -14,8 +14,13 @@ wrong bodies are:
     - Stands on: the nearest crates of its line in crates.txt; of the toolchain, its libraries.
     - Tests: the crates of tests that call it, and the families of `checks/run` that try it.
     - Wrong bodies: the folders that have them, or `none:` and why.
+    - Begin with: `function`, in `src/file.rt`, by whose contract the rest is understood.
+    - A contract sees: the files of `specs/` that are not in `private`.
+    - Not proved: what a user might expect and no contract says.
+    - All else may change.
 
-A crate is nearest if no other crate of the line stands on it.
+A crate is nearest if no other crate of the line stands on it. After the fourth bullet a README.md may say more, in
+bullets and paragraphs of its own, and may have several bullets `Begin with` and `Not proved`.
 """
 import glob
 import os
@@ -28,8 +33,16 @@ from program import ROOT
 
 PAGE = os.path.join("docs", "map.md")
 FORM = re.compile(r"# (?P<name>\w+)\n\n(?P<purpose>[^\n]+)\n\n- Apart: (?P<apart>[^\n]+)\n"
-                  r"- Stands on: (?P<stands>[^\n]+)\n- Tests: (?P<tests>[^\n]+)\n- Wrong bodies: (?P<wrong>[^\n]+)\n")
+                  r"- Stands on: (?P<stands>[^\n]+)\n- Tests: (?P<tests>[^\n]+)\n- Wrong bodies: (?P<wrong>[^\n]+)\n"
+                  r"(?P<more>.*)", re.DOTALL)
 FOLDERS = ("must-fail", "wrong")
+# The bullets behind the first four: where to begin, of which the name and the file are looked up; what a contract sees,
+# which the folders decide; what is not proved; and the last.
+BEGIN, NOT_PROVED, ELSE = "- Begin with: ", "- Not proved: ", "- All else may change."
+BEGIN_FORM = re.compile(re.escape(BEGIN) + r"`(?:\w+::)?(\w+)`, in `(src/[\w/]+\.rt)`.*\.")
+SEES = "- A contract sees: "
+# A line of a file that has no definitions and lists other files.
+LISTING = re.compile(r"pub (?:mod|use) .*| .*|\}|--.*|")
 # The lines of the page between which its tables stand.
 MARKS = {
     "crates": ("<!-- checks/map.py makes the tables of crates. -->\n\n",
@@ -58,6 +71,11 @@ class Readme:
     stands: str
     tests: str
     wrong: str
+    more: str
+
+    def bullets(self, title: str) -> list[str]:
+        """The lines behind the first four bullets that begin so."""
+        return [line for line in self.more.splitlines() if line.startswith(title)]
 
 
 def path_of(name: str) -> str:
@@ -131,6 +149,21 @@ def wrong_bodies(readme: Readme) -> str:
     return readme.wrong if readme.wrong.startswith("none: ") else "none."
 
 
+def seen_by_contracts(name: str) -> str:
+    """The bullet that says which files of definitions the public contracts of a crate may cite."""
+    at = os.path.join(ROOT, "crates", name, "specs")
+    paths = sorted(os.path.relpath(path, at) for path in glob.glob(os.path.join(at, "**", "*.antt"), recursive=True))
+    seen = [path for path in paths if not path.startswith("private") and not is_listing(os.path.join(at, path))]
+    said = f"in `specs/` {ticked(seen)}" if seen else "no definitions but those of the crates below"
+    return f"{SEES}{said}."
+
+
+def is_listing(path: str) -> bool:
+    """Whether a file of definitions has none, and lists other files."""
+    with open(path) as file:
+        return all(LISTING.fullmatch(line) for line in file.read().splitlines())
+
+
 def is_of_tests(name: str) -> bool:
     return name.endswith("_tests")
 
@@ -153,6 +186,31 @@ def fault_of_tests(row: Row, readme: Readme, by_name: dict[str, Row]) -> str | N
     return None
 
 
+def fault_of_begin(name: str, line: str) -> str | None:
+    """What is wrong with a bullet that says where to begin."""
+    found = BEGIN_FORM.fullmatch(line)
+    if not found:
+        return f"`{line}` does not have the form `{BEGIN}`NAME`, in `src/FILE.rt`.`"
+    item, path = found.groups()
+    try:
+        with open(os.path.join(ROOT, "crates", name, path)) as file:
+            declared = re.search(rf"\b(?:fn|struct|enum|trait) {item}\b", file.read())
+    except FileNotFoundError:
+        return f"it begins with {path}, which is not there"
+    return None if declared else f"{path} declares no {item}"
+
+
+def fault_of_more(readme: Readme) -> str | None:
+    """What is wrong with what a README.md says behind its first four bullets."""
+    begins = readme.bullets(BEGIN)
+    if not begins or not readme.bullets(NOT_PROVED) or readme.bullets(ELSE) != [ELSE]:
+        return f"it lacks one of the bullets `{BEGIN}`, `{NOT_PROVED}`, `{ELSE}`, or has the last more than once"
+    seen = seen_by_contracts(readme.name)
+    if readme.bullets(SEES) != [seen]:
+        return f"its folder of definitions says `{seen}`"
+    return next((fault for line in begins if (fault := fault_of_begin(readme.name, line))), None)
+
+
 def fault_of_readme(row: Row, by_name: dict[str, Row]) -> str | None:
     """What is wrong with the README.md of a crate."""
     readme = readme_of(row.name)
@@ -164,7 +222,7 @@ def fault_of_readme(row: Row, by_name: dict[str, Row]) -> str | None:
         return f"crates.txt says that it stands on {stands_on(row, by_name)}"
     if readme.wrong != wrong_bodies(readme) or readme.wrong == "none.":
         return f"its folders of wrong bodies are {wrong_in(row.name)}; if there is none, it says why after `none: `"
-    return fault_of_tests(row, readme, by_name)
+    return fault_of_tests(row, readme, by_name) or fault_of_more(readme)
 
 
 def crates_table(found: list[Row], readmes: dict[str, Readme]) -> str:
@@ -217,6 +275,17 @@ def map_checks() -> Iterator[tuple[str, str | None]]:
         yield f"the tables of {PAGE}", None if came == page(came) else "they differ: run checks/map.py"
 
 
+def mended_more(readme: Readme) -> str:
+    """What stands behind the first four bullets, with one line on what a contract sees, after where to begin, and the
+    last bullet once, after what is not proved."""
+    lines = [line for line in readme.more.splitlines() if not line.startswith((SEES, ELSE))]
+    for title, line in ((BEGIN, seen_by_contracts(readme.name)), (NOT_PROVED, ELSE)):
+        at = max((index for index, it in enumerate(lines) if it.startswith(title)), default=None)
+        if at is not None:
+            lines.insert(at + 1, line)
+    return "".join(line + "\n" for line in lines)
+
+
 def mend_readme(row: Row, by_name: dict[str, Row]) -> None:
     """Writes the lines of a README.md that crates.txt and the folders decide."""
     readme = readme_of(row.name)
@@ -225,7 +294,7 @@ def mend_readme(row: Row, by_name: dict[str, Row]) -> None:
     with open(path_of(row.name), "w") as file:
         file.write(f"# {row.name}\n\n{readme.purpose}\n\n- Apart: {readme.apart}\n"
                    f"- Stands on: {stands_on(row, by_name)}\n- Tests: {readme.tests}\n"
-                   f"- Wrong bodies: {wrong_bodies(readme)}\n")
+                   f"- Wrong bodies: {wrong_bodies(readme)}\n{mended_more(readme)}")
 
 
 def main() -> None:

@@ -6,8 +6,8 @@ this list are what the sources make, comments have at most 120 columns.
 Commands that need `dot` or `parallel` are passed over where these are not installed. What is drawn for `dot` is compared
 with the picture of that name in docs/pictures/ in any case, and each picture is made on some page. The README links
 every page. The examples of docs/library.md stand in the crate that is proved, word for word. Each crate's README.md
-agrees with crates.txt. The manual names the subcommands, options, refusals, statuses and numbers that the help names,
-and no others.
+agrees with crates.txt. The files of crates that a page names are there. The manual names the subcommands, options,
+refusals, statuses and numbers that the help names, and no others.
 
 A command stands in an indented block, behind `$ `. It goes on with the next line where it ends with a backslash or a
 pipe, or inside single quotes. Up to the next command stands what it writes, on standard output and standard error
@@ -147,6 +147,13 @@ def link_checks(label: str, text: str) -> Cases:
             yield f"{label}: the link {name}", None if os.path.exists(path) else f"{target} is not there"
 
 
+def file_checks(label: str, text: str) -> Cases:
+    """The files and folders of crates that a page names are there."""
+    named = re.findall(r"`(crates/(?!NAME|CRATE)[\w./-]+)`", text)
+    missing = [path for path in named if not os.path.exists(os.path.join(ROOT, path))]
+    yield f"{label}: the files of crates that it names", f"{', '.join(missing)} is not there" if missing else None
+
+
 def made_checks(texts: Iterable[str]) -> Cases:
     """Each picture is made by a command of a page."""
     made = {name for text in texts for block in indented_blocks(text, 4) for command, _ in commands_of(block)
@@ -206,6 +213,7 @@ def page_checks() -> Cases:
         for line in unrun_lines(text):
             yield f"{label}: {line}", "it stands in a block that is not run"
         yield from link_checks(label, text)
+        yield from file_checks(label, text)
     for label in texts:
         if label.startswith("docs/"):
             yield f"README.md links {label}", None if f"({label})" in texts["README.md"] else "it does not"
