@@ -1,4 +1,3 @@
 -- What only the reader of lenient texts keeps and promises.
 pub mod Automaton
 pub mod Reader
-pub mod Run

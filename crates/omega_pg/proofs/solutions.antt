@@ -9,5 +9,4 @@ pub mod RoundTrip
 pub mod Steps
 pub mod Texts
 pub mod WinnerLines
-pub mod WinnerSteps
 pub mod WinnerTexts

@@ -14,8 +14,9 @@ use Rattle.omega_lenient.specs.declared.kind.LenientKind.{LenientKind}
 use Rattle.omega_lenient.specs.private.Automaton.{IsReachedBy, LenientState, MayEnd, Takes, after_semicolon, ended_specs, initial, run, step}
 use Rattle.omega_lenient.specs.declared.stage.Stage.{Stage}
 use Rattle.omega_lenient.specs.declared.stage.Stage.TheVariants.{Comma, Ended, HeaderNumber, HeaderWord, Identifier, Listed, Named, Opening, Owner, Priority, StartNumber, StartWord}
-use Rattle.omega_lenient.proofs.grammar.Deciding.{Completes, Decides, Reads, refused_from_run, run_taken, symbols_of, unfinished_from_run}
-use Rattle.omega_lenient.proofs.grammar.Runs.{run_by_push, run_by_shown, run_by_stopped}
+use Rattle.omega_pg.proofs.reader.Deciding.{Completes, Decides, Reads, refused_from_run, run_taken, unfinished_from_run}
+use Rattle.omega_lenient.proofs.grammar.Symbols.{symbols_of}
+use Rattle.omega_pg.proofs.reader.Runs.{run_by_push, run_by_shown, run_by_stopped}
 use Rattle.omega_lenient.proofs.grammar.Shown.{AreNodes, Shows, ShowsAt, at, semicolon_shown, step_shown}
 use Rattle.omega_lenient.proofs.grammar.Spelled.{run_whole}
 
@@ -176,7 +177,7 @@ ended_or_open Ended = inl tt
 ended_or_open _ = inr (λ ended. ended)
 
 -- the automaton decides the grammar
-pub decides_lenient : Decides SpellsLenient step initial IsEnded specs_of
+pub decides_lenient : Decides lenient_syntax step initial IsEnded specs_of
 decides_lenient = record {
   reads = reads;
   text = SpellsLenient-from_run;

@@ -19,7 +19,8 @@ use Rattle.omega_lenient.specs.Plain.{plain_text}
 use Rattle.omega_lenient.specs.Refusing.{RefusesLenient}
 use Rattle.omega_lenient.specs.Text.{IsLenientGameText}
 use Rattle.omega_lenient.proofs.grammar.Decided.{decides_lenient}
-use Rattle.omega_lenient.proofs.grammar.Deciding.{decided_from_run, symbols_of, texts_one}
+use Rattle.omega_pg.proofs.reader.Deciding.{decided_from_run, texts_one}
+use Rattle.omega_lenient.proofs.grammar.Symbols.{symbols_of}
 use Rattle.omega_lenient.proofs.grammar.Kept.{some_specs}
 use Rattle.omega_lenient.proofs.grammar.WellFormed.{IsSound, sound_symbols, spelled_well_formed}
 use Rattle.omega_lenient.proofs.texts.Plain.{places_kept}

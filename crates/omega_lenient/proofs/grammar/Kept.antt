@@ -18,7 +18,8 @@ use Rattle.omega_lenient.specs.Refusing.{IsLenientReadRefusal}
 use Rattle.omega_lenient.specs.Symbols.{LenientSymbol}
 use Rattle.omega_lenient.specs.Text.{IsLenientGameText}
 use Rattle.omega_lenient.specs.private.Automaton.{IsReachedBy, IsReady, LenientState}
-use Rattle.omega_lenient.proofs.grammar.Deciding.{ended_from_run, symbols_of}
+use Rattle.omega_pg.proofs.reader.Deciding.{ended_from_run}
+use Rattle.omega_lenient.proofs.grammar.Symbols.{symbols_of}
 use Rattle.omega_lenient.proofs.grammar.Decided.{SpellsLenient-from_run, decides_lenient, specs_of}
 
 -- the plain text was read, and its tokens lead to this state

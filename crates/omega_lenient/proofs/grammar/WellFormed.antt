@@ -21,7 +21,7 @@ use Rattle.omega_lenient.specs.Grammar.{EndsOpenly, name_symbols, node_symbols, 
 use Rattle.omega_lenient.specs.Symbols.{LenientSymbol, comma, name, number, parity, paritysol, semicolon, start, symbol, symbol_of}
 use Rattle.omega_lenient.specs.declared.kind.LenientKind.{LenientKind}
 use Rattle.omega_lenient.specs.declared.kind.LenientKind.TheVariants.{Strict}
-use Rattle.omega_lenient.proofs.grammar.Deciding.{symbols_of}
+use Rattle.omega_lenient.proofs.grammar.Symbols.{symbols_of}
 use Rattle.omega_lenient.proofs.grammar.Quoted.{between-quoted, name_byte}
 
 -- a symbol that a token may be: a number within the limit, or a name of the allowed bytes

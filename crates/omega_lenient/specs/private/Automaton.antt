@@ -7,7 +7,7 @@ use Rattle.omega_parity_game.specs.declared.player.Player.{Player}
 use Rattle.omega_parity_game.specs.declared.player.Player.TheVariants.{One, Zero}
 use Rattle.omega_lenient.specs.DeadEnds.{losing_priority}
 use Rattle.omega_lenient.specs.Symbols.{LenientSymbol, comma, name, number, parity, paritysol, semicolon, start}
-use Rattle.omega_lenient.specs.private.Run.{run_by}
+use Rattle.omega_pg.specs.private.reader.Run.{run_by}
 use Rattle.omega_lenient.specs.declared.stage.Stage.{Stage}
 use Rattle.omega_lenient.specs.declared.stage.Stage.TheVariants.{Comma, Ended, HeaderNumber, HeaderWord, Identifier, Listed, Named, Opening, Owner, Priority, StartNumber, StartWord}
 

@@ -89,7 +89,7 @@ ended_or_open Ended = inl refl
 ended_or_open _ = inr (λ e. cc)
 
 -- the automaton decides the grammar
-pub decides_games : Decides SpellsGame step initial IsEnded raw_of
+pub decides_games : Decides game_syntax step initial IsEnded raw_of
 decides_games = record {
   reads = reads;
   text = SpellsGame-from_run;

@@ -2,11 +2,10 @@
 use Rattle.std.proofs.Common.{◌≡◌, Option, Some, None, IfSome, List, [], ◌∷◌, ◌++◌, refl, ap, sym, ◌∙◌, subst, append_assoc, append-nil}
 use Rattle.std.specs.Prelude.{option_and_then}
 use Rattle.omega_pg.specs.private.reader.Run.{run_by}
-use Rattle.omega_pg.specs.Symbols.{PgSymbol}
 
-module _ {State : Type 0} (step : State → PgSymbol → Option State) where
+module _ {State Symbol : Type 0} (step : State → Symbol → Option State) where
   -- a run over two lists is a run over the one and then over the other
-  pub run_by-append : (state : State) (xs ys : List PgSymbol)
+  pub run_by-append : (state : State) (xs ys : List Symbol)
       → run_by step state (xs ++ ys) ≡ option_and_then (λ next. run_by step next ys) (run_by step state xs)
   run_by-append state [] ys = refl
   run_by-append state (x ∷ xs) ys =
@@ -16,12 +15,12 @@ module _ {State : Type 0} (step : State → PgSymbol → Option State) where
       [ None ↦ refl | Some next ↦ run_by-append next xs ys ]
 
   -- a run that went on from where another ended
-  pub run_by_on : (state middle : State) (xs ys : List PgSymbol) → run_by step state xs ≡ Some middle
+  pub run_by_on : (state middle : State) (xs ys : List Symbol) → run_by step state xs ≡ Some middle
       → run_by step state (xs ++ ys) ≡ run_by step middle ys
   run_by_on state middle xs ys e = run_by-append state xs ys ∙ ap (option_and_then (λ next. run_by step next ys)) e
 
   -- a run over one symbol more
-  pub run_by_push : (state middle : State) (xs : List PgSymbol) (x : PgSymbol) → run_by step state xs ≡ Some middle
+  pub run_by_push : (state middle : State) (xs : List Symbol) (x : Symbol) → run_by step state xs ≡ Some middle
       → run_by step state (xs ++ x ∷ []) ≡ step middle x
   run_by_push state middle xs x e = run_by_on state middle xs (x ∷ []) e ∙ alone (step middle x)
     where
@@ -30,13 +29,13 @@ module _ {State : Type 0} (step : State → PgSymbol → Option State) where
       alone (Some next) = refl
 
   -- a run that stopped stays so
-  pub run_by_stopped : (state : State) (xs ys : List PgSymbol) → run_by step state xs ≡ None → run_by step state (xs ++ ys) ≡ None
+  pub run_by_stopped : (state : State) (xs ys : List Symbol) → run_by step state xs ≡ None → run_by step state (xs ++ ys) ≡ None
   run_by_stopped state xs ys e = run_by-append state xs ys ∙ ap (option_and_then (λ next. run_by step next ys)) e
 
   -- what holds of each step holds of a run
-  pub run_by_shown : (Shows : State → List PgSymbol → Type 0)
-      → ((state : State) (xs : List PgSymbol) (x : PgSymbol) → Shows state xs → IfSome (step state x) (λ next. Shows next (xs ++ x ∷ [])))
-      → (state : State) (xs ys : List PgSymbol) → Shows state xs → IfSome (run_by step state ys) (λ next. Shows next (xs ++ ys))
+  pub run_by_shown : (Shows : State → List Symbol → Type 0)
+      → ((state : State) (xs : List Symbol) (x : Symbol) → Shows state xs → IfSome (step state x) (λ next. Shows next (xs ++ x ∷ [])))
+      → (state : State) (xs ys : List Symbol) → Shows state xs → IfSome (run_by step state ys) (λ next. Shows next (xs ++ ys))
   run_by_shown Shows step_shown state xs [] shows = subst (Shows state) (sym (append-nil xs)) shows
   run_by_shown Shows step_shown state xs (y ∷ ys) shows =
       elim (step state y)

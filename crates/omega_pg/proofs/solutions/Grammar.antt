@@ -6,7 +6,7 @@ use Rattle.std.proofs.lemmas.List.Concat.{flat_map-append}
 use Rattle.omega_parity_game.specs.declared.player.Player.{Player}
 use Rattle.omega_parity_game.specs.declared.player.Player.TheVariants.{One, Zero}
 use Rattle.omega_pg.specs.private.game.reader.Automaton.{player_of}
-use Rattle.omega_pg.specs.solution.Grammar.{SolutionLine, RawSolution, SpellsSolution, line_symbols}
+use Rattle.omega_pg.specs.solution.Grammar.{SolutionLine, RawSolution, SpellsSolution, line_symbols, solution_syntax}
 use Rattle.omega_pg.specs.private.solution.reader.Automaton.{SolutionReaderState, after_number, after_semicolon, after_word, initial, run, step, to_stage}
 use Rattle.omega_pg.specs.Symbols.{PgSymbol, comma, name, number, parity, paritysol, semicolon}
 use Rattle.omega_parity_game.specs.Player.{player_number}
@@ -165,7 +165,7 @@ ended_or_open Ended = inl refl
 ended_or_open _ = inr (λ e. cc)
 
 -- the automaton decides the grammar
-pub decides_solutions : Decides SpellsSolution step initial IsEnded raw_of
+pub decides_solutions : Decides solution_syntax step initial IsEnded raw_of
 decides_solutions = record {
   reads = reads;
   text = SpellsSolution-from_run;

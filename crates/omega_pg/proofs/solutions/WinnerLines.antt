@@ -27,13 +27,6 @@ more-named lines more rest =
 
 -- ---- one line more
 
--- lines after those that do not name the first nodes do not either
-pub winner_wrong : (nodes : List Node) (lines more : List SolutionLine) (good : Bool) (winners : List Player) → good ≡ false
-    → AreKept nodes lines good winners → AreKept nodes (lines ++ more) good winners
-winner_wrong nodes lines more true winners e kept = absurd (let clash : true ≡ false = e in cc)
-winner_wrong nodes lines more false winners e kept =
-    λ named. kept (identifiers_of more ++ named.0, sym (more-named lines more named.0) ∙ named.1)
-
 -- the identifier at the place after those of a beginning
 at_seam : (nodes : List Node) (front rest : List ℕ) (id : ℕ) → front ++ id ∷ rest ≡ identifiers nodes → IsNext nodes (length front) id
 at_seam nodes front rest id whole =

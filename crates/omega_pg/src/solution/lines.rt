@@ -3,6 +3,7 @@ ghost use Rattle.omega_parity_game.specs.Game.{identifier_at};
 ghost use Rattle.omega_pg.specs.solution.Grammar.{line_for};
 ghost use Rattle.omega_pg.specs.private.solution.reader.Lines.{IsWrongLine, Says};
 
+use crate::solution::solution_lines::SolutionLines;
 use omega_parity_game::{ForwardGame, Player, Refusal, Seq, Solution, Strategy, TaskFault};
 use std::alloc::Global;
 
@@ -19,7 +20,7 @@ pub(crate) struct Lines {
 impl Lines {
     ghost use Rattle.std.specs.Prelude.{List};
     ghost use Rattle.omega_pg.specs.solution.Grammar.{SolutionLine};
-    ghost use Rattle.omega_pg.specs.private.solution.reader.Lines.{AddsLine, IsOutcome, KeepsLines, entry_of};
+    ghost use Rattle.omega_pg.specs.private.solution.reader.Lines.{IsOutcome, KeepsLines, entry_of};
     ghost use Rattle.omega_parity_game.specs.declared.player.Player.TheVariants.{One, Zero};
 
     /// Makes an empty list of lines.
@@ -34,30 +35,6 @@ impl Lines {
             winners: Vec::new(alloc),
             zero: Vec::new(alloc),
             one: Vec::new(alloc),
-        }
-    }
-
-    /// Adds the line of `id`, `winner` and `successor`. It is kept if it is one of a solution and so were all before.
-    pub(crate) fn add(
-        &mut self,
-        game: &ForwardGame,
-        id: u32,
-        winner: Player,
-        successor: Option<u32>,
-    ) -> Result<(), Refusal>
-        ensures judged { OnOk result (AddsLine game.now (line_for id winner successor) self.old self.new) }
-        ensures memory { IsOkUnless result Refusal.Memory }
-    {
-        if !self.good {
-            return Ok(());
-        }
-        let place = self.winners.len();
-        match said_choice(game, place, id, winner, successor) {
-            Some(choice) => self.keep(winner, game.owner(place as u32), choice),
-            None => {
-                self.good = false;
-                Ok(())
-            }
         }
     }
 
@@ -98,6 +75,33 @@ impl Lines {
         self.zero.push(zero)?;
         self.one.push(one)?;
         Ok(())
+    }
+}
+
+impl SolutionLines for Lines {
+    ghost use Rattle.omega_pg.specs.private.solution.reader.Lines.{KeepsLines};
+
+    ghost keeps = { KeepsLines };
+
+    /// Adds the line of `id`, `winner` and `successor`. It is kept if it is one of a solution and so were all before.
+    fn add(
+        &mut self,
+        game: &ForwardGame,
+        id: u32,
+        winner: Player,
+        successor: Option<u32>,
+    ) -> Result<(), Refusal> {
+        if !self.good {
+            return Ok(());
+        }
+        let place = self.winners.len();
+        match said_choice(game, place, id, winner, successor) {
+            Some(choice) => self.keep(winner, game.owner(place as u32), choice),
+            None => {
+                self.good = false;
+                Ok(())
+            }
+        }
     }
 }
 

@@ -1,38 +1,38 @@
-ghost use Rattle.std.specs.Prelude.{◌≡◌, ◌↔◌, IfOk, IsOkUnless, IsTrue};
+ghost use Rattle.std.specs.Prelude.{◌≡◌, ◌↔◌, [], IfOk, IsOkUnless, IsTrue};
 ghost use Rattle.omega_pg.specs.private.solution.reader.Automaton.{stage_after_number, stage_after_word};
 
-use crate::solution::lines::Lines;
+use crate::solution::solution_lines::SolutionLines;
 use crate::solution::stage::Stage;
 use omega_parity_game::{ForwardGame, Player, Refusal};
 use omega_text::{PgKind, Token, TokenReader};
-use std::alloc::Global;
 
-/// A reader of texts of a game's solution.
+/// A reader of texts of a game's solution, which keeps of their lines what `L` keeps.
 #[derive(Drop)]
-pub(crate) struct Reader<'g> {
+pub(crate) struct Reader<'g, L> {
     pub(crate) game: &'g ForwardGame,
     pub(crate) stage: Stage,
     /// The number of the header, once it has ended.
     pub(crate) greatest: u32,
-    pub(crate) lines: Lines,
+    pub(crate) lines: L,
 }
 
-impl<'g> Reader<'g> {
+impl<'g, L: SolutionLines> Reader<'g, L> {
     ghost use Rattle.omega_pg.specs.Symbols.{semicolon};
     ghost use Rattle.omega_pg.specs.private.solution.reader.Automaton.{initial};
     ghost use Rattle.omega_pg.specs.private.solution.reader.Reader.{GoesOn, Takes};
     ghost use Rattle.omega_pg.specs.private.solution.reader.Reading.{Keeps};
 
-    /// Makes a reader before the first token of a text of a solution of `game`.
-    pub(crate) fn new(alloc: Global, game: &'g ForwardGame) -> Self
+    /// Makes a reader before the first token of a text of a solution of `game`, with no line in `lines`.
+    pub(crate) fn new(game: &'g ForwardGame, lines: L) -> Self
+        requires { L.keeps game.now [] lines }
         ensures game { result.game.now ≡ game.now }
-        ensures keeps { Keeps game.now initial result.stage result.greatest result.lines }
+        ensures keeps { Keeps L.keeps game.now initial result.stage result.greatest result.lines }
     {
         Reader {
             game,
             stage: Stage::Start,
             greatest: 0,
-            lines: Lines::new(alloc),
+            lines,
         }
     }
 
@@ -52,7 +52,7 @@ impl<'g> Reader<'g> {
 
     /// Takes a semicolon, and returns false if no text goes on so.
     fn take_semicolon(&mut self) -> Result<bool, Refusal>
-        ensures takes { IfOk result (λ taken. Takes semicolon self.old taken self.new) }
+        ensures takes { IfOk result (λ taken. Takes L.keeps semicolon self.old taken self.new) }
         ensures game { self.new.game.now ≡ self.old.game.now }
         ensures memory { IsOkUnless result Refusal.Memory }
     {
@@ -81,7 +81,7 @@ impl<'g> Reader<'g> {
     }
 }
 
-impl TokenReader<PgKind> for Reader<'_> {
+impl<L: SolutionLines> TokenReader<PgKind> for Reader<'_, L> {
     ghost use Rattle.omega_pg.specs.Symbols.{pg_symbol_of};
     ghost use Rattle.omega_pg.specs.solution.Grammar.{solution_syntax};
     ghost use Rattle.omega_pg.specs.private.solution.reader.Reader.{HasBecome, Takes};
@@ -89,14 +89,15 @@ impl TokenReader<PgKind> for Reader<'_> {
     ghost use Rattle.omega_text.specs.Lexeme.{lexeme_of};
     ghost use Rattle.omega_text.specs.Syntax.{TokensBegin, TokensComplete};
 
-    ghost becomes = { HasBecome };
+    ghost becomes = { HasBecome L.keeps };
 
     ghost begins = { TokensBegin solution_syntax };
 
     ghost completes = { TokensComplete solution_syntax };
 
     fn take(&mut self, token: &Token<'_, PgKind>) -> Result<bool, Refusal>
-        ensures takes { IfOk result (λ taken. Takes (pg_symbol_of (lexeme_of token.now)) self.old taken self.new) }
+        ensures takes { IfOk result
+            (λ taken. Takes L.keeps (pg_symbol_of (lexeme_of token.now)) self.old taken self.new) }
         ensures game { self.new.game.now ≡ self.old.game.now }
         ensures memory { IsOkUnless result Refusal.Memory }
     {

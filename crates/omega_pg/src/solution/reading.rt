@@ -2,6 +2,7 @@ ghost use Rattle.std.specs.Prelude.{IfErr, IfOk};
 ghost use Rattle.omega_pg.specs.solution.Refusing.{IsReadSolutionRefusal};
 ghost use Rattle.omega_pg.specs.solution.Text.{IsSolutionText};
 
+use crate::solution::lines::Lines;
 use crate::solution::reader::Reader;
 use omega_parity_game::{ForwardGame, Refusal, Solution};
 use omega_text::{PgKind, read_text};
@@ -26,6 +27,6 @@ pub fn read_solution(alloc: Global, game: &ForwardGame, bytes: &[u8]) -> Result<
         greatest,
         lines,
         ..
-    } = read_text::<PgKind, Reader>(Reader::new(alloc, game), bytes)?;
+    } = read_text::<PgKind, Reader<Lines>>(Reader::new(game, Lines::new(alloc)), bytes)?;
     lines.finish(game, greatest)
 }

@@ -1,6 +1,7 @@
-ghost use Rattle.std.specs.Prelude.{◌≡◌, ◌↔◌, ℕ, [], true, Option, IfErr, IfOk, IsOkUnless, IsTrue, OnOk};
+ghost use Rattle.std.specs.Prelude.{◌≡◌, ◌↔◌, [], true, IfErr, IfOk, IsTrue};
 ghost use Rattle.omega_pg.specs.private.solution.winners.Lines.{IsNext};
 
+use crate::solution::solution_lines::SolutionLines;
 use omega_parity_game::{ForwardGame, Player, Refusal, TaskFault};
 use std::alloc::Global;
 
@@ -16,9 +17,9 @@ impl WinnerLines {
     ghost use Rattle.std.specs.Prelude.{List};
     ghost use Rattle.omega_text.specs.declared.refusal.Refusal.TheVariants.{Task};
     ghost use Rattle.omega_text.specs.declared.refusal.task.TaskFault.TheVariants.{BadSolution};
-    ghost use Rattle.omega_pg.specs.solution.Grammar.{SolutionLine, line_for};
+    ghost use Rattle.omega_pg.specs.solution.Grammar.{SolutionLine};
     ghost use Rattle.omega_pg.specs.solution.Winners.{NamesNodes, NamesOthers, winners_of};
-    ghost use Rattle.omega_pg.specs.private.solution.winners.Lines.{AddsWinner, KeepsWinners};
+    ghost use Rattle.omega_pg.specs.private.solution.winners.Lines.{KeepsWinners};
 
     /// Makes an empty list of lines.
     pub(crate) fn new(alloc: Global) -> Self
@@ -29,24 +30,6 @@ impl WinnerLines {
             good: true,
             winners: Vec::new(alloc),
         }
-    }
-
-    /// Adds the line of `id` and `winner`, whatever its successor. The winner is kept if the line names the next node
-    /// of `game`, and if so did all before.
-    pub(crate) fn add(&mut self, game: &ForwardGame, id: u32, winner: Player) -> Result<(), Refusal>
-        ensures kept { OnOk result
-            ((successor : Option ℕ) → AddsWinner game.now (line_for id winner successor) self.old self.new) }
-        ensures memory { IsOkUnless result Refusal.Memory }
-    {
-        if !self.good {
-            return Ok(());
-        }
-        if !is_next(game, self.winners.len(), id) {
-            self.good = false;
-            return Ok(());
-        }
-        self.winners.push(winner)?;
-        Ok(())
     }
 
     /// Returns the winners of the lines after a header with the number `greatest`. Refused with
@@ -65,6 +48,32 @@ impl WinnerLines {
             return Err(Refusal::Task(TaskFault::BadSolution));
         }
         Ok(self.winners)
+    }
+}
+
+impl SolutionLines for WinnerLines {
+    ghost use Rattle.omega_pg.specs.private.solution.winners.Lines.{KeepsWinners};
+
+    ghost keeps = { KeepsWinners };
+
+    /// Adds the line of `id` and `winner`, whatever its successor. The winner is kept if the line names the next node
+    /// of `game`, and if so did all before.
+    fn add(
+        &mut self,
+        game: &ForwardGame,
+        id: u32,
+        winner: Player,
+        _successor: Option<u32>,
+    ) -> Result<(), Refusal> {
+        if !self.good {
+            return Ok(());
+        }
+        if !is_next(game, self.winners.len(), id) {
+            self.good = false;
+            return Ok(());
+        }
+        self.winners.push(winner)?;
+        Ok(())
     }
 }
 

@@ -1,7 +1,8 @@
 ghost use Rattle.std.specs.Prelude.{IfErr, IfOk};
 ghost use Rattle.omega_pg.specs.solution.Winners.{IsReadWinnersRefusal, IsWinnersText};
 
-use crate::solution::winner_reader::WinnerReader;
+use crate::solution::reader::Reader;
+use crate::solution::winner_lines::WinnerLines;
 use omega_parity_game::{ForwardGame, Player, Refusal};
 use omega_text::{PgKind, read_text};
 use std::alloc::Global;
@@ -16,10 +17,13 @@ pub fn read_winners(alloc: Global, game: &ForwardGame, bytes: &[u8]) -> Result<V
     ensures winners { IfOk result (λ winners. IsWinnersText game.now bytes.now winners.items) }
     ensures refused { IfErr result (IsReadWinnersRefusal game.now bytes.now) }
 {
-    let WinnerReader {
+    let Reader {
         greatest,
         lines,
         ..
-    } = read_text::<PgKind, WinnerReader>(WinnerReader::new(alloc, game), bytes)?;
+    } = read_text::<PgKind, Reader<WinnerLines>>(
+        Reader::new(game, WinnerLines::new(alloc)),
+        bytes,
+    )?;
     lines.finish(game, greatest)
 }

@@ -1,5 +1,5 @@
 -- What lines say of a game, and how they are judged one by one.
-use Rattle.std.specs.Prelude.{◌≡◌, ◌≢◌, ◌↔◌, ℕ, ◌<◌, ◌≤◌, ◌⊎◌, Bool, true, false, Option, None, IfSome, IsSome, List, [], ◌∷◌, ◌++◌, length, option_map, slice_index_or, Result, Ok, Err}
+use Rattle.std.specs.Prelude.{◌≡◌, ◌≢◌, ◌↔◌, ℕ, ◌<◌, ◌≤◌, ◌⊎◌, Bool, true, false, Option, None, IfSome, IsSome, List, length, option_map, slice_index_or, Result, Ok, Err}
 use Rattle.omega_parity_game.specs.Game.{HasEdge, Node, owner_at, identifier_at}
 use Rattle.omega_parity_game.specs.declared.player.Player.{Player}
 use Rattle.omega_parity_game.specs.declared.player.Player.TheVariants.{One, Zero}
@@ -62,11 +62,6 @@ AreJudged nodes lines false winners zero one = HasWrongLine nodes lines
 -- the lines so far are judged, by what is kept of them
 abbrev pub KeepsLines : List Node → List SolutionLine → Lines → Type 0
 KeepsLines nodes lines kept = AreJudged nodes lines kept.good kept.winners.items kept.zero.items kept.one.items
-
--- one line more is judged
-abbrev pub AddsLine : List Node → SolutionLine → (old new : Lines) → Type 0
-AddsLine nodes line old new =
-    (lines : List SolutionLine) → KeepsLines nodes lines old → KeepsLines nodes (lines ++ line ∷ []) new
 
 -- the outcome of the lines after a header: the solution that is written so, or `BadSolution` if no solution is
 abbrev pub IsOutcome : List Node → RawSolution → Result Solution Refusal → Type 0

@@ -1,5 +1,5 @@
 -- How the lines of a solution text are kept by their winners.
-use Rattle.std.specs.Prelude.{◌≡◌, ℕ, ◌<◌, Bool, true, false, List, [], ◌∷◌, ◌++◌, length}
+use Rattle.std.specs.Prelude.{◌≡◌, ℕ, ◌<◌, Bool, true, false, List, ◌++◌, length}
 use Rattle.omega_parity_game.specs.Game.{Node, identifier_at, identifiers}
 use Rattle.omega_parity_game.specs.declared.player.Player.{Player}
 use Rattle.omega_pg.specs.solution.Grammar.{SolutionLine}
@@ -22,8 +22,3 @@ AreKept nodes lines false winners = NameFirst nodes lines → ⊥
 -- the lines so far are kept by their winners
 abbrev pub KeepsWinners : List Node → List SolutionLine → WinnerLines → Type 0
 KeepsWinners nodes lines kept = AreKept nodes lines kept.good kept.winners.items
-
--- one line more is kept
-abbrev pub AddsWinner : List Node → SolutionLine → (old new : WinnerLines) → Type 0
-AddsWinner nodes line old new =
-    (lines : List SolutionLine) → KeepsWinners nodes lines old → KeepsWinners nodes (lines ++ line ∷ []) new

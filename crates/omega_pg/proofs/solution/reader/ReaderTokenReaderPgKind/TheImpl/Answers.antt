@@ -5,10 +5,10 @@ use Rattle.omega_pg.proofs.solutions.Steps.{judged_end, taken_on_all}
 use Rattle.omega_pg.proofs.solution.reader.ReaderTokenReaderPgKind.TheImpl.Goals as goal
 
 pub take-tells : goal.take-tells
-take-tells _ _ c = record {
-  takes = taken_on_all c.result c.args.self.now c.new.self.now (lexeme_of c.args.token.now) c.ensures.game c.ensures.takes;
+take-tells g _ c = record {
+  takes = taken_on_all g.L.SolutionLines.keeps c.result c.args.self.now c.new.self.now (lexeme_of c.args.token.now) c.ensures.game c.ensures.takes;
   memory = c.ensures.memory;
 }
 
 pub is_complete-tells : goal.is_complete-tells
-is_complete-tells _ _ c = λ start lexemes has. judged_end c.result start c.args.self.now lexemes c.ensures has
+is_complete-tells g _ c = λ start lexemes has. judged_end g.L.SolutionLines.keeps c.result start c.args.self.now lexemes c.ensures has

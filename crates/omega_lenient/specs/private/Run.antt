@@ -1,8 +1,0 @@
--- Runs of an automaton over the symbols of a text.
-use Rattle.std.specs.Prelude.{Option, Some, List, [], ◌∷◌, option_and_then}
-use Rattle.omega_lenient.specs.Symbols.{LenientSymbol}
-
--- the state after symbols, one step after the other, or none if no text of the grammar goes on so
-abbrev pub run_by : {State : Type 0} → (State → LenientSymbol → Option State) → State → List LenientSymbol → Option State
-run_by step state [] = Some state
-run_by step state (symbol ∷ symbols) = option_and_then (λ next. run_by step next symbols) (step state symbol)
