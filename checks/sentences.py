@@ -71,7 +71,7 @@ def habits_of(path: Path) -> Counter[str]:
         for habit, words in WORDS.items():
             if sign in ("///", "//!") or "doc comment" not in habit:
                 counts[habit] += len(words.findall(prose))
-        for sentence in re.split(r"(?<=[.:;?!])\s+(?=[A-Z`\[])|\n", text):
+        for sentence in re.split(r"(?<=[.:;?!])\s+(?=[A-Z`\[]|- )|\n", text):
             counts[LONG_SENTENCE] += len(sentence.split()) > MOST_WORDS
     return counts
 

@@ -25,8 +25,8 @@ use std::alloc::Global;
 /// It has a state for each letter, with one edge that has this letter as its label, and every run is accepted.
 ///
 /// Fails with [TaskFault::TooLarge] if `word` has over `MOST_STATES` letters or over `MOST_PROPOSITIONS` names, or if
-/// the letters break another limit of labels: a letter that is over 256 deep or has over 65,536 atoms and operators, or
-/// letters that together have over 16,777,216. Linear in the word.
+/// the letters break another limit of labels. Those are a depth of 256 and 65,536 atoms and operators for each letter,
+/// and 16,777,216 of these for all letters together. Linear in the word.
 pub fn word_automaton(alloc: Global, word: SymbolicWord) -> Result<Automaton, Refusal>
     ensures automaton { IfOk result (IsWordAutomaton word) }
     ensures refused { IfErr result (IsOversized word) }

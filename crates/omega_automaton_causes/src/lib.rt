@@ -1,4 +1,4 @@
-//! What is to be mended in a refused automaton text: for some refusals one line for people, about the text.
+//! Diagnostics of automaton texts: for some refusals, a line that names the state, set or alias at fault.
 //!
 //! docs/formats.md says when each `Refusal` comes.
 #![tactic(auto)]

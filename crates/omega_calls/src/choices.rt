@@ -4,8 +4,9 @@ use crate::solutions::put_judged;
 use omega_game::{Game, Player, Refusal, Seq, Strategy};
 use std::alloc::Global;
 
-/// Returns what a call gives of the numbers of a text: the player's, the count of listed places and these, the count of
-/// an order's places and these, and for each place of the game the chosen place and 1, or 0 for no choice.
+/// Returns what a call gives of the numbers of a text. First come the player's number, the count of listed places and
+/// these, and the count of an order's places and these. Then comes for each place of the game the number of the chosen
+/// place plus 1, or 0 for no choice.
 pub(crate) fn of_text(
     alloc: Global,
     call: &str,
@@ -36,6 +37,7 @@ fn of_numbers(alloc: Global, call: &str, game: &Game, numbers: &[u32]) -> Result
     Ok(out)
 }
 
+/// Returns the player with the number, which is player 1 for each number but 0.
 pub(crate) fn player_of(number: u32) -> Player {
     if number == 0 {
         Player::Zero

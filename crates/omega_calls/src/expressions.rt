@@ -7,6 +7,7 @@ use omega_label_reading::{read_label, read_raw_label};
 use omega_text::{Cursor, HoaKind, Refusal, TextCursor, check_tokens, hoa_tokens};
 use std::alloc::Global;
 
+/// Returns what the call on expressions of this name gives of the two texts.
 pub(crate) fn called(
     alloc: Global,
     call: &str,

@@ -5,6 +5,7 @@ use omega_game::{Game, Refusal, part};
 use omega_pg::{read_game, write_game};
 use std::alloc::Global;
 
+/// Returns what the call of this group and name gives of the game of `text` and of the other text.
 pub(crate) fn called(
     alloc: Global,
     group: &str,

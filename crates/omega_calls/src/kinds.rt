@@ -2,6 +2,7 @@
 use crate::lists::put_each;
 use omega_text::{HoaKind, PgKind, Refusal, Span, Token};
 
+/// Writes the letter of the kind of `token`, the places of its first byte and after its last, and its value.
 pub(crate) fn put_pg(out: &mut Vec<u8>, token: &Token<'_, PgKind>) -> Result<(), Refusal> {
     put_token(out, pg_letter(token.kind), token.span, token.value)
 }
@@ -17,6 +18,7 @@ fn pg_letter(kind: PgKind) -> u8 {
     }
 }
 
+/// Writes the letter of the kind of `token`, the places of its first byte and after its last, and its value.
 pub(crate) fn put_hoa(out: &mut Vec<u8>, token: &Token<'_, HoaKind>) -> Result<(), Refusal> {
     put_token(out, hoa_letter(token.kind), token.span, token.value)
 }

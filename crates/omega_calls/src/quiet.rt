@@ -21,6 +21,7 @@ use omega_text::{
 };
 use std::alloc::Global;
 
+/// Returns what the calls of this name give of `text`, if `other` says that they are made.
 pub(crate) fn called(
     alloc: Global,
     call: &str,

@@ -8,6 +8,7 @@ use omega_solve::{
 };
 use std::alloc::Global;
 
+/// Returns what the solver with the table and the schedule that `call` names finds of `game`.
 pub(crate) fn of_game(
     alloc: Global,
     call: &str,

@@ -5,6 +5,7 @@ use omega_hoa::{Item, Stream, read_stream};
 use omega_text::Refusal;
 use std::alloc::Global;
 
+/// Returns what the call on streams of this name gives of `text`.
 pub(crate) fn called(alloc: Global, call: &str, text: &[u8]) -> Result<Vec<u8>, Refusal> {
     match call {
         "read_stream" => whole(alloc, text),

@@ -7,6 +7,7 @@ use omega_text::{
 };
 use std::alloc::Global;
 
+/// Returns what the call on tokens, numbers, strings or lists of this name gives of the two texts.
 pub(crate) fn called(
     alloc: Global,
     call: &str,

@@ -78,8 +78,9 @@ pub record NamesNothing (header : Option ℕ) (specs : List NodeSpec) (line : Li
   pub none : first_above header (specified_ids specs) ≡ None
   pub said : line ≡ []
 
--- the line that says why what is written makes no game: that of a node that comes twice; if each comes once, that of a
--- successor that is no node; if each is a node, that of a node above the header's number; if there is none, no line
+-- the line that says why what is written makes no game: that of a node that comes twice. If each comes once, it is that
+-- of a successor that is no node. If each is a node, it is that of a node above the header's number. If there is none,
+-- there is no line.
 abbrev pub IsCauseOf : RawGame → List ℕ → Type 0
 IsCauseOf raw line =
     NamesRepeat raw.specs line

@@ -40,8 +40,8 @@ abbrev pub wrong_choice_line : ℕ → ℕ → List ℕ
 wrong_choice_line id choice =
     codes "omega: node " ++ (decimal id ++ (codes ": choice " ++ (decimal choice ++ codes " is no successor\n")))
 
--- what is at fault in the identifier of a line that is not that of the node at the line's place v: the game has no such
--- node; its place is before v, so it comes twice; or it is after v, and the node at v is missing
+-- what is at fault in the identifier of a line that is not that of the node at the line's place v. Either the game has
+-- no such node, or its place is before v, so it comes twice, or it is after v, and the node at v is missing.
 abbrev pub identifier_fault : List Node → ℕ → ℕ → Option ℕ → List ℕ
 identifier_fault nodes v id None = unknown_line id
 identifier_fault nodes v id (Some w) = if nat_lt w v then twice_line id else missing_line (identifier_at nodes v)

@@ -1,4 +1,4 @@
-//! What is to be mended in a refused text: for some refusals one line for people, about the text.
+//! Diagnostics of texts of games and solutions: for some refusals, a line that names what is at fault.
 //!
 //! docs/formats.md says when each `Refusal` comes.
 #![tactic(auto)]

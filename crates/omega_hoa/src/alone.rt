@@ -39,7 +39,7 @@ pub fn read_one(alloc: Global, bytes: &[u8]) -> Result<Automaton, Refusal>
     }
 }
 
-/// Reads the automaton of such a text in one pass, if it is accepted. None says nothing.
+/// Reads the automaton of such a text in one pass, if it is accepted. `None` may come for an accepted text too.
 fn read_at_once(alloc: Global, bytes: &[u8]) -> Option<Automaton>
     requires { length bytes.now ≤ most_text }
     ensures { IfSome result (IsAutomatonText bytes.now) }

@@ -33,7 +33,7 @@ pub(crate) fn read_segment(alloc: Global, bytes: &[u8], begins: usize) -> Result
 /// Reads the automaton of the segment that `bytes` begin with, if it is whole and ends with `--END--`. Also returns the
 /// place after it. The bytes need not be known to be cut.
 ///
-/// None says nothing: the segment does not end in the bytes, or its reading is refused. `read_segment` says why.
+/// `None` may come for an accepted segment too. `read_segment` says why a segment is refused.
 ///
 /// The bytes of the segment are read once, and none after them.
 pub(crate) fn read_front(alloc: Global, bytes: &[u8]) -> Option<(Automaton, usize)>

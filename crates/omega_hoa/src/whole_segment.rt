@@ -19,7 +19,7 @@ pub(crate) struct WholeSegment {
 }
 
 /// Reads the segment that begins at `place`, if all its bytes are there, it ends with `--END--`, and its reading is not
-/// refused. None says nothing of the bytes.
+/// refused. `None` may come for an accepted segment too.
 ///
 /// The bytes of the segment are read once, and none after them.
 pub(crate) fn read_whole(

@@ -8,7 +8,7 @@ use omega_text::Refusal;
 pub enum Exit {
     /// It wrote its answer.
     Done,
-    /// It wrote `no`: the solution that it was to verify is wrong.
+    /// It answered in the negative: what it verified is wrong, or what it decided does not hold.
     No,
 }
 

@@ -147,6 +147,7 @@ impl Compact {
         }
     }
 
+    /// Returns the depth.
     pub(crate) fn depth(&self) -> u32
         ensures { result ≡ self.now.depth }
     {

@@ -25,8 +25,8 @@ pub record IsOpenGameOf (written : List NodeSpec) (nodes : List Node) : Type 0 w
   pub game : IsOpenGame nodes
   pub rearranged : IsPermutation written (map (specified nodes) nodes)
 
--- the strategy wins from v where there may be dead ends: no play that it leaves possible ends in a dead end of the
--- player, who loses there, and those that go on forever are won as in a game without dead ends
+-- the strategy wins from v where there may be dead ends. No play that it leaves possible ends in a dead end of the
+-- player, who loses there. Those that go on forever are won as in a game without dead ends.
 pub record WinsOpenly (nodes : List Node) (player : Player) (choices : List (Option ℕ)) (v : ℕ) : Type 0 where
   pub never_stuck : (there : List ℕ) → IsWalk nodes player choices v there → IsDeadEnd nodes (end_of v there)
       → owner_at nodes (end_of v there) ≡ player → ⊥

@@ -88,7 +88,8 @@ fn expand(
 }
 
 /// Whether of the edges that leave the states of `pair` only those of one index can be taken together, as far as their
-/// automata and states tell: both have the same propositions, and both states an edge for each valuation and no labels.
+/// automata and states tell. Then both automata have the same propositions, and both states an edge for each valuation
+/// and no labels.
 fn meet_by_index(operands: &Operands<'_>, pair: (u32, u32)) -> bool
     requires { AreTabled operands.now }
     ensures { result ≡ true → MeetByIndex (first_leaving operands.now.one.now operands.now.other.now pair)

@@ -45,6 +45,7 @@ impl Tabled {
         Tabled { transition, table }
     }
 
+    /// Returns the label.
     pub(crate) fn label(&self) -> &Label
         ensures { result.now ≡ self.now.label }
     {
@@ -58,6 +59,7 @@ impl Tabled {
         (self.transition.target, other.transition.target)
     }
 
+    /// Returns the marks: the numbers of the acceptance sets that it is in.
     pub(crate) fn marks(&self) -> &[u32]
         ensures { result.now ≡ self.now.marks }
     {

@@ -34,8 +34,8 @@ pub record IsAskedBy (a : Description) (controlled : List ℕ) (rounds : Rounds)
       → Contains (answers_of rounds question) number ↔ IsAnswerOf a controlled state number given
 
 -- the rounds of an automaton for its kind, with a letter for each question: the answers of a state's question are the
--- edges of the state that answer its letter; each environment's letter has one question with just its answers, and the
--- letter of the question is the first of those that have it
+-- edges of the state that answer its letter. Each environment's letter has one question with just its answers. The
+-- letter of the question is the first of those that have it.
 pub record AreRoundsOf (a : Description) (controlled : List ℕ) (kind : ParityKind) (rounds : Rounds) (letters : List (List ℕ)) : Type 0 where
   pub states : length rounds.states ≡ a.states
   pub edges : length rounds.edges ≡ edge_count a

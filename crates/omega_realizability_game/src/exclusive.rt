@@ -15,13 +15,12 @@ use omega_expression::MOST_MENTIONED;
 use omega_text::{Numbers, Refusal};
 use std::alloc::Global;
 
-/// Whether it is seen at once that at each letter each state of `automaton` has at most one edge. It may be so and not
-/// be seen: if a state has a label, an edge has none, or the labels of a state mention over `MOST_MENTIONED`
-/// propositions.
+/// Whether it is seen at once that at each letter each state of `automaton` has at most one edge. A quick, incomplete
+/// test: `false` may also come for a deterministic automaton, if a state has a label, an edge has none, or the labels
+/// of a state mention over `MOST_MENTIONED` propositions.
 ///
-/// Only a `true` is promised to be right: a `false` says nothing, and no clause keeps it from coming too often. Whoever
-/// gets it has to judge each two edges, as `check_deterministic_states` of `omega_determinism` does, and loses no more
-/// than time.
+/// Only `true` is promised to be right. Whoever gets `false` has to judge each two edges, as
+/// `check_deterministic_states` of `omega_determinism` does, and loses only time.
 ///
 /// The labels of a state are gone through once for each 64 letters over the propositions that they mention.
 pub fn are_seen_apart(alloc: Global, automaton: &Automaton) -> Result<bool, Refusal>

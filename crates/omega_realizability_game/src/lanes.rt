@@ -158,8 +158,8 @@ pub(crate) fn blocks(count: usize) -> u32
     1 << count.saturating_sub(6)
 }
 
-/// Returns the word whose lane for each letter over `inputs` propositions is set if some lane of `word` is that has the
-/// letter: in each of the digits above, the lanes with a 1 are laid on those with a 0.
+/// Returns the word whose lane for each letter over `inputs` propositions is set if some lane of `word` with the letter
+/// is. In each of the digits above, the lanes with a 1 are laid on those with a 0.
 fn folded(word: u64, inputs: usize) -> u64
     requires { inputs ≤ most_mentioned }
     ensures { IsFolded (2 ^ inputs) (2 ^ (6 - inputs)) word result }

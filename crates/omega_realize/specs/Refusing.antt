@@ -1,6 +1,6 @@
--- The refusal of the question whether an automaton is realizable, in the order of the steps: universal branching, a
--- second start, two edges at one letter, no parity kind, labels that are not judged, what hinders the making of the
--- rounds, and what hinders solving them. Want of memory may come at each step.
+-- The refusal of the question whether an automaton is realizable, in the order of the steps. These are universal
+-- branching, a second start, two edges at one letter, no parity kind, labels that are not judged, what hinders the
+-- making of the rounds, and what hinders solving them. Want of memory may come at each step.
 use Rattle.std.specs.Prelude.{◌≡◌, ◌⊎◌, ℕ, ◌≤◌, false, true, List, length}
 use Rattle.omega_text.specs.Cases.{never, or_game, or_memory, or_task}
 use Rattle.omega_text.specs.declared.refusal.Refusal.{Refusal}

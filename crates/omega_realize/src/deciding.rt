@@ -31,7 +31,7 @@ use std::alloc::Global;
 /// - [TaskFault::NotParity] unless the acceptance has the name and the formula of a parity kind.
 /// - [TaskFault::TooManyPropositions] or [TaskFault::TooLarge] if `check_deterministic_states` fails so.
 /// - If there is a start, [TaskFault::TooManyPropositions] or [TaskFault::TooLarge] if the labels of a state mention
-///   over `MOST_MENTIONED` inputs or if it is not decided whether an edge answers a letter, and
+///   over `MOST_MENTIONED` inputs or if it is not decided whether an edge answers a letter. Likewise
 ///   [GameFault::TooManyNodes] if the states have over `MOST_NODES` questions, one for each class of letters that the
 ///   same edges answer.
 /// - The refusals of `solve_rounds`: the game is too large, or lifting is where the search gives nothing.
@@ -71,9 +71,9 @@ fn realize_parted(
 
 /// Decides as `realize` does, by lifting within `budget`, and reports each run to `observer`.
 ///
-/// Fails as `realize` does up to the game, or else with [TaskFault::TooWide] if a table of measures would be too wide
-/// for one of the players, or else with [TaskFault::Budget] if a lift is due when a player's budget is used up. Each of
-/// the two may make the whole budget of lifts; for player 1 none is made if player 0 wins.
+/// Fails as `realize` does up to the game. Or else fails with [TaskFault::TooWide] if a table of measures would be too
+/// wide for one of the players, or else with [TaskFault::Budget] if a lift is due when a player's budget is used up.
+/// Each of the two may make the whole budget of lifts; for player 1 none is made if player 0 wins.
 pub fn realize_by_lifting<L, W: Reporter<L>>(
     alloc: Global,
     automaton: &Automaton,

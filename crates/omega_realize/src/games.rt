@@ -14,9 +14,9 @@ use omega_text::{Refusal, Seq};
 use std::alloc::Global;
 
 /// Makes the game in which it is decided whether `automaton` is realizable where the system controls the propositions
-/// `controlled`: that of its rounds, as far as it is reached from the node of the start, whose identifier is the number
-/// of the start's state. Player 0 is the system. The names of nodes are those of `named_rounds_game`. Without a start
-/// the game is the sink alone, which player 0 loses.
+/// `controlled`. It is the game of its rounds, as far as it is reached from the node of the start, whose identifier is
+/// the number of the start's state. Player 0 is the system. The names of nodes are those of `named_rounds_game`.
+/// Without a start the game is the sink alone, which player 0 loses.
 ///
 /// Fails as `realize` does, but for the refusals of lifting.
 pub fn realizability_game(

@@ -14,8 +14,8 @@ use omega_text::hoa::laws::{
 };
 use omega_text::laws::cuts_join;
 
-/// Shows that the canonical text of the automaton of kept edges is the text of that automaton, if it is within the
-/// limit of texts and the edges are those of an automaton that was read and does not branch universally.
+/// Shows that the canonical text of the automaton of kept edges is the text of that automaton. This holds if the text
+/// is within the limit of texts, and the edges are those of an automaton that was read and does not branch universally.
 pub fn controllers_are_read_back()
     ensures { ControllersAreReadBack }
 {

@@ -93,8 +93,8 @@ pub record IsAnswering (rounds : Rounds) (start : ℕ) (kept : List ℕ) : Type 
 abbrev pub asked_in : List ℕ → ℕ → ℕ
 asked_in asked state = slice_index_or asked state 0
 
--- player 1 wins by a question for each state: in each state that is reached, by edges that are kept, the kept ones are
--- those that answer its question, and the greatest priority of each closed walk of them is odd
+-- player 1 wins by a question for each state. In each state that is reached, by edges that are kept, the kept ones are
+-- those that answer its question. The greatest priority of each closed walk of them is odd.
 pub record IsAsking (rounds : Rounds) (start : ℕ) (kept asked : List ℕ) : Type 0 where
   pub asks : (state : ℕ) → IsReached rounds kept start state → IsAskedIn rounds state (asked_in asked state)
   pub keeps : (state number next : ℕ) → IsReached rounds kept start state → IsRoundStep rounds state number next

@@ -22,7 +22,7 @@ use std::alloc::Global;
 /// 0, and for player 1 if player 0 does not win; each may make the whole budget of lifts. Each run is reported to
 /// `observer`.
 ///
-/// Fails with [GameFault::TooManyNodes] or [GameFault::TooManyEdges] if the game is too large, or else with
+/// Fails with [GameFault::TooManyNodes] or [GameFault::TooManyEdges] if the game is too large. Or else fails with
 /// [TaskFault::TooWide] if the table of measures would be too wide for one of the players, or else with
 /// [TaskFault::Budget] if a lift is due when the budget is used up.
 pub fn lift_rounds<L, W: Reporter<L>>(

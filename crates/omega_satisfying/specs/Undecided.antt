@@ -10,7 +10,7 @@ use Rattle.omega_satisfying.specs.Limits.{most_visited}
 use Rattle.omega_satisfying.specs.Satisfiable.{mentioned}
 
 -- a label that may be left undecided: it mentions more propositions than are judged without a search, and its cubes
--- have so many literals that the search, which tries each once and may fail once at it, may pass its limit
+-- have many literals. The search tries each of these once and may fail once at it, so that it may pass its limit.
 pub record IsHardLabel (tree : LabelTree) : Type 0 where
   pub wide : most_mentioned < length (mentioned tree)
   pub long : most_visited ≤ 2 * literal_count tree

@@ -63,6 +63,7 @@ impl ByteString {
         Ok(ByteString { held })
     }
 
+    /// Returns the bytes.
     pub fn as_slice(&self) -> &[u8]
         ensures { result.now ≡ self.now }
     {
@@ -72,6 +73,7 @@ impl ByteString {
         }
     }
 
+    /// Returns the number of bytes.
     pub fn len(&self) -> usize
         ensures { result ≡ length self.now }
     {

@@ -86,6 +86,7 @@ impl Numbers {
         Ok(())
     }
 
+    /// Returns the numbers, in order.
     pub fn as_slice(&self) -> &[u32]
         ensures { result.now ≡ self.now }
     {
@@ -95,6 +96,7 @@ impl Numbers {
         }
     }
 
+    /// Returns the count of the numbers.
     pub fn len(&self) -> usize
         ensures { result ≡ length self.now }
     {

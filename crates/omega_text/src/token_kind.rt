@@ -19,7 +19,8 @@ pub trait TokenKind: Copy {
         ensures lexical { IfErr result IsLexical }
         ensures progress { IfOk result (λ found. IfSome found (λ token. IsPartAfter source.now at token.span)) };
 
-    /// Returns the next token from `at` on, if it is recognized at once. None says nothing; call `next_token` then.
+    /// Returns the next token from `at` on, if it is recognized at once. `None` may come if there is a token too: call
+    /// `next_token` then.
     fn plain_token(source: &[u8], at: usize) -> Option<Token<'_, Self>>
         requires { at ≤ length source.now }
         ensures token { IfSome result (λ token. format.follows source.now at (lexeme_of token)) }

@@ -1,4 +1,4 @@
--- An automaton without its useless states: what stays keeps its order, and states are numbered anew.
+-- An automaton without its useless states: what stays keeps its order, and states are renumbered.
 use Rattle.std.specs.Prelude.{◌≡◌, ℕ, ◌+◌, Bool, ◌||◌, if◌then◌else◌, List, [], ◌∷◌, length, map, filter, nat_eq, is_some, Option, None, Some}
 use Rattle.std.specs.List.{list_all, list_any, position_or_len}
 use Rattle.omega_label.specs.Label.{LabelTree}

@@ -16,11 +16,10 @@ use std::alloc::Global;
 ///
 /// A state is useful if usable edges lead to it from a start, and an accepting lasso starts in it, whatever the
 /// acceptance formula (HOA v1, acceptance). Useful states stay, and so do the starts and edges all of whose states
-/// stay. States are numbered anew in the order of their numbers. The order of the body, labels, marks and names of
-/// states stay as they are, and so do propositions, the acceptance and its name, and the name of the automaton. If an
-/// edge of a state without labels goes, the others get the labels of their valuations. The tool, the properties and the
-/// headers that the format leaves open are left out, as what they say may no longer hold. If no state is useful, none
-/// is left.
+/// stay. States are renumbered in the order of their numbers. The order of the body, labels, marks and names of states
+/// stay as they are, and so do propositions, the acceptance and its name, and the name of the automaton. If an edge of
+/// a state without labels goes, the others get the labels of their valuations. The tool, the properties and the headers
+/// that the format leaves open are left out, as what they say may no longer hold. If no state is useful, none is left.
 ///
 /// Refusals, the first of these that applies:
 ///
@@ -31,9 +30,9 @@ use std::alloc::Global;
 ///   that it needs, or if the labels that stay pass a limit of automata, as those of valuations may.
 ///
 /// Takes the time of `is_satisfiable` for each label. Otherwise linear in the states and edges, and in the marks for
-/// each atom of the acceptance formula, but for one `accepting_walk` for each strongly connected component whose edges
-/// together show neither that a closed walk accepts nor that none does. Its scratch space has a number for each state.
-/// A formula without `Fin` has no such component.
+/// each atom of the acceptance formula. Besides, one `accepting_walk` is made for each strongly connected component
+/// whose edges together show neither that a closed walk accepts nor that none does. Its scratch space has a number for
+/// each state. A formula without `Fin` has no such component.
 pub fn trim(alloc: Global, automaton: &Automaton) -> Result<Automaton, Refusal>
     ensures trimmed { IfOk result (IsTrimmed automaton.now) }
     ensures given { OnOk result (IsSearchable automaton.now) }

@@ -1,4 +1,4 @@
--- The parts of a union: each of the two automata with its states, sets and propositions numbered anew.
+-- The parts of a union: each of the two automata with its states, sets and propositions renumbered.
 use Rattle.std.specs.Prelude.{ℕ, ◌+◌, if◌then◌else◌, List, [], ◌∷◌, ◌++◌, length, map, is_some, Option, None, Some, option_map}
 use Rattle.omega_label.specs.Label.{LabelTree}
 use Rattle.omega_automaton.specs.declared.edge.Edge.{Edge}

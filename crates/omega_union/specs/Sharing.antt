@@ -1,6 +1,6 @@
 -- The sets and the acceptance of a union (HOA v1, acceptance). A run of a union is one of one of the two automata, and
 -- its edges have no marks of the other. So the formula of the other may hold of the run only if it holds of a run
--- without any marks; if it does, it gets a guard, which is a further set that all edges of its own automaton are in.
+-- without any marks. If it does, it gets a guard, which is a further set that all edges of its own automaton are in.
 use Rattle.std.specs.Prelude.{◌≡◌, ◌⊎◌, ℕ, ◌+◌, Bool, true, false, if◌then◌else◌, List, [], ◌∷◌, length, Option, Some, None}
 use Rattle.std.specs.List.{cons_option}
 use Rattle.std.specs.Option.{option_or}

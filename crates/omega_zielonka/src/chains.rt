@@ -16,6 +16,7 @@ impl Chain {
         last: NONE,
     };
 
+    /// Whether the list has no places.
     pub(crate) fn is_empty(self) -> bool {
         self.first == NONE
     }

@@ -5,7 +5,7 @@
 //! The top nodes of a subgame are the places of its greatest priorities, as long as these are of one parity. Their
 //! player wins them unless the opponent can avoid them. So the player's attractor to them is taken out, and the rest is
 //! solved as a subgame. If the opponent wins none of the rest, the player wins the whole subgame. Else the opponent
-//! wins its attractor to the part that it won, and the remaining places are solved anew.
+//! wins its attractor to the part that it won, and the remaining places are solved again.
 //!
 //! On some games this takes exponential time, as on a chain of nodes that lead to themselves. If the fuel runs out, the
 //! game is searched once more, one strongly connected component at a time. A component comes after all components that

@@ -11,6 +11,7 @@ pub(crate) struct OneFile<'a> {
 }
 
 impl<'a> OneFile<'a> {
+    /// Takes `text` as the text of each file.
     pub(crate) fn new(text: &'a [u8]) -> OneFile<'a>
         ensures { result.text.now ≡ text.entry.now }
     {

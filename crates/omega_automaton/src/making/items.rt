@@ -10,8 +10,8 @@ use omega_raw::RawItem;
 use omega_text::{Refusal, Seq};
 use std::alloc::Global;
 
-/// Takes the items of a header, before which nothing was taken. Refused with [AutomatonFault::Alias] if two aliases
-/// have the same name, or one reaches an alias that has no item before it.
+/// Takes the items of a header. Nothing was taken before. Refused with [AutomatonFault::Alias] if two aliases have the
+/// same name, or one reaches an alias that has no item before it.
 pub(crate) fn gather(
     alloc: Global,
     gathered: &mut Gathered,

@@ -1,4 +1,4 @@
-//! Pieces of a game text that can be read at once, several tokens each. If none is found, that says nothing.
+//! Pieces of a game text that can be read at once, several tokens each. `None` may come for an accepted text too.
 
 ghost use Rattle.std.specs.Prelude.{◌+◌, ◌<◌, ◌≤◌, [], ◌∷◌, length, IfSome, IsTrue};
 ghost use Rattle.omega_parity_game.specs.Player.{player_number};

@@ -54,13 +54,13 @@ pub record AreExits (steps : List Step) (exits : Exits) : Type 0 where
       exits.whole ≡ true → (held : ℕ → Bool)
       → leads held steps exits.otherwise ≡ true → leads held steps exits.after ≡ true
 
--- no more than this are visited from a label with these cubes on: for each literal one step and one where it fails, but
--- after the last literal of a cube as many as `after` says, and at the end as many as `otherwise` says
+-- no more than this are visited from a label with these cubes on. These are for each literal one step and one where it
+-- fails, but after the last literal of a cube as many as `after` says, and at the end as many as `otherwise` says.
 abbrev pub AreVisited : List (List LabelTree) → (after otherwise count : ℕ) → Type 0
 AreVisited all after otherwise count = count + length all ≤ 2 * literals_in all + length all * after + otherwise
 
--- the new steps encode a label, or its negation if it is not wanted: from a place among them a valuation leads to the
--- end exactly if it does by the label and the exits among the old steps, and no more are visited than by its cubes
+-- the new steps encode a label, or its negation if it is not wanted. From a place among them a valuation leads to the
+-- end exactly if it does by the label and the exits among the old steps. No more are visited than by its cubes.
 pub record IsEncoded (old new : List Step) (tree : LabelTree) (wanted : Bool) (exits : Exits) (place : ℕ) : Type 0 where
   pub there : place < length new
   pub leading :

@@ -6,8 +6,8 @@ use omega_solve::{Nested, Schedule, Sweep, Worklist};
 use std::alloc::Global;
 use std::process::Abort;
 
-/// Takes a schedule through a step, and says whether it can be done: after `+` a place is made pending, after `-` one
-/// that is pending is taken out, and else the place to look at, if it is this one.
+/// Takes a schedule through a step, and says whether it can be done. After `+` a place is made pending, and after `-`
+/// one that is pending is taken out. Else the place to look at is taken out, if it is this one.
 fn obeys<S: Schedule>(schedule: &mut S, places: u32, sign: u8, place: u32) -> bool
     requires { length (S.waiting schedule.old).flags ≡ places }
     ensures { length (S.waiting schedule.new).flags ≡ places }

@@ -57,6 +57,7 @@ impl Model for KeptMode {
 impl KeptMode {
     ghost use Rattle.omega_text.specs.private.hoa.scanning.Modes.{IsWithin, next_mode};
 
+    /// Takes `mode` apart into the fields that are kept.
     #[inline(always)]
     pub(crate) fn new(mode: Mode) -> KeptMode
         ensures { result ≡ mode }

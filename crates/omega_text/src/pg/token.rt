@@ -48,7 +48,7 @@ pub fn next_pg_token(source: &[u8], at: usize) -> Result<Option<Token<'_, PgKind
 }
 
 /// Returns the next token from `at` on if it is a number that is recognized at once: after at most one byte of white
-/// space, and with few digits. None says nothing; call `next_pg_token` then.
+/// space, and with few digits. `None` may come if there is a number too: call `next_pg_token` then.
 #[inline(always)]
 pub fn next_pg_number(source: &[u8], at: usize) -> Option<Token<'_, PgKind>>
     requires { at ≤ length source.now }
@@ -139,7 +139,8 @@ fn plain_form(kind: PgKind, count: usize) -> Form
     }
 }
 
-/// Returns the number that `bytes` begin with, if it has few digits and another byte ends them. None says nothing.
+/// Returns the number that `bytes` begin with, if it has few digits and another byte ends them. `None` may come for
+/// such a number too.
 #[inline(always)]
 fn plain_number(bytes: &[u8]) -> Option<Form>
     ensures form { IfSome result (λ form. IsFirstForm bytes.now form.kind form.value form.count) }

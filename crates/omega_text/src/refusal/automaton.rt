@@ -52,6 +52,7 @@ pub enum AutomatonFault {
 impl AutomatonFault {
     ghost use Rattle.omega_text.specs.Refusal.{automaton_name, automaton_number};
 
+    /// Returns the fault's number, which no other refusal has.
     pub(crate) fn number(self) -> u32
         ensures { result ≡ automaton_number self }
     {
@@ -73,6 +74,7 @@ impl AutomatonFault {
         }
     }
 
+    /// Returns the fault's name, as a program prints it.
     pub(crate) fn name(self) -> &'static str
         ensures { result.now ≡ automaton_name self }
     {

@@ -25,6 +25,7 @@ pub enum GameFault {
 impl GameFault {
     ghost use Rattle.omega_text.specs.Refusal.{game_name, game_number};
 
+    /// Returns the fault's number, which no other refusal has.
     pub(crate) fn number(self) -> u32
         ensures { result ≡ game_number self }
     {
@@ -37,6 +38,7 @@ impl GameFault {
         }
     }
 
+    /// Returns the fault's name, as a program prints it.
     pub(crate) fn name(self) -> &'static str
         ensures { result.now ≡ game_name self }
     {

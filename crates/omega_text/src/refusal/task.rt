@@ -40,6 +40,7 @@ pub enum TaskFault {
 impl TaskFault {
     ghost use Rattle.omega_text.specs.Refusal.{task_name, task_number, task_place};
 
+    /// Returns the fault's number, which no other refusal has.
     pub(crate) fn number(self) -> u32
         ensures { result ≡ task_number self }
     {
@@ -57,6 +58,7 @@ impl TaskFault {
         }
     }
 
+    /// Returns the fault's name, as a program prints it.
     pub(crate) fn name(self) -> &'static str
         ensures { result.now ≡ task_name self }
     {
@@ -74,6 +76,7 @@ impl TaskFault {
         }
     }
 
+    /// Returns the number of the state for [TaskFault::NotDeterministic], and nothing for another fault.
     pub(crate) fn at(self) -> Option<usize>
         ensures { result ≡ task_place self }
     {

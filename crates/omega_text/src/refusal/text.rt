@@ -22,6 +22,7 @@ pub enum TextFault {
 impl TextFault {
     ghost use Rattle.omega_text.specs.Refusal.{text_name, text_number, text_place};
 
+    /// Returns the fault's number, which no other refusal has.
     pub(crate) fn number(self) -> u32
         ensures { result ≡ text_number self }
     {
@@ -33,6 +34,7 @@ impl TextFault {
         }
     }
 
+    /// Returns the fault's name, as a program prints it.
     pub(crate) fn name(self) -> &'static str
         ensures { result.now ≡ text_name self }
     {
@@ -44,6 +46,7 @@ impl TextFault {
         }
     }
 
+    /// Returns the place of the faulty byte, from 0, and nothing for [TextFault::TooLong].
     pub(crate) fn at(self) -> Option<usize>
         ensures { result ≡ text_place self }
     {
