@@ -3,6 +3,7 @@ use Rattle.std.proofs.Common.{◌≡◌, ◌≢◌, ℕ, true, false, List, Opti
 use Rattle.omega_command.specs.CommandLine.{Gives, GivesFlag, LeavesNoFormat, MeansForGames, text_of}
 use Rattle.omega_command.specs.declared.options.OptionName.TheVariants as name
 use Rattle.omega_command.specs.declared.options.Options.{Options}
+use Rattle.omega_command.specs.declared.subcommand.Subcommand.{Subcommand}
 
 module _ {T : Type 0} (reads : List ℕ → T → Type 0) where
   -- if it gives a value, there is a text
@@ -28,7 +29,7 @@ not_none None value is none = cc
 not_none (Some text) value is none = cc
 
 -- options for games leave no format to a text
-pub told_for_games : (subcommand : List ℕ) (options meant : Options) → MeansForGames options meant → LeavesNoFormat subcommand meant
+pub told_for_games : (subcommand : Subcommand) (options meant : Options) → MeansForGames options meant → LeavesNoFormat subcommand meant
 told_for_games subcommand options meant means asked file leaves =
     not_none (text_of name.Format meant) (codes "pg") (means name.Format) leaves.asks.unformatted
 

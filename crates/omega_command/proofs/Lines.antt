@@ -1,5 +1,5 @@
 -- What is asked for by a line with a task.
-use Rattle.std.proofs.Common.{ℕ, Bool, List, Result, Ok, Err, IfOk}
+use Rattle.std.proofs.Common.{Bool, Result, Ok, Err, IfOk}
 use Rattle.omega_command.specs.CommandLine.{Asks, AsksReading, GivesFlag, GivesLeniency, text_of}
 use Rattle.omega_command.specs.declared.line.Line.{Line}
 use Rattle.omega_command.specs.declared.line.Line.TheVariants as line
@@ -7,10 +7,11 @@ use Rattle.omega_command.specs.declared.line.Task.{Task}
 use Rattle.omega_command.specs.declared.mistake.Mistake.{Mistake}
 use Rattle.omega_command.specs.declared.options.OptionName.TheVariants as name
 use Rattle.omega_command.specs.declared.options.Options.{Options}
+use Rattle.omega_command.specs.declared.subcommand.Subcommand.{Subcommand}
 use Rattle.omega_command.specs.private.Tasks.{IsLineWith}
 
 -- the line is requested if its task is asked for, and its flags are given
-requests : (subcommand : List ℕ) (options : Options) (asked : Task) (lenient verbose : Bool) (found : Line)
+requests : (subcommand : Subcommand) (options : Options) (asked : Task) (lenient verbose : Bool) (found : Line)
     → AsksReading lenient subcommand options asked → GivesLeniency subcommand options lenient → GivesFlag (text_of name.Verbose options) verbose
     → IsLineWith options asked lenient verbose found → Asks subcommand options found
 requests subcommand options asked lenient verbose (line.Do task source leniency verbosity) asks given flag (same, from, lenience, verbosely) =
@@ -19,7 +20,7 @@ requests subcommand options asked lenient verbose (line.ByText either file verbo
 requests subcommand options asked lenient verbose (line.Help text) asks given flag is = absurd is
 requests subcommand options asked lenient verbose (line.Fault text) asks given flag is = absurd is
 
-pub line_is_requested : (subcommand : List ℕ) (options : Options) (asked : Task) (lenient verbose : Bool) (result : Result Line Mistake)
+pub line_is_requested : (subcommand : Subcommand) (options : Options) (asked : Task) (lenient verbose : Bool) (result : Result Line Mistake)
     → AsksReading lenient subcommand options asked → GivesLeniency subcommand options lenient → GivesFlag (text_of name.Verbose options) verbose
     → IfOk result (IsLineWith options asked lenient verbose) → IfOk result (Asks subcommand options)
 line_is_requested subcommand options asked lenient verbose (Ok found) asks given flag is =

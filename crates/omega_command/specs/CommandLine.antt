@@ -28,6 +28,8 @@ use Rattle.omega_command.specs.declared.mistake.Mistake.TheVariants as mistake
 use Rattle.omega_command.specs.declared.options.OptionName.{OptionName}
 use Rattle.omega_command.specs.declared.options.OptionName.TheVariants as name
 use Rattle.omega_command.specs.declared.options.Options.{Options}
+use Rattle.omega_command.specs.declared.subcommand.Subcommand.{Subcommand}
+use Rattle.omega_command.specs.declared.subcommand.Subcommand.TheVariants as sub
 
 -- ---- what the text of an option means
 
@@ -126,41 +128,41 @@ GivesPart options from depth =
 abbrev pub GivesEmptyLines : Options → (word names : Bool) → Type 0
 GivesEmptyLines options word names = GivesFlag (text_of name.Word options) word × GivesFlag (text_of name.Names options) names
 
--- the subcommand of this name, with these options, asks for a command that lifts, with this budget
-abbrev pub AsksToLift : List ℕ → Options → Command → ℕ → Type 0
+-- the subcommand, with these options, asks for a command that lifts, with this budget
+abbrev pub AsksToLift : Subcommand → Options → Command → ℕ → Type 0
 AsksToLift subcommand options (command.Solve player from) budget =
-    (subcommand ≡ codes "solve") × GivesFlag (text_of name.Search options) false × Gives IsPlayerText (text_of name.Player options) player
+    (subcommand ≡ sub.Solve) × GivesFlag (text_of name.Search options) false × Gives IsPlayerText (text_of name.Player options) player
     × Gives (IsNumberText most_number) (text_of name.From options) from × GivesBudget (text_of name.Budget options) budget
 AsksToLift subcommand options (command.Search from) budget =
-    (subcommand ≡ codes "solve") × GivesFlag (text_of name.Search options) true × (text_of name.Player options ≡ None)
+    (subcommand ≡ sub.Solve) × GivesFlag (text_of name.Search options) true × (text_of name.Player options ≡ None)
     × Gives (IsNumberText most_number) (text_of name.From options) from × GivesBudget (text_of name.Budget options) budget
 AsksToLift subcommand options (command.Empty word names status) budget =
-    (subcommand ≡ codes "empty") × GivesFlag (text_of name.Stream options) false × GivesFlag (text_of name.Search options) false
+    (subcommand ≡ sub.Empty) × GivesFlag (text_of name.Stream options) false × GivesFlag (text_of name.Search options) false
     × GivesEmptyLines options word names × GivesFlag (text_of name.Status options) status × GivesBudget (text_of name.Budget options) budget
 AsksToLift subcommand options (command.RealizeByLifting controller) budget =
-    (subcommand ≡ codes "realize") × GivesFlag (text_of name.Lift options) true × GivesFlag (text_of name.AsGame options) false
+    (subcommand ≡ sub.Realize) × GivesFlag (text_of name.Lift options) true × GivesFlag (text_of name.AsGame options) false
     × GivesFlag (text_of name.Controller options) controller × GivesBudget (text_of name.Budget options) budget
 AsksToLift subcommand options other budget = ⊥
 
 -- the subcommand `realize`, with these options, asks for what makes no lifts that are bounded: no option that goes with
 -- lifting is given
-abbrev pub AsksUnlifted : List ℕ → Options → ℕ → Type 0
+abbrev pub AsksUnlifted : Subcommand → Options → ℕ → Type 0
 AsksUnlifted subcommand options budget =
-    (subcommand ≡ codes "realize") × GivesFlag (text_of name.Lift options) false × (text_of name.Budget options ≡ None)
+    (subcommand ≡ sub.Realize) × GivesFlag (text_of name.Lift options) false × (text_of name.Budget options ≡ None)
     × GivesFlag (text_of name.Progress options) false × (budget ≡ most_budget)
 
--- the subcommand of this name, with these options, asks for this of each automaton of a stream, with this budget
-abbrev pub AsksOfEach : List ℕ → Options → OfEach → ℕ → Type 0
+-- the subcommand, with these options, asks for this of each automaton of a stream, with this budget
+abbrev pub AsksOfEach : Subcommand → Options → OfEach → ℕ → Type 0
 AsksOfEach subcommand options (each.Empty word names status) budget =
-    (subcommand ≡ codes "empty") × GivesFlag (text_of name.Search options) false × GivesEmptyLines options word names
+    (subcommand ≡ sub.Empty) × GivesFlag (text_of name.Search options) false × GivesEmptyLines options word names
     × GivesFlag (text_of name.Status options) status × GivesFlag (text_of name.Progress options) false
     × GivesBudget (text_of name.Budget options) budget
 AsksOfEach subcommand options (each.EmptySearch word names status) budget =
-    (subcommand ≡ codes "empty") × GivesFlag (text_of name.Search options) true × GivesEmptyLines options word names
+    (subcommand ≡ sub.Empty) × GivesFlag (text_of name.Search options) true × GivesEmptyLines options word names
     × GivesFlag (text_of name.Status options) status × GivesFlag (text_of name.Progress options) false
     × (text_of name.Budget options ≡ None) × (budget ≡ most_budget)
-AsksOfEach subcommand options each.Complement budget = (subcommand ≡ codes "complement") × (budget ≡ most_budget)
-AsksOfEach subcommand options each.Trim budget = (subcommand ≡ codes "trim") × (budget ≡ most_budget)
+AsksOfEach subcommand options each.Complement budget = (subcommand ≡ sub.Complement) × (budget ≡ most_budget)
+AsksOfEach subcommand options each.Trim budget = (subcommand ≡ sub.Trim) × (budget ≡ most_budget)
 
 -- `verify`, with these options, asks whether what the input has is right for the game of this file, or for the part
 -- that the node `from` reaches
@@ -169,52 +171,52 @@ AsksOfGame options file from explain =
     (text_of name.Game options ≡ Some file) × (text_of name.Automaton options ≡ None) × (text_of name.Specification options ≡ None)
     × Gives (IsNumberText most_number) (text_of name.From options) from × GivesFlag (text_of name.Explain options) explain
 
--- the subcommand of this name, with these options, asks for what is done with the file of this name beside the input
-abbrev pub AsksBeside : List ℕ → Options → (file : List ℕ) → Beside → Type 0
+-- the subcommand, with these options, asks for what is done with the file of this name beside the input
+abbrev pub AsksBeside : Subcommand → Options → (file : List ℕ) → Beside → Type 0
 AsksBeside subcommand options file (beside.Verify from explain) =
-    (subcommand ≡ codes "verify") × AsksOfGame options file from explain
+    (subcommand ≡ sub.Verify) × AsksOfGame options file from explain
     × GivesFlag (text_of name.Winners options) false × GivesFlag (text_of name.Names options) false
 AsksBeside subcommand options file (beside.VerifyNamed from) =
-    (subcommand ≡ codes "verify") × AsksOfGame options file from true
+    (subcommand ≡ sub.Verify) × AsksOfGame options file from true
     × GivesFlag (text_of name.Winners options) false × GivesFlag (text_of name.Names options) true
 AsksBeside subcommand options file (beside.VerifyWinners from explain) =
-    (subcommand ≡ codes "verify") × AsksOfGame options file from explain
+    (subcommand ≡ sub.Verify) × AsksOfGame options file from explain
     × GivesFlag (text_of name.Winners options) true × GivesFlag (text_of name.Names options) false
 AsksBeside subcommand options file (beside.VerifyLasso explain) =
-    (subcommand ≡ codes "verify") × (text_of name.Automaton options ≡ Some file) × (text_of name.Game options ≡ None)
+    (subcommand ≡ sub.Verify) × (text_of name.Automaton options ≡ Some file) × (text_of name.Game options ≡ None)
     × (text_of name.Specification options ≡ None) × (text_of name.From options ≡ None)
     × GivesFlag (text_of name.Winners options) false × GivesFlag (text_of name.Names options) false
     × GivesFlag (text_of name.Explain options) explain
 AsksBeside subcommand options file (beside.VerifyController explain) =
-    (subcommand ≡ codes "verify") × (text_of name.Specification options ≡ Some file) × (text_of name.Game options ≡ None)
+    (subcommand ≡ sub.Verify) × (text_of name.Specification options ≡ Some file) × (text_of name.Game options ≡ None)
     × (text_of name.Automaton options ≡ None) × (text_of name.From options ≡ None)
     × GivesFlag (text_of name.Winners options) false × GivesFlag (text_of name.Names options) false
     × GivesFlag (text_of name.Explain options) explain
 AsksBeside subcommand options file (beside.Accepts explain) = ⊥
 AsksBeside subcommand options file (beside.Meet trim) =
-    (subcommand ≡ codes "meet") × (text_of name.With options ≡ Some file) × GivesFlag (text_of name.Trim options) trim
-AsksBeside subcommand options file beside.Join = (subcommand ≡ codes "join") × (text_of name.With options ≡ Some file)
+    (subcommand ≡ sub.Meet) × (text_of name.With options ≡ Some file) × GivesFlag (text_of name.Trim options) trim
+AsksBeside subcommand options file beside.Join = (subcommand ≡ sub.Join) × (text_of name.With options ≡ Some file)
 AsksBeside subcommand options file (beside.Contained explain) =
-    (subcommand ≡ codes "contained") × (text_of name.In options ≡ Some file) × GivesFlag (text_of name.Explain options) explain
+    (subcommand ≡ sub.Contained) × (text_of name.In options ≡ Some file) × GivesFlag (text_of name.Explain options) explain
     × GivesFlag (text_of name.Stream options) false
 AsksBeside subcommand options file (beside.ContainedStream explain) =
-    (subcommand ≡ codes "contained") × (text_of name.In options ≡ Some file) × GivesFlag (text_of name.Explain options) explain
+    (subcommand ≡ sub.Contained) × (text_of name.In options ≡ Some file) × GivesFlag (text_of name.Explain options) explain
     × GivesFlag (text_of name.Stream options) true
 AsksBeside subcommand options file (beside.Equal explain) =
-    (subcommand ≡ codes "equal") × (text_of name.To options ≡ Some file) × GivesFlag (text_of name.Explain options) explain
+    (subcommand ≡ sub.Equal) × (text_of name.To options ≡ Some file) × GivesFlag (text_of name.Explain options) explain
 AsksBeside subcommand options file (beside.DrawSolution from depth legend) =
-    (subcommand ≡ codes "draw") × Gives IsFormatText (text_of name.Format options) (Some Pg)
+    (subcommand ≡ sub.Draw) × Gives IsFormatText (text_of name.Format options) (Some Pg)
     × (text_of name.Solution options ≡ Some file) × (text_of name.Walk options ≡ None)
     × GivesFlag (text_of name.Legend options) legend × GivesPart options from depth × GivesFlag (text_of name.Lasso options) false
 AsksBeside subcommand options file (beside.DrawWalk from depth legend) =
-    (subcommand ≡ codes "draw") × Gives IsFormatText (text_of name.Format options) (Some Pg)
+    (subcommand ≡ sub.Draw) × Gives IsFormatText (text_of name.Format options) (Some Pg)
     × (text_of name.Walk options ≡ Some file) × (text_of name.Solution options ≡ None)
     × GivesFlag (text_of name.Legend options) legend × GivesPart options from depth × GivesFlag (text_of name.Lasso options) false
 
--- the subcommand of this name, with these options, asks for what is done with this text beside the input
-abbrev pub AsksGiven : List ℕ → Options → (text : List ℕ) → Beside → Type 0
+-- the subcommand, with these options, asks for what is done with this text beside the input
+abbrev pub AsksGiven : Subcommand → Options → (text : List ℕ) → Beside → Type 0
 AsksGiven subcommand options text (beside.Accepts explain) =
-    (subcommand ≡ codes "accepts") × (text_of name.WordText options ≡ Some text) × GivesFlag (text_of name.Explain options) explain
+    (subcommand ≡ sub.Accepts) × (text_of name.WordText options ≡ Some text) × GivesFlag (text_of name.Explain options) explain
 AsksGiven subcommand options text other = ⊥
 
 -- nothing is drawn in a game: neither a solution nor a walk, and so no legend
@@ -222,25 +224,25 @@ abbrev pub GivesNoDrawn : Options → Type 0
 GivesNoDrawn options =
     (text_of name.Solution options ≡ None) × (text_of name.Walk options ≡ None) × GivesFlag (text_of name.Legend options) false
 
--- the subcommand of this name, with these options, asks for the task
-abbrev pub AsksFor : List ℕ → Options → Task → Type 0
+-- the subcommand, with these options, asks for the task
+abbrev pub AsksFor : Subcommand → Options → Task → Type 0
 AsksFor subcommand options (task.Run (command.Show format) budget) =
-    (subcommand ≡ codes "show") × Gives IsFormatText (text_of name.Format options) (Some format)
+    (subcommand ≡ sub.Show) × Gives IsFormatText (text_of name.Format options) (Some format)
     × GivesFlag (text_of name.Json options) false × (budget ≡ most_budget)
 AsksFor subcommand options (task.Run (command.ShowJson format) budget) =
-    (subcommand ≡ codes "show") × Gives IsFormatText (text_of name.Format options) (Some format)
+    (subcommand ≡ sub.Show) × Gives IsFormatText (text_of name.Format options) (Some format)
     × GivesFlag (text_of name.Json options) true × (budget ≡ most_budget)
 AsksFor subcommand options (task.Run (command.Check format) budget) =
-    (subcommand ≡ codes "check") × Gives IsFormatText (text_of name.Format options) (Some format) × (budget ≡ most_budget)
+    (subcommand ≡ sub.Check) × Gives IsFormatText (text_of name.Format options) (Some format) × (budget ≡ most_budget)
 AsksFor subcommand options (task.Run (command.Canon format) budget) =
-    (subcommand ≡ codes "canon") × Gives IsFormatText (text_of name.Format options) (Some format)
+    (subcommand ≡ sub.Canon) × Gives IsFormatText (text_of name.Format options) (Some format)
     × (text_of name.From options ≡ None) × GivesFlag (text_of name.Min options) false × (budget ≡ most_budget)
 AsksFor subcommand options (task.Run (command.CanonPart from) budget) =
-    (subcommand ≡ codes "canon") × Gives IsFormatText (text_of name.Format options) (Some Pg)
+    (subcommand ≡ sub.Canon) × Gives IsFormatText (text_of name.Format options) (Some Pg)
     × Gives (IsNumberText most_number) (text_of name.From options) (Some from)
     × GivesFlag (text_of name.Min options) false × (budget ≡ most_budget)
 AsksFor subcommand options (task.Run (command.CanonLeast from) budget) =
-    (subcommand ≡ codes "canon") × Gives IsFormatText (text_of name.Format options) (Some Pg)
+    (subcommand ≡ sub.Canon) × Gives IsFormatText (text_of name.Format options) (Some Pg)
     × Gives (IsNumberText most_number) (text_of name.From options) from
     × GivesFlag (text_of name.Min options) true × (budget ≡ most_budget)
 AsksFor subcommand options (task.Run (command.Solve player from) budget) =
@@ -250,7 +252,7 @@ AsksFor subcommand options (task.Run (command.Search from) budget) =
 AsksFor subcommand options (task.Run (command.Empty word names status) budget) =
     AsksToLift subcommand options (command.Empty word names status) budget × GivesFlag (text_of name.Progress options) false
 AsksFor subcommand options (task.Run (command.EmptySearch word names status) budget) =
-    (subcommand ≡ codes "empty") × GivesFlag (text_of name.Stream options) false × GivesFlag (text_of name.Search options) true
+    (subcommand ≡ sub.Empty) × GivesFlag (text_of name.Stream options) false × GivesFlag (text_of name.Search options) true
     × GivesEmptyLines options word names × GivesFlag (text_of name.Status options) status
     × (text_of name.Budget options ≡ None) × GivesFlag (text_of name.Progress options) false × (budget ≡ most_budget)
 AsksFor subcommand options (task.Run (command.RealizeByLifting controller) budget) =
@@ -263,21 +265,21 @@ AsksFor subcommand options (task.Run command.RealizabilityGame budget) =
     × GivesFlag (text_of name.Controller options) false
 AsksFor subcommand options (task.Run (command.Each asked) budget) =
     AsksOfEach subcommand options asked budget × GivesFlag (text_of name.Stream options) true
-AsksFor subcommand options (task.Run command.Game budget) = (subcommand ≡ codes "game") × (budget ≡ most_budget)
+AsksFor subcommand options (task.Run command.Game budget) = (subcommand ≡ sub.Game) × (budget ≡ most_budget)
 AsksFor subcommand options (task.Run command.Complement budget) =
-    (subcommand ≡ codes "complement") × GivesFlag (text_of name.Stream options) false × (budget ≡ most_budget)
+    (subcommand ≡ sub.Complement) × GivesFlag (text_of name.Stream options) false × (budget ≡ most_budget)
 AsksFor subcommand options (task.Run command.Trim budget) =
-    (subcommand ≡ codes "trim") × GivesFlag (text_of name.Stream options) false × (budget ≡ most_budget)
+    (subcommand ≡ sub.Trim) × GivesFlag (text_of name.Stream options) false × (budget ≡ most_budget)
 AsksFor subcommand options (task.Run (command.Draw format) budget) =
-    (subcommand ≡ codes "draw") × Gives IsFormatText (text_of name.Format options) (Some format)
+    (subcommand ≡ sub.Draw) × Gives IsFormatText (text_of name.Format options) (Some format)
     × GivesNoDrawn options × GivesPart options None None
     × GivesFlag (text_of name.Lasso options) false × (budget ≡ most_budget)
 AsksFor subcommand options (task.Run (command.DrawPart from depth) budget) =
-    (subcommand ≡ codes "draw") × Gives IsFormatText (text_of name.Format options) (Some Pg)
+    (subcommand ≡ sub.Draw) × Gives IsFormatText (text_of name.Format options) (Some Pg)
     × GivesNoDrawn options × GivesPart options (Some from) depth
     × GivesFlag (text_of name.Lasso options) false × (budget ≡ most_budget)
 AsksFor subcommand options (task.Run command.DrawLasso budget) =
-    (subcommand ≡ codes "draw") × Gives IsFormatText (text_of name.Format options) (Some Hoa)
+    (subcommand ≡ sub.Draw) × Gives IsFormatText (text_of name.Format options) (Some Hoa)
     × GivesNoDrawn options × GivesPart options None None
     × GivesFlag (text_of name.Lasso options) true × (budget ≡ most_budget)
 AsksFor subcommand options (task.Observed command budget) =
@@ -296,40 +298,40 @@ GoesWithEither either.Draw options =
     × GivesFlag (text_of name.Lasso options) false
 
 -- the subcommand takes either format, and none is given, nor an option that goes with one alone
-pub record IsOfEither (subcommand : List ℕ) (options : Options) (asked : OfEither) : Type 0 where
+pub record IsOfEither (subcommand : Subcommand) (options : Options) (asked : OfEither) : Type 0 where
   pub named : subcommand ≡ subcommand_of asked
   pub unformatted : text_of name.Format options ≡ None
   pub either : GoesWithEither asked options
 
 -- so that the text of this file tells the format
-pub record LeavesFormat (subcommand : List ℕ) (options : Options) (asked : OfEither) (file : List ℕ) : Type 0 where
+pub record LeavesFormat (subcommand : Subcommand) (options : Options) (asked : OfEither) (file : List ℕ) : Type 0 where
   pub asks : IsOfEither subcommand options asked
   pub given : text_of name.File options ≡ Some file
   pub names_file : file ≢ codes "-"
 
 -- the format is not left to a text
-abbrev pub LeavesNoFormat : List ℕ → Options → Type 0
+abbrev pub LeavesNoFormat : Subcommand → Options → Type 0
 LeavesNoFormat subcommand options = (asked : OfEither) (file : List ℕ) → LeavesFormat subcommand options asked file → ⊥
 
 -- ---- games that are read as other tools write them
 
 -- the subcommand reads a game, or texts of either format, or may read a game
-abbrev pub HasGames : List ℕ → Type 0
+abbrev pub HasGames : Subcommand → Type 0
 HasGames subcommand =
-    (subcommand ≡ codes "show") ⊎ (subcommand ≡ codes "check") ⊎ (subcommand ≡ codes "canon") ⊎ (subcommand ≡ codes "draw")
-    ⊎ (subcommand ≡ codes "solve") ⊎ (subcommand ≡ codes "verify")
+    (subcommand ≡ sub.Show) ⊎ (subcommand ≡ sub.Check) ⊎ (subcommand ≡ sub.Canon) ⊎ (subcommand ≡ sub.Draw)
+    ⊎ (subcommand ≡ sub.Solve) ⊎ (subcommand ≡ sub.Verify)
 
 -- whether such a subcommand is given `--lenient`
-abbrev pub GivesLeniency : List ℕ → Options → Bool → Type 0
+abbrev pub GivesLeniency : Subcommand → Options → Bool → Type 0
 GivesLeniency subcommand options true = HasGames subcommand × GivesFlag (text_of name.Lenient options) true
 GivesLeniency subcommand options false = HasGames subcommand → GivesFlag (text_of name.Lenient options) false
 
 -- the options ask for nothing but games: a format that is given is theirs, and `verify` judges what is of a game
-pub record IsForGames (subcommand : List ℕ) (options : Options) : Type 0 where
-  pub format : subcommand ≢ codes "solve" → subcommand ≢ codes "verify"
+pub record IsForGames (subcommand : Subcommand) (options : Options) : Type 0 where
+  pub format : subcommand ≢ sub.Solve → subcommand ≢ sub.Verify
       → (text_of name.Format options ≡ None) ⊎ (text_of name.Format options ≡ Some (codes "pg"))
-  pub no_automaton : subcommand ≡ codes "verify" → text_of name.Automaton options ≡ None
-  pub unspecified : subcommand ≡ codes "verify" → text_of name.Specification options ≡ None
+  pub no_automaton : subcommand ≡ sub.Verify → text_of name.Automaton options ≡ None
+  pub unspecified : subcommand ≡ sub.Verify → text_of name.Specification options ≡ None
 
 -- the text that an option has with `--lenient`: the format is that of games, also if it is left out
 abbrev pub text_for_games : OptionName → Options → Option (List ℕ)
@@ -340,15 +342,15 @@ text_for_games name options = text_of name options
 abbrev pub MeansForGames : Options → Options → Type 0
 MeansForGames options meant = (name : OptionName) → text_of name meant ≡ text_for_games name options
 
--- the subcommand of this name, with these options, asks for the task, whose games are read leniently or not
-abbrev pub AsksReading : (lenient : Bool) → List ℕ → Options → Task → Type 0
+-- the subcommand, with these options, asks for the task, whose games are read leniently or not
+abbrev pub AsksReading : (lenient : Bool) → Subcommand → Options → Task → Type 0
 AsksReading false subcommand options task = AsksFor subcommand options task
 AsksReading true subcommand options task =
     IsForGames subcommand options × ((meant : Options) × MeansForGames options meant × AsksFor subcommand meant task)
 
--- the subcommand of this name, with these options, requests the line: a task with the input that the operand names,
+-- the subcommand, with these options, requests the line: a task with the input that the operand names,
 -- whether games are read leniently, and whether a refusal is written with what it is about
-abbrev pub Asks : List ℕ → Options → Line → Type 0
+abbrev pub Asks : Subcommand → Options → Line → Type 0
 Asks subcommand options (line.Do task source lenient verbose) =
     AsksReading lenient subcommand options task × GivesSource (text_of name.File options) source
     × GivesLeniency subcommand options lenient × GivesFlag (text_of name.Verbose options) verbose
@@ -361,43 +363,43 @@ Asks subcommand options (line.Fault text) = ⊥
 -- ---- what is wrong with a subcommand or an option
 
 -- the subcommand takes the option
-abbrev pub HasOption : List ℕ → OptionName → Type 0
+abbrev pub HasOption : Subcommand → OptionName → Type 0
 HasOption subcommand name.Format =
-    (subcommand ≡ codes "show") ⊎ (subcommand ≡ codes "check") ⊎ (subcommand ≡ codes "canon") ⊎ (subcommand ≡ codes "draw")
-HasOption subcommand name.Player = subcommand ≡ codes "solve"
+    (subcommand ≡ sub.Show) ⊎ (subcommand ≡ sub.Check) ⊎ (subcommand ≡ sub.Canon) ⊎ (subcommand ≡ sub.Draw)
+HasOption subcommand name.Player = subcommand ≡ sub.Solve
 HasOption subcommand name.From =
-    (subcommand ≡ codes "solve") ⊎ (subcommand ≡ codes "canon") ⊎ (subcommand ≡ codes "verify") ⊎ (subcommand ≡ codes "draw")
+    (subcommand ≡ sub.Solve) ⊎ (subcommand ≡ sub.Canon) ⊎ (subcommand ≡ sub.Verify) ⊎ (subcommand ≡ sub.Draw)
 HasOption subcommand name.Budget =
-    (subcommand ≡ codes "solve") ⊎ (subcommand ≡ codes "empty") ⊎ (subcommand ≡ codes "realize")
-HasOption subcommand name.Search = (subcommand ≡ codes "solve") ⊎ (subcommand ≡ codes "empty")
-HasOption subcommand name.Game = subcommand ≡ codes "verify"
-HasOption subcommand name.Automaton = subcommand ≡ codes "verify"
-HasOption subcommand name.Specification = subcommand ≡ codes "verify"
+    (subcommand ≡ sub.Solve) ⊎ (subcommand ≡ sub.Empty) ⊎ (subcommand ≡ sub.Realize)
+HasOption subcommand name.Search = (subcommand ≡ sub.Solve) ⊎ (subcommand ≡ sub.Empty)
+HasOption subcommand name.Game = subcommand ≡ sub.Verify
+HasOption subcommand name.Automaton = subcommand ≡ sub.Verify
+HasOption subcommand name.Specification = subcommand ≡ sub.Verify
 HasOption subcommand name.Explain =
-    (subcommand ≡ codes "verify") ⊎ (subcommand ≡ codes "accepts") ⊎ (subcommand ≡ codes "contained") ⊎ (subcommand ≡ codes "equal")
-HasOption subcommand name.Names = (subcommand ≡ codes "verify") ⊎ (subcommand ≡ codes "empty")
-HasOption subcommand name.Word = subcommand ≡ codes "empty"
-HasOption subcommand name.WordText = subcommand ≡ codes "accepts"
-HasOption subcommand name.Status = subcommand ≡ codes "empty"
-HasOption subcommand name.With = (subcommand ≡ codes "meet") ⊎ (subcommand ≡ codes "join")
-HasOption subcommand name.Trim = subcommand ≡ codes "meet"
-HasOption subcommand name.In = subcommand ≡ codes "contained"
-HasOption subcommand name.To = subcommand ≡ codes "equal"
-HasOption subcommand name.Controller = subcommand ≡ codes "realize"
-HasOption subcommand name.AsGame = subcommand ≡ codes "realize"
-HasOption subcommand name.Lift = subcommand ≡ codes "realize"
-HasOption subcommand name.Solution = subcommand ≡ codes "draw"
-HasOption subcommand name.Walk = subcommand ≡ codes "draw"
-HasOption subcommand name.Legend = subcommand ≡ codes "draw"
-HasOption subcommand name.Lasso = subcommand ≡ codes "draw"
-HasOption subcommand name.Depth = subcommand ≡ codes "draw"
+    (subcommand ≡ sub.Verify) ⊎ (subcommand ≡ sub.Accepts) ⊎ (subcommand ≡ sub.Contained) ⊎ (subcommand ≡ sub.Equal)
+HasOption subcommand name.Names = (subcommand ≡ sub.Verify) ⊎ (subcommand ≡ sub.Empty)
+HasOption subcommand name.Word = subcommand ≡ sub.Empty
+HasOption subcommand name.WordText = subcommand ≡ sub.Accepts
+HasOption subcommand name.Status = subcommand ≡ sub.Empty
+HasOption subcommand name.With = (subcommand ≡ sub.Meet) ⊎ (subcommand ≡ sub.Join)
+HasOption subcommand name.Trim = subcommand ≡ sub.Meet
+HasOption subcommand name.In = subcommand ≡ sub.Contained
+HasOption subcommand name.To = subcommand ≡ sub.Equal
+HasOption subcommand name.Controller = subcommand ≡ sub.Realize
+HasOption subcommand name.AsGame = subcommand ≡ sub.Realize
+HasOption subcommand name.Lift = subcommand ≡ sub.Realize
+HasOption subcommand name.Solution = subcommand ≡ sub.Draw
+HasOption subcommand name.Walk = subcommand ≡ sub.Draw
+HasOption subcommand name.Legend = subcommand ≡ sub.Draw
+HasOption subcommand name.Lasso = subcommand ≡ sub.Draw
+HasOption subcommand name.Depth = subcommand ≡ sub.Draw
 HasOption subcommand name.Progress =
-    (subcommand ≡ codes "solve") ⊎ (subcommand ≡ codes "empty") ⊎ (subcommand ≡ codes "realize")
+    (subcommand ≡ sub.Solve) ⊎ (subcommand ≡ sub.Empty) ⊎ (subcommand ≡ sub.Realize)
 HasOption subcommand name.Stream =
-    (subcommand ≡ codes "empty") ⊎ (subcommand ≡ codes "contained") ⊎ (subcommand ≡ codes "complement") ⊎ (subcommand ≡ codes "trim")
-HasOption subcommand name.Winners = subcommand ≡ codes "verify"
-HasOption subcommand name.Min = subcommand ≡ codes "canon"
-HasOption subcommand name.Json = subcommand ≡ codes "show"
+    (subcommand ≡ sub.Empty) ⊎ (subcommand ≡ sub.Contained) ⊎ (subcommand ≡ sub.Complement) ⊎ (subcommand ≡ sub.Trim)
+HasOption subcommand name.Winners = subcommand ≡ sub.Verify
+HasOption subcommand name.Min = subcommand ≡ sub.Canon
+HasOption subcommand name.Json = subcommand ≡ sub.Show
 HasOption subcommand name.Lenient = HasGames subcommand
 HasOption subcommand name.Verbose = Unit {0}
 HasOption subcommand name.File = Unit {0}
@@ -484,25 +486,6 @@ IsFaulty option options (mistake.Conflict one other) = ⊥
 IsFaulty option options (mistake.OnlyWith other format) = ⊥
 IsFaulty option options mistake.Memory = ⊥
 
--- no subcommand has this name
-pub record IsUnknownSubcommand (subcommand : List ℕ) : Type 0 where
-  pub show : subcommand ≢ codes "show"
-  pub check : subcommand ≢ codes "check"
-  pub canon : subcommand ≢ codes "canon"
-  pub solve : subcommand ≢ codes "solve"
-  pub verify : subcommand ≢ codes "verify"
-  pub empty : subcommand ≢ codes "empty"
-  pub game : subcommand ≢ codes "game"
-  pub meet : subcommand ≢ codes "meet"
-  pub join : subcommand ≢ codes "join"
-  pub accepts : subcommand ≢ codes "accepts"
-  pub contained : subcommand ≢ codes "contained"
-  pub equal : subcommand ≢ codes "equal"
-  pub complement : subcommand ≢ codes "complement"
-  pub trim : subcommand ≢ codes "trim"
-  pub realize : subcommand ≢ codes "realize"
-  pub draw : subcommand ≢ codes "draw"
-
 -- the option is given; a flag is set
 abbrev pub IsUsed : OptionName → Options → Type 0
 IsUsed name.Format options = text_of name.Format options ≢ None
@@ -543,26 +526,26 @@ IsUsed name.File options = text_of name.File options ≢ None
 -- `empty` makes no lifts. The progress of a stream is not reported. `verify` judges one thing, and only a game has
 -- parts, winners and names. Wrong winners are shown by no walk. One of a solution and a walk is drawn. The game of
 -- `realize` is written without being solved
-abbrev pub IsApartFrom : OptionName → List ℕ → OptionName → Type 0
+abbrev pub IsApartFrom : OptionName → Subcommand → OptionName → Type 0
 IsApartFrom name.Search subcommand option =
-    ((subcommand ≡ codes "solve") × (option ≡ name.Player))
-    ⊎ ((subcommand ≡ codes "empty") × ((option ≡ name.Budget) ⊎ (option ≡ name.Progress)))
-IsApartFrom name.Stream subcommand option = (subcommand ≡ codes "empty") × (option ≡ name.Progress)
+    ((subcommand ≡ sub.Solve) × (option ≡ name.Player))
+    ⊎ ((subcommand ≡ sub.Empty) × ((option ≡ name.Budget) ⊎ (option ≡ name.Progress)))
+IsApartFrom name.Stream subcommand option = (subcommand ≡ sub.Empty) × (option ≡ name.Progress)
 IsApartFrom name.Automaton subcommand option =
-    (subcommand ≡ codes "verify")
+    (subcommand ≡ sub.Verify)
     × ((option ≡ name.Game) ⊎ (option ≡ name.From) ⊎ (option ≡ name.Winners) ⊎ (option ≡ name.Names) ⊎ (option ≡ name.Lenient))
 IsApartFrom name.Specification subcommand option =
-    (subcommand ≡ codes "verify")
+    (subcommand ≡ sub.Verify)
     × ((option ≡ name.Automaton) ⊎ (option ≡ name.Game) ⊎ (option ≡ name.From) ⊎ (option ≡ name.Winners) ⊎ (option ≡ name.Names)
     ⊎ (option ≡ name.Lenient))
-IsApartFrom name.Winners subcommand option = (subcommand ≡ codes "verify") × (option ≡ name.Names)
-IsApartFrom name.Solution subcommand option = (subcommand ≡ codes "draw") × (option ≡ name.Walk)
-IsApartFrom name.Controller subcommand option = (subcommand ≡ codes "realize") × (option ≡ name.AsGame)
-IsApartFrom name.Lift subcommand option = (subcommand ≡ codes "realize") × (option ≡ name.AsGame)
+IsApartFrom name.Winners subcommand option = (subcommand ≡ sub.Verify) × (option ≡ name.Names)
+IsApartFrom name.Solution subcommand option = (subcommand ≡ sub.Draw) × (option ≡ name.Walk)
+IsApartFrom name.Controller subcommand option = (subcommand ≡ sub.Realize) × (option ≡ name.AsGame)
+IsApartFrom name.Lift subcommand option = (subcommand ≡ sub.Realize) × (option ≡ name.AsGame)
 IsApartFrom one subcommand option = ⊥
 
 -- two options that are not given together, and both are
-pub record IsConflict (subcommand : List ℕ) (options : Options) (one other : OptionName) : Type 0 where
+pub record IsConflict (subcommand : Subcommand) (options : Options) (one other : OptionName) : Type 0 where
   pub apart : IsApartFrom one subcommand other
   pub one_used : IsUsed one options
   pub other_used : IsUsed other options
@@ -570,43 +553,43 @@ pub record IsConflict (subcommand : List ℕ) (options : Options) (one other : O
 -- the option of the subcommand that has to be given if this one is. The steps of a depth are counted from a node, and a
 -- legend is of a solution, or of a walk that is drawn in place of one. Names are those of an explanation. The lifts of
 -- `realize` are bounded and reported only if it lifts
-abbrev pub IsNeededBy : OptionName → List ℕ → Options → OptionName → Type 0
-IsNeededBy name.Depth subcommand options option = (subcommand ≡ codes "draw") × (option ≡ name.From)
+abbrev pub IsNeededBy : OptionName → Subcommand → Options → OptionName → Type 0
+IsNeededBy name.Depth subcommand options option = (subcommand ≡ sub.Draw) × (option ≡ name.From)
 IsNeededBy name.Legend subcommand options option =
-    (subcommand ≡ codes "draw") × (option ≡ name.Solution) × (text_of name.Walk options ≡ None)
-IsNeededBy name.Names subcommand options option = (subcommand ≡ codes "verify") × (option ≡ name.Explain)
-IsNeededBy name.Budget subcommand options option = (subcommand ≡ codes "realize") × (option ≡ name.Lift)
-IsNeededBy name.Progress subcommand options option = (subcommand ≡ codes "realize") × (option ≡ name.Lift)
+    (subcommand ≡ sub.Draw) × (option ≡ name.Solution) × (text_of name.Walk options ≡ None)
+IsNeededBy name.Names subcommand options option = (subcommand ≡ sub.Verify) × (option ≡ name.Explain)
+IsNeededBy name.Budget subcommand options option = (subcommand ≡ sub.Realize) × (option ≡ name.Lift)
+IsNeededBy name.Progress subcommand options option = (subcommand ≡ sub.Realize) × (option ≡ name.Lift)
 IsNeededBy one subcommand options option = ⊥
 
 -- an option is given without this one, which has to be given with it
-pub record IsWanting (subcommand : List ℕ) (options : Options) (option : OptionName) : Type 0 where
+pub record IsWanting (subcommand : Subcommand) (options : Options) (option : OptionName) : Type 0 where
   pub one : OptionName
   pub needed : IsNeededBy one subcommand options option
   pub one_used : IsUsed one options
   pub missing : IsUsed option options → ⊥
 
 -- the option of the subcommand goes with this format only
-abbrev pub IsForFormat : List ℕ → OptionName → Format → Type 0
+abbrev pub IsForFormat : Subcommand → OptionName → Format → Type 0
 IsForFormat subcommand option Pg =
-    ((subcommand ≡ codes "canon") × ((option ≡ name.From) ⊎ (option ≡ name.Min)))
-    ⊎ ((subcommand ≡ codes "draw") × ((option ≡ name.Solution) ⊎ (option ≡ name.Walk) ⊎ (option ≡ name.Legend) ⊎ (option ≡ name.From) ⊎ (option ≡ name.Depth)))
+    ((subcommand ≡ sub.Canon) × ((option ≡ name.From) ⊎ (option ≡ name.Min)))
+    ⊎ ((subcommand ≡ sub.Draw) × ((option ≡ name.Solution) ⊎ (option ≡ name.Walk) ⊎ (option ≡ name.Legend) ⊎ (option ≡ name.From) ⊎ (option ≡ name.Depth)))
     ⊎ (HasOption subcommand name.Format × (option ≡ name.Lenient))
-IsForFormat subcommand option Hoa = (subcommand ≡ codes "draw") × (option ≡ name.Lasso)
+IsForFormat subcommand option Hoa = (subcommand ≡ sub.Draw) × (option ≡ name.Lasso)
 
 -- the option goes with this format only, and is given with another
-pub record IsOfOtherFormat (subcommand : List ℕ) (options : Options) (option : OptionName) (format : Format) : Type 0 where
+pub record IsOfOtherFormat (subcommand : Subcommand) (options : Options) (option : OptionName) (format : Format) : Type 0 where
   pub only_with : IsForFormat subcommand option format
   pub other : Format
   pub other_given : Gives IsFormatText (text_of name.Format options) (Some other)
   pub is_other : other ≢ format
   pub used : IsUsed option options
 
--- what is wrong: no subcommand has the name, or memory is wanting, or options are wrong. Then an option is faulty, one
+-- what is wrong: memory is wanting, or options are. Then an option is faulty, one
 -- lacks another that it needs, two conflict, or one is for another format. A format is missing only if it is not left
 -- to a text
-abbrev pub IsMistake : List ℕ → Options → Mistake → Type 0
-IsMistake subcommand options mistake.Unknown = IsUnknownSubcommand subcommand
+abbrev pub IsMistake : Subcommand → Options → Mistake → Type 0
+IsMistake subcommand options mistake.Unknown = ⊥
 IsMistake subcommand options mistake.Memory = Unit {0}
 IsMistake subcommand options (mistake.Conflict one other) = IsConflict subcommand options one other
 IsMistake subcommand options (mistake.OnlyWith option format) = IsOfOtherFormat subcommand options option format
@@ -619,7 +602,7 @@ IsMistake subcommand options (mistake.Value option text reason) =
 
 -- what is wrong with the options of a line: with them as they are, but with `--lenient` no format is missing; or, with
 -- `--lenient`, with what they mean
-abbrev pub IsWrong : List ℕ → Options → Mistake → Type 0
+abbrev pub IsWrong : Subcommand → Options → Mistake → Type 0
 IsWrong subcommand options found =
     (IsMistake subcommand options found × (GivesLeniency subcommand options true → found ≢ mistake.Missing name.Format))
     ⊎ (GivesLeniency subcommand options true × ((meant : Options) × MeansForGames options meant × IsMistake subcommand meant found))

@@ -1,10 +1,11 @@
 -- The commands that take a text of either format.
-use Rattle.std.specs.Prelude.{List, ℕ, codes}
 use Rattle.omega_command.specs.declared.command.Command.{Command}
 use Rattle.omega_command.specs.declared.command.Command.TheVariants as command
 use Rattle.omega_command.specs.declared.command.Format.{Format}
 use Rattle.omega_command.specs.declared.either.OfEither.{OfEither}
 use Rattle.omega_command.specs.declared.either.OfEither.TheVariants as either
+use Rattle.omega_command.specs.declared.subcommand.Subcommand.{Subcommand}
+use Rattle.omega_command.specs.declared.subcommand.Subcommand.TheVariants as sub
 
 -- the command for a text of this format
 abbrev pub command_in : OfEither → Format → Command
@@ -14,10 +15,10 @@ command_in either.Check format = command.Check format
 command_in either.Canon format = command.Canon format
 command_in either.Draw format = command.Draw format
 
--- the name of the subcommand
-abbrev pub subcommand_of : OfEither → List ℕ
-subcommand_of either.Show = codes "show"
-subcommand_of either.ShowJson = codes "show"
-subcommand_of either.Check = codes "check"
-subcommand_of either.Canon = codes "canon"
-subcommand_of either.Draw = codes "draw"
+-- the subcommand
+abbrev pub subcommand_of : OfEither → Subcommand
+subcommand_of either.Show = sub.Show
+subcommand_of either.ShowJson = sub.Show
+subcommand_of either.Check = sub.Check
+subcommand_of either.Canon = sub.Canon
+subcommand_of either.Draw = sub.Draw

@@ -2,6 +2,7 @@
 pub use Rattle.omega_parity_game.specs.Player
 pub mod Limits
 pub mod Reason
+pub mod Subcommands
 pub mod CommandLine
 pub mod Either
 pub mod Line

@@ -2,5 +2,4 @@
 pub mod Flags
 pub mod Judging
 pub mod Numbers
-pub mod Subcommands
 pub mod Tasks

@@ -1,4 +1,4 @@
-ghost use Rattle.std.specs.Prelude.{◌≡◌, IfErr, IfNone, IfOk, IfSome, IsSome, Some, codes, false, string_bytes, true};
+ghost use Rattle.std.specs.Prelude.{◌≡◌, IfErr, IfNone, IfOk, IfSome, IsSome, Some, false, string_bytes, true};
 ghost use Rattle.omega_command.specs.CommandLine.{Asks, AsksFor, Gives, GivesFlag, GivesNoDrawn, GivesPart, GoesWithEither};
 ghost use Rattle.omega_command.specs.CommandLine.{AsksReading, GivesLeniency, IsFormatText, IsMistake, IsOfEither, IsWrong};
 ghost use Rattle.omega_command.specs.CommandLine.{LeavesFormat, LeavesNoFormat, text_of};
@@ -8,6 +8,7 @@ ghost use Rattle.omega_command.specs.declared.either.OfEither.{OfEither};
 ghost use Rattle.omega_command.specs.declared.either.OfEither.TheVariants as either;
 ghost use Rattle.omega_command.specs.declared.mistake.Mistake.TheVariants as mistake;
 ghost use Rattle.omega_command.specs.declared.options.OptionName.TheVariants as name;
+ghost use Rattle.omega_command.specs.declared.subcommand.Subcommand.TheVariants as sub;
 ghost use Rattle.omega_command.specs.private.Tasks.{IsLineWith};
 
 use crate::beside::Beside;
@@ -21,7 +22,7 @@ use crate::line::{Line, Source, Task};
 use crate::mistake::Mistake;
 use crate::options::{OptionName, Options};
 use crate::source::source_in;
-use crate::subcommand::{Subcommand, subcommand_named};
+use crate::subcommand::Subcommand;
 use crate::tasks::{lifting_task, task_beside, task_given};
 use crate::values::{budget_in, depth_in, format_in, identifier_in, is_set, other_in, player_in};
 use crate::verifying::verifying_for;
@@ -31,11 +32,11 @@ use std::alloc::Global;
 /// does not take are not looked at.
 pub fn line_for<'a>(
     alloc: Global,
-    subcommand: &str,
+    subcommand: Subcommand,
     options: &Options<'a>,
 ) -> Result<Line, Mistake<'a>>
-    ensures asked { IfOk result (Asks subcommand.now options.now) }
-    ensures mistaken { IfErr result (IsWrong subcommand.now options.now) }
+    ensures asked { IfOk result (Asks subcommand options.now) }
+    ensures mistaken { IfErr result (IsWrong subcommand options.now) }
 {
     let verbose = is_set(OptionName::Verbose, options.verbose)?;
     if leniency_in(subcommand, options)? {
@@ -48,14 +49,14 @@ pub fn line_for<'a>(
 /// Returns the line that `subcommand` requests with `options` without `--lenient`, or what is wrong with them.
 fn strict_line_for<'a>(
     alloc: Global,
-    subcommand: &str,
+    subcommand: Subcommand,
     options: &Options<'a>,
     verbose: bool,
 ) -> Result<Line, Mistake<'a>>
-    requires strict { GivesLeniency subcommand.now options.now false }
+    requires strict { GivesLeniency subcommand options.now false }
     requires verbose { GivesFlag (text_of name.Verbose options.now) verbose }
-    ensures asked { IfOk result (Asks subcommand.now options.now) }
-    ensures mistaken { IfErr result (IsMistake subcommand.now options.now) }
+    ensures asked { IfOk result (Asks subcommand options.now) }
+    ensures mistaken { IfErr result (IsMistake subcommand options.now) }
 {
     match by_text(alloc, subcommand, options)? {
         Some((asked, file)) => Ok(Line::ByText {
@@ -71,15 +72,15 @@ fn strict_line_for<'a>(
 /// with them.
 fn told_line_for<'a>(
     alloc: Global,
-    subcommand: &str,
+    subcommand: Subcommand,
     options: &Options<'a>,
     verbose: bool,
 ) -> Result<Line, Mistake<'a>>
-    requires told { LeavesNoFormat subcommand.now options.now }
-    requires strict { GivesLeniency subcommand.now options.now false }
+    requires told { LeavesNoFormat subcommand options.now }
+    requires strict { GivesLeniency subcommand options.now false }
     requires verbose { GivesFlag (text_of name.Verbose options.now) verbose }
-    ensures asked { IfOk result (Asks subcommand.now options.now) }
-    ensures mistaken { IfErr result (IsMistake subcommand.now options.now) }
+    ensures asked { IfOk result (Asks subcommand options.now) }
+    ensures mistaken { IfErr result (IsMistake subcommand options.now) }
 {
     match task_for(alloc, subcommand, options) {
         Ok(task) => line_with(alloc, options, task, false, verbose),
@@ -90,14 +91,14 @@ fn told_line_for<'a>(
 /// Returns the line that `subcommand` requests with `options`, one of which is `--lenient`, or what is wrong with them.
 fn lenient_line_for<'a>(
     alloc: Global,
-    subcommand: &str,
+    subcommand: Subcommand,
     options: &Options<'a>,
     verbose: bool,
 ) -> Result<Line, Mistake<'a>>
-    requires lenient { GivesLeniency subcommand.now options.now true }
+    requires lenient { GivesLeniency subcommand options.now true }
     requires verbose { GivesFlag (text_of name.Verbose options.now) verbose }
-    ensures asked { IfOk result (Asks subcommand.now options.now) }
-    ensures mistaken { IfErr result (IsWrong subcommand.now options.now) }
+    ensures asked { IfOk result (Asks subcommand options.now) }
+    ensures mistaken { IfErr result (IsWrong subcommand options.now) }
 {
     match lenient_task_for(alloc, subcommand, options) {
         Ok(task) => line_with(alloc, options, task, true, verbose),
@@ -130,12 +131,12 @@ fn line_with<'a>(
 /// Returns the task that `subcommand` requests with `options`, one of which is `--lenient`, or what is wrong with them.
 fn lenient_task_for<'a>(
     alloc: Global,
-    subcommand: &str,
+    subcommand: Subcommand,
     options: &Options<'a>,
 ) -> Result<Task, Mistake<'a>>
-    requires { GivesLeniency subcommand.now options.now true }
-    ensures asked { IfOk result (AsksReading true subcommand.now options.now) }
-    ensures mistaken { IfErr result (IsWrong subcommand.now options.now) }
+    requires { GivesLeniency subcommand options.now true }
+    ensures asked { IfOk result (AsksReading true subcommand options.now) }
+    ensures mistaken { IfErr result (IsWrong subcommand options.now) }
 {
     demand_games(subcommand, options)?;
     let meant = meant_for_games(options);
@@ -143,15 +144,16 @@ fn lenient_task_for<'a>(
 }
 
 /// Returns the task that `subcommand` requests with `options`, or what is wrong with them.
-fn task_for<'a>(alloc: Global, subcommand: &str, options: &Options<'a>) -> Result<Task, Mistake<'a>>
-    requires { LeavesNoFormat subcommand.now options.now }
-    ensures asked { IfOk result (AsksFor subcommand.now options.now) }
-    ensures mistaken { IfErr result (IsMistake subcommand.now options.now) }
+fn task_for<'a>(
+    alloc: Global,
+    subcommand: Subcommand,
+    options: &Options<'a>,
+) -> Result<Task, Mistake<'a>>
+    requires { LeavesNoFormat subcommand options.now }
+    ensures asked { IfOk result (AsksFor subcommand options.now) }
+    ensures mistaken { IfErr result (IsMistake subcommand options.now) }
 {
-    let Some(known) = subcommand_named(subcommand) else {
-        return Err(Mistake::Unknown);
-    };
-    match known {
+    match subcommand {
         Subcommand::Show => showing_for(options),
         Subcommand::Check => Ok(Task::Run(Command::Check(format_in(options)?), MOST_BUDGET)),
         Subcommand::Canon => canonical_for(options),
@@ -175,13 +177,13 @@ fn task_for<'a>(alloc: Global, subcommand: &str, options: &Options<'a>) -> Resul
 /// returns what is wrong with `options`.
 fn by_text<'a>(
     alloc: Global,
-    subcommand: &str,
+    subcommand: Subcommand,
     options: &Options<'a>,
 ) -> Result<Option<(OfEither, String)>, Mistake<'a>>
     ensures some { IfOk result (λ found. IfSome found (λ told.
-        LeavesFormat subcommand.now options.now told.0 (string_bytes told.1))) }
-    ensures none { IfOk result (λ found. IfNone found (LeavesNoFormat subcommand.now options.now)) }
-    ensures mistaken { IfErr result (IsMistake subcommand.now options.now) }
+        LeavesFormat subcommand options.now told.0 (string_bytes told.1))) }
+    ensures none { IfOk result (λ found. IfNone found (LeavesNoFormat subcommand options.now)) }
+    ensures mistaken { IfErr result (IsMistake subcommand options.now) }
 {
     let Some(asked) = either_for(subcommand, options)? else {
         return Ok(None);
@@ -193,36 +195,33 @@ fn by_text<'a>(
 }
 
 /// Returns the command of `subcommand` for either format, if `options` do not say which.
-fn either_for<'a>(subcommand: &str, options: &Options<'a>) -> Result<Option<OfEither>, Mistake<'a>>
-    ensures some { IfOk result (λ found. IfSome found (IsOfEither subcommand.now options.now)) }
+fn either_for<'a>(
+    subcommand: Subcommand,
+    options: &Options<'a>,
+) -> Result<Option<OfEither>, Mistake<'a>>
+    ensures some { IfOk result (λ found. IfSome found (IsOfEither subcommand options.now)) }
     ensures none { IfOk result (λ found. IfNone found
-        ((asked : OfEither) → IsOfEither subcommand.now options.now asked → ⊥)) }
-    ensures mistaken { IfErr result (IsMistake subcommand.now options.now) }
+        ((asked : OfEither) → IsOfEither subcommand options.now asked → ⊥)) }
+    ensures mistaken { IfErr result (IsMistake subcommand options.now) }
 {
     if options.format.is_some() {
         return Ok(None);
     }
-    if subcommand == "show" {
-        return showing_of_either(options);
+    match subcommand {
+        Subcommand::Show => showing_of_either(options),
+        Subcommand::Check => Ok(Some(OfEither::Check)),
+        Subcommand::Canon => canonical_of_either(options),
+        Subcommand::Draw => drawing_of_either(options),
+        _ => Ok(None),
     }
-    if subcommand == "check" {
-        return Ok(Some(OfEither::Check));
-    }
-    if subcommand == "canon" {
-        return canonical_of_either(options);
-    }
-    if subcommand == "draw" {
-        return drawing_of_either(options);
-    }
-    Ok(None)
 }
 
 /// Returns the command `show` for either format.
 fn showing_of_either<'a>(options: &Options<'a>) -> Result<Option<OfEither>, Mistake<'a>>
     ensures some { IfOk result (λ found. IfSome found (λ asked.
-        (codes "show" ≡ subcommand_of asked) × GoesWithEither asked options.now)) }
+        (sub.Show ≡ subcommand_of asked) × GoesWithEither asked options.now)) }
     ensures none { IfOk result IsSome }
-    ensures mistaken { IfErr result (IsMistake (codes "show") options.now) }
+    ensures mistaken { IfErr result (IsMistake sub.Show options.now) }
 {
     if is_set(OptionName::Json, options.json)? {
         return Ok(Some(OfEither::ShowJson));
@@ -235,7 +234,7 @@ fn canonical_of_either<'a>(options: &Options<'a>) -> Result<Option<OfEither>, Mi
     ensures some { IfOk result (λ found. IfSome found (λ asked.
         (asked ≡ either.Canon) × GoesWithEither either.Canon options.now)) }
     ensures none { IfOk result (λ found. IfNone found (GoesWithEither either.Canon options.now → ⊥)) }
-    ensures mistaken { IfErr result (IsMistake (codes "canon") options.now) }
+    ensures mistaken { IfErr result (IsMistake sub.Canon options.now) }
 {
     if is_set(OptionName::Min, options.min)? {
         return Ok(None);
@@ -251,7 +250,7 @@ fn drawing_of_either<'a>(options: &Options<'a>) -> Result<Option<OfEither>, Mist
     ensures some { IfOk result (λ found. IfSome found (λ asked.
         (asked ≡ either.Draw) × GoesWithEither either.Draw options.now)) }
     ensures none { IfOk result (λ found. IfNone found (GoesWithEither either.Draw options.now → ⊥)) }
-    ensures mistaken { IfErr result (IsMistake (codes "draw") options.now) }
+    ensures mistaken { IfErr result (IsMistake sub.Draw options.now) }
 {
     if is_set(OptionName::Legend, options.legend)? {
         return Ok(None);
@@ -270,9 +269,9 @@ fn drawing_of_either<'a>(options: &Options<'a>) -> Result<Option<OfEither>, Mist
 
 /// Returns the task that `show` requests with `options`, or what is wrong with them.
 fn showing_for<'a>(options: &Options<'a>) -> Result<Task, Mistake<'a>>
-    requires { LeavesNoFormat (codes "show") options.now }
-    ensures asked { IfOk result (AsksFor (codes "show") options.now) }
-    ensures mistaken { IfErr result (IsMistake (codes "show") options.now) }
+    requires { LeavesNoFormat sub.Show options.now }
+    ensures asked { IfOk result (AsksFor sub.Show options.now) }
+    ensures mistaken { IfErr result (IsMistake sub.Show options.now) }
 {
     let format = format_in(options)?;
     if is_set(OptionName::Json, options.json)? {
@@ -283,9 +282,9 @@ fn showing_for<'a>(options: &Options<'a>) -> Result<Task, Mistake<'a>>
 
 /// Returns the task that `canon` requests with `options`, or what is wrong with them.
 fn canonical_for<'a>(options: &Options<'a>) -> Result<Task, Mistake<'a>>
-    requires { LeavesNoFormat (codes "canon") options.now }
-    ensures asked { IfOk result (AsksFor (codes "canon") options.now) }
-    ensures mistaken { IfErr result (IsMistake (codes "canon") options.now) }
+    requires { LeavesNoFormat sub.Canon options.now }
+    ensures asked { IfOk result (AsksFor sub.Canon options.now) }
+    ensures mistaken { IfErr result (IsMistake sub.Canon options.now) }
 {
     match format_in(options)? {
         Format::Pg => canonical_game_for(options),
@@ -296,8 +295,8 @@ fn canonical_for<'a>(options: &Options<'a>) -> Result<Task, Mistake<'a>>
 /// Returns the task that `canon` requests for a game, or what is wrong with `options`.
 fn canonical_game_for<'a>(options: &Options<'a>) -> Result<Task, Mistake<'a>>
     requires { Gives IsFormatText (text_of name.Format options.now) (Some Pg) }
-    ensures asked { IfOk result (AsksFor (codes "canon") options.now) }
-    ensures mistaken { IfErr result (IsMistake (codes "canon") options.now) }
+    ensures asked { IfOk result (AsksFor sub.Canon options.now) }
+    ensures mistaken { IfErr result (IsMistake sub.Canon options.now) }
 {
     let from = identifier_in(options)?;
     if is_set(OptionName::Min, options.min)? {
@@ -312,8 +311,8 @@ fn canonical_game_for<'a>(options: &Options<'a>) -> Result<Task, Mistake<'a>>
 /// Returns the task that `canon` requests for a stream of automata, or what is wrong with `options`.
 fn canonical_stream_for<'a>(options: &Options<'a>) -> Result<Task, Mistake<'a>>
     requires { Gives IsFormatText (text_of name.Format options.now) (Some Hoa) }
-    ensures asked { IfOk result (AsksFor (codes "canon") options.now) }
-    ensures mistaken { IfErr result (IsMistake (codes "canon") options.now) }
+    ensures asked { IfOk result (AsksFor sub.Canon options.now) }
+    ensures mistaken { IfErr result (IsMistake sub.Canon options.now) }
 {
     if options.from.is_some() {
         return Err(Mistake::OnlyWith(OptionName::From, Format::Pg));
@@ -326,8 +325,8 @@ fn canonical_stream_for<'a>(options: &Options<'a>) -> Result<Task, Mistake<'a>>
 
 /// Returns the task that `solve` requests with `options`, or what is wrong with them.
 fn solving_for<'a>(options: &Options<'a>) -> Result<Task, Mistake<'a>>
-    ensures asked { IfOk result (AsksFor (codes "solve") options.now) }
-    ensures mistaken { IfErr result (IsMistake (codes "solve") options.now) }
+    ensures asked { IfOk result (AsksFor sub.Solve options.now) }
+    ensures mistaken { IfErr result (IsMistake sub.Solve options.now) }
 {
     let player = player_in(options)?;
     let from = identifier_in(options)?;
@@ -346,8 +345,8 @@ fn solving_for<'a>(options: &Options<'a>) -> Result<Task, Mistake<'a>>
 
 /// Returns the task that `meet` requests with `options`, or what is wrong with them.
 fn meeting_for<'a>(alloc: Global, options: &Options<'a>) -> Result<Task, Mistake<'a>>
-    ensures asked { IfOk result (AsksFor (codes "meet") options.now) }
-    ensures mistaken { IfErr result (IsMistake (codes "meet") options.now) }
+    ensures asked { IfOk result (AsksFor sub.Meet options.now) }
+    ensures mistaken { IfErr result (IsMistake sub.Meet options.now) }
 {
     let trim = is_set(OptionName::Trim, options.trim)?;
     let name = other_in(options)?;
@@ -356,8 +355,8 @@ fn meeting_for<'a>(alloc: Global, options: &Options<'a>) -> Result<Task, Mistake
 
 /// Returns the task that `join` requests with `options`, or what is wrong with them.
 fn joining_for<'a>(alloc: Global, options: &Options<'a>) -> Result<Task, Mistake<'a>>
-    ensures asked { IfOk result (AsksFor (codes "join") options.now) }
-    ensures mistaken { IfErr result (IsMistake (codes "join") options.now) }
+    ensures asked { IfOk result (AsksFor sub.Join options.now) }
+    ensures mistaken { IfErr result (IsMistake sub.Join options.now) }
 {
     let name = other_in(options)?;
     task_beside(alloc, name, Beside::Join)
@@ -365,8 +364,8 @@ fn joining_for<'a>(alloc: Global, options: &Options<'a>) -> Result<Task, Mistake
 
 /// Returns the task that `accepts` requests with `options`, or what is wrong with them.
 fn accepted_for<'a>(alloc: Global, options: &Options<'a>) -> Result<Task, Mistake<'a>>
-    ensures asked { IfOk result (AsksFor (codes "accepts") options.now) }
-    ensures mistaken { IfErr result (IsMistake (codes "accepts") options.now) }
+    ensures asked { IfOk result (AsksFor sub.Accepts options.now) }
+    ensures mistaken { IfErr result (IsMistake sub.Accepts options.now) }
 {
     let explain = is_set(OptionName::Explain, options.explain)?;
     let Some(word) = options.word_text else {
@@ -377,8 +376,8 @@ fn accepted_for<'a>(alloc: Global, options: &Options<'a>) -> Result<Task, Mistak
 
 /// Returns the task that `contained` requests with `options`, or what is wrong with them.
 fn contained_for<'a>(alloc: Global, options: &Options<'a>) -> Result<Task, Mistake<'a>>
-    ensures asked { IfOk result (AsksFor (codes "contained") options.now) }
-    ensures mistaken { IfErr result (IsMistake (codes "contained") options.now) }
+    ensures asked { IfOk result (AsksFor sub.Contained options.now) }
+    ensures mistaken { IfErr result (IsMistake sub.Contained options.now) }
 {
     let explain = is_set(OptionName::Explain, options.explain)?;
     let stream = is_set(OptionName::Stream, options.stream)?;
@@ -394,8 +393,8 @@ fn contained_for<'a>(alloc: Global, options: &Options<'a>) -> Result<Task, Mista
 
 /// Returns the task that `equal` requests with `options`, or what is wrong with them.
 fn equal_for<'a>(alloc: Global, options: &Options<'a>) -> Result<Task, Mistake<'a>>
-    ensures asked { IfOk result (AsksFor (codes "equal") options.now) }
-    ensures mistaken { IfErr result (IsMistake (codes "equal") options.now) }
+    ensures asked { IfOk result (AsksFor sub.Equal options.now) }
+    ensures mistaken { IfErr result (IsMistake sub.Equal options.now) }
 {
     let explain = is_set(OptionName::Explain, options.explain)?;
     let Some(name) = options.to else {
@@ -406,8 +405,8 @@ fn equal_for<'a>(alloc: Global, options: &Options<'a>) -> Result<Task, Mistake<'
 
 /// Returns the task that `complement` requests with `options`, or what is wrong with them.
 fn complement_for<'a>(options: &Options<'a>) -> Result<Task, Mistake<'a>>
-    ensures asked { IfOk result (AsksFor (codes "complement") options.now) }
-    ensures mistaken { IfErr result (IsMistake (codes "complement") options.now) }
+    ensures asked { IfOk result (AsksFor sub.Complement options.now) }
+    ensures mistaken { IfErr result (IsMistake sub.Complement options.now) }
 {
     if is_set(OptionName::Stream, options.stream)? {
         return Ok(Task::Run(Command::Each(OfEach::Complement), MOST_BUDGET));
@@ -417,8 +416,8 @@ fn complement_for<'a>(options: &Options<'a>) -> Result<Task, Mistake<'a>>
 
 /// Returns the task that `trim` requests with `options`, or what is wrong with them.
 fn trimming_for<'a>(options: &Options<'a>) -> Result<Task, Mistake<'a>>
-    ensures asked { IfOk result (AsksFor (codes "trim") options.now) }
-    ensures mistaken { IfErr result (IsMistake (codes "trim") options.now) }
+    ensures asked { IfOk result (AsksFor sub.Trim options.now) }
+    ensures mistaken { IfErr result (IsMistake sub.Trim options.now) }
 {
     if is_set(OptionName::Stream, options.stream)? {
         return Ok(Task::Run(Command::Each(OfEach::Trim), MOST_BUDGET));
@@ -428,8 +427,8 @@ fn trimming_for<'a>(options: &Options<'a>) -> Result<Task, Mistake<'a>>
 
 /// Returns the task that `realize` requests with `options`, or what is wrong with them.
 fn realizing_for<'a>(options: &Options<'a>) -> Result<Task, Mistake<'a>>
-    ensures asked { IfOk result (AsksFor (codes "realize") options.now) }
-    ensures mistaken { IfErr result (IsMistake (codes "realize") options.now) }
+    ensures asked { IfOk result (AsksFor sub.Realize options.now) }
+    ensures mistaken { IfErr result (IsMistake sub.Realize options.now) }
 {
     let controller = is_set(OptionName::Controller, options.controller)?;
     let as_game = is_set(OptionName::AsGame, options.as_game)?;
@@ -457,9 +456,9 @@ fn realizing_for<'a>(options: &Options<'a>) -> Result<Task, Mistake<'a>>
 
 /// Returns the task that `draw` requests with `options`, or what is wrong with them.
 fn drawing_for<'a>(alloc: Global, options: &Options<'a>) -> Result<Task, Mistake<'a>>
-    requires { LeavesNoFormat (codes "draw") options.now }
-    ensures asked { IfOk result (AsksFor (codes "draw") options.now) }
-    ensures mistaken { IfErr result (IsMistake (codes "draw") options.now) }
+    requires { LeavesNoFormat sub.Draw options.now }
+    ensures asked { IfOk result (AsksFor sub.Draw options.now) }
+    ensures mistaken { IfErr result (IsMistake sub.Draw options.now) }
 {
     match format_in(options)? {
         Format::Pg => game_drawing_for(alloc, options),
@@ -470,8 +469,8 @@ fn drawing_for<'a>(alloc: Global, options: &Options<'a>) -> Result<Task, Mistake
 /// Returns the task that `draw` requests for a game, or what is wrong with `options`.
 fn game_drawing_for<'a>(alloc: Global, options: &Options<'a>) -> Result<Task, Mistake<'a>>
     requires { Gives IsFormatText (text_of name.Format options.now) (Some Pg) }
-    ensures asked { IfOk result (AsksFor (codes "draw") options.now) }
-    ensures mistaken { IfErr result (IsMistake (codes "draw") options.now) }
+    ensures asked { IfOk result (AsksFor sub.Draw options.now) }
+    ensures mistaken { IfErr result (IsMistake sub.Draw options.now) }
 {
     if is_set(OptionName::Lasso, options.lasso)? {
         return Err(Mistake::OnlyWith(OptionName::Lasso, Format::Hoa));
@@ -498,8 +497,8 @@ fn part_drawing_for<'a>(
     requires no_lasso { GivesFlag (text_of name.Lasso options.now) false }
     requires part { GivesPart options.now from depth }
     requires legend { GivesFlag (text_of name.Legend options.now) legend }
-    ensures asked { IfOk result (AsksFor (codes "draw") options.now) }
-    ensures mistaken { IfErr result (IsMistake (codes "draw") options.now) }
+    ensures asked { IfOk result (AsksFor sub.Draw options.now) }
+    ensures mistaken { IfErr result (IsMistake sub.Draw options.now) }
 {
     if let Some(solution) = options.solution {
         if options.walk.is_some() {
@@ -538,8 +537,8 @@ fn part_drawing_for<'a>(
 /// Returns the task that `draw` requests for an automaton, or what is wrong with `options`.
 fn automaton_drawing_for<'a>(options: &Options<'a>) -> Result<Task, Mistake<'a>>
     requires { Gives IsFormatText (text_of name.Format options.now) (Some Hoa) }
-    ensures asked { IfOk result (AsksFor (codes "draw") options.now) }
-    ensures mistaken { IfErr result (IsMistake (codes "draw") options.now) }
+    ensures asked { IfOk result (AsksFor sub.Draw options.now) }
+    ensures mistaken { IfErr result (IsMistake sub.Draw options.now) }
 {
     if options.solution.is_some() {
         return Err(Mistake::OnlyWith(OptionName::Solution, Format::Pg));
@@ -557,8 +556,8 @@ fn automaton_drawing_for<'a>(options: &Options<'a>) -> Result<Task, Mistake<'a>>
 fn whole_drawing_for<'a>(options: &Options<'a>) -> Result<Task, Mistake<'a>>
     requires format { Gives IsFormatText (text_of name.Format options.now) (Some Hoa) }
     requires alone { GivesNoDrawn options.now }
-    ensures asked { IfOk result (AsksFor (codes "draw") options.now) }
-    ensures mistaken { IfErr result (IsMistake (codes "draw") options.now) }
+    ensures asked { IfOk result (AsksFor sub.Draw options.now) }
+    ensures mistaken { IfErr result (IsMistake sub.Draw options.now) }
 {
     if options.from.is_some() {
         return Err(Mistake::OnlyWith(OptionName::From, Format::Pg));

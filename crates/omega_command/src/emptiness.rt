@@ -1,7 +1,8 @@
 //! The tasks that `empty` requests.
-ghost use Rattle.std.specs.Prelude.{◌≡◌, IfErr, IfOk, codes, false, true};
+ghost use Rattle.std.specs.Prelude.{◌≡◌, IfErr, IfOk, false, true};
 ghost use Rattle.omega_command.specs.CommandLine.{AsksFor, GivesFlag, IsMistake, text_of};
 ghost use Rattle.omega_command.specs.declared.options.OptionName.TheVariants as name;
+ghost use Rattle.omega_command.specs.declared.subcommand.Subcommand.TheVariants as sub;
 
 use crate::command::Command;
 use crate::each::OfEach;
@@ -14,8 +15,8 @@ use crate::values::{budget_in, is_set};
 
 /// Returns the task that `empty` requests with `options`, or what is wrong with them.
 pub fn emptiness_for<'a>(options: &Options<'a>) -> Result<Task, Mistake<'a>>
-    ensures asked { IfOk result (AsksFor (codes "empty") options.now) }
-    ensures mistaken { IfErr result (IsMistake (codes "empty") options.now) }
+    ensures asked { IfOk result (AsksFor sub.Empty options.now) }
+    ensures mistaken { IfErr result (IsMistake sub.Empty options.now) }
 {
     if is_set(OptionName::Stream, options.stream)? {
         emptiness_of_each_for(options)
@@ -27,8 +28,8 @@ pub fn emptiness_for<'a>(options: &Options<'a>) -> Result<Task, Mistake<'a>>
 /// Returns the task that `empty` requests with `options` for one automaton, or what is wrong with them.
 fn emptiness_of_one_for<'a>(options: &Options<'a>) -> Result<Task, Mistake<'a>>
     requires { GivesFlag (text_of name.Stream options.now) false }
-    ensures asked { IfOk result (AsksFor (codes "empty") options.now) }
-    ensures mistaken { IfErr result (IsMistake (codes "empty") options.now) }
+    ensures asked { IfOk result (AsksFor sub.Empty options.now) }
+    ensures mistaken { IfErr result (IsMistake sub.Empty options.now) }
 {
     let word = is_set(OptionName::Word, options.word)?;
     let names = is_set(OptionName::Names, options.names)?;
@@ -60,8 +61,8 @@ fn emptiness_of_one_for<'a>(options: &Options<'a>) -> Result<Task, Mistake<'a>>
 /// Returns the task that `empty` requests with `options` for a stream, or what is wrong with them.
 fn emptiness_of_each_for<'a>(options: &Options<'a>) -> Result<Task, Mistake<'a>>
     requires { GivesFlag (text_of name.Stream options.now) true }
-    ensures asked { IfOk result (AsksFor (codes "empty") options.now) }
-    ensures mistaken { IfErr result (IsMistake (codes "empty") options.now) }
+    ensures asked { IfOk result (AsksFor sub.Empty options.now) }
+    ensures mistaken { IfErr result (IsMistake sub.Empty options.now) }
 {
     if is_set(OptionName::Progress, options.progress)? {
         return Err(Mistake::Conflict(OptionName::Stream, OptionName::Progress));

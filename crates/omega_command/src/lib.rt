@@ -29,3 +29,4 @@ pub use line::{Line, Source, Task};
 pub use mistake::{Mistake, Reason};
 pub use omega_parity_game::{Player, Refusal};
 pub use options::{OptionName, Options};
+pub use subcommand::{Subcommand, subcommand_named};

@@ -1,10 +1,10 @@
 ghost use Rattle.std.specs.Prelude.{◌≡◌, IfNone, IfSome};
-ghost use Rattle.omega_command.specs.CommandLine.{IsUnknownSubcommand};
-ghost use Rattle.omega_command.specs.private.Subcommands.{name_of};
+ghost use Rattle.omega_command.specs.Subcommands.{name_of};
+ghost use Rattle.omega_command.specs.declared.subcommand.Subcommand.{Subcommand};
 
-/// A subcommand of the program.
-#[derive(Clone, Copy)]
-pub(crate) enum Subcommand {
+/// A subcommand of the program. Help lists them in this order.
+#[derive(Clone, Copy, Debug, PartialEq, Eq)]
+pub enum Subcommand {
     Show,
     Check,
     Canon,
@@ -12,11 +12,11 @@ pub(crate) enum Subcommand {
     Verify,
     Empty,
     Game,
-    Meet,
-    Join,
     Accepts,
     Contained,
     Equal,
+    Meet,
+    Join,
     Complement,
     Trim,
     Realize,
@@ -24,9 +24,9 @@ pub(crate) enum Subcommand {
 }
 
 /// Returns the subcommand of this name, if there is one.
-pub(crate) fn subcommand_named(name: &str) -> Option<Subcommand>
+pub fn subcommand_named(name: &str) -> Option<Subcommand>
     ensures some { IfSome result (λ subcommand. name.now ≡ name_of subcommand) }
-    ensures none { IfNone result (IsUnknownSubcommand name.now) }
+    ensures none { IfNone result ((subcommand : Subcommand) → name.now ≡ name_of subcommand → ⊥) }
 {
     match name {
         "show" => Some(Subcommand::Show),
@@ -36,11 +36,11 @@ pub(crate) fn subcommand_named(name: &str) -> Option<Subcommand>
         "verify" => Some(Subcommand::Verify),
         "empty" => Some(Subcommand::Empty),
         "game" => Some(Subcommand::Game),
-        "meet" => Some(Subcommand::Meet),
-        "join" => Some(Subcommand::Join),
         "accepts" => Some(Subcommand::Accepts),
         "contained" => Some(Subcommand::Contained),
         "equal" => Some(Subcommand::Equal),
+        "meet" => Some(Subcommand::Meet),
+        "join" => Some(Subcommand::Join),
         "complement" => Some(Subcommand::Complement),
         "trim" => Some(Subcommand::Trim),
         "realize" => Some(Subcommand::Realize),

@@ -1,7 +1,8 @@
 //! The tasks that `verify` requests.
-ghost use Rattle.std.specs.Prelude.{◌≡◌, IfErr, IfOk, None, Some, codes};
+ghost use Rattle.std.specs.Prelude.{◌≡◌, IfErr, IfOk, None, Some};
 ghost use Rattle.omega_command.specs.CommandLine.{AsksFor, GivesFlag, IsMistake, text_of};
 ghost use Rattle.omega_command.specs.declared.options.OptionName.TheVariants as name;
+ghost use Rattle.omega_command.specs.declared.subcommand.Subcommand.TheVariants as sub;
 ghost use Rattle.omega_command.specs.private.Judging.{judging_for};
 
 use crate::beside::Beside;
@@ -14,8 +15,8 @@ use std::alloc::Global;
 
 /// Returns the task that `verify` requests with `options`, or what is wrong with them.
 pub fn verifying_for<'a>(alloc: Global, options: &Options<'a>) -> Result<Task, Mistake<'a>>
-    ensures asked { IfOk result (AsksFor (codes "verify") options.now) }
-    ensures mistaken { IfErr result (IsMistake (codes "verify") options.now) }
+    ensures asked { IfOk result (AsksFor sub.Verify options.now) }
+    ensures mistaken { IfErr result (IsMistake sub.Verify options.now) }
 {
     let explain = is_set(OptionName::Explain, options.explain)?;
     let winners = is_set(OptionName::Winners, options.winners)?;
@@ -43,8 +44,8 @@ fn solution_verifying_for<'a>(
     requires explain { GivesFlag (text_of name.Explain options.now) explain }
     requires winners { GivesFlag (text_of name.Winners options.now) winners }
     requires names { GivesFlag (text_of name.Names options.now) names }
-    ensures asked { IfOk result (AsksFor (codes "verify") options.now) }
-    ensures mistaken { IfErr result (IsMistake (codes "verify") options.now) }
+    ensures asked { IfOk result (AsksFor sub.Verify options.now) }
+    ensures mistaken { IfErr result (IsMistake sub.Verify options.now) }
 {
     let Some(name) = options.game else {
         return Err(Mistake::Missing(OptionName::Game));
@@ -87,8 +88,8 @@ fn lasso_verifying_for<'a>(
     requires explain { GivesFlag (text_of name.Explain options.now) explain }
     requires winners { GivesFlag (text_of name.Winners options.now) winners }
     requires names { GivesFlag (text_of name.Names options.now) names }
-    ensures asked { IfOk result (AsksFor (codes "verify") options.now) }
-    ensures mistaken { IfErr result (IsMistake (codes "verify") options.now) }
+    ensures asked { IfOk result (AsksFor sub.Verify options.now) }
+    ensures mistaken { IfErr result (IsMistake sub.Verify options.now) }
 {
     if options.game.is_some() {
         return Err(Mistake::Conflict(OptionName::Automaton, OptionName::Game));
@@ -118,8 +119,8 @@ fn controller_verifying_for<'a>(
     requires explain { GivesFlag (text_of name.Explain options.now) explain }
     requires winners { GivesFlag (text_of name.Winners options.now) winners }
     requires names { GivesFlag (text_of name.Names options.now) names }
-    ensures asked { IfOk result (AsksFor (codes "verify") options.now) }
-    ensures mistaken { IfErr result (IsMistake (codes "verify") options.now) }
+    ensures asked { IfOk result (AsksFor sub.Verify options.now) }
+    ensures mistaken { IfErr result (IsMistake sub.Verify options.now) }
 {
     if options.automaton.is_some() {
         return Err(Mistake::Conflict(OptionName::Specification, OptionName::Automaton));

@@ -5,6 +5,8 @@ use Rattle.clap.specs.declared.error.kind.ErrorKind.{ErrorKind}
 use Rattle.clap.specs.declared.error.kind.ErrorKind.TheVariants.{DisplayHelp, DisplayVersion}
 use Rattle.omega_command.specs.CommandLine.{Asks, IsWrong, text_of}
 use Rattle.omega_command.specs.Line.{IsFaultLine}
+use Rattle.omega_command.specs.Subcommands.{name_of}
+use Rattle.omega_command.specs.declared.subcommand.Subcommand.{Subcommand}
 use Rattle.omega_command.specs.declared.line.Line.{Line}
 use Rattle.omega_command.specs.declared.line.Line.TheVariants as line
 use Rattle.omega_command.specs.declared.mistake.Mistake.{Mistake}
@@ -53,20 +55,23 @@ id_of name.File = codes "file"
 abbrev pub IsFaultLineOf : Mistake → Line → Type 0
 IsFaultLineOf found line = IsFaultLine line × (found ≢ mistake.Memory)
 
--- the line for the subcommand of this name with these options: what it requests, or a fault that says what is wrong
-abbrev pub IsLineOf : List ℕ → Options → Line → Type 0
+-- the line for the subcommand with these options: what it requests, or a fault that says what is wrong
+abbrev pub IsLineOf : Subcommand → Options → Line → Type 0
 IsLineOf subcommand options line =
     Asks subcommand options line ⊎ ((found : Mistake) × IsWrong subcommand options found × IsFaultLineOf found line)
 
--- the line for the subcommand of this name, with the options that `clap` found after it
-abbrev pub IsLineFor : List ℕ → List Row → Line → Type 0
+-- the line for the subcommand, with the options that `clap` found after it
+abbrev pub IsLineFor : Subcommand → List Row → Line → Type 0
 IsLineFor subcommand rows line =
-    (options : Options) × ((name : OptionName) → text_of name options ≡ first_of (id_of name) rows) × IsLineOf subcommand options line
+    (options : Options) × ((name : OptionName) → text_of name options ≡ first_of (id_of name) rows)
+    × IsLineOf subcommand options line
 
--- the line for the subcommand that `clap` found; a fault if it found none
+-- the line for the subcommand of the name that `clap` found; a fault if it found none, or if none has the name
 abbrev pub IsLineFound : Option (List ℕ × List Row) → Line → Type 0
 IsLineFound None line = IsFaultLine line
-IsLineFound (Some (subcommand, rows)) line = IsLineFor subcommand rows line
+IsLineFound (Some (name, rows)) line =
+    ((subcommand : Subcommand) × (name ≡ name_of subcommand) × IsLineFor subcommand rows line)
+    ⊎ (((subcommand : Subcommand) → name ≡ name_of subcommand → ⊥) × IsFaultLine line)
 
 -- the line for an error of `clap`: help if the user requested a text, else a fault
 abbrev pub IsPrinted : ErrorKind → Line → Type 0

@@ -6,6 +6,6 @@ mod words;
 
 pub use omega_command::{
     Beside, Command, Format, Line, Mistake, OfEach, OfEither, OptionName, Options, Player, Reason,
-    Refusal, Source, Task, line_for,
+    Refusal, Source, Subcommand, Task, line_for,
 };
 pub use words::read_words;

@@ -4,12 +4,12 @@ ghost use Rattle.clap.specs.declared.error.kind.ErrorKind.TheVariants.{OutOfMemo
 ghost use Rattle.omega_text.specs.declared.refusal.Refusal.TheVariants.{Memory};
 ghost use Rattle.omega_command_line.specs.Found.{IsFaultLineOf, IsLineFor, IsLineFound, IsPrinted};
 ghost use Rattle.omega_command_line.specs.Words.{IsLineAsked};
-ghost use Rattle.omega_command.specs.Line.{IsRunnable};
+ghost use Rattle.omega_command.specs.Line.{IsFaultLine, IsRunnable};
 
 use crate::found::options_in;
 use clap::error::ErrorKind;
 use clap::{ArgMatches, Error};
-use omega_command::{Line, Mistake, line_for};
+use omega_command::{Line, Mistake, Subcommand, line_for, subcommand_named};
 use omega_help::{fault_text, matches_of};
 use omega_text::Refusal;
 use std::alloc::Global;
@@ -32,15 +32,30 @@ fn asked_for(alloc: Global, found: &ArgMatches<'_>) -> Result<Line, Refusal>
     ensures runnable { IfOk result IsRunnable }
     ensures memory { IsOkUnless result Memory }
 {
-    match found.subcommand() {
-        Some((subcommand, matches)) => answered(alloc, subcommand, matches),
-        None => mistaken(alloc, "", &Mistake::Unknown),
+    let Some((name, matches)) = found.subcommand() else {
+        return unknown(alloc);
+    };
+    match subcommand_named(name) {
+        Some(subcommand) => answered(alloc, subcommand, matches),
+        None => unknown(alloc),
     }
 }
 
+/// Returns the fault that the subcommand is not known.
+fn unknown(alloc: Global) -> Result<Line, Refusal>
+    ensures fault { IfOk result IsFaultLine }
+    ensures memory { IsOkUnless result Memory }
+{
+    Ok(Line::Fault(Mistake::Unknown.text(alloc)?))
+}
+
 /// Returns the line for `subcommand` with the options that `clap` found after it.
-fn answered(alloc: Global, subcommand: &str, matches: &ArgMatches<'_>) -> Result<Line, Refusal>
-    ensures line { IfOk result (IsLineFor subcommand.now (rows_of (found_of matches.now))) }
+fn answered(
+    alloc: Global,
+    subcommand: Subcommand,
+    matches: &ArgMatches<'_>,
+) -> Result<Line, Refusal>
+    ensures line { IfOk result (IsLineFor subcommand (rows_of (found_of matches.now))) }
     ensures runnable { IfOk result IsRunnable }
     ensures memory { IsOkUnless result Memory }
 {
@@ -51,7 +66,7 @@ fn answered(alloc: Global, subcommand: &str, matches: &ArgMatches<'_>) -> Result
 }
 
 /// Returns the fault with the message of a mistake in the options of `subcommand`.
-fn mistaken(alloc: Global, subcommand: &str, mistake: &Mistake<'_>) -> Result<Line, Refusal>
+fn mistaken(alloc: Global, subcommand: Subcommand, mistake: &Mistake<'_>) -> Result<Line, Refusal>
     ensures fault { IfOk result (IsFaultLineOf mistake.now) }
     ensures memory { IsOkUnless result Memory }
 {

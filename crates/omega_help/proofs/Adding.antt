@@ -3,8 +3,8 @@ use Rattle.std.proofs.Common.{◌≡◌, ◌&&◌, ◌++◌, ◌∙◌, Bool, Li
 use Rattle.std.proofs.lemmas.List.{append-nil}
 use Rattle.clap.specs.Words.{App, Rule, with_rule}
 use Rattle.omega_help.specs.private.building.Building.{shape_for, with_rules}
-use Rattle.omega_help.specs.declared.program.Subcommand.{Subcommand}
-use Rattle.omega_help.specs.declared.program.Subcommand.TheVariants.{Accepts, Canon, Check, Complement, Contained, Draw, Empty, Equal, Game, Join, Meet, Realize, Show, Solve, Trim, Verify}
+use Rattle.omega_command.specs.declared.subcommand.Subcommand.{Subcommand}
+use Rattle.omega_command.specs.declared.subcommand.Subcommand.TheVariants.{Accepts, Canon, Check, Complement, Contained, Draw, Empty, Equal, Game, Join, Meet, Realize, Show, Solve, Trim, Verify}
 
 -- what holds of the value is said in other words
 pub if_ok_wider : {T E : Type 0} (result : Result T E) (Holds Others : T → Type 0) → ((value : T) → Holds value → Others value)

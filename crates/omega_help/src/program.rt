@@ -23,6 +23,7 @@ use crate::verify::verify_command;
 use crate::version::VERSION;
 use clap::error::ErrorKind;
 use clap::{ArgMatches, Command, Error};
+use omega_command::Subcommand;
 use std::alloc::{AllocError, Global};
 
 const DETAILS: &str = "\
@@ -82,27 +83,6 @@ pub fn matches_of<'a>(alloc: Global, words: &'a [String]) -> Result<ArgMatches<'
     whole.try_get_matches_from(words)
 }
 
-/// A subcommand of the program.
-#[derive(Clone, Copy)]
-enum Subcommand {
-    Show,
-    Check,
-    Canon,
-    Solve,
-    Verify,
-    Empty,
-    Game,
-    Accepts,
-    Contained,
-    Equal,
-    Meet,
-    Join,
-    Complement,
-    Trim,
-    Realize,
-    Draw,
-}
-
 /// The subcommands in the order in which help lists them.
 const SUBCOMMANDS: [Subcommand; 16] = [
     Subcommand::Show,
@@ -123,69 +103,43 @@ const SUBCOMMANDS: [Subcommand; 16] = [
     Subcommand::Draw,
 ];
 
-impl Subcommand {
-    fn command<'a>(self, alloc: Global) -> Result<Command<'a>, AllocError>
-        ensures { IfOk result (λ command. shape_of command ≡ shape_for self) }
-    {
-        match self {
-            Subcommand::Show => show_command(alloc),
-            Subcommand::Check => check_command(alloc),
-            Subcommand::Canon => canon_command(alloc),
-            Subcommand::Solve => solve_command(alloc),
-            Subcommand::Verify => verify_command(alloc),
-            Subcommand::Empty => empty_command(alloc),
-            Subcommand::Game => game_command(alloc),
-            Subcommand::Accepts => accepts_command(alloc),
-            Subcommand::Contained => contained_command(alloc),
-            Subcommand::Equal => equal_command(alloc),
-            Subcommand::Meet => meet_command(alloc),
-            Subcommand::Join => join_command(alloc),
-            Subcommand::Complement => complement_command(alloc),
-            Subcommand::Trim => trim_command(alloc),
-            Subcommand::Realize => realize_command(alloc),
-            Subcommand::Draw => draw_command(alloc),
-        }
+/// Returns the subcommand as `clap` takes it.
+fn command_of<'a>(alloc: Global, subcommand: Subcommand) -> Result<Command<'a>, AllocError>
+    ensures { IfOk result (λ command. shape_of command ≡ shape_for subcommand) }
+{
+    match subcommand {
+        Subcommand::Show => show_command(alloc),
+        Subcommand::Check => check_command(alloc),
+        Subcommand::Canon => canon_command(alloc),
+        Subcommand::Solve => solve_command(alloc),
+        Subcommand::Verify => verify_command(alloc),
+        Subcommand::Empty => empty_command(alloc),
+        Subcommand::Game => game_command(alloc),
+        Subcommand::Accepts => accepts_command(alloc),
+        Subcommand::Contained => contained_command(alloc),
+        Subcommand::Equal => equal_command(alloc),
+        Subcommand::Meet => meet_command(alloc),
+        Subcommand::Join => join_command(alloc),
+        Subcommand::Complement => complement_command(alloc),
+        Subcommand::Trim => trim_command(alloc),
+        Subcommand::Realize => realize_command(alloc),
+        Subcommand::Draw => draw_command(alloc),
     }
 }
 
 /// Returns the text that says what is wrong with the options of `subcommand`. It has the usage line, in the form of the
 /// faults that `clap` finds.
-pub fn fault_text(alloc: Global, subcommand: &str, message: &str) -> Result<String, AllocError> {
-    let name = format!(in alloc; "omega {subcommand}")?;
-    let mut command = command_named(alloc, subcommand)?.bin_name(name.as_str())?;
+pub fn fault_text(
+    alloc: Global,
+    subcommand: Subcommand,
+    message: &str,
+) -> Result<String, AllocError> {
+    let command = command_of(alloc, subcommand)?;
+    let name = format!(in alloc; "omega {}", command.get_name())?;
+    let mut command = command.bin_name(name.as_str())?;
     command
         .error(ErrorKind::ArgumentConflict, message)?
         .to_string(alloc)
-}
-
-/// Returns the subcommand of this name, or the program without subcommands if none has it.
-fn command_named<'a>(alloc: Global, name: &str) -> Result<Command<'a>, AllocError> {
-    match subcommand_named(name) {
-        Some(subcommand) => subcommand.command(alloc),
-        None => without_subcommands(alloc),
-    }
-}
-
-fn subcommand_named(name: &str) -> Option<Subcommand> {
-    match name {
-        "show" => Some(Subcommand::Show),
-        "check" => Some(Subcommand::Check),
-        "canon" => Some(Subcommand::Canon),
-        "solve" => Some(Subcommand::Solve),
-        "verify" => Some(Subcommand::Verify),
-        "empty" => Some(Subcommand::Empty),
-        "game" => Some(Subcommand::Game),
-        "accepts" => Some(Subcommand::Accepts),
-        "contained" => Some(Subcommand::Contained),
-        "equal" => Some(Subcommand::Equal),
-        "meet" => Some(Subcommand::Meet),
-        "join" => Some(Subcommand::Join),
-        "complement" => Some(Subcommand::Complement),
-        "trim" => Some(Subcommand::Trim),
-        "realize" => Some(Subcommand::Realize),
-        "draw" => Some(Subcommand::Draw),
-        _ => None,
-    }
 }
 
 /// Returns the program's command line.
@@ -209,7 +163,7 @@ fn with<'a>(
     ensures { IfOk result
         (λ command. app_of command ≡ with_subcommand (app_of program.entry) (shape_for subcommand)) }
 {
-    let added = subcommand.command(alloc)?;
+    let added = command_of(alloc, subcommand)?;
     let whole = program.subcommand(added)?;
     Ok(whole)
 }

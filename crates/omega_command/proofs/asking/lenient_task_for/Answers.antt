@@ -5,7 +5,7 @@ use Rattle.omega_command.proofs.Given.{told_for_games}
 use Rattle.omega_command.proofs.asking.lenient_task_for.Goals as goal
 
 pub task_for-requires : goal.task_for-requires
-task_for-requires c = told_for_games c.args.subcommand.now c.args.options.now c.meant_for_games-meant.result c.meant_for_games-meant.ensures
+task_for-requires c = told_for_games c.args.subcommand c.args.options.now c.meant_for_games-meant.result c.meant_for_games-meant.ensures
 
 pub returns-clause-asked : goal.returns-clause-asked
 returns-clause-asked c =

@@ -6,8 +6,8 @@ use Rattle.omega_help.specs.Program.{accepts, canon, check, complement, containe
 use Rattle.omega_help.specs.declared.options.OptionHelp.{OptionHelp}
 use Rattle.omega_help.specs.declared.options.Value.{Value}
 use Rattle.omega_help.specs.declared.options.Value.TheVariants as value
-use Rattle.omega_help.specs.declared.program.Subcommand.{Subcommand}
-use Rattle.omega_help.specs.declared.program.Subcommand.TheVariants as subcommand
+use Rattle.omega_command.specs.declared.subcommand.Subcommand.{Subcommand}
+use Rattle.omega_command.specs.declared.subcommand.Subcommand.TheVariants as subcommand
 
 -- the option of this name, by what follows the name
 abbrev pub rule_by : Value → Text → Rule
