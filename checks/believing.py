@@ -33,22 +33,22 @@ HEADLINE_ROW = "the headline, `Headline` of `omega_solve`"
 BESIDE_HEADLINE = "; that the program keeps the bound and answers exactly is in the row `omega solve`"
 # The laws on containment, and the answers from which they conclude. What the answers are need not be read: the program
 # gives them, by its contract, and what they mean is what the laws say.
-CONTAINMENT = "omega_language_laws.specs.Containment"
+CONTAINMENT = "omega_laws.specs.Containment"
 CONTAINMENT_LAWS = ("EmptyMeansContained", "LassosMeanNotContained")
 CONTAINMENT_ANSWERS = frozenset({"IsComplementAnswer", "IsMeetAnswer", "IsEmptyAnswer", "IsEmptySearchAnswer"})
 # The laws on controllers and counter-strategies: what they are good for, and that no automaton has both.
-CONTROLLERS = "omega_controllers.specs.Laws"
+CONTROLLERS = "omega_synth_controllers.specs.Laws"
 CONTROLLER_LAWS = ("ControllersRealize", "CounterStrategiesRefute", "ControllersExcludeCounterStrategies")
 # The laws on written controllers, and the answers and refusals from which they conclude.
-WRITTEN_CONTROLLERS = "omega_realize_laws.specs.WrittenControllers"
+WRITTEN_CONTROLLERS = "omega_laws.specs.WrittenControllers"
 WRITTEN_CONTROLLER_LAWS = ("WrittenControllersAreJudgedRight", "WrittenControllersAreNotAtFault")
 WRITTEN_CONTROLLER_ANSWERS = frozenset({"IsWinnerAnswer", "IsControllerAnswer", "IsFileRefusal", "IsInputRefusal"})
 # What calls of the library answer, where they answer.
 CALLS = {
-    "`contained` of `omega_containment`": ("omega_containment.specs.Containing", "IsContainment"),
-    "`equal` of `omega_containment`": ("omega_containment.specs.Equality", "IsEquality"),
-    "`realize` of `omega_realize`": ("omega_realize.specs.Realizing", "IsRealizability"),
-    "`judge` of `omega_controller_judge`": ("omega_controller_judge.specs.Judging", "IsJudgement"),
+    "`decide_containment` of `omega_lang_inclusion`": ("omega_lang_inclusion.specs.Containing", "IsContainment"),
+    "`decide_equality` of `omega_lang_inclusion`": ("omega_lang_inclusion.specs.Equality", "IsEquality"),
+    "`realize` of `omega_synth_realize`": ("omega_synth_realize.specs.Realizing", "IsRealizability"),
+    "`judge` of `omega_synth_check`": ("omega_synth_check.specs.Judging", "IsJudgement"),
 }
 
 # Each promise, with the beginnings of the rows that are its own.
@@ -138,7 +138,7 @@ read the greater part of the next.
 """
 
 BEHIND = """The first row is a law of the solvers of the library. The program's row says the same of its answers in
-words of its own, and the law `answers_are_of_solvers` of `omega_budget` joins the two. The row of `read_words` is its
+words of its own, and the law `answers_are_of_solvers` of `omega_solve` joins the two. The row of `read_words` is its
 contract, by which the words of the command line say what is to be done. The row of `obey` is all that the program does
 once its words are read: it contains every subcommand, the exit statuses, the lines of refusals, progress, and streams
 that fail. The rows of the library are the contracts of what it exports for C; that of `omega_run` is about the whole
@@ -153,10 +153,10 @@ these are.
 The row of realizability is what a controller and a counter-strategy are good for: the system realizes the automaton,
 or is refuted. That the one or the other is there is what `realize` answers, and the row of that call counts what the
 two are. No row of these has a definition of a game. Whoever has read what lassos, runs and words are needs in addition,
-of `omega_controllers`, `AgreeOnInputs`, `Answers`, `IsMet`, `IsKeptCycle`, `is_accepted`, `HasAnswer`, `IsController`
+of `omega_synth_controllers`, `AgreeOnInputs`, `Answers`, `IsMet`, `IsKeptCycle`, `is_accepted`, `HasAnswer`, `IsController`
 and `IsCounterStrategy`. For the laws there are also `System`, `so_far`, `is_controlled`, `joined`, `word_of`,
 `RealizesBy`, `IsRefuted` and `RecursOrCeases`, and what a deterministic automaton is. Which of the letters that win a
-counter-strategy has is said by definitions of letters alone, in `omega_realizability_game`. Games are read in the row
+counter-strategy has is said by definitions of letters alone, in `omega_synth_game`. Games are read in the row
 `omega realize` for its refusals alone, such as a game that is too large or a budget that is used up.
 
 The row of written controllers counts what a text of an automaton is. The answers and refusals of the two commands are
@@ -176,7 +176,7 @@ its clause.
   with their contracts;
 - that the definitions of `clap` for what it makes of words (`subcommand_of`, `fault_of`) are what one expects of a
   command line. In these words `read_words` is proved: the line that it gives is the one that the words ask for
-  (`IsLineAsked`), for the subcommands and options of `crates/omega_help/specs/Program.antt`;
+  (`IsLineAsked`), for the subcommands and options of `crates/omega_cli/specs/Program.antt`;
 - the texts of help and of faults of the command line, which are tested;
 - `main`, which hands `read_words` the words that the program was started with, and `obey` the machine's streams and
   files. Of these the toolchain says nothing; that they are the right ones is tested;
@@ -508,7 +508,7 @@ def promises(sources: Sources) -> Iterator[Promise]:
     yield promise(WRITTEN, written, WRITTEN_CONTROLLER_ANSWERS)
     for call, answer in CALLS.items():
         yield promise(f"answers of {call}", [sources.held[answer]])
-    read_words = clause_words("crates/omega_command_line/src/words.rt", "read_words")
+    read_words = clause_words("crates/omega_cli/src/words.rt", "read_words")
     yield promise("the words of the command line, `read_words`", sources.cited(read_words))
     obey = clause_words("crates/omega_run/src/obeying.rt", "obey")
     yield promise("the whole program, `obey`", sources.cited(obey))

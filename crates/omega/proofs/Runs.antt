@@ -2,7 +2,7 @@
 use Rattle.std.proofs.Common.{◌≡◌, ℕ, List, [], Option, None, Some, Result, Ok, Err, IfOk, IsOkUnless, subst}
 use Rattle.omega_text.specs.declared.refusal.Refusal.{Refusal}
 use Rattle.omega_text.specs.declared.refusal.Refusal.TheVariants.{Memory}
-use Rattle.omega_command.specs.declared.line.Line.{Line}
+use Rattle.omega_cli_command.specs.declared.line.Line.{Line}
 use Rattle.omega_io.specs.declared.reason.Reason.{Reason}
 use Rattle.omega_run.specs.World.{streams}
 use Rattle.omega.specs.Running.{IsAsked, IsLineOfWords, IsObeyedSomehow}

@@ -1,8 +1,8 @@
 -- What `omega_bound` leaves.
 use Rattle.std.specs.Prelude.{◌≡◌, ◌⊎◌, None}
 use Rattle.omega_text.specs.Cases.{never, or_game, or_memory}
-use Rattle.omega_parity_game.specs.declared.player.Player.TheVariants.{One, Zero}
-use Rattle.omega_parity_game.specs.Game.{priorities}
+use Rattle.omega_game_values.specs.declared.player.Player.TheVariants.{One, Zero}
+use Rattle.omega_game_values.specs.Game.{priorities}
 use Rattle.omega_arrays.specs.declared.bounding.Bounds.{Bounds}
 use Rattle.omega_arrays.specs.declared.fault.ArrayFault.{ArrayFault}
 use Rattle.omega_arrays.specs.Arrays.{GameArrays, nodes_in}
@@ -20,7 +20,8 @@ pub record AreBounds (a : GameArrays) (bounds : Bounds) : Type 0 where
   pub one : IsBound One (priorities (nodes_in a)) bounds.one
 
 -- it was refused, and nothing was written
-pub record IsBoundRefused (a : GameArrays) (outcome : Outcome) (bounds bounds' : Bounds) : Type 0 where
+pub record IsBoundRefused (a : GameArrays) (outcome : Outcome)
+    (bounds bounds' : Bounds) : Type 0 where
   pub fault : ArrayFault
   pub outcome_is : outcome ≡ outcome_of fault
   pub refused : or_shape (wrong_entry a) (or_game (IsSizeFault a) (or_memory never)) fault
@@ -28,4 +29,5 @@ pub record IsBoundRefused (a : GameArrays) (outcome : Outcome) (bounds bounds' :
 
 -- what `omega_bound` leaves
 abbrev pub IsBoundOutcome : GameArrays → Outcome → (bounds bounds' : Bounds) → Type 0
-IsBoundOutcome a outcome bounds bounds' = ((outcome ≡ given) × AreBounds a bounds') ⊎ IsBoundRefused a outcome bounds bounds'
+IsBoundOutcome a outcome bounds bounds' =
+    ((outcome ≡ given) × AreBounds a bounds') ⊎ IsBoundRefused a outcome bounds bounds'

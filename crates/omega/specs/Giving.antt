@@ -18,27 +18,33 @@ pub record IsGiven (right : List ℕ → Type 0) (outcome : TextOutcome) (out' :
   pub held : Holds out' output
 
 -- the call was refused, and the caller holds what it held
-pub record IsRefused (refuses : Refused → Type 0) (outcome : TextOutcome) (out out' : Text) : Type 0 where
+pub record IsRefused (refuses : Refused → Type 0) (outcome : TextOutcome)
+    (out out' : Text) : Type 0 where
   pub refused : Refused
   pub refuses_so : refuses refused
   pub outcome_is : outcome ≡ outcome_of refused
   pub kept : out' ≡ out
 
 -- what a call leaves that gives a text
-abbrev pub IsTextOutcome : (right : List ℕ → Type 0) (refuses : Refused → Type 0) → TextOutcome → (out out' : Text) → Type 0
-IsTextOutcome right refuses outcome out out' = IsGiven right outcome out' ⊎ IsRefused refuses outcome out out'
+abbrev pub IsTextOutcome : (right : List ℕ → Type 0) (refuses : Refused → Type 0) → TextOutcome
+    → (out out' : Text) → Type 0
+IsTextOutcome right refuses outcome out out' =
+    IsGiven right outcome out' ⊎ IsRefused refuses outcome out out'
 
 -- a verdict was given, and with it a text that is right
-pub record IsDecided (right : Exit → List ℕ → Type 0) (outcome : TextOutcome) (said' : ℕ) (out' : Text) : Type 0 where
+pub record IsDecided (right : Exit → List ℕ → Type 0) (outcome : TextOutcome) (said' : ℕ)
+    (out' : Text) : Type 0 where
   pub exit : Exit
   pub verdict : said' ≡ verdict_number exit
   pub text : IsGiven (right exit) outcome out'
 
 -- what a call leaves that gives a verdict and a text
-abbrev pub IsVerdictOutcome : (right : Exit → List ℕ → Type 0) (refuses : Refused → Type 0) → TextOutcome → (said said' : ℕ) → (out out' : Text) → Type 0
+abbrev pub IsVerdictOutcome : (right : Exit → List ℕ → Type 0) (refuses : Refused → Type 0)
+    → TextOutcome → (said said' : ℕ) → (out out' : Text) → Type 0
 IsVerdictOutcome right refuses outcome said said' out out' =
     IsDecided right outcome said' out' ⊎ ((said' ≡ said) × IsRefused refuses outcome out out')
 
 -- a refusal of a call that is given one text
 abbrev pub IsOneRefused : (Refusal → Type 0) → Refused → Type 0
-IsOneRefused refuses refused = IsAbout (λ refusal. refusal ≡ Memory) (λ refusal. ⊥) refuses refused.text refused.refusal
+IsOneRefused refuses refused =
+    IsAbout (λ refusal. refusal ≡ Memory) (λ refusal. ⊥) refuses refused.text refused.refusal

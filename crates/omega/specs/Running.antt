@@ -1,17 +1,18 @@
 -- What `omega_run` leaves: what the program leaves that obeys the words over these texts.
-use Rattle.std.specs.Prelude.{◌≡◌, ◌<◌, ◌==◌, ◌⊎◌, ◌∷◌, ◌++◌, [], Bool, ℕ, List, Option, None, Some, Result, Ok, Err, codes, length, string_bytes}
+use Rattle.std.specs.Prelude.{◌≡◌, ◌<◌, ◌==◌, ◌⊎◌, ◌∷◌, ◌++◌, [], Bool, ℕ, List, Option}
+use Rattle.std.specs.Prelude.{None, Some, Result, Ok, Err, codes, length, string_bytes}
 use Rattle.std.specs.List.{slice_split}
 use Rattle.std.specs.Str.{IsUtf8}
 use Rattle.omega_text.specs.declared.refusal.Refusal.{Refusal}
 use Rattle.omega_text.specs.declared.refusal.Refusal.TheVariants.{Memory}
-use Rattle.omega_command.specs.declared.line.Line.{Line}
-use Rattle.omega_command.specs.declared.line.Line.TheVariants.{Fault}
+use Rattle.omega_cli_command.specs.declared.line.Line.{Line}
+use Rattle.omega_cli_command.specs.declared.line.Line.TheVariants.{Fault}
 use Rattle.omega_io.specs.Writing.{Tells}
 use Rattle.omega_io.specs.declared.reason.Reason.{Reason}
 use Rattle.omega_io.specs.declared.unread.Unread.{Unread}
 use Rattle.omega_run.specs.Obey.{IsObeyed}
 use Rattle.omega_run.specs.World.{Streams, World, streams}
-use Rattle.omega_command_line.specs.Words.{IsLineAsked}
+use Rattle.omega_cli.specs.Words.{IsLineAsked}
 use Rattle.omega_arrays.specs.Room.{laid_over}
 use Rattle.omega.specs.declared.running.Ran.{Ran}
 
@@ -39,13 +40,14 @@ pub record HasNoText (text : List ℕ) : Type 0 where
 
 -- the line says that the command line is not UTF-8
 abbrev pub TellsNoText : Line → Type 0
-TellsNoText (Fault text) = string_bytes text ≡ codes "error: the command line is not UTF-8\n\nFor more information, try '--help'.\n"
+TellsNoText (Fault text) = string_bytes text
+    ≡ codes "error: the command line is not UTF-8\n\nFor more information, try '--help'.\n"
 TellsNoText line = ⊥
 
 -- the line that the words request, or if one is not UTF-8, the fault that says so
 abbrev pub IsLineOfWords : List ℕ → Line → Type 0
-IsLineOfWords text line =
-    ((words : List (List ℕ)) × AreWords text words × IsLineAsked words line) ⊎ (HasNoText text × TellsNoText line)
+IsLineOfWords text line = ((words : List (List ℕ)) × AreWords text words × IsLineAsked words line)
+    ⊎ (HasNoText text × TellsNoText line)
 
 -- the words were read as this line, or there was no memory for it
 abbrev pub IsAsked : List ℕ → Result Line Refusal → Type 0
@@ -53,8 +55,9 @@ IsAsked words (Ok line) = IsLineOfWords words line
 IsAsked words (Err refusal) = refusal ≡ Memory
 
 -- the program obeyed the command line, whatever is left of the input, however many reads and writes failed, and why
-pub record IsObeyedSomehow (reads : List ℕ → List ℕ → Type 0) (refuses : List ℕ → Unread → Type 0) (asked : Result Line Refusal) (status : ℕ)
-    (reported reported' : Option (List ℕ)) (failed_tells : ℕ) (before : Streams) (held : Option (List ℕ)) : Type 0 where
+pub record IsObeyedSomehow (reads : List ℕ → List ℕ → Type 0) (refuses : List ℕ → Unread → Type 0)
+    (asked : Result Line Refusal) (status : ℕ) (reported reported' : Option (List ℕ))
+    (failed_tells : ℕ) (before : Streams) (held : Option (List ℕ)) : Type 0 where
   pub unread : Option (List ℕ)
   pub failed_reads : ℕ
   pub read_reason : Option Reason
@@ -70,14 +73,17 @@ pub record IsObeyedSomehow (reads : List ℕ → List ℕ → Type 0) (refuses :
   })
 
 -- the program obeyed the words, with the input, while each file had the text; it wrote the output and the errors
-pub record IsProgramRun (words input file : List ℕ) (status : ℕ) (output errors : List ℕ) : Type 0 where
+pub record IsProgramRun (words input file : List ℕ) (status : ℕ)
+    (output errors : List ℕ) : Type 0 where
   pub asked : Result Line Refusal
   pub read : IsAsked words asked
-  pub obeyed : IsObeyedSomehow (λ name text. text ≡ file) (λ name unread. unread.refusal ≡ Memory) asked status (Some []) (Some errors) 0
+  pub obeyed : IsObeyedSomehow (λ name text. text ≡ file)
+      (λ name unread. unread.refusal ≡ Memory) asked status (Some []) (Some errors) 0
       (streams (Some input) 0 None (Some []) 0 None) (Some output)
 
 -- what `omega_run` leaves: as much of the output and of the errors as there was room for, and how long they are
-pub record IsRunOutcome (words input file : List ℕ) (ran : Ran) (output output' errors errors' : List ℕ) : Type 0 where
+pub record IsRunOutcome (words input file : List ℕ) (ran : Ran)
+    (output output' errors errors' : List ℕ) : Type 0 where
   pub written : List ℕ
   pub reported : List ℕ
   pub run : IsProgramRun words input file ran.status written reported

@@ -12,13 +12,14 @@ use std::alloc::Global;
 /// [GameFault::TooManyEdges] or [Refusal::Memory]. Unless it is 0, nothing is written.
 #[unsafe(no_mangle)]
 pub extern "C" fn omega_bound(alloc: Global, game: &Game<'_>, bounds: &mut Bounds) -> Outcome
-    ensures { let a = arrays game.now.priorities.now game.now.owners.now game.now.starts.now game.now.successors.now in
+    ensures { let a = arrays game.now.priorities.now game.now.owners.now game.now.starts.now
+        game.now.successors.now in
         IsBoundOutcome a result bounds.old bounds.new }
 {
     match bound_arrays(alloc, &game.arrays()) {
         Ok(made) => {
             *bounds = made;
-            Outcome::given()
+            Outcome::success()
         }
         Err(fault) => Outcome::of(fault),
     }

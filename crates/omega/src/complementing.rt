@@ -1,10 +1,10 @@
-ghost use Rattle.omega_language_answers.specs.Complement.{IsComplementAnswer, IsComplementRefusal};
+ghost use Rattle.omega_answers_automaton.specs.Complement.{IsComplementAnswer, IsComplementRefusal};
 ghost use Rattle.omega.specs.Giving.{IsOneRefused, IsTextOutcome};
 
 use crate::giving::give;
 use crate::text::Text;
 use crate::text_outcome::TextOutcome;
-use omega_language_answers::complement_text;
+use omega_answers_automaton::complement_text;
 use std::alloc::Global;
 
 /// Gives the canonical text of the complement of the automaton of `text`.
@@ -14,8 +14,8 @@ use std::alloc::Global;
 /// [TaskFault::NotDeterministic] or [Refusal::Memory]. Unless it is 0, `out` stays.
 #[unsafe(no_mangle)]
 pub extern "C" fn omega_complement(alloc: Global, text: &[u8], out: &mut Text) -> TextOutcome
-    ensures { IsTextOutcome (IsComplementAnswer text.now) (IsOneRefused (IsComplementRefusal text.now))
-        result out.old out.new }
+    ensures { IsTextOutcome (IsComplementAnswer text.now)
+        (IsOneRefused (IsComplementRefusal text.now)) result out.old out.new }
 {
     match complement_text(alloc, text) {
         Ok(output) => give(alloc, output, out),

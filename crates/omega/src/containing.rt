@@ -1,15 +1,15 @@
 ghost use Rattle.std.specs.Prelude.{IfErr, IfOk};
-ghost use Rattle.omega_containment_answers.specs.Contained.{IsContainedAnswer};
-ghost use Rattle.omega_containment_answers.specs.Equal.{IsEqualAnswer};
+ghost use Rattle.omega_answers_inclusion.specs.Contained.{IsContainedAnswer};
+ghost use Rattle.omega_answers_inclusion.specs.Equal.{IsEqualAnswer};
 ghost use Rattle.omega.specs.Giving.{IsVerdictOutcome};
 ghost use Rattle.omega.specs.Languages.{IsContainedRefused, IsEqualRefused};
 ghost use Rattle.omega.specs.Solving.{asks};
 
-use crate::giving::{copied, give_verdict};
+use crate::giving::{copy_of_text, give_verdict};
 use crate::solving::asks;
 use crate::text::Text;
 use crate::text_outcome::TextOutcome;
-use omega_containment_answers::{Exit, contained_texts, equal_texts};
+use omega_answers_inclusion::{Exit, contained_texts, equal_texts};
 use omega_io::Refused;
 use std::alloc::Global;
 
@@ -68,11 +68,12 @@ fn containment_of(
     other: &[u8],
     explain: bool,
 ) -> Result<(Exit, Vec<u8>), Refused>
-    ensures answer { IfOk result (λ made. IsContainedAnswer other.now text.now explain made.0 made.1.items) }
+    ensures answer { IfOk result
+        (λ made. IsContainedAnswer other.now text.now explain made.0 made.1.items) }
     ensures refused { IfErr result (IsContainedRefused other.now text.now) }
 {
-    let file = copied(alloc, other)?;
-    let input = copied(alloc, text)?;
+    let file = copy_of_text(alloc, other)?;
+    let input = copy_of_text(alloc, text)?;
     contained_texts(alloc, file, input, explain)
 }
 
@@ -83,10 +84,11 @@ fn equality_of(
     other: &[u8],
     explain: bool,
 ) -> Result<(Exit, Vec<u8>), Refused>
-    ensures answer { IfOk result (λ made. IsEqualAnswer other.now text.now explain made.0 made.1.items) }
+    ensures answer { IfOk result
+        (λ made. IsEqualAnswer other.now text.now explain made.0 made.1.items) }
     ensures refused { IfErr result (IsEqualRefused other.now text.now) }
 {
-    let file = copied(alloc, other)?;
-    let input = copied(alloc, text)?;
+    let file = copy_of_text(alloc, other)?;
+    let input = copy_of_text(alloc, text)?;
     equal_texts(alloc, file, input, explain)
 }

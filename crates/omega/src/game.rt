@@ -20,8 +20,8 @@ impl<'a> Game<'a> {
 
     /// Returns the arrays.
     pub(crate) fn arrays(&self) -> Arrays<'a>
-        ensures { result
-            ≡ arrays self.now.priorities.now self.now.owners.now self.now.starts.now self.now.successors.now }
+        ensures { result ≡ arrays self.now.priorities.now self.now.owners.now self.now.starts.now
+            self.now.successors.now }
     {
         Arrays::new(self.priorities, self.owners, self.starts, self.successors)
     }

@@ -18,7 +18,7 @@ pub(crate) fn give(alloc: Global, output: Vec<u8>, out: &mut Text) -> TextOutcom
     match Text::of(alloc, output) {
         Ok(text) => {
             *out = text;
-            TextOutcome::given()
+            TextOutcome::success()
         }
         Err(_) => TextOutcome::of_one(Refusal::Memory),
     }
@@ -40,7 +40,7 @@ pub(crate) fn give_verdict(
         Ok(text) => {
             *out = text;
             *verdict = verdict_number(exit);
-            TextOutcome::given()
+            TextOutcome::success()
         }
         Err(_) => TextOutcome::of_one(Refusal::Memory),
     }
@@ -57,7 +57,7 @@ fn verdict_number(exit: Exit) -> u32
 }
 
 /// Returns a copy of a caller's text.
-pub(crate) fn copied(alloc: Global, text: &[u8]) -> Result<Vec<u8>, Refusal>
+pub(crate) fn copy_of_text(alloc: Global, text: &[u8]) -> Result<Vec<u8>, Refusal>
     ensures text { IfOk result (λ made. made.items ≡ text.now) }
     ensures memory { IsOkUnless result Memory }
 {

@@ -1,11 +1,11 @@
-ghost use Rattle.omega_language_answers.specs.Meet.{IsMeetAnswer};
+ghost use Rattle.omega_answers_automaton.specs.Meet.{IsMeetAnswer};
 ghost use Rattle.omega.specs.Giving.{IsTextOutcome};
 ghost use Rattle.omega.specs.Languages.{IsMeetRefused};
 
 use crate::giving::give;
 use crate::text::Text;
 use crate::text_outcome::TextOutcome;
-use omega_language_answers::meet_texts;
+use omega_answers_automaton::meet_texts;
 use std::alloc::Global;
 
 /// Gives the canonical text of the product of the automaton of `text` and that of `other`, in this order.

@@ -18,7 +18,7 @@ impl Outcome {
     ghost use Rattle.omega.specs.Outcome.{given, outcome_of};
 
     /// Returns the outcome of a call that gave its answer.
-    pub(crate) fn given() -> Outcome
+    pub(crate) fn success() -> Outcome
         ensures { result ≡ given }
     {
         Outcome {

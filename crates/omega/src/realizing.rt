@@ -1,14 +1,14 @@
 ghost use Rattle.std.specs.Prelude.{IfErr, IfOk};
-ghost use Rattle.omega_realize_answers.specs.Refusing.{IsRealizeRefusal};
-ghost use Rattle.omega_realize_answers.specs.Winner.{IsWinnerAnswer};
+ghost use Rattle.omega_answers_synth.specs.Refusing.{IsRealizeRefusal};
+ghost use Rattle.omega_answers_synth.specs.Winner.{IsWinnerAnswer};
 ghost use Rattle.omega_solve.specs.Limits.{most_lifts};
 ghost use Rattle.omega_text.specs.Cases.{or_memory};
 ghost use Rattle.omega.specs.Giving.{IsOneRefused, IsVerdictOutcome};
 
-use crate::giving::{copied, give_verdict};
+use crate::giving::{copy_of_text, give_verdict};
 use crate::text::Text;
 use crate::text_outcome::TextOutcome;
-use omega_realize_answers::{Exit, write_winner};
+use omega_answers_synth::{Exit, write_winner};
 use omega_text::Refusal;
 use std::alloc::Global;
 
@@ -26,20 +26,21 @@ pub extern "C" fn omega_realize(
     verdict: &mut u32,
     out: &mut Text,
 ) -> TextOutcome
-    ensures { IsVerdictOutcome (IsWinnerAnswer text.now) (IsOneRefused (IsRealizeRefusal text.now most_lifts))
+    ensures { IsVerdictOutcome
+        (IsWinnerAnswer text.now) (IsOneRefused (IsRealizeRefusal text.now most_lifts))
         result verdict.old verdict.new out.old out.new }
 {
-    match won(alloc, text) {
+    match winner_output(alloc, text) {
         Ok((exit, output)) => give_verdict(alloc, exit, output, verdict, out),
         Err(refusal) => TextOutcome::of_one(refusal),
     }
 }
 
 /// Writes the winner as [write_winner] does, of a copy of `text`.
-fn won(alloc: Global, text: &[u8]) -> Result<(Exit, Vec<u8>), Refusal>
+fn winner_output(alloc: Global, text: &[u8]) -> Result<(Exit, Vec<u8>), Refusal>
     ensures answer { IfOk result (λ made. IsWinnerAnswer text.now made.0 made.1.items) }
     ensures refused { IfErr result (or_memory (IsRealizeRefusal text.now most_lifts)) }
 {
-    let copy = copied(alloc, text)?;
+    let copy = copy_of_text(alloc, text)?;
     write_winner(alloc, copy)
 }

@@ -2,15 +2,15 @@
 ghost use Rattle.std.specs.Prelude.{◌≡◌, ◌-◌, ◌^◌, ◌<◌, IfOk, IsOkUnless};
 ghost use Rattle.omega_run.specs.World.{streams_of};
 ghost use Rattle.omega_text.specs.declared.refusal.Refusal.TheVariants.{Memory};
-ghost use Rattle.omega_command.specs.Line.{IsRunnable};
+ghost use Rattle.omega_cli_command.specs.Line.{IsRunnable};
 ghost use Rattle.omega.specs.Running.{IsLineOfWords, IsObeyedSomehow, IsProgramRun, IsRunOutcome};
 
 mod files;
 mod words;
 
 use files::OneFile;
-use omega_arrays::copied;
-use omega_command_line::read_words;
+use omega_arrays::copy_into;
+use omega_cli::read_words;
 use omega_run::{FromRead, Input, InputFiles, Line, Output, Refusal, ToWrite, obey};
 use std::alloc::Global;
 use words::words_in;
@@ -40,11 +40,12 @@ pub extern "C" fn omega_run(
     output: &mut [u8],
     errors: &mut [u8],
 ) -> Ran
-    ensures { IsRunOutcome words.now input.now file.now result output.old output.new errors.old errors.new }
+    ensures { IsRunOutcome words.now input.now file.now result output.old output.new
+        errors.old errors.new }
 {
     let left = left_by(alloc, words, input, file);
-    copied(left.output.as_slice(), output);
-    copied(left.errors.as_slice(), errors);
+    copy_into(left.output.as_slice(), output);
+    copy_into(left.errors.as_slice(), errors);
     Ran {
         status: left.status as u32,
         output: left.output.len() as u64,
@@ -62,7 +63,8 @@ struct Left {
 
 /// Obeys the words over the input, with the text `file` for each file.
 fn left_by(alloc: Global, words: &[u8], input: &[u8], file: &[u8]) -> Left
-    ensures { IsProgramRun words.now input.now file.now result.status result.output.items result.errors.items }
+    ensures { IsProgramRun words.now input.now file.now result.status
+        result.output.items result.errors.items }
 {
     let asked = asked_of(alloc, words);
     let files = OneFile::new(file);

@@ -25,7 +25,8 @@ pub extern "C" fn omega_solve(
     choices: &mut [u32],
     lifts: &mut Lifts,
 ) -> Outcome
-    ensures { let a = arrays game.now.priorities.now game.now.owners.now game.now.starts.now game.now.successors.now in
+    ensures { let a = arrays game.now.priorities.now game.now.owners.now game.now.starts.now
+        game.now.successors.now in
         IsSolveOutcome a by_search budget result
         winners.old winners.new choices.old choices.new lifts.old lifts.new }
 {
@@ -39,7 +40,7 @@ pub extern "C" fn omega_solve(
     ) {
         Ok(made) => {
             *lifts = made;
-            Outcome::given()
+            Outcome::success()
         }
         Err(fault) => Outcome::of(fault),
     }

@@ -35,7 +35,7 @@ impl Text {
         let bytes = text.as_ptr();
         let length = text.len();
         let whole = Box::new(alloc, text)?;
-        Ok(Text::holding(bytes, length, Loose::of(whole)))
+        Ok(Text::of_box(bytes, length, Loose::of(whole)))
     }
 
     /// Returns no text, as C begins with it.
@@ -51,7 +51,7 @@ impl Text {
     }
 
     /// Hands over a box with where its bytes are and how many.
-    fn holding(bytes: *const u8, length: usize, whole: Loose<Vec<u8>, Global>) -> Text
+    fn of_box(bytes: *const u8, length: usize, whole: Loose<Vec<u8>, Global>) -> Text
         requires { (bytes ≡ vec_ptr whole.value) × (length ≡ vec_len whole.value) }
         ensures { result.kept ≡ Some whole.value }
     {

@@ -20,7 +20,7 @@ impl TextOutcome {
     ghost use Rattle.omega.specs.TextOutcome.{given, outcome_of};
 
     /// Returns the outcome of a call that gave its answer.
-    pub(crate) fn given() -> TextOutcome
+    pub(crate) fn success() -> TextOutcome
         ensures { result ≡ given }
     {
         TextOutcome {

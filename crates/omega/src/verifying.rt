@@ -22,14 +22,15 @@ pub extern "C" fn omega_verify(
     stem: &mut [u32],
     cycle: &mut [u32],
 ) -> Outcome
-    ensures { let a = arrays game.now.priorities.now game.now.owners.now game.now.starts.now game.now.successors.now in
+    ensures { let a = arrays game.now.priorities.now game.now.owners.now game.now.starts.now
+        game.now.successors.now in
         IsVerifyOutcome a winners.now choices.now result
         verdict.old verdict.new stem.old stem.new cycle.old cycle.new }
 {
     match verify_arrays(alloc, &game.arrays(), winners, choices, stem, cycle) {
         Ok(made) => {
             *verdict = made;
-            Outcome::given()
+            Outcome::success()
         }
         Err(fault) => Outcome::of(fault),
     }

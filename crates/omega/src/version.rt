@@ -1,7 +1,7 @@
 ghost use Rattle.std.specs.Prelude.{◌≡◌, length};
 ghost use Rattle.omega_arrays.specs.Room.{laid_over};
 
-use omega_arrays::copied;
+use omega_arrays::copy_into;
 
 /// The version of the library, which is that of the program.
 const VERSION: &str = "1.6.0";
@@ -13,6 +13,6 @@ pub extern "C" fn omega_version(room: &mut [u8]) -> usize
     ensures written { room.new ≡ laid_over VERSION.now room.old }
 {
     let text = VERSION.as_bytes();
-    copied(text, room);
+    copy_into(text, room);
     text.len()
 }

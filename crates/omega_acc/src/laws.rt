@@ -1,6 +1,8 @@
 //! Laws of all canonical texts. Each function does nothing and states one law.
 
-ghost use Rattle.omega_acc.specs.WritingLaws.{AccTextsAreFormulas, LabelTextsAreLabels, WrittenFormulasAreShallowest, WrittenFormulasMean, WrittenLabelsAreShallowest, WrittenLabelsMean};
+ghost use Rattle.omega_acc.specs.WritingLaws.{AccTextsAreFormulas, LabelTextsAreLabels};
+ghost use Rattle.omega_acc.specs.WritingLaws.{WrittenFormulasAreShallowest, WrittenFormulasMean};
+ghost use Rattle.omega_acc.specs.WritingLaws.{WrittenLabelsAreShallowest, WrittenLabelsMean};
 
 use omega_text::HoaKind;
 use omega_text::hoa::laws::{

@@ -5,12 +5,12 @@ use Rattle.std.proofs.lemmas.Bool.{eq-eqb, false≢true, ne_eqb}
 use Rattle.std.proofs.lemmas.List.{ext_get_or, get_or-map, get_or_default, length-map}
 use Rattle.std.proofs.lemmas.List.FromFn.{fill_by_all, get_or-map-range_with_len}
 use Rattle.std.proofs.lemmas.Option.{slice_get-get_or}
-use Rattle.omega_parity_game.specs.declared.player.Player.{Player}
-use Rattle.omega_parity_game.specs.declared.player.Player.TheVariants.{One, Zero}
-use Rattle.omega_parity_game.specs.declared.solution.Solution.{Solution}
-use Rattle.omega_parity_game.specs.Game.{IsGame, IsWithinLimits, Node, owner_at}
-use Rattle.omega_parity_game.specs.Solution.{IsSolution, choices_of, winner_at}
-use Rattle.omega_parity_game.specs.Winning.{IsStrategy, choice_at}
+use Rattle.omega_game_values.specs.declared.player.Player.{Player}
+use Rattle.omega_game_values.specs.declared.player.Player.TheVariants.{One, Zero}
+use Rattle.omega_game_values.specs.declared.solution.Solution.{Solution}
+use Rattle.omega_game_values.specs.Game.{IsGame, IsWithinLimits, Node, owner_at}
+use Rattle.omega_game_values.specs.Solution.{IsSolution, choices_of, winner_at}
+use Rattle.omega_game_values.specs.Winning.{IsStrategy, choice_at}
 use Rattle.omega_arrays.specs.Arrays.{player_of}
 use Rattle.omega_arrays.specs.Answer.{choice_for, choice_of, choices_for, no_choice, solution_in}
 use Rattle.omega_arrays.specs.private.Written.{AreWritten, ChoosesWhereWon}

@@ -12,12 +12,12 @@ use Rattle.omega_text.specs.Limits.{most_number}
 use Rattle.omega_text.specs.Cases.{never, or_game, or_memory}
 use Rattle.omega_text.specs.declared.refusal.Refusal.{Refusal}
 use Rattle.omega_text.specs.declared.refusal.Refusal.TheVariants.{Automaton, Game, Io, Memory, Task, Text}
-use Rattle.omega_parity_game.specs.declared.node_spec.NodeSpec.{NodeSpec}
-use Rattle.omega_parity_game.specs.declared.player.Player.{Player}
-use Rattle.omega_parity_game.specs.Game.{HasEdge, IsGame, IsWithinLimits, Node, identifiers, no_node, node_at, successors_at}
-use Rattle.omega_parity_game.specs.Limits.{most_nodes, most_successors}
-use Rattle.omega_parity_game.specs.Building.{IsBuildRefusal, IsGameOf, game_fault_of, specified, with_last, with_successor}
-use Rattle.omega_parity_game.proofs.building.Collecting.{with_last-push}
+use Rattle.omega_game_values.specs.declared.node_spec.NodeSpec.{NodeSpec}
+use Rattle.omega_game_values.specs.declared.player.Player.{Player}
+use Rattle.omega_game_values.specs.Game.{HasEdge, IsGame, IsWithinLimits, Node, identifiers, no_node, node_at, successors_at}
+use Rattle.omega_game_values.specs.Limits.{most_nodes, most_successors}
+use Rattle.omega_game_values.specs.Building.{IsBuildRefusal, IsGameOf, game_fault_of, specified, with_last, with_successor}
+use Rattle.omega_game_values.proofs.building.Collecting.{with_last-push}
 use Rattle.omega_arrays.specs.Arrays.{GameArrays, array_node, listed_at, node_count, nodes_in, player_of, start_at}
 use Rattle.omega_arrays.specs.Shape.{IsGameShape, IsSizeFault}
 use Rattle.omega_arrays.specs.private.Specified.{spec_of, spec_with, specs_below}

@@ -2,9 +2,9 @@
 use Rattle.std.proofs.Common.{List, ℕ}
 use Rattle.omega_text.specs.declared.refusal.Refusal.{Refusal}
 use Rattle.omega_text.specs.declared.refusal.Refusal.TheVariants.{Automaton, Game, Io, Memory, Task, Text}
-use Rattle.omega_parity_game.specs.Game.{Node}
-use Rattle.omega_game_answers.specs.declared.solve.asked.Asked.TheVariants.{Both}
-use Rattle.omega_game_answers.specs.solve.Refusing.{IsWideRefusal}
+use Rattle.omega_game_values.specs.Game.{Node}
+use Rattle.omega_answers_game.specs.declared.solve.asked.Asked.TheVariants.{Both}
+use Rattle.omega_answers_game.specs.solve.Refusing.{IsWideRefusal}
 use Rattle.omega_arrays.specs.Solving.{IsWholeRefusal}
 
 pub whole_refused : (nodes : List Node) (budget : ℕ) (refusal : Refusal) → IsWideRefusal nodes Both refusal → IsWholeRefusal nodes budget refusal

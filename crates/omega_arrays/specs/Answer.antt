@@ -2,9 +2,9 @@
 use Rattle.std.specs.Prelude.{ℕ, ◌==◌, if◌then◌else◌, List, Option, Some, None, length, map, slice_index}
 use Rattle.std.specs.List.{range_with_len}
 use Rattle.std.specs.Option.{option_or}
-use Rattle.omega_parity_game.specs.declared.player.Player.{Player}
-use Rattle.omega_parity_game.specs.declared.player.Player.TheVariants.{One, Zero}
-use Rattle.omega_parity_game.specs.declared.solution.Solution.{Solution}
+use Rattle.omega_game_values.specs.declared.player.Player.{Player}
+use Rattle.omega_game_values.specs.declared.player.Player.TheVariants.{One, Zero}
+use Rattle.omega_game_values.specs.declared.solution.Solution.{Solution}
 use Rattle.omega_arrays.specs.declared.fault.WrongEntry.{WrongEntry}
 use Rattle.omega_arrays.specs.Arrays.{GameArrays, node_count, player_of}
 use Rattle.omega_arrays.specs.Shape.{first_above, miscounted, wrong_entry}
@@ -27,7 +27,8 @@ choice_for One Zero entry = None
 -- the player's choices by place
 abbrev pub choices_for : Player → (winners choices : List ℕ) → List (Option ℕ)
 choices_for player winners choices =
-    map (λ v. choice_for player (player_of (slice_index winners v)) (slice_index choices v)) (range_with_len 0 (length winners))
+    map (λ v. choice_for player (player_of (slice_index winners v)) (slice_index choices v))
+    (range_with_len 0 (length winners))
 
 -- the solution that the arrays hold
 abbrev pub solution_in : (winners choices : List ℕ) → Solution
@@ -39,9 +40,10 @@ solution_in winners choices = record {
 
 -- the first entry that is wrong by the lengths of the arrays for an answer, or else of the game
 abbrev pub wrong_room : GameArrays → (winners choices : ℕ) → Option WrongEntry
-wrong_room a winners choices =
-    option_or (wrong_entry a) (option_or (miscounted 4 winners (node_count a)) (miscounted 5 choices (node_count a)))
+wrong_room a winners choices = option_or (wrong_entry a)
+    (option_or (miscounted 4 winners (node_count a)) (miscounted 5 choices (node_count a)))
 
 -- the first entry that is wrong of arrays that are to hold a solution: the same, or else a winner that is no player
 abbrev pub wrong_answer : GameArrays → (winners choices : List ℕ) → Option WrongEntry
-wrong_answer a winners choices = option_or (wrong_room a (length winners) (length choices)) (first_above 4 1 winners)
+wrong_answer a winners choices =
+    option_or (wrong_room a (length winners) (length choices)) (first_above 4 1 winners)

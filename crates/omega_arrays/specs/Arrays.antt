@@ -1,9 +1,9 @@
 -- Games as arrays, and the game that they encode.
 use Rattle.std.specs.Prelude.{ℕ, zero, suc, ◌+◌, List, None, length, map, slice_index, slice_range}
 use Rattle.std.specs.List.{range_with_len}
-use Rattle.omega_parity_game.specs.Game.{Node}
-use Rattle.omega_parity_game.specs.declared.player.Player.{Player}
-use Rattle.omega_parity_game.specs.declared.player.Player.TheVariants.{One, Zero}
+use Rattle.omega_game_values.specs.Game.{Node}
+use Rattle.omega_game_values.specs.declared.player.Player.{Player}
+use Rattle.omega_game_values.specs.declared.player.Player.TheVariants.{One, Zero}
 
 -- by place the priorities, the owners, and the index of the first successor; and the successors, those of the first
 -- node first

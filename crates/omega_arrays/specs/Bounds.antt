@@ -1,7 +1,7 @@
 -- A bound in two halves.
 use Rattle.std.specs.Prelude.{◌≡◌, ◌⊎◌, ◌+◌, ◌*◌, ◌^◌, ◌≤◌, List, ℕ}
-use Rattle.omega_parity_game.specs.Bound.{bound_of}
-use Rattle.omega_parity_game.specs.declared.player.Player.{Player}
+use Rattle.omega_game_values.specs.Bound.{bound_of}
+use Rattle.omega_game_values.specs.declared.player.Player.{Player}
 use Rattle.omega_arrays.specs.declared.bounding.Bound.{Bound}
 
 -- the two halves are the player's bound; or it does not fit, and is over 128 bits

@@ -1,6 +1,6 @@
 -- Games as arrays: what public contracts cite; in `private` what private ones alone do.
-pub use Rattle.omega_parity_game.specs.Game
-pub use Rattle.omega_parity_game.specs.Solution
+pub use Rattle.omega_game_values.specs.Game
+pub use Rattle.omega_game_values.specs.Solution
 pub mod Arrays
 pub mod Shape
 pub mod Answer

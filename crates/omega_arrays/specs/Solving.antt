@@ -2,12 +2,12 @@
 use Rattle.std.specs.Prelude.{◌≡◌, ◌⊎◌, ℕ, Bool, true, false, List, Option, Some, None, min}
 use Rattle.omega_text.specs.Cases.{never, or_game, or_memory, or_task}
 use Rattle.omega_text.specs.declared.refusal.Refusal.{Refusal}
-use Rattle.omega_parity_game.specs.declared.player.Player.TheVariants.{One, Zero}
-use Rattle.omega_parity_game.specs.Game.{Node}
+use Rattle.omega_game_values.specs.declared.player.Player.TheVariants.{One, Zero}
+use Rattle.omega_game_values.specs.Game.{Node}
 use Rattle.omega_solve.specs.Limits.{most_lifts}
-use Rattle.omega_budget.specs.Within.{EndsWithin}
-use Rattle.omega_game_answers.specs.declared.solve.asked.Asked.TheVariants.{Both}
-use Rattle.omega_game_answers.specs.solve.Refusing.{IsWholeFault}
+use Rattle.omega_solve.specs.budget.Within.{EndsWithin}
+use Rattle.omega_answers_game.specs.declared.solve.asked.Asked.TheVariants.{Both}
+use Rattle.omega_answers_game.specs.solve.Refusing.{IsWholeFault}
 use Rattle.omega_arrays.specs.declared.fault.ArrayFault.{ArrayFault}
 use Rattle.omega_arrays.specs.declared.fault.ArrayFault.TheVariants.{BadShape, Refused}
 use Rattle.omega_arrays.specs.declared.fault.WrongEntry.{WrongEntry}
@@ -21,7 +21,8 @@ budget_of budget = min budget most_lifts
 
 -- each player's lifting run made these lifts, at most the budget and at most the bound, and left none due
 abbrev pub EndBoth : List Node → ℕ → Lifts → Type 0
-EndBoth nodes budget lifts = EndsWithin nodes Zero budget lifts.zero × EndsWithin nodes One budget lifts.one
+EndBoth nodes budget lifts =
+    EndsWithin nodes Zero budget lifts.zero × EndsWithin nodes One budget lifts.one
 
 -- these lifts were made: by both players' runs, or none if a search was requested
 abbrev pub AreLifts : Bool → List Node → ℕ → Lifts → Type 0
@@ -39,5 +40,5 @@ IsWholeRefusal nodes budget = or_task (IsWholeFault nodes Both budget) (or_memor
 
 -- the refusal of solving the game that the arrays encode: that of its size, or else that of its game
 abbrev pub IsArraysSolvingRefusal : GameArrays → ℕ → Refusal → Type 0
-IsArraysSolvingRefusal a budget =
-    or_game (IsSizeFault a) (or_task (λ fault. IsSized a × IsWholeFault (nodes_in a) Both budget fault) (or_memory never))
+IsArraysSolvingRefusal a budget = or_game (IsSizeFault a)
+    (or_task (λ fault. IsSized a × IsWholeFault (nodes_in a) Both budget fault) (or_memory never))

@@ -1,9 +1,11 @@
 //! Solutions as arrays.
-ghost use Rattle.std.specs.Prelude.{◌≡◌, ◌≢◌, ℕ, ◌≤◌, ◌<◌, ◌^◌, ◌↔◌, All, IfOk, IsOkUnless, IsTrue, None, length, map, unwrap_or};
-ghost use Rattle.omega_parity_game.specs.declared.player.Player.{Player};
-ghost use Rattle.omega_parity_game.specs.Game.{owner_at};
-ghost use Rattle.omega_parity_game.specs.Solution.{IsSolution, choices_of};
-ghost use Rattle.omega_arrays.specs.Answer.{choice_for, choice_of, choices_for, no_choice, solution_in, wrong_answer, wrong_room};
+ghost use Rattle.std.specs.Prelude.{◌≡◌, ◌≢◌, ℕ, ◌≤◌, ◌<◌, ◌^◌, ◌↔◌, All, IfOk};
+ghost use Rattle.std.specs.Prelude.{IsOkUnless, IsTrue, None, length, map, unwrap_or};
+ghost use Rattle.omega_game_values.specs.declared.player.Player.{Player};
+ghost use Rattle.omega_game_values.specs.Game.{owner_at};
+ghost use Rattle.omega_game_values.specs.Solution.{IsSolution, choices_of};
+ghost use Rattle.omega_arrays.specs.Answer.{choice_for, choice_of, choices_for, no_choice};
+ghost use Rattle.omega_arrays.specs.Answer.{solution_in, wrong_answer, wrong_room};
 ghost use Rattle.omega_arrays.specs.Arrays.{node_count, player_of};
 ghost use Rattle.omega_arrays.specs.Shape.{IsGameShape};
 ghost use Rattle.omega_arrays.specs.private.Written.{AreWritten, ChoosesWhereWon};
@@ -11,7 +13,7 @@ ghost use Rattle.omega_arrays.specs.private.Written.{AreWritten, ChoosesWhereWon
 use crate::arrays::Arrays;
 use crate::building::player_of;
 use crate::fault::WrongEntry;
-use crate::shape::{first_owner_above, miscounted};
+use crate::shape::{first_owner_above, miscounted_entry};
 use omega_game::{ForwardGame, Player, Refusal, Seq, Solution, Strategy};
 use std::alloc::Global;
 
@@ -33,10 +35,10 @@ pub(crate) fn wrong_room(arrays: &Arrays<'_>, winners: usize, choices: usize) ->
         return Some(wrong);
     }
     let count = arrays.priorities().len();
-    if let Some(wrong) = miscounted(WINNERS, winners, count) {
+    if let Some(wrong) = miscounted_entry(WINNERS, winners, count) {
         return Some(wrong);
     }
-    miscounted(CHOICES, choices, count)
+    miscounted_entry(CHOICES, choices, count)
 }
 
 /// Returns the first entry that is wrong in `arrays`, or in the arrays that should hold a solution.
@@ -78,7 +80,8 @@ fn write_places(solution: &Solution, winners: &mut [u8], choices: &mut [u32])
     requires winners { length winners.old ≡ length solution.now.winners }
     requires choices { length choices.old ≡ length solution.now.winners }
     requires few { length winners.old < 2 ^ 32 }
-    requires entries { (player : Player) → length (choices_of solution.now player) ≡ length solution.now.winners }
+    requires entries { (player : Player)
+        → length (choices_of solution.now player) ≡ length solution.now.winners }
     ensures { AreWritten solution.now (length winners.old) winners.new choices.new }
 {
     for place in 0..winners.len() {
@@ -208,7 +211,8 @@ pub(crate) fn is_solution(
 fn chooses_where_won(game: &ForwardGame, winners: &[u8], choices: &[u32]) -> bool
     requires winners { length winners.now ≡ length game.now }
     requires choices { length choices.now ≡ length game.now }
-    ensures { IsTrue result ↔ ((v : ℕ) → v < length game.now → ChoosesWhereWon game.now winners.now choices.now v) }
+    ensures { IsTrue result
+        ↔ ((v : ℕ) → v < length game.now → ChoosesWhereWon game.now winners.now choices.now v) }
 {
     game.keeps_limits();
     for place in 0..winners.len() {

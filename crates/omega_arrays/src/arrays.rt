@@ -34,7 +34,8 @@ impl<'a> Arrays<'a> {
         starts: &'a [u32],
         successors: &'a [u32],
     ) -> Arrays<'a>
-        ensures { result ≡ arrays priorities.entry.now owners.entry.now starts.entry.now successors.entry.now }
+        ensures { result
+            ≡ arrays priorities.entry.now owners.entry.now starts.entry.now successors.entry.now }
     {
         Arrays {
             priorities,

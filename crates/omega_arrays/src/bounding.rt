@@ -1,7 +1,7 @@
 //! The bounds on lifts of a game as arrays.
 ghost use Rattle.std.specs.Prelude.{◌≡◌, ◌+◌, ◌*◌, ◌^◌, IfOk, IfErr, IsOk, None};
-ghost use Rattle.omega_parity_game.specs.declared.player.Player.TheVariants.{One, Zero};
-ghost use Rattle.omega_parity_game.specs.Game.{priorities};
+ghost use Rattle.omega_game_values.specs.declared.player.Player.TheVariants.{One, Zero};
+ghost use Rattle.omega_game_values.specs.Game.{priorities};
 ghost use Rattle.omega_text.specs.Cases.{never, or_game, or_memory};
 ghost use Rattle.omega_arrays.specs.Arrays.{nodes_in};
 ghost use Rattle.omega_arrays.specs.Bounds.{IsBound};
@@ -9,7 +9,7 @@ ghost use Rattle.omega_arrays.specs.Shape.{IsSizeFault, IsSized, wrong_entry};
 ghost use Rattle.omega_arrays.specs.Solving.{or_shape};
 
 use crate::arrays::Arrays;
-use crate::building::built;
+use crate::building::game_of_arrays;
 use crate::fault::ArrayFault;
 use omega_game::{ForwardGame, Player};
 use omega_lift_bound::bound;
@@ -41,7 +41,8 @@ pub struct Bounds {
 ///
 /// Refused with [ArrayFault::BadShape], [GameFault::TooManyNodes], [GameFault::TooManyEdges] or [Refusal::Memory].
 pub fn bound_arrays(alloc: Global, arrays: &Arrays<'_>) -> Result<Bounds, ArrayFault>
-    ensures zero { IfOk result (λ bounds. IsBound Zero (priorities (nodes_in arrays.now)) bounds.zero) }
+    ensures zero { IfOk result
+        (λ bounds. IsBound Zero (priorities (nodes_in arrays.now)) bounds.zero) }
     ensures one { IfOk result (λ bounds. IsBound One (priorities (nodes_in arrays.now)) bounds.one) }
     ensures faultless { IsOk result → wrong_entry arrays.now ≡ None }
     ensures sized { IsOk result → IsSized arrays.now }
@@ -51,7 +52,7 @@ pub fn bound_arrays(alloc: Global, arrays: &Arrays<'_>) -> Result<Bounds, ArrayF
     if let Some(wrong) = arrays.wrong_entry() {
         return Err(ArrayFault::BadShape(wrong));
     }
-    let game = built(alloc, arrays)?;
+    let game = game_of_arrays(alloc, arrays)?;
     Ok(Bounds {
         zero: bound_for(&game, Player::Zero),
         one: bound_for(&game, Player::One),
@@ -63,7 +64,7 @@ fn bound_for(game: &ForwardGame, player: Player) -> Bound
     ensures { IsBound player (priorities game.now) result }
 {
     match bound(game, player) {
-        Some(most) => halved(most),
+        Some(most) => bound_in_halves(most),
         None => Bound {
             low: 0,
             high: 0,
@@ -73,7 +74,7 @@ fn bound_for(game: &ForwardGame, player: Player) -> Bound
 }
 
 /// Returns a number in two halves.
-fn halved(number: u128) -> Bound
+fn bound_in_halves(number: u128) -> Bound
     ensures parts { number ≡ result.high * 2 ^ 64 + result.low }
     ensures fits { result.fits ≡ 1 }
 {

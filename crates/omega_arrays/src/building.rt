@@ -1,7 +1,8 @@
 //! The game that arrays encode.
-ghost use Rattle.std.specs.Prelude.{◌≡◌, ◌++◌, ◌∷◌, [], ◌<◌, ◌≤◌, IfOk, IfErr, IsOk, IsOkUnless, OnOk, length};
+ghost use Rattle.std.specs.Prelude.{◌≡◌, ◌++◌, ◌∷◌, [], ◌<◌, ◌≤◌, IfOk};
+ghost use Rattle.std.specs.Prelude.{IfErr, IsOk, IsOkUnless, OnOk, length};
 ghost use Rattle.omega_text.specs.Cases.{never, or_game, or_memory};
-ghost use Rattle.omega_parity_game.specs.Limits.{most_nodes};
+ghost use Rattle.omega_game_values.specs.Limits.{most_nodes};
 ghost use Rattle.omega_arrays.specs.Arrays.{nodes_in, node_count, player_of};
 ghost use Rattle.omega_arrays.specs.Shape.{IsGameShape, IsSizeFault, IsSized};
 ghost use Rattle.omega_arrays.specs.private.Specified.{spec_of, specs_below};
@@ -15,7 +16,7 @@ use omega_text::GameFault;
 use std::alloc::Global;
 
 /// Builds the game that `arrays` encode, without predecessors.
-pub(crate) fn built(alloc: Global, arrays: &Arrays<'_>) -> Result<ForwardGame, Refusal>
+pub(crate) fn game_of_arrays(alloc: Global, arrays: &Arrays<'_>) -> Result<ForwardGame, Refusal>
     requires { IsGameShape arrays.now }
     ensures game { IfOk result (λ game. game ≡ nodes_in arrays.now) }
     ensures count { IfOk result (λ game. length game ≡ node_count arrays.now) }
@@ -30,7 +31,7 @@ pub(crate) fn built(alloc: Global, arrays: &Arrays<'_>) -> Result<ForwardGame, R
     if arrays.successors().len() > MOST_SUCCESSORS {
         return Err(Refusal::Game(GameFault::TooManyEdges));
     }
-    let nodes = collected(alloc, arrays)?;
+    let nodes = specs_of_arrays(alloc, arrays)?;
     nodes.finish_forward()
 }
 
@@ -42,14 +43,14 @@ pub(crate) fn built_game(alloc: Global, arrays: &Arrays<'_>) -> Result<Game, Ref
     ensures sized { IsOk result → IsSized arrays.now }
     ensures refused { IfErr result (or_game (IsSizeFault arrays.now) (or_memory never)) }
 {
-    match built(alloc, arrays) {
+    match game_of_arrays(alloc, arrays) {
         Ok(forward) => forward.with_predecessors(alloc),
         Err(refusal) => Err(refusal),
     }
 }
 
 /// Returns the specifications of the nodes.
-fn collected(alloc: Global, arrays: &Arrays<'_>) -> Result<GameBuilder, Refusal>
+fn specs_of_arrays(alloc: Global, arrays: &Arrays<'_>) -> Result<GameBuilder, Refusal>
     requires shape { IsGameShape arrays.now }
     requires few { node_count arrays.now ≤ most_nodes }
     ensures specified { IfOk result (λ nodes. nodes ≡ specs_below arrays.now (node_count arrays.now)) }

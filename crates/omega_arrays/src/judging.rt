@@ -1,20 +1,21 @@
 //! Solutions as arrays, judged.
 ghost use Rattle.std.specs.Prelude.{◌≡◌, IfOk, IfErr, IsOk, IsOkUnless, OnErr, None, length};
 ghost use Rattle.omega_text.specs.declared.refusal.Refusal.TheVariants.{Memory};
-ghost use Rattle.omega_parity_game.specs.Solution.{IsSolution};
+ghost use Rattle.omega_game_values.specs.Solution.{IsSolution};
 ghost use Rattle.omega_arrays.specs.Answer.{solution_in, wrong_answer};
 ghost use Rattle.omega_arrays.specs.Arrays.{nodes_in};
-ghost use Rattle.omega_arrays.specs.Judging.{IsFinding, IsJudgement, IsArraysJudgingRefusal, IsArraysSolutionRefusal, IsVerdictOf};
+ghost use Rattle.omega_arrays.specs.Judging.{IsFinding, IsJudgement, IsArraysJudgingRefusal};
+ghost use Rattle.omega_arrays.specs.Judging.{IsArraysSolutionRefusal, IsVerdictOf};
 ghost use Rattle.omega_arrays.specs.Shape.{IsSized};
 ghost use Rattle.omega_arrays.specs.Solving.{or_shape};
 
 use crate::answer::{is_solution, solution_held, wrong_answer};
 use crate::arrays::Arrays;
-use crate::building::built;
-use crate::copying::copied;
+use crate::building::game_of_arrays;
+use crate::copying::copy_into;
 use crate::fault::ArrayFault;
+use omega_answers_game::lost_by;
 use omega_game::{ForwardGame, Lasso, Player, Refusal, Solution, TaskFault};
-use omega_game_answers::lost_by;
 use std::alloc::Global;
 
 /// The verdict on a solution.
@@ -47,7 +48,8 @@ pub fn verify_arrays(
     ensures judged { IfOk result (λ verdict.
         IsJudgement (nodes_in arrays.now) (solution_in winners.now choices.now)
         verdict stem.old stem.new cycle.old cycle.new) }
-    ensures solution { IsOk result → IsSolution (nodes_in arrays.now) (solution_in winners.now choices.now) }
+    ensures solution { IsOk result
+        → IsSolution (nodes_in arrays.now) (solution_in winners.now choices.now) }
     ensures faultless { IsOk result → wrong_answer arrays.now winners.now choices.now ≡ None }
     ensures sized { IsOk result → IsSized arrays.now }
     ensures stem_kept { OnErr result (stem.new ≡ stem.old) }
@@ -59,14 +61,14 @@ pub fn verify_arrays(
     if let Some(wrong) = wrong_answer(arrays, winners, choices) {
         return Err(ArrayFault::BadShape(wrong));
     }
-    let game = built(alloc, arrays)?;
-    let found = judged(alloc, &game, winners, choices)?;
-    Ok(reported(&found, stem, cycle))
+    let game = game_of_arrays(alloc, arrays)?;
+    let found = counterexample_in(alloc, &game, winners, choices)?;
+    Ok(verdict_of(&found, stem, cycle))
 }
 
 /// Returns a player and a counterexample if the solution that the arrays hold does not win, or none if it wins. Refused
 /// with [TaskFault::BadSolution] if they hold no solution of the game.
-fn judged(
+fn counterexample_in(
     alloc: Global,
     game: &ForwardGame,
     winners: &[u8],
@@ -76,18 +78,19 @@ fn judged(
     requires choices { length choices.now ≡ length game.now }
     ensures finding { IfOk result (IsFinding game.now (solution_in winners.now choices.now)) }
     ensures solution { IsOk result → IsSolution game.now (solution_in winners.now choices.now) }
-    ensures refused { IfErr result (IsArraysSolutionRefusal game.now (solution_in winners.now choices.now)) }
+    ensures refused { IfErr result
+        (IsArraysSolutionRefusal game.now (solution_in winners.now choices.now)) }
 {
     let solution = solution_held(alloc, winners, choices)?;
     if !is_solution(game, &solution, winners, choices) {
         return Err(Refusal::Task(TaskFault::BadSolution));
     }
-    let found = refuted(alloc, game, &solution)?;
+    let found = counterexample_to(alloc, game, &solution)?;
     Ok(found)
 }
 
 /// Returns the least player whose choices do not win, with a counterexample, or none if both players' choices win.
-fn refuted(
+fn counterexample_to(
     alloc: Global,
     game: &ForwardGame,
     solution: &Solution,
@@ -106,7 +109,7 @@ fn refuted(
 }
 
 /// Returns the verdict, and writes the places of the counterexample.
-fn reported(found: &Option<(Player, Lasso)>, stem: &mut [u32], cycle: &mut [u32]) -> Verdict
+fn verdict_of(found: &Option<(Player, Lasso)>, stem: &mut [u32], cycle: &mut [u32]) -> Verdict
     ensures { IsVerdictOf found.now result stem.old stem.new cycle.old cycle.new }
 {
     match found {
@@ -117,8 +120,8 @@ fn reported(found: &Option<(Player, Lasso)>, stem: &mut [u32], cycle: &mut [u32]
             cycle: 0,
         },
         Some((player, lasso)) => {
-            copied(lasso.stem.as_slice(), stem);
-            copied(lasso.cycle.as_slice(), cycle);
+            copy_into(lasso.stem.as_slice(), stem);
+            copy_into(lasso.cycle.as_slice(), cycle);
             Verdict {
                 is_right: 0,
                 player: player.number(),

@@ -17,7 +17,7 @@ mod solving;
 pub use answer::NO_CHOICE;
 pub use arrays::Arrays;
 pub use bounding::{Bound, Bounds, bound_arrays};
-pub use copying::copied;
+pub use copying::copy_into;
 pub use fault::{ArrayFault, WrongEntry};
 pub use judging::{Verdict, verify_arrays};
 pub use omega_game::{Game, Player, Refusal};

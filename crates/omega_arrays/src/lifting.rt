@@ -1,24 +1,24 @@
 //! Games solved by lifting for both players.
 ghost use Rattle.std.specs.Prelude.{◌≡◌, ◌≤◌, IfOk, IfErr, false, true};
-ghost use Rattle.omega_parity_game.specs.declared.player.Player.{Player};
-ghost use Rattle.omega_parity_game.specs.Game.{priorities};
-ghost use Rattle.omega_parity_game.specs.Solution.{IsExactSolution};
+ghost use Rattle.omega_game_values.specs.declared.player.Player.{Player};
+ghost use Rattle.omega_game_values.specs.Game.{priorities};
+ghost use Rattle.omega_game_values.specs.Solution.{IsExactSolution};
 ghost use Rattle.omega_measure.specs.Table.{is_too_wide};
 ghost use Rattle.omega_solve.specs.Limits.{most_lifts};
 ghost use Rattle.omega_arrays.specs.Solving.{AreLifts, EndBoth, IsWholeRefusal};
 
 use crate::solving::Lifts;
-use omega_budget::{NoObserver, Reordered};
+use omega_answers_game::{fits_both, solution_in_turns, winners_of};
 use omega_game::{ForwardGame, Player, Refusal, Seq, Solution, Strategy};
-use omega_game_answers::{fits_both, solution_in_turns, winners_of};
-use omega_region_laws::{regions_are_apart, regions_cover};
+use omega_game_region_laws::{regions_are_apart, regions_cover};
 use omega_solve::MOST_LIFTS;
+use omega_solve::budget::{NoObserver, Reordered};
 use std::alloc::Global;
 
 /// Solves the game by lifting for one player and then for the other, and returns also how many lifts the runs made.
 /// Both players' tables are fitted before either is lifted, so that [TaskFault::TooWide] comes before
 /// [TaskFault::Budget].
-pub(crate) fn lifted(
+pub(crate) fn solution_by_lifting(
     alloc: Global,
     game: &ForwardGame,
     budget: u64,
@@ -35,7 +35,7 @@ pub(crate) fn lifted(
 
 /// Solves a game for which a search gives no answer. If `budget` is the most lifts that a solver makes, the players are
 /// lifted for in turns, whatever their bounds, and their lifts are not counted. Else, or if the turns do not suffice,
-/// it is solved as [lifted] does.
+/// it is solved as [solution_by_lifting] does.
 pub(crate) fn lifted_uncounted(
     alloc: Global,
     game: &ForwardGame,
@@ -52,10 +52,10 @@ pub(crate) fn lifted_uncounted(
             return Ok((solution, Lifts { zero: 0, one: 0 }));
         }
     }
-    lifted(alloc, game, budget)
+    solution_by_lifting(alloc, game, budget)
 }
 
-/// Solves the game as [lifted] does if it is too wide for neither player.
+/// Solves the game as [solution_by_lifting] does if it is too wide for neither player.
 fn lifted_for_both(
     alloc: Global,
     game: &ForwardGame,

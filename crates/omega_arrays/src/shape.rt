@@ -1,7 +1,8 @@
 //! Which arrays encode a game.
 ghost use Rattle.std.specs.Prelude.{◌≡◌, ◌+◌, ◌<◌, IfSome, None, length, nat_lt, option_map, position};
 ghost use Rattle.omega_arrays.specs.Arrays.{node_count};
-ghost use Rattle.omega_arrays.specs.Shape.{IsGameShape, entry, first_above, first_fall, miscounted, wrong_entry, wrong_length, wrong_start};
+ghost use Rattle.omega_arrays.specs.Shape.{IsGameShape, entry, first_above, first_fall};
+ghost use Rattle.omega_arrays.specs.Shape.{miscounted, wrong_entry, wrong_length, wrong_start};
 
 use crate::arrays::Arrays;
 use crate::fault::WrongEntry;
@@ -53,10 +54,10 @@ impl Arrays<'_> {
         if count == 0 {
             return Some(wrong_at(PRIORITIES, 0));
         }
-        if let Some(wrong) = miscounted(OWNERS, self.owners().len(), count) {
+        if let Some(wrong) = miscounted_entry(OWNERS, self.owners().len(), count) {
             return Some(wrong);
         }
-        miscounted(STARTS, self.starts().len(), count + 1)
+        miscounted_entry(STARTS, self.starts().len(), count + 1)
     }
 
     /// Returns the first start that is wrong.
@@ -106,7 +107,7 @@ fn wrong_at(array: u32, place: usize) -> WrongEntry
 
 /// Returns the first entry that is missing, or that is too many, in an array with `count` entries in place of `wanted`
 /// ones.
-pub(crate) fn miscounted(array: u32, count: usize, wanted: usize) -> Option<WrongEntry>
+pub(crate) fn miscounted_entry(array: u32, count: usize, wanted: usize) -> Option<WrongEntry>
     ensures { result ≡ miscounted array count wanted }
 {
     if count == wanted {

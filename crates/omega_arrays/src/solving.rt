@@ -1,19 +1,20 @@
 //! Games as arrays, solved.
 ghost use Rattle.std.specs.Prelude.{◌≡◌, ◌≤◌, All, IfOk, IfErr, IsOk, OnOk, OnErr, None, length};
-ghost use Rattle.omega_parity_game.specs.Solution.{IsExactSolution};
+ghost use Rattle.omega_game_values.specs.Solution.{IsExactSolution};
 ghost use Rattle.omega_solve.specs.Limits.{most_lifts};
 ghost use Rattle.omega_arrays.specs.Answer.{solution_in, wrong_room};
 ghost use Rattle.omega_arrays.specs.Arrays.{nodes_in};
 ghost use Rattle.omega_arrays.specs.Shape.{IsSized};
-ghost use Rattle.omega_arrays.specs.Solving.{AreLifts, IsArraysSolvingRefusal, IsWholeRefusal, budget_of, or_shape};
+ghost use Rattle.omega_arrays.specs.Solving.{AreLifts, IsArraysSolvingRefusal};
+ghost use Rattle.omega_arrays.specs.Solving.{IsWholeRefusal, budget_of, or_shape};
 
 use crate::answer::{write_solution, wrong_room};
 use crate::arrays::Arrays;
 use crate::building::built_game;
 use crate::fault::ArrayFault;
-use crate::lifting::{lifted, lifted_uncounted};
+use crate::lifting::{lifted_uncounted, solution_by_lifting};
 use omega_game::{Game, Refusal, Solution};
-use omega_judged_search::solve_by_search;
+use omega_game_search::solve_by_search;
 use omega_solve::MOST_LIFTS;
 use std::alloc::Global;
 
@@ -43,10 +44,12 @@ pub fn solve_arrays(
     winners: &mut [u8],
     choices: &mut [u32],
 ) -> Result<Lifts, ArrayFault>
-    ensures exact { OnOk result (IsExactSolution (nodes_in arrays.now) (solution_in winners.new choices.new)) }
+    ensures exact { OnOk result
+        (IsExactSolution (nodes_in arrays.now) (solution_in winners.new choices.new)) }
     ensures players { OnOk result (All (λ p. p ≤ 1) winners.new) }
     ensures lifts { IfOk result (AreLifts by_search (nodes_in arrays.now) (budget_of budget)) }
-    ensures faultless { IsOk result → wrong_room arrays.now (length winners.old) (length choices.old) ≡ None }
+    ensures faultless { IsOk result
+        → wrong_room arrays.now (length winners.old) (length choices.old) ≡ None }
     ensures sized { IsOk result → IsSized arrays.now }
     ensures winners_kept { OnErr result (winners.new ≡ winners.old) }
     ensures choices_kept { OnErr result (choices.new ≡ choices.old) }
@@ -58,13 +61,13 @@ pub fn solve_arrays(
         return Err(ArrayFault::BadShape(wrong));
     }
     let game = built_game(alloc, arrays)?;
-    let (solution, lifts) = solved(alloc, &game, by_search, budget.min(MOST_LIFTS))?;
-    write_solution(game.forward(), &solution, winners, choices);
+    let (solution, lifts) = solution_of(alloc, &game, by_search, budget.min(MOST_LIFTS))?;
+    write_solution(game.forward_game(), &solution, winners, choices);
     Ok(lifts)
 }
 
 /// Solves the game by the search if `by_search` requests it and it gives an answer, or else by lifting.
-fn solved(
+fn solution_of(
     alloc: Global,
     game: &Game,
     by_search: bool,
@@ -76,10 +79,10 @@ fn solved(
     ensures refused { IfErr result (IsWholeRefusal game.now budget) }
 {
     if !by_search {
-        return lifted(alloc, game.forward(), budget);
+        return solution_by_lifting(alloc, game.forward_game(), budget);
     }
     if let Some(solution) = solve_by_search(alloc, game)? {
         return Ok((solution, Lifts { zero: 0, one: 0 }));
     }
-    lifted_uncounted(alloc, game.forward(), budget)
+    lifted_uncounted(alloc, game.forward_game(), budget)
 }

@@ -5,16 +5,16 @@ use omega_game::{Game, GameBuilder, MOST_NUMBER, NodeSpec, Player, Refusal, Seq}
 use omega_pg::write_game;
 use std::alloc::Global;
 
-fn written(alloc: Global, game: Result<Game, Refusal>) -> Result<Vec<u8>, Refusal> {
+fn text_of_game(alloc: Global, game: Result<Game, Refusal>) -> Result<Vec<u8>, Refusal> {
     match game {
-        Ok(game) => write_game(alloc, game.forward()),
+        Ok(game) => write_game(alloc, game.forward_game()),
         Err(refusal) => Err(refusal),
     }
 }
 
 /// Returns the game of two nodes, one of them with a name.
 pub(crate) fn of_two(alloc: Global) -> Result<Vec<u8>, Refusal> {
-    written(alloc, built_of_two(alloc))
+    text_of_game(alloc, built_of_two(alloc))
 }
 
 fn built_of_two(alloc: Global) -> Result<Game, Refusal> {
@@ -44,7 +44,7 @@ fn built_of_two(alloc: Global) -> Result<Game, Refusal> {
 pub(crate) fn built_again(alloc: Global, game: &Game) -> Result<Vec<u8>, Refusal> {
     let mut builder = GameBuilder::with_room(alloc, 1, 1)?;
     match fill(&mut builder, game) {
-        Ok(()) => written(alloc, builder.finish()),
+        Ok(()) => text_of_game(alloc, builder.finish()),
         Err(refusal) => Err(refusal),
     }
 }

@@ -1,5 +1,5 @@
 //! Choices of one player in a game, whether they fit, and from where they win.
-use crate::lists::{counted, numbers, put_answer};
+use crate::lists::{counted_and_rest, numbers, put_answer};
 use crate::solutions::put_judged;
 use omega_game::{Game, Player, Refusal, Seq, Strategy};
 use std::alloc::Global;
@@ -23,12 +23,12 @@ fn of_numbers(alloc: Global, call: &str, game: &Game, numbers: &[u32]) -> Result
     let Some((number, lists)) = numbers.split_first() else {
         return Err(Refusal::Io);
     };
-    let (places, lists) = counted(lists);
-    let (order, choices) = counted(lists);
+    let (places, lists) = counted_and_rest(lists);
+    let (order, choices) = counted_and_rest(lists);
     let (player, strategy) = (player_of(*number), strategy_of(alloc, choices)?);
     let mut out = Vec::new(alloc);
     if call == "fits" {
-        put_answer(&mut out, strategy.fits(game.forward(), player))?;
+        put_answer(&mut out, strategy.fits(game.forward_game(), player))?;
     } else {
         put_judged(
             alloc, call, game, player, places, order, &strategy, &mut out,

@@ -1,14 +1,14 @@
 //! Labels over aliases, and acceptance formulas: read, built, taken apart, measured and written.
 use crate::lists::{answer, each, is_front, numbers, put, put_answer};
-use omega_aliases::{Aliases, expand, expanded_size};
-use omega_formula::{Acc, RawAcc, read_acc, read_raw_acc, write_acc};
-use omega_label::{Label, RawLabel, write_label};
-use omega_label_reading::{read_label, read_raw_label};
+use omega_hoa_label_text::{Aliases, expand, expanded_size};
+use omega_hoa_acceptance::{Acc, RawAcc, read_acc, read_raw_acc, write_acc};
+use omega_hoa_label::{Label, RawLabel, write_label};
+use omega_hoa_label_text::{read_label, read_raw_label};
 use omega_text::{Cursor, HoaKind, Refusal, TextCursor, check_tokens, hoa_tokens};
 use std::alloc::Global;
 
 /// Returns what the call on expressions of this name gives of the two texts.
-pub(crate) fn called(
+pub(crate) fn answer_call(
     alloc: Global,
     call: &str,
     text: &[u8],
@@ -25,7 +25,7 @@ pub(crate) fn called(
             alloc,
             formula_again(alloc, formula_in(alloc, text)),
         ),
-        "Acc" => formula_written(alloc, built(alloc)),
+        "Acc" => formula_written(alloc, sample_formula(alloc)),
         "RawAcc" => of_raw(alloc, call, raw_built(alloc), other),
         _ => of_raw(alloc, call, raw_formula_in(alloc, text), other),
     }
@@ -89,8 +89,8 @@ fn over_aliases(
 ) -> Result<Vec<u8>, Refusal> {
     match call {
         "expanded_size" => size(alloc, raw, aliases),
-        "shape of a label" => written(alloc, again(alloc, expand(alloc, raw, aliases))),
-        _ => written(alloc, expand(alloc, raw, aliases)),
+        "shape of a label" => text_of_label(alloc, rebuilt_label(alloc, expand(alloc, raw, aliases))),
+        _ => text_of_label(alloc, expand(alloc, raw, aliases)),
     }
 }
 
@@ -99,19 +99,19 @@ fn size(alloc: Global, raw: &RawLabel, aliases: &Aliases) -> Result<Vec<u8>, Ref
 }
 
 /// Returns a label, taken apart and put together.
-fn again(alloc: Global, label: Result<Label, Refusal>) -> Result<Label, Refusal> {
+fn rebuilt_label(alloc: Global, label: Result<Label, Refusal>) -> Result<Label, Refusal> {
     match label {
-        Ok(label) => together(alloc, &label),
+        Ok(label) => reassembled_label(alloc, &label),
         Err(refusal) => Err(refusal),
     }
 }
 
-fn together(alloc: Global, label: &Label) -> Result<Label, Refusal> {
+fn reassembled_label(alloc: Global, label: &Label) -> Result<Label, Refusal> {
     let shape = label.shape(alloc)?;
     Label::of_shape(alloc, &shape)
 }
 
-fn written(alloc: Global, label: Result<Label, Refusal>) -> Result<Vec<u8>, Refusal> {
+fn text_of_label(alloc: Global, label: Result<Label, Refusal>) -> Result<Vec<u8>, Refusal> {
     match label {
         Ok(label) => label_text(alloc, &label),
         Err(refusal) => Err(refusal),
@@ -208,7 +208,7 @@ fn formula_in(alloc: Global, text: &[u8]) -> Result<Acc, Refusal> {
 }
 
 /// Returns `Inf(0)&t|Fin(!1)`.
-fn built(alloc: Global) -> Result<Acc, Refusal> {
+fn sample_formula(alloc: Global) -> Result<Acc, Refusal> {
     let left = front_of_built(alloc)?;
     left.or(Acc::fin(alloc, true, 1)?)
 }
@@ -287,7 +287,7 @@ fn of_raw(
 fn of_read(alloc: Global, call: &str, raw: &RawAcc, other: &[u8]) -> Result<Vec<u8>, Refusal> {
     match call {
         "depth of a formula" => formula_depth(alloc, raw, other),
-        "is RawAcc" => compared(alloc, raw, raw_built(alloc)),
+        "is RawAcc" => comparison(alloc, raw, raw_built(alloc)),
         _ => formula_written(alloc, raw.formula(alloc)),
     }
 }
@@ -305,7 +305,7 @@ fn formula_depth(alloc: Global, raw: &RawAcc, counts: &[u8]) -> Result<Vec<u8>, 
 }
 
 /// Whether a formula is another, parentheses and all.
-fn compared(
+fn comparison(
     alloc: Global,
     raw: &RawAcc,
     other: Result<RawAcc, Refusal>,

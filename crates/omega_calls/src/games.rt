@@ -6,7 +6,7 @@ use omega_pg::{read_game, write_game};
 use std::alloc::Global;
 
 /// Returns what the call of this group and name gives of the game of `text` and of the other text.
-pub(crate) fn called(
+pub(crate) fn answer_call(
     alloc: Global,
     group: &str,
     call: &str,
@@ -35,7 +35,7 @@ fn of_group(
 
 fn of_game(alloc: Global, call: &str, game: &Game, other: &[u8]) -> Result<Vec<u8>, Refusal> {
     match call {
-        "read_game" => write_game(alloc, game.forward()),
+        "read_game" => write_game(alloc, game.forward_game()),
         "GameBuilder" => building::built_again(alloc, game),
         "game" => quiet::of_game(alloc, game, quiet::runs(other)),
         _ => read_of_part(alloc, game, other),

@@ -1,5 +1,5 @@
 //! Texts of lassos.
-use omega_lasso_text::{Refusal, read_lasso, read_lasso_lines, write_lasso};
+use omega_lang_lasso_text::{Refusal, read_lasso, read_lasso_lines, write_lasso};
 use std::alloc::Global;
 
 /// Returns a lasso that is read and written.

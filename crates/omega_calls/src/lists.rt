@@ -24,7 +24,7 @@ pub(crate) fn only_number(alloc: Global, text: &[u8]) -> Result<u32, Refusal> {
 }
 
 /// Returns the numbers that a list begins with, after their count, and the numbers after them.
-pub(crate) fn counted(numbers: &[u32]) -> (&[u32], &[u32]) {
+pub(crate) fn counted_and_rest(numbers: &[u32]) -> (&[u32], &[u32]) {
     match numbers.split_first() {
         Some((count, others)) => others.split_at(others.len().min(*count as usize)),
         None => (numbers, numbers),

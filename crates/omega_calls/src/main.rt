@@ -57,7 +57,7 @@ fn status_of(refusal: Refusal) -> ExitCode {
 /// Returns what the words request.
 fn answer(rt: &HostRuntime) -> Result<Vec<u8>, Refusal> {
     match words_of(rt) {
-        Ok(words) => asked(rt, words.as_slice()),
+        Ok(words) => output_of(rt, words.as_slice()),
         Err(error) if error.kind() == io::ErrorKind::OutOfMemory => Err(Refusal::Memory),
         Err(_) => Err(Refusal::Io),
     }
@@ -68,7 +68,7 @@ fn words_of(rt: &HostRuntime) -> io::Result<Vec<String>> {
     Ok(words)
 }
 
-fn asked(rt: &HostRuntime, words: &[String]) -> Result<Vec<u8>, Refusal> {
+fn output_of(rt: &HostRuntime, words: &[String]) -> Result<Vec<u8>, Refusal> {
     if words.len() < 5 {
         return Err(Refusal::Io);
     }
@@ -77,7 +77,7 @@ fn asked(rt: &HostRuntime, words: &[String]) -> Result<Vec<u8>, Refusal> {
     if words[3].as_str() == "-" {
         called_on_input(rt, group, call, other)
     } else {
-        called(rt.alloc(), group, call, text, other)
+        answer_call(rt.alloc(), group, call, text, other)
     }
 }
 
@@ -88,13 +88,13 @@ fn called_on_input(
     other: &[u8],
 ) -> Result<Vec<u8>, Refusal> {
     match read_all(rt.alloc(), &mut FromRead::new(rt.stdin())) {
-        Ok(input) => called(rt.alloc(), group, call, input.as_slice(), other),
+        Ok(input) => answer_call(rt.alloc(), group, call, input.as_slice(), other),
         Err(refusal) => Err(refusal),
     }
 }
 
 /// Returns what a call of a group gives of two texts.
-fn called(
+fn answer_call(
     alloc: Global,
     group: &str,
     call: &str,
@@ -102,15 +102,15 @@ fn called(
     other: &[u8],
 ) -> Result<Vec<u8>, Refusal> {
     match group {
-        "tokens" => tokens::called(alloc, call, text, other),
-        "expressions" => expressions::called(alloc, call, text, other),
-        "ends" => ends::called(alloc, call, text),
+        "tokens" => tokens::answer_call(alloc, call, text, other),
+        "expressions" => expressions::answer_call(alloc, call, text, other),
+        "ends" => ends::answer_call(alloc, call, text),
         "raw" => raw::edges_written(alloc),
-        "streams" => streams::called(alloc, call, text),
+        "streams" => streams::answer_call(alloc, call, text),
         "building" => building::of_two(alloc),
-        "quiet" => quiet::called(alloc, call, text, other),
+        "quiet" => quiet::answer_call(alloc, call, text, other),
         "lassos" => lassos::read_and_written(alloc, call, text),
-        "games" | "solutions" | "solving" => games::called(alloc, group, call, text, other),
+        "games" | "solutions" | "solving" => games::answer_call(alloc, group, call, text, other),
         _ => Err(Refusal::Io),
     }
 }

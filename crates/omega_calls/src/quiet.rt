@@ -4,17 +4,17 @@ ghost use Rattle.std.specs.Prelude.{◌<◌, length};
 use crate::expressions::label_in;
 use crate::kinds::put_hoa;
 use crate::lists::{put, put_all, put_answer, put_each};
-use omega_aliases::{Aliases, expand};
-use omega_automaton::{Automaton, EdgeRef, State};
-use omega_formula::{AccKind, Order, Parity, ParityKind, acceptance_kind, parity_of, priority};
+use omega_hoa_label_text::{Aliases, expand};
+use omega_hoa_automaton::{Automaton, EdgeRef, State};
+use omega_hoa_acceptance::{AccKind, Order, Parity, ParityKind, acceptance_kind, parity_of, priority};
 use omega_game::{Game, Player, Refusal, Seq, Strategy};
 use omega_hoa::{Stream, read_one};
 use omega_io::{Exit, exit_code};
-use omega_label::{Label, RawLabel};
+use omega_hoa_label::{Label, RawLabel};
 use omega_lift_bound::bound;
 use omega_measure::fits;
-use omega_raw::HeaderValue;
-use omega_satisfying::satisfiable;
+use omega_hoa_syntax::HeaderValue;
+use omega_hoa_satisfiable::satisfiable;
 use omega_text::{
     ByteString, Cursor, HoaKind, PgKind, TextCursor, TextFault, Token, TokenKind, TokenSource,
     check_tokens, hoa_tokens, next_hoa_token, next_pg_number, next_pg_token,
@@ -22,7 +22,7 @@ use omega_text::{
 use std::alloc::Global;
 
 /// Returns what the calls of this name give of `text`, if `other` says that they are made.
-pub(crate) fn called(
+pub(crate) fn answer_call(
     alloc: Global,
     call: &str,
     text: &[u8],
@@ -146,12 +146,12 @@ fn put_game(game: &Game, strategy: &Strategy, out: &mut Vec<u8>) -> Result<(), R
     for id in 0..11 {
         put_answer(out, game.place_of(id).is_some())?;
     }
-    put_answer(out, strategy.fits(game.forward(), Player::Zero))?;
-    put_answer(out, fits(game.forward(), Player::Zero))?;
-    let zero = bound(game.forward(), Player::Zero).unwrap_or(0);
+    put_answer(out, strategy.fits(game.forward_game(), Player::Zero))?;
+    put_answer(out, fits(game.forward_game(), Player::Zero))?;
+    let zero = bound(game.forward_game(), Player::Zero).unwrap_or(0);
     put_each(
         out,
-        &[zero, bound(game.forward(), Player::One).unwrap_or(0)],
+        &[zero, bound(game.forward_game(), Player::One).unwrap_or(0)],
     )
 }
 

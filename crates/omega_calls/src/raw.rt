@@ -1,7 +1,7 @@
 //! Edges as they are written.
 use crate::lists::{put_all, put_answer};
-use omega_label::RawLabel;
-use omega_raw::{RawEdge, RawEdges};
+use omega_hoa_label::RawLabel;
+use omega_hoa_syntax::{RawEdge, RawEdges};
 use omega_text::{Marks, Numbers, Refusal};
 use std::alloc::Global;
 
@@ -9,7 +9,7 @@ use std::alloc::Global;
 pub(crate) fn edges_written(alloc: Global) -> Result<Vec<u8>, Refusal> {
     let mut edges = RawEdges::new(alloc);
     match push_three(alloc, &mut edges) {
-        Ok(()) => written_edges(alloc, &edges.exact(alloc)?),
+        Ok(()) => written_edges(alloc, &edges.fitted_edges(alloc)?),
         Err(refusal) => Err(refusal),
     }
 }

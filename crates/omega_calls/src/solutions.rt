@@ -1,6 +1,6 @@
 //! Solutions of a game and strategies in it: read, judged, written.
 ghost use Rattle.std.specs.Prelude.{◌<◌, length, All, IsTrue};
-ghost use Rattle.omega_parity_game.specs.Solution.{IsSolution};
+ghost use Rattle.omega_game_values.specs.Solution.{IsSolution};
 
 use crate::choices;
 use crate::lists::{answer, put_all, put_answer};
@@ -21,7 +21,7 @@ pub(crate) fn of_game(
     if text.starts_with(b"0") || text.starts_with(b"1") {
         return choices::of_text(alloc, call, game, text);
     }
-    match read_solution(alloc, game.forward(), text) {
+    match read_solution(alloc, game.forward_game(), text) {
         Ok(solution) => of_solution(alloc, call, game, &solution),
         Err(refusal) => Err(refusal),
     }
@@ -36,11 +36,11 @@ fn of_solution(
     requires { IsSolution game.now solution.now }
 {
     match call {
-        "read_solution" => write_solution(alloc, game.forward(), solution),
+        "read_solution" => write_solution(alloc, game.forward_game(), solution),
         "check_solution_by_order" => judged_by_order(alloc, game, solution, &[2, 1, 0]),
         "by rising order" => judged_by_order(alloc, game, solution, &[0, 1, 2]),
         "by first place" => judged_by_order(alloc, game, solution, &[0]),
-        _ => judged(alloc, call, game, solution),
+        _ => choices_verdict(alloc, call, game, solution),
     }
 }
 
@@ -51,19 +51,19 @@ fn judged_by_order(
     solution: &Solution,
     order: &[u32],
 ) -> Result<Vec<u8>, Refusal> {
-    let fit = solution.zero.fits(game.forward(), Player::Zero)
-        && solution.one.fits(game.forward(), Player::One);
+    let fit = solution.zero.fits(game.forward_game(), Player::Zero)
+        && solution.one.fits(game.forward_game(), Player::One);
     if solution.winners.len() != game.len() || !fit {
         return Err(Refusal::Io);
     }
     answer(
         alloc,
-        check_solution_by_order(alloc, game.forward(), solution, order)?,
+        check_solution_by_order(alloc, game.forward_game(), solution, order)?,
     )
 }
 
 /// Returns what a call gives of both players' choices.
-fn judged(alloc: Global, call: &str, game: &Game, solution: &Solution) -> Result<Vec<u8>, Refusal> {
+fn choices_verdict(alloc: Global, call: &str, game: &Game, solution: &Solution) -> Result<Vec<u8>, Refusal> {
     let mut out = Vec::new(alloc);
     judge(alloc, call, game, solution, Player::Zero, &mut out)?;
     judge(alloc, call, game, solution, Player::One, &mut out)?;
@@ -97,26 +97,26 @@ pub(crate) fn put_judged(
     strategy: &Strategy,
     out: &mut Vec<u8>,
 ) -> Result<(), Refusal> {
-    if !are_places(game, given) || !strategy.fits(game.forward(), player) {
+    if !are_places(game, given) || !strategy.fits(game.forward_game(), player) {
         return Err(Refusal::Io);
     }
     match call {
         "places_given" => put_all(out, given),
         "check_strategy" => put_judgement(
             out,
-            check_strategy(alloc, game.forward(), player, given, strategy),
+            check_strategy(alloc, game.forward_game(), player, given, strategy),
         ),
         "check_strategy_fast" => put_said(
             out,
-            check_strategy_fast(alloc, game.forward(), player, given, strategy),
+            check_strategy_fast(alloc, game.forward_game(), player, given, strategy),
         ),
         "check_strategy_by_order" => put_judgement(
             out,
-            check_strategy_by_order(alloc, game.forward(), player, given, strategy, order),
+            check_strategy_by_order(alloc, game.forward_game(), player, given, strategy, order),
         ),
         _ => put_lasso(
             out,
-            counterexample(alloc, game.forward(), player, given, strategy),
+            counterexample(alloc, game.forward_game(), player, given, strategy),
         ),
     }
 }

@@ -16,18 +16,18 @@ pub(crate) fn of_game(
     other: &[u8],
 ) -> Result<Vec<u8>, Refusal> {
     match call {
-        "plain sweep" => lifted::<PlainTable, Sweep>(alloc, game, other),
-        "plain worklist" => lifted::<PlainTable, Worklist>(alloc, game, other),
-        "plain nested" => lifted::<PlainTable, Nested>(alloc, game, other),
-        "packed sweep" => lifted::<PackedTable, Sweep>(alloc, game, other),
-        "packed worklist" => lifted::<PackedTable, Worklist>(alloc, game, other),
-        _ => lifted::<PackedTable, Nested>(alloc, game, other),
+        "plain sweep" => solvers_findings::<PlainTable, Sweep>(alloc, game, other),
+        "plain worklist" => solvers_findings::<PlainTable, Worklist>(alloc, game, other),
+        "plain nested" => solvers_findings::<PlainTable, Nested>(alloc, game, other),
+        "packed sweep" => solvers_findings::<PackedTable, Sweep>(alloc, game, other),
+        "packed worklist" => solvers_findings::<PackedTable, Worklist>(alloc, game, other),
+        _ => solvers_findings::<PackedTable, Nested>(alloc, game, other),
     }
 }
 
 /// Returns what two solvers find, or one of them within the budgets of a text. Of the two, one takes the places in the
 /// game's order. All of the text's room is requested before they are made, and neither runs unless the text says so.
-fn lifted<T: MeasureTable, S: Schedule>(
+fn solvers_findings<T: MeasureTable, S: Schedule>(
     alloc: Global,
     game: &Game,
     other: &[u8],

@@ -6,23 +6,23 @@ use omega_text::Refusal;
 use std::alloc::Global;
 
 /// Returns what the call on streams of this name gives of `text`.
-pub(crate) fn called(alloc: Global, call: &str, text: &[u8]) -> Result<Vec<u8>, Refusal> {
+pub(crate) fn answer_call(alloc: Global, call: &str, text: &[u8]) -> Result<Vec<u8>, Refusal> {
     match call {
-        "read_stream" => whole(alloc, text),
-        "pieces" => answered(alloc, text),
+        "read_stream" => items_of_whole(alloc, text),
+        "pieces" => stream_answers(alloc, text),
         _ => in_pieces(alloc, text),
     }
 }
 
-fn whole(alloc: Global, text: &[u8]) -> Result<Vec<u8>, Refusal> {
+fn items_of_whole(alloc: Global, text: &[u8]) -> Result<Vec<u8>, Refusal> {
     let items = read_stream(alloc, text)?;
-    written(alloc, items.as_slice())
+    texts_of_items(alloc, items.as_slice())
 }
 
 fn in_pieces(alloc: Global, text: &[u8]) -> Result<Vec<u8>, Refusal> {
     let mut items = Vec::new(alloc);
     feed_pieces(Stream::new(alloc), text, &mut items)?;
-    written(alloc, items.as_slice())
+    texts_of_items(alloc, items.as_slice())
 }
 
 /// Feeds a stream with pieces of up to 40 bytes.
@@ -43,7 +43,7 @@ fn feed_again(stream: &mut Stream, piece: &[u8], items: &mut Vec<Item>) -> Resul
     }
 }
 
-fn written(alloc: Global, items: &[Item]) -> Result<Vec<u8>, Refusal> {
+fn texts_of_items(alloc: Global, items: &[Item]) -> Result<Vec<u8>, Refusal> {
     let mut out = Vec::new(alloc);
     for item in items {
         put_item(item, &mut out)?;
@@ -65,14 +65,14 @@ fn put_item(item: &Item, out: &mut Vec<u8>) -> Result<(), Refusal> {
 
 /// Returns what a stream answers to each of the pieces of a text, between which stands `~`, and to its end, and the
 /// items.
-fn answered(alloc: Global, text: &[u8]) -> Result<Vec<u8>, Refusal> {
+fn stream_answers(alloc: Global, text: &[u8]) -> Result<Vec<u8>, Refusal> {
     let Ok(text) = std::str::from_utf8(text) else {
         return Err(Refusal::Io);
     };
     let mut items = Vec::new(alloc);
     let mut out = Vec::new(alloc);
     put_answers(Stream::new(alloc), text, &mut items, &mut out)?;
-    out.extend_from_slice(written(alloc, items.as_slice())?.as_slice())?;
+    out.extend_from_slice(texts_of_items(alloc, items.as_slice())?.as_slice())?;
     Ok(out)
 }
 

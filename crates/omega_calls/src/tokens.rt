@@ -8,7 +8,7 @@ use omega_text::{
 use std::alloc::Global;
 
 /// Returns what the call on tokens, numbers, strings or lists of this name gives of the two texts.
-pub(crate) fn called(
+pub(crate) fn answer_call(
     alloc: Global,
     call: &str,
     text: &[u8],

@@ -1,6 +1,6 @@
 -- The canonical text of an automaton: a function of the value, so that equal automata have equal texts.
 use Rattle.std.specs.Prelude.{ℕ, List, ◌++◌}
-use Rattle.omega_automaton.specs.Automaton.{Description}
+use Rattle.omega_hoa_automaton.specs.Automaton.{Description}
 use Rattle.omega_canon.specs.BodyText.{body_text}
 use Rattle.omega_canon.specs.HeaderText.{header_text}
 

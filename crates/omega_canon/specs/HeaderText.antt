@@ -1,23 +1,24 @@
 -- The lines of the header in the canonical text of an automaton, in their order.
 use Rattle.std.specs.Prelude.{ℕ, Option, Some, None, List, [], ◌∷◌, ◌++◌, length, codes, decimal}
 use Rattle.std.specs.List.{flat_map}
-use Rattle.omega_formula.specs.Acceptance.{AccTree}
-use Rattle.omega_expression.specs.Writing.{truth_text}
-use Rattle.omega_formula.specs.Writing.{acc_text}
-use Rattle.omega_formula.specs.declared.name.AccName.{AccName}
-use Rattle.omega_formula.specs.declared.name.Parameter.{Parameter}
-use Rattle.omega_formula.specs.declared.name.Parameter.TheVariants as parameter
-use Rattle.omega_automaton.specs.Automaton.{Description}
-use Rattle.omega_automaton.specs.declared.header.Header.{Header}
-use Rattle.omega_automaton.specs.declared.tool.Tool.{Tool}
-use Rattle.omega_raw.specs.declared.header_value.HeaderValue.{HeaderValue}
-use Rattle.omega_raw.specs.declared.header_value.HeaderValue.TheVariants as value
+use Rattle.omega_hoa_acceptance.specs.Acceptance.{AccTree}
+use Rattle.omega_hoa_expression.specs.Writing.{truth_text}
+use Rattle.omega_hoa_acceptance.specs.Writing.{acc_text}
+use Rattle.omega_hoa_acceptance.specs.declared.name.AccName.{AccName}
+use Rattle.omega_hoa_acceptance.specs.declared.name.Parameter.{Parameter}
+use Rattle.omega_hoa_acceptance.specs.declared.name.Parameter.TheVariants as parameter
+use Rattle.omega_hoa_automaton.specs.Automaton.{Description}
+use Rattle.omega_hoa_automaton.specs.declared.header.Header.{Header}
+use Rattle.omega_hoa_automaton.specs.declared.tool.Tool.{Tool}
+use Rattle.omega_hoa_syntax.specs.declared.header_value.HeaderValue.{HeaderValue}
+use Rattle.omega_hoa_syntax.specs.declared.header_value.HeaderValue.TheVariants as value
 use Rattle.omega_canon.specs.Parts.{conjunction, quoted_string, spaced, string_part, strings, words}
 
 -- `tool:` with its strings, if there is one
 abbrev pub tool_line : Option Tool → List ℕ
 tool_line None = []
-tool_line (Some tool) = codes "tool:" ++ (spaced (quoted_string tool.name) ++ (string_part tool.version ++ codes "\n"))
+tool_line (Some tool) =
+    codes "tool:" ++ (spaced (quoted_string tool.name) ++ (string_part tool.version ++ codes "\n"))
 
 -- `name:` with its string, if there is one
 abbrev pub name_line : Option (List ℕ) → List ℕ
@@ -45,12 +46,13 @@ parameter_part (parameter.Word bytes) = spaced bytes
 -- `acc-name:` with its parameters, if there is one
 abbrev pub acc_name_line : Option AccName → List ℕ
 acc_name_line None = []
-acc_name_line (Some name) =
-    codes "acc-name:" ++ (spaced name.name ++ (flat_map parameter_part name.parameters ++ codes "\n"))
+acc_name_line (Some name) = codes "acc-name:"
+    ++ (spaced name.name ++ (flat_map parameter_part name.parameters ++ codes "\n"))
 
 -- `Acceptance:`, the count of sets and the formula
 abbrev pub acceptance_line : ℕ → AccTree → List ℕ
-acceptance_line sets formula = codes "Acceptance: " ++ (decimal sets ++ (spaced (acc_text formula).bytes ++ codes "\n"))
+acceptance_line sets formula =
+    codes "Acceptance: " ++ (decimal sets ++ (spaced (acc_text formula).bytes ++ codes "\n"))
 
 -- `properties:` with all identifiers, if there are any
 abbrev pub properties_line : List (List ℕ) → List ℕ
@@ -70,8 +72,7 @@ unknown_line header = header.name ++ (codes ":" ++ (flat_map value_part header.v
 
 -- all lines before the body
 abbrev pub header_text : Description → List ℕ
-header_text a =
-    codes "HOA: v1\n"
+header_text a = codes "HOA: v1\n"
     ++ (tool_line a.tool ++ (name_line a.name ++ (states_line a.states ++ (flat_map start_line a.starts
-    ++ (propositions_line a.propositions ++ (acc_name_line a.acc_name ++ (acceptance_line a.sets a.acceptance
-    ++ (properties_line a.properties ++ flat_map unknown_line a.unknown))))))))
+    ++ (propositions_line a.propositions ++ (acc_name_line a.acc_name ++ (acceptance_line a.sets
+    a.acceptance ++ (properties_line a.properties ++ flat_map unknown_line a.unknown))))))))

@@ -2,8 +2,8 @@
 -- canonical text of an automaton).
 use Rattle.std.specs.Prelude.{ℕ, Option, Some, None, List, [], ◌∷◌, ◌++◌, codes, decimal}
 use Rattle.std.specs.List.{flat_map}
-use Rattle.omega_label.specs.Label.{LabelTree}
-use Rattle.omega_label.specs.Writing.{label_text}
+use Rattle.omega_hoa_label.specs.Label.{LabelTree}
+use Rattle.omega_hoa_label.specs.Writing.{label_text}
 
 -- bytes between quotes
 abbrev pub quoted_string : List ℕ → List ℕ
@@ -37,7 +37,8 @@ conjunction states = numbers_joined (codes "&") states
 -- a space and the sets in braces, a space between each two; nothing for no sets
 abbrev pub marks_part : List ℕ → List ℕ
 marks_part [] = []
-marks_part (first ∷ others) = codes " {" ++ (numbers_joined (codes " ") (first ∷ others) ++ codes "}")
+marks_part (first ∷ others) =
+    codes " {" ++ (numbers_joined (codes " ") (first ∷ others) ++ codes "}")
 
 -- a label in brackets and a space, if there is one
 abbrev pub label_part : Option LabelTree → List ℕ

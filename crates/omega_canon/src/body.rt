@@ -5,7 +5,7 @@ ghost use Rattle.std.specs.List.{flat_map};
 ghost use Rattle.omega_canon.specs.BodyText.{body_text, edge_line, state_line, state_text};
 
 use crate::parts::{write_label_part, write_marks, write_numbers, write_string_part};
-use omega_automaton::{EdgeRef, Edges, State};
+use omega_hoa_automaton::{EdgeRef, Edges, State};
 use omega_text::{Refusal, write_number};
 
 /// Appends `--BODY--`, the lines of the defined states and their edges, and `--END--`.

@@ -3,7 +3,7 @@ ghost use Rattle.omega_canon.specs.Canonical.{canonical_automaton as text_of};
 
 use crate::body::write_body;
 use crate::header::write_header;
-use omega_automaton::Automaton;
+use omega_hoa_automaton::Automaton;
 use omega_text::Refusal;
 use std::alloc::Global;
 

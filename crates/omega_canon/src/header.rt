@@ -2,16 +2,18 @@
 
 ghost use Rattle.std.specs.Prelude.{◌≡◌, ◌++◌, IsOkUnless, OnOk, decimal};
 ghost use Rattle.std.specs.List.{flat_map};
-ghost use Rattle.omega_canon.specs.HeaderText.{acc_name_line, acceptance_line, header_text, name_line, parameter_part, properties_line, propositions_line, start_line, states_line, tool_line, unknown_line, value_part};
+ghost use Rattle.omega_canon.specs.HeaderText.{acc_name_line, acceptance_line, header_text, name_line};
+ghost use Rattle.omega_canon.specs.HeaderText.{parameter_part, properties_line, propositions_line};
+ghost use Rattle.omega_canon.specs.HeaderText.{start_line, states_line, tool_line, unknown_line, value_part};
 ghost use Rattle.omega_canon.specs.Parts.{spaced};
-ghost use Rattle.omega_expression.specs.Writing.{truth_text};
-ghost use Rattle.omega_formula.specs.Writing.{acc_text};
+ghost use Rattle.omega_hoa_expression.specs.Writing.{truth_text};
+ghost use Rattle.omega_hoa_acceptance.specs.Writing.{acc_text};
 
 use crate::parts::{
     write_numbers, write_string, write_string_part, write_strings, write_word, write_words,
 };
-use omega_automaton::{Automaton, HeaderValue};
-use omega_formula::{Acc, Parameter, write_acc};
+use omega_hoa_acceptance::{Acc, Parameter, write_acc};
+use omega_hoa_automaton::{Automaton, HeaderValue};
 use omega_text::{ByteString, Refusal, write_number};
 
 /// Appends all lines before the body.
@@ -72,7 +74,8 @@ fn write_states(automaton: &Automaton, out: &mut Vec<u8>) -> Result<(), Refusal>
 
 /// Appends a line `Start:` for each start.
 fn write_starts(automaton: &Automaton, out: &mut Vec<u8>) -> Result<(), Refusal>
-    ensures ok { OnOk result (out.new.items ≡ out.old.items ++ flat_map start_line automaton.now.starts) }
+    ensures ok { OnOk result
+        (out.new.items ≡ out.old.items ++ flat_map start_line automaton.now.starts) }
     ensures memory { IsOkUnless result Refusal.Memory }
 {
     for states in automaton.starts() {
@@ -85,7 +88,8 @@ fn write_starts(automaton: &Automaton, out: &mut Vec<u8>) -> Result<(), Refusal>
 
 /// Appends the line `AP:`.
 fn write_propositions(automaton: &Automaton, out: &mut Vec<u8>) -> Result<(), Refusal>
-    ensures ok { OnOk result (out.new.items ≡ out.old.items ++ propositions_line automaton.now.propositions) }
+    ensures ok { OnOk result
+        (out.new.items ≡ out.old.items ++ propositions_line automaton.now.propositions) }
     ensures memory { IsOkUnless result Refusal.Memory }
 {
     let names = automaton.propositions();
@@ -112,7 +116,8 @@ fn write_acc_name(automaton: &Automaton, out: &mut Vec<u8>) -> Result<(), Refusa
 
 /// Appends the parameters of the name of an acceptance, a space before each.
 fn write_parameters(parameters: &[Parameter], out: &mut Vec<u8>) -> Result<(), Refusal>
-    ensures ok { OnOk result (out.new.items ≡ out.old.items ++ flat_map parameter_part parameters.now) }
+    ensures ok { OnOk result
+        (out.new.items ≡ out.old.items ++ flat_map parameter_part parameters.now) }
     ensures memory { IsOkUnless result Refusal.Memory }
 {
     for parameter in parameters {
@@ -149,7 +154,8 @@ fn write_formula(formula: &Acc, out: &mut Vec<u8>) -> Result<(), Refusal>
 
 /// Appends the line `properties:`, if there are any.
 fn write_properties(automaton: &Automaton, out: &mut Vec<u8>) -> Result<(), Refusal>
-    ensures ok { OnOk result (out.new.items ≡ out.old.items ++ properties_line automaton.now.properties) }
+    ensures ok { OnOk result
+        (out.new.items ≡ out.old.items ++ properties_line automaton.now.properties) }
     ensures memory { IsOkUnless result Refusal.Memory }
 {
     let properties = automaton.properties();
@@ -163,7 +169,8 @@ fn write_properties(automaton: &Automaton, out: &mut Vec<u8>) -> Result<(), Refu
 
 /// Appends the headers that the format leaves open, each a line.
 fn write_unknown(automaton: &Automaton, out: &mut Vec<u8>) -> Result<(), Refusal>
-    ensures ok { OnOk result (out.new.items ≡ out.old.items ++ flat_map unknown_line automaton.now.unknown) }
+    ensures ok { OnOk result
+        (out.new.items ≡ out.old.items ++ flat_map unknown_line automaton.now.unknown) }
     ensures memory { IsOkUnless result Refusal.Memory }
 {
     for header in automaton.unknown() {

@@ -2,9 +2,10 @@
 
 ghost use Rattle.std.specs.Prelude.{◌≡◌, [], ◌∷◌, ◌++◌, IsOkUnless, OnOk, option_map};
 ghost use Rattle.std.specs.Option.{option_copied};
-ghost use Rattle.omega_canon.specs.Parts.{label_part, marks_part, numbers_after, numbers_joined, quoted_string, spaced, string_part, strings, words};
+ghost use Rattle.omega_canon.specs.Parts.{label_part, marks_part, numbers_after, numbers_joined};
+ghost use Rattle.omega_canon.specs.Parts.{quoted_string, spaced, string_part, strings, words};
 
-use omega_label::{Label, write_label};
+use omega_hoa_label::{Label, write_label};
 use omega_text::{ByteString, Refusal, write_number};
 
 /// Appends a space and bytes between quotes.
@@ -64,7 +65,8 @@ fn write_numbers_after(sign: u8, numbers: &[u32], out: &mut Vec<u8>) -> Result<(
 
 /// Appends `numbers`, with `sign` between each two.
 pub(crate) fn write_numbers(sign: u8, numbers: &[u32], out: &mut Vec<u8>) -> Result<(), Refusal>
-    ensures ok { OnOk result (out.new.items ≡ out.old.items ++ numbers_joined (sign ∷ []) numbers.now) }
+    ensures ok { OnOk result
+        (out.new.items ≡ out.old.items ++ numbers_joined (sign ∷ []) numbers.now) }
     ensures memory { IsOkUnless result Refusal.Memory }
 {
     if let [first, others @ ..] = numbers {
@@ -89,7 +91,8 @@ pub(crate) fn write_marks(marks: &[u32], out: &mut Vec<u8>) -> Result<(), Refusa
 
 /// Appends a label in brackets and a space, if there is one.
 pub(crate) fn write_label_part(label: Option<&Label>, out: &mut Vec<u8>) -> Result<(), Refusal>
-    ensures ok { OnOk result (out.new.items ≡ out.old.items ++ label_part (option_copied label.entry)) }
+    ensures ok { OnOk result
+        (out.new.items ≡ out.old.items ++ label_part (option_copied label.entry)) }
     ensures memory { IsOkUnless result Refusal.Memory }
 {
     if let Some(label) = label {

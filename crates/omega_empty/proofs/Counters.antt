@@ -3,13 +3,13 @@
 use Rattle.std.proofs.Common.{◌≡◌, ◌≢◌, ◌↔◌, ℕ, ◌+◌, ◌%◌, ◌<◌, ◌≤◌, ◌⊎◌, inl, inr, true, false, eqb, List, [], ◌∷◌, length, map, All, sym, ap, refl, ◌∙◌, arith}
 use Rattle.std.specs.Prelude.{IsTrue}
 use Rattle.std.proofs.lemmas.Bool.{cases_Bool, cases_lt, cases_eq, both_ways, eq-eqb, ne_eqb, or_parts, true_from_ne_false}
-use Rattle.omega_parity_kind.specs.Priority.{greatest_number, priority_of}
-use Rattle.omega_parity_kind.specs.declared.kind.ParityKind.{ParityKind}
-use Rattle.omega_formula.specs.Acceptance.{AccTree, accepts, holds, occurs}
-use Rattle.omega_formula.specs.Kind.{buchi_formula, parity_formula}
-use Rattle.omega_formula.specs.KindLaws.{BuchiIsEverySet, ParityIsPriority}
-use Rattle.omega_formula.specs.declared.kind.AccKind.{AccKind}
-use Rattle.omega_formula.specs.declared.kind.AccKind.TheVariants.{Parity, GenBuchi}
+use Rattle.omega_hoa_parity_kind.specs.Priority.{greatest_number, priority_of}
+use Rattle.omega_hoa_parity_kind.specs.declared.kind.ParityKind.{ParityKind}
+use Rattle.omega_hoa_acceptance.specs.Acceptance.{AccTree, accepts, holds, occurs}
+use Rattle.omega_hoa_acceptance.specs.Kind.{buchi_formula, parity_formula}
+use Rattle.omega_hoa_acceptance.specs.KindLaws.{BuchiIsEverySet, ParityIsPriority}
+use Rattle.omega_hoa_acceptance.specs.declared.kind.AccKind.{AccKind}
+use Rattle.omega_hoa_acceptance.specs.declared.kind.AccKind.TheVariants.{Parity, GenBuchi}
 use Rattle.omega_empty.specs.Counters.{counter_after, counters, priority_at_counter}
 
 -- the counter after marks, one after the other

@@ -1,10 +1,10 @@
 -- Counters, which degeneralize generalized Büchi acceptance: the set that is waited for, and the priorities of marks
 -- meanwhile.
 use Rattle.std.specs.Prelude.{ℕ, ◌+◌, ◌==◌, ◌&&◌, if◌then◌else◌, List}
-use Rattle.omega_parity_kind.specs.Priority.{priority_of}
-use Rattle.omega_formula.specs.Acceptance.{holds}
-use Rattle.omega_formula.specs.declared.kind.AccKind.{AccKind}
-use Rattle.omega_formula.specs.declared.kind.AccKind.TheVariants.{Parity, GenBuchi}
+use Rattle.omega_hoa_parity_kind.specs.Priority.{priority_of}
+use Rattle.omega_hoa_acceptance.specs.Acceptance.{holds}
+use Rattle.omega_hoa_acceptance.specs.declared.kind.AccKind.{AccKind}
+use Rattle.omega_hoa_acceptance.specs.declared.kind.AccKind.TheVariants.{Parity, GenBuchi}
 
 -- the number of counters of a kind: one for each set of a generalized Büchi kind, else one alone
 abbrev pub counters : AccKind → ℕ
@@ -20,4 +20,5 @@ counter_after (GenBuchi sets) counter marks =
 -- the priority of marks at a counter: for a generalized Büchi kind 2 if the last counter's set is held, else 1
 abbrev pub priority_at_counter : AccKind → ℕ → List ℕ → ℕ
 priority_at_counter (Parity kind) counter marks = priority_of kind marks
-priority_at_counter (GenBuchi sets) counter marks = if holds counter marks && (counter + 1 == sets) then 2 else 1
+priority_at_counter (GenBuchi sets) counter marks =
+    if holds counter marks && (counter + 1 == sets) then 2 else 1

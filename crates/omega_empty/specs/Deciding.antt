@@ -4,11 +4,11 @@ use Rattle.omega_text.specs.Cases.{never, or_game, or_memory, or_task}
 use Rattle.omega_text.specs.declared.refusal.Refusal.{Refusal}
 use Rattle.omega_text.specs.declared.refusal.game.GameFault.TheVariants.{TooManyNodes}
 use Rattle.omega_text.specs.declared.refusal.task.TaskFault.{TaskFault}
-use Rattle.omega_automaton.specs.Automaton.{Description}
-use Rattle.omega_parity_game.specs.Game.{Node, priorities}
-use Rattle.omega_parity_game.specs.declared.player.Player.TheVariants.{Zero}
+use Rattle.omega_hoa_automaton.specs.Automaton.{Description}
+use Rattle.omega_game_values.specs.Game.{Node, priorities}
+use Rattle.omega_game_values.specs.declared.player.Player.TheVariants.{Zero}
 use Rattle.omega_measure.specs.Table.{is_too_wide}
-use Rattle.omega_budget.specs.Within.{EndsWithin, IsSolvingFault}
+use Rattle.omega_solve.specs.budget.Within.{EndsWithin, IsSolvingFault}
 use Rattle.omega_empty.specs.EmptinessGame.{IsEmptinessGame}
 use Rattle.omega_empty.specs.Refusing.{IsGiven, IsTaskFault, IsTooLarge}
 

@@ -1,18 +1,19 @@
 -- The emptiness game of an automaton, which player 0 owns, and wins exactly if the automaton has an accepting lasso
 -- (docs/formats.md, emptiness game).
-use Rattle.std.specs.Prelude.{◌≡◌, ℕ, ◌+◌, ◌*◌, ◌==◌, ◌&&◌, Bool, false, if◌then◌else◌, List, [], ◌∷◌, ◌++◌, map, None, slice_index_or}
+use Rattle.std.specs.Prelude.{◌≡◌, ℕ, ◌+◌, ◌*◌, ◌==◌, ◌&&◌, Bool, false, if◌then◌else◌}
+use Rattle.std.specs.Prelude.{List, [], ◌∷◌, ◌++◌, map, None, slice_index_or}
 use Rattle.std.specs.List.{flat_map, range_with_len}
-use Rattle.omega_formula.specs.declared.kind.AccKind.{AccKind}
-use Rattle.omega_automaton.specs.AcceptanceKind.{HasKind}
-use Rattle.omega_automaton.specs.Automaton.{BodyEdge, Description, edge_count, edges_of}
-use Rattle.omega_automaton.specs.Branching.{has_universal_branching}
-use Rattle.omega_parity_game.specs.Building.{IsGameOf}
-use Rattle.omega_parity_game.specs.Game.{Node}
-use Rattle.omega_parity_game.specs.declared.node_spec.NodeSpec.{NodeSpec}
-use Rattle.omega_parity_game.specs.declared.player.Player.TheVariants.{Zero}
+use Rattle.omega_hoa_acceptance.specs.declared.kind.AccKind.{AccKind}
+use Rattle.omega_hoa_automaton.specs.AcceptanceKind.{HasKind}
+use Rattle.omega_hoa_automaton.specs.Automaton.{BodyEdge, Description, edge_count, edges_of}
+use Rattle.omega_hoa_automaton.specs.Branching.{has_universal_branching}
+use Rattle.omega_game_values.specs.Building.{IsGameOf}
+use Rattle.omega_game_values.specs.Game.{Node}
+use Rattle.omega_game_values.specs.declared.node_spec.NodeSpec.{NodeSpec}
+use Rattle.omega_game_values.specs.declared.player.Player.TheVariants.{Zero}
 use Rattle.omega_empty.specs.Counters.{counter_after, counters, priority_at_counter}
-use Rattle.omega_runs.specs.Judging.{AreUsable}
-use Rattle.omega_runs.specs.Lasso.{marks_of}
+use Rattle.omega_lang_runs.specs.Judging.{AreUsable}
+use Rattle.omega_lang_runs.specs.Lasso.{marks_of}
 
 -- the number of identifiers of a counter: one for each state, and then one for each edge
 abbrev pub span : Description → ℕ
@@ -38,8 +39,8 @@ is_usable usable number = slice_index_or usable number false
 abbrev pub leaving : List Bool → ℕ → ℕ → List BodyEdge → List ℕ
 leaving usable state number [] = []
 leaving usable state number (edge ∷ edges) =
-    if (edge.source.number == state) && is_usable usable number then number ∷ leaving usable state (number + 1) edges
-    else leaving usable state (number + 1) edges
+    if (edge.source.number == state) && is_usable usable number then number
+    ∷ leaving usable state (number + 1) edges else leaving usable state (number + 1) edges
 
 -- the list, or the sink alone if the list is empty
 abbrev pub or_sink : ℕ → List ℕ → List ℕ
@@ -83,7 +84,8 @@ sink_node kind a = plain_node (sink_id kind a) 1 (sink_id kind a ∷ [])
 
 -- all nodes in rising order of identifiers: those of the counters, and the sink
 abbrev pub table : AccKind → Description → List Bool → List NodeSpec
-table kind a usable = flat_map (nodes_at kind a usable) (range_with_len 0 (counters kind)) ++ sink_node kind a ∷ []
+table kind a usable =
+    flat_map (nodes_at kind a usable) (range_with_len 0 (counters kind)) ++ sink_node kind a ∷ []
 
 -- the game is the emptiness game of an automaton without universal branching, for its kind and with its usable edges
 pub record IsEmptinessGame (a : Description) (game : List Node) : Type 0 where

@@ -5,15 +5,19 @@ use Rattle.omega_text.specs.Cases.{never, or_game, or_memory, or_task}
 use Rattle.omega_text.specs.declared.refusal.Refusal.{Refusal}
 use Rattle.omega_text.specs.declared.refusal.game.GameFault.TheVariants.{TooManyNodes}
 use Rattle.omega_text.specs.declared.refusal.task.TaskFault.{TaskFault}
-use Rattle.omega_text.specs.declared.refusal.task.TaskFault.TheVariants.{BadSolution, Budget, Controllable, NotDeterministic, NotParity, TooLarge, TooManyPropositions, TooWide, UniversalBranch, UnknownNode}
-use Rattle.omega_formula.specs.declared.kind.AccKind.{AccKind}
-use Rattle.omega_automaton.specs.Automaton.{Description}
-use Rattle.omega_parity_game.specs.Limits.{most_nodes}
+use Rattle.omega_text.specs.declared.refusal.task.TaskFault.TheVariants.{BadSolution, Budget, Controllable}
+use Rattle.omega_text.specs.declared.refusal.task.TaskFault.TheVariants.{NotDeterministic, NotParity}
+use Rattle.omega_text.specs.declared.refusal.task.TaskFault.TheVariants.{TooLarge, TooManyPropositions}
+use Rattle.omega_text.specs.declared.refusal.task.TaskFault.TheVariants.{TooWide, UniversalBranch}
+use Rattle.omega_text.specs.declared.refusal.task.TaskFault.TheVariants.{UnknownNode}
+use Rattle.omega_hoa_acceptance.specs.declared.kind.AccKind.{AccKind}
+use Rattle.omega_hoa_automaton.specs.Automaton.{Description}
+use Rattle.omega_game_values.specs.Limits.{most_nodes}
 use Rattle.omega_empty.specs.Counters.{counters}
-use Rattle.omega_automaton.specs.AcceptanceKind.{HasKind}
-use Rattle.omega_automaton.specs.Branching.{has_universal_branching}
+use Rattle.omega_hoa_automaton.specs.AcceptanceKind.{HasKind}
+use Rattle.omega_hoa_automaton.specs.Branching.{has_universal_branching}
 use Rattle.omega_empty.specs.EmptinessGame.{span}
-use Rattle.omega_runs.specs.Judging.{HasNarrowLabels, HasWideLabel}
+use Rattle.omega_lang_runs.specs.Judging.{HasNarrowLabels, HasWideLabel}
 
 -- the automaton has no acceptance kind whose emptiness is decided
 abbrev pub IsUndecided : Description → Type 0
@@ -25,7 +29,8 @@ IsDecided a = (kind : AccKind) × HasKind a kind
 
 -- the number of counters that an automaton needs: that of its kind, or one if it has no kind
 abbrev pub NeedsCounters : Description → ℕ → Type 0
-NeedsCounters a count = ((kind : AccKind) × HasKind a kind × (count ≡ counters kind)) ⊎ (IsUndecided a × (count ≡ 1))
+NeedsCounters a count = ((kind : AccKind) × HasKind a kind × (count ≡ counters kind))
+    ⊎ (IsUndecided a × (count ≡ 1))
 
 -- `TooManyNodes`: the identifiers, the sink's with them, are more than a game may have nodes
 abbrev pub IsTooLarge : Description → Type 0
@@ -46,7 +51,8 @@ pub record IsGiven (a : Description) : Type 0 where
 abbrev pub IsTaskFault : Description → TaskFault → Type 0
 IsTaskFault a NotParity = IsSmallEnough a × IsUndecided a
 IsTaskFault a UniversalBranch = IsSmallEnough a × IsDecided a × (has_universal_branching a ≡ true)
-IsTaskFault a TooManyPropositions = IsSmallEnough a × IsDecided a × (has_universal_branching a ≡ false) × HasWideLabel a
+IsTaskFault a TooManyPropositions =
+    IsSmallEnough a × IsDecided a × (has_universal_branching a ≡ false) × HasWideLabel a
 IsTaskFault a TooWide = ⊥
 IsTaskFault a Budget = ⊥
 IsTaskFault a BadSolution = ⊥
@@ -57,4 +63,5 @@ IsTaskFault a (NotDeterministic state) = ⊥
 
 -- the refusal of the emptiness game
 abbrev pub IsGameRefusal : Description → Refusal → Type 0
-IsGameRefusal a = or_game (λ fault. (fault ≡ TooManyNodes) × IsTooLarge a) (or_task (IsTaskFault a) (or_memory never))
+IsGameRefusal a = or_game (λ fault. (fault ≡ TooManyNodes) × IsTooLarge a)
+    (or_task (IsTaskFault a) (or_memory never))

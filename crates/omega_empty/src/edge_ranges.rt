@@ -1,9 +1,9 @@
 ghost use Rattle.std.specs.Prelude.{◌≡◌, ◌<◌, ◌≤◌, ◌^◌, IfOk, IsOkUnless};
-ghost use Rattle.omega_automaton.specs.Automaton.{edge_count};
-ghost use Rattle.omega_parity_game.specs.Limits.{most_nodes};
+ghost use Rattle.omega_hoa_automaton.specs.Automaton.{edge_count};
+ghost use Rattle.omega_game_values.specs.Limits.{most_nodes};
 ghost use Rattle.omega_empty.specs.private.layout.Ranges.{AreRanges};
 
-use omega_automaton::{Automaton, Refusal};
+use omega_hoa_automaton::{Automaton, Refusal};
 use std::alloc::Global;
 
 /// Numbers of edges, from `first` up to `end`, which is excluded.

@@ -1,13 +1,13 @@
 ghost use Rattle.std.specs.Prelude.{IfOk, IsOkUnless};
-ghost use Rattle.omega_parity_game.specs.declared.player.Player.TheVariants.{Zero};
+ghost use Rattle.omega_game_values.specs.declared.player.Player.TheVariants.{Zero};
 ghost use Rattle.omega_solve.specs.Headline.{IsExact};
 ghost use Rattle.omega_empty.specs.EmptinessGame.{IsEmptinessGame};
 ghost use Rattle.omega_empty.specs.private.layout.Following.{IsLooped, IsWonStart};
 
 use crate::game_laws::won_walks_accept;
-use omega_automaton::{Automaton, Refusal};
-use omega_budget::Found;
-use omega_parity_game::ForwardGame;
+use omega_game_values::ForwardGame;
+use omega_hoa_automaton::{Automaton, Refusal};
+use omega_solve::budget::Found;
 use std::alloc::Global;
 
 /// A walk along edges whose last edge closes its cycle.

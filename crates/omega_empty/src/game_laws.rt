@@ -2,8 +2,8 @@
 
 ghost use Rattle.omega_empty.specs.GameLaws.{UnwonIsEmpty, WonStartsAccept, WonWalksAccept};
 
-use omega_formula::{buchi_is_every_set, parity_is_priority};
-use omega_region_laws::regions_cover;
+use omega_game_region_laws::regions_cover;
+use omega_hoa_acceptance::{buchi_is_every_set, parity_is_priority};
 
 /// States that two walks of the game pass the edges of an accepting lasso, which begins at a start. The first leads
 /// from the start's node, at the first counter, to a node that is no edge's. The second is closed, begins there, and

@@ -1,10 +1,10 @@
 ghost use Rattle.std.specs.Prelude.{◌≡◌, ◌+◌, ◌*◌, ◌++◌, ◌≤◌, false, [], IfErr, IfOk, IsOkUnless, OnOk};
-ghost use Rattle.omega_expression.specs.Limits.{most_buchi_sets};
-ghost use Rattle.omega_parity_game.specs.Building.{IsGameOf};
-ghost use Rattle.omega_parity_game.specs.Limits.{most_nodes};
+ghost use Rattle.omega_hoa_expression.specs.Limits.{most_buchi_sets};
+ghost use Rattle.omega_game_values.specs.Building.{IsGameOf};
+ghost use Rattle.omega_game_values.specs.Limits.{most_nodes};
 ghost use Rattle.omega_empty.specs.Counters.{counters};
-ghost use Rattle.omega_automaton.specs.AcceptanceKind.{HasKind};
-ghost use Rattle.omega_automaton.specs.Branching.{has_universal_branching};
+ghost use Rattle.omega_hoa_automaton.specs.AcceptanceKind.{HasKind};
+ghost use Rattle.omega_hoa_automaton.specs.Branching.{has_universal_branching};
 ghost use Rattle.omega_empty.specs.EmptinessGame.{IsEmptinessGame, span};
 ghost use Rattle.omega_empty.specs.Refusing.{IsGameRefusal, IsGiven, IsUndecided};
 ghost use Rattle.omega_empty.specs.private.layout.Nodes.{game_nodes};
@@ -14,9 +14,9 @@ use crate::judged::Judged;
 use crate::kinds::{counters_of, fits, kind_of};
 use crate::nodes::add_counter;
 use crate::usable::usable_edges;
-use omega_automaton::{Automaton, Refusal, has_universal_branching};
-use omega_formula::AccKind;
-use omega_parity_game::{ForwardGame, GameBuilder, Player};
+use omega_game_values::{ForwardGame, GameBuilder, Player};
+use omega_hoa_acceptance::AccKind;
+use omega_hoa_automaton::{Automaton, Refusal, has_universal_branching};
 use omega_text::{GameFault, TaskFault};
 use std::alloc::Global;
 
@@ -33,7 +33,7 @@ pub fn emptiness_game(alloc: Global, automaton: &Automaton) -> Result<ForwardGam
     ensures refused { IfErr result (IsGameRefusal automaton.now) }
 {
     let Some(kind) = kind_of(automaton) else {
-        return Err(undecided(automaton));
+        return Err(undecided_refusal(automaton));
     };
     let room = fits(automaton, counters_of(kind));
     if !room {
@@ -44,7 +44,7 @@ pub fn emptiness_game(alloc: Global, automaton: &Automaton) -> Result<ForwardGam
 
 /// Returns the refusal of `automaton`, which has no acceptance kind: [GameFault::TooManyNodes], or else
 /// [TaskFault::NotParity].
-fn undecided(automaton: &Automaton) -> Refusal
+fn undecided_refusal(automaton: &Automaton) -> Refusal
     requires { IsUndecided automaton.now }
     ensures { IsGameRefusal automaton.now result }
 {
@@ -76,12 +76,12 @@ fn game_of(alloc: Global, automaton: &Automaton, kind: AccKind) -> Result<Forwar
         usable,
         ranges,
     };
-    let game = built(alloc, &judged)?;
+    let game = emptiness_game_of(alloc, &judged)?;
     Ok(game)
 }
 
 /// Builds the game: the nodes of each counter, and then the sink.
-fn built(alloc: Global, judged: &Judged<'_>) -> Result<ForwardGame, Refusal>
+fn emptiness_game_of(alloc: Global, judged: &Judged<'_>) -> Result<ForwardGame, Refusal>
     ensures game { IfOk result (IsGameOf (game_nodes judged.now)) }
     ensures memory { IsOkUnless result Refusal.Memory }
 {

@@ -1,14 +1,14 @@
 ghost use Rattle.std.specs.Prelude.{◌≡◌, ◌++◌, ◌<◌, ◌≤◌};
 ghost use Rattle.omega_text.specs.Limits.{most_number};
-ghost use Rattle.omega_automaton.specs.Automaton.{edge_count, edges_of};
+ghost use Rattle.omega_hoa_automaton.specs.Automaton.{edge_count, edges_of};
 ghost use Rattle.omega_empty.specs.Counters.{counter_after, counters, priority_at_counter};
 ghost use Rattle.omega_empty.specs.EmptinessGame.{is_usable, sink_id, span};
 
 use crate::edge_ranges::EdgeRange;
 use crate::kinds::counters_of;
 use crate::marks::{counter_after, edge_priority};
-use omega_automaton::{Automaton, EdgeRef, State};
-use omega_formula::AccKind;
+use omega_hoa_acceptance::AccKind;
+use omega_hoa_automaton::{Automaton, EdgeRef, State};
 use std::marker::Model;
 
 /// An automaton and what was judged of it. The nodes of its game are made from this.
@@ -24,7 +24,7 @@ pub(crate) struct Judged<'a> {
 
 impl<'a> Model for Judged<'a> {
     ghost use Rattle.std.specs.Coded.{codes};
-    ghost use Rattle.omega_automaton.specs.contracts.automaton.Automaton as description;
+    ghost use Rattle.omega_hoa_automaton.specs.contracts.automaton.Automaton as description;
     ghost use Rattle.omega_empty.specs.private.layout.Ready.{IsReady, JudgedAutomaton, judged_automaton};
 
     ghost Value = { JudgedAutomaton };
@@ -33,7 +33,8 @@ impl<'a> Model for Judged<'a> {
 
     ghost view = { λ j. judged_automaton j.automaton.now j.kind j.usable.items j.ranges.items };
 
-    ghost invariant = { λ j. IsReady (judged_automaton j.automaton.now j.kind j.usable.items j.ranges.items) };
+    ghost invariant = { λ j.
+        IsReady (judged_automaton j.automaton.now j.kind j.usable.items j.ranges.items) };
 }
 
 impl<'a> Judged<'a> {
@@ -64,7 +65,7 @@ impl<'a> Judged<'a> {
     }
 
     /// Returns which edges are usable, by number.
-    pub(crate) fn usable(&self) -> &[bool]
+    pub(crate) fn usable_flags(&self) -> &[bool]
         ensures { result.now ≡ self.now.usable }
     {
         self.usable.as_slice()
@@ -113,7 +114,8 @@ impl<'a> Judged<'a> {
         requires counter { counter < counters self.now.kind }
         requires own { AreMarksBelow self.now.kind state.now.marks }
         requires marks { AreMarksBelow self.now.kind edge.now.marks }
-        ensures value { result ≡ priority_at_counter self.now.kind counter (state.now.marks ++ edge.now.marks) }
+        ensures value { result
+            ≡ priority_at_counter self.now.kind counter (state.now.marks ++ edge.now.marks) }
         ensures writable { result ≤ most_number }
     {
         edge_priority(self.kind, counter, state, edge)
@@ -122,7 +124,8 @@ impl<'a> Judged<'a> {
     /// Returns the counter after `edge`, which leaves `state`, at `counter`.
     pub(crate) fn counter_after(&self, counter: u32, state: &State, edge: &EdgeRef<'_>) -> u32
         requires { counter < counters self.now.kind }
-        ensures value { result ≡ counter_after self.now.kind counter (state.now.marks ++ edge.now.marks) }
+        ensures value { result
+            ≡ counter_after self.now.kind counter (state.now.marks ++ edge.now.marks) }
         ensures below { result < counters self.now.kind }
     {
         counter_after(self.kind, counter, state, edge)

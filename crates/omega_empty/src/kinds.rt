@@ -1,14 +1,14 @@
 ghost use Rattle.std.specs.Prelude.{◌≡◌, ◌≤◌, ◌<◌, ◌*◌, ◌+◌, ◌↔◌, IsTrue, MatchOption, IfSome};
-ghost use Rattle.omega_expression.specs.Limits.{most_buchi_sets};
-ghost use Rattle.omega_parity_game.specs.Limits.{most_nodes};
+ghost use Rattle.omega_hoa_expression.specs.Limits.{most_buchi_sets};
+ghost use Rattle.omega_game_values.specs.Limits.{most_nodes};
 ghost use Rattle.omega_empty.specs.Counters.{counters};
-ghost use Rattle.omega_automaton.specs.AcceptanceKind.{HasKind};
+ghost use Rattle.omega_hoa_automaton.specs.AcceptanceKind.{HasKind};
 ghost use Rattle.omega_empty.specs.EmptinessGame.{span};
 ghost use Rattle.omega_empty.specs.Refusing.{IsUndecided, NeedsCounters};
 
-use omega_automaton::Automaton;
-use omega_formula::{AccKind, acceptance_kind};
-use omega_parity_game::MOST_NODES;
+use omega_game_values::MOST_NODES;
+use omega_hoa_acceptance::{AccKind, acceptance_kind};
+use omega_hoa_automaton::Automaton;
 
 /// Returns the acceptance kind of `automaton`, or none if its emptiness is not decided. Takes no memory.
 pub(crate) fn kind_of(automaton: &Automaton) -> Option<AccKind>

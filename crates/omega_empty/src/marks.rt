@@ -1,13 +1,13 @@
 ghost use Rattle.std.specs.Prelude.{◌≡◌, ◌++◌, ◌<◌, ◌≤◌, All};
-ghost use Rattle.omega_parity_kind.specs.Priority.{priority_of};
-ghost use Rattle.omega_formula.specs.Acceptance.{holds};
-ghost use Rattle.omega_expression.specs.Limits.{most_depth};
+ghost use Rattle.omega_hoa_parity_kind.specs.Priority.{priority_of};
+ghost use Rattle.omega_hoa_acceptance.specs.Acceptance.{holds};
+ghost use Rattle.omega_hoa_expression.specs.Limits.{most_depth};
 ghost use Rattle.omega_text.specs.Limits.{most_number};
 ghost use Rattle.omega_empty.specs.Counters.{counter_after, counters, priority_at_counter};
 ghost use Rattle.omega_empty.specs.private.layout.Marks.{AreMarksBelow, IsSmall};
 
-use omega_automaton::{EdgeRef, State};
-use omega_formula::{AccKind, ParityKind, priority};
+use omega_hoa_acceptance::{AccKind, ParityKind, priority};
+use omega_hoa_automaton::{EdgeRef, State};
 
 /// Returns the priority of `edge`, which leaves `state`, at `counter`.
 pub(crate) fn edge_priority(kind: AccKind, counter: u32, state: &State, edge: &EdgeRef<'_>) -> u32

@@ -1,18 +1,20 @@
-ghost use Rattle.std.specs.Prelude.{◌≡◌, ◌+◌, ◌++◌, ◌<◌, ◌≤◌, ◌↔◌, [], ◌∷◌, IfOk, IsOkUnless, IsTrue, OnOk, length, map, slice_index};
+ghost use Rattle.std.specs.Prelude.{◌≡◌, ◌+◌, ◌++◌, ◌<◌, ◌≤◌, ◌↔◌, [], ◌∷◌, IfOk};
+ghost use Rattle.std.specs.Prelude.{IsOkUnless, IsTrue, OnOk, length, map, slice_index};
 ghost use Rattle.std.specs.Bool.{OnTrue};
 ghost use Rattle.omega_text.specs.Limits.{most_number};
-ghost use Rattle.omega_automaton.specs.Automaton.{edge_count, edges_from};
+ghost use Rattle.omega_hoa_automaton.specs.Automaton.{edge_count, edges_from};
 ghost use Rattle.omega_empty.specs.Counters.{counter_after, counters};
 ghost use Rattle.omega_empty.specs.EmptinessGame.{edge_id, is_usable, state_id};
-ghost use Rattle.omega_empty.specs.private.layout.Nodes.{all_edges_at, begun, body_edge, counter_nodes, edge_at, edges_at, linked, state_at, states_at};
+ghost use Rattle.omega_empty.specs.private.layout.Nodes.{all_edges_at, begun, body_edge, counter_nodes};
+ghost use Rattle.omega_empty.specs.private.layout.Nodes.{edge_at, edges_at, linked, state_at, states_at};
 ghost use Rattle.omega_empty.specs.private.layout.Ranges.{usable_in};
 ghost use Rattle.omega_empty.specs.private.layout.Marks.{AreMarksBelow};
 ghost use Rattle.omega_empty.specs.private.layout.Ready.{IsPlainEdge, IsPlainState};
 
 use crate::edge_ranges::EdgeRange;
 use crate::judged::Judged;
-use omega_automaton::{EdgeRef, Refusal, State};
-use omega_parity_game::{GameBuilder, Player};
+use omega_game_values::{GameBuilder, Player};
+use omega_hoa_automaton::{EdgeRef, Refusal, State};
 
 /// Adds the nodes of `counter`.
 pub(crate) fn add_counter(
@@ -57,7 +59,7 @@ fn add_state(
     let id = base + state;
     let first = base + judged.states();
     let range = judged.range(state);
-    let some = add_linked(builder, id, first, judged.usable(), range)?;
+    let some = add_linked(builder, id, first, judged.usable_flags(), range)?;
     if some {
         return Ok(());
     }
@@ -79,8 +81,8 @@ fn add_linked(
     requires ordered { range.first ≤ range.end }
     requires within { range.end ≤ length usable.now }
     requires last { first + length usable.now ≤ most_number }
-    ensures ok { OnOk result
-        (builder.new ≡ builder.old ++ begun id (map (λ number. first + number) (usable_in usable.now range))) }
+    ensures ok { OnOk result (builder.new
+        ≡ builder.old ++ begun id (map (λ number. first + number) (usable_in usable.now range))) }
     ensures some { IfOk result (λ some. IsTrue some ↔ (0 < length (usable_in usable.now range))) }
     ensures memory { IsOkUnless result Refusal.Memory }
 {
@@ -145,7 +147,8 @@ fn add_edges_of(
     requires counter { counter < counters judged.now.kind }
     requires plain { IsPlainState judged.now.automaton judged.now.kind state.now }
     requires within { number + length state.now.edges ≤ edge_count judged.now.automaton }
-    ensures ok { OnOk result (builder.new ≡ builder.old ++ edges_at judged.now counter number (edges_from state.now)) }
+    ensures ok { OnOk result
+        (builder.new ≡ builder.old ++ edges_at judged.now counter number (edges_from state.now)) }
     ensures memory { IsOkUnless result Refusal.Memory }
 {
     judged.keeps_ready();
@@ -171,8 +174,8 @@ fn add_if_usable(
     requires own { AreMarksBelow judged.now.kind state.now.marks }
     requires plain { IsPlainEdge judged.now.automaton judged.now.kind edge.now }
     requires number { number < edge_count judged.now.automaton }
-    ensures ok { OnOk result
-        (builder.new ≡ builder.old ++ edges_at judged.now counter number (body_edge state.now edge.now ∷ [])) }
+    ensures ok { OnOk result (builder.new
+        ≡ builder.old ++ edges_at judged.now counter number (body_edge state.now edge.now ∷ [])) }
     ensures memory { IsOkUnless result Refusal.Memory }
 {
     judged.keeps_ready();
@@ -195,8 +198,8 @@ fn add_edge(
     requires own { AreMarksBelow judged.now.kind state.now.marks }
     requires plain { IsPlainEdge judged.now.automaton judged.now.kind edge.now }
     requires number { number < edge_count judged.now.automaton }
-    ensures ok { OnOk result
-        (builder.new ≡ builder.old ++ edge_at judged.now counter number (body_edge state.now edge.now) ∷ []) }
+    ensures ok { OnOk result (builder.new
+        ≡ builder.old ++ edge_at judged.now counter number (body_edge state.now edge.now) ∷ []) }
     ensures memory { IsOkUnless result Refusal.Memory }
 {
     let id = edge_id(judged, counter, number);
@@ -221,7 +224,8 @@ fn target_id(judged: &Judged<'_>, counter: u32, state: &State, edge: &EdgeRef<'_
     requires counter { counter < counters judged.now.kind }
     requires plain { IsPlainEdge judged.now.automaton judged.now.kind edge.now }
     ensures id { result ≡ state_id judged.now.automaton
-        (counter_after judged.now.kind counter (state.now.marks ++ edge.now.marks)) (slice_index edge.now.targets 0) }
+        (counter_after judged.now.kind counter (state.now.marks ++ edge.now.marks))
+        (slice_index edge.now.targets 0) }
     ensures writable { result ≤ most_number }
 {
     judged.keeps_ready();

@@ -1,8 +1,9 @@
 ghost use Rattle.std.specs.Prelude.{◌≡◌, ℕ, MatchOption, [], ◌∷◌, length};
-ghost use Rattle.omega_empty.specs.private.layout.Following.{HasNoWonStart, IsWonAt, IsWonNowhere, IsWonStart};
+ghost use Rattle.omega_empty.specs.private.layout.Following.{HasNoWonStart, IsWonAt};
+ghost use Rattle.omega_empty.specs.private.layout.Following.{IsWonNowhere, IsWonStart};
 
-use omega_automaton::Automaton;
-use omega_parity_game::ForwardGame;
+use omega_game_values::ForwardGame;
+use omega_hoa_automaton::Automaton;
 use omega_text::Numbers;
 
 /// Returns the place of the node of the first start, at the first counter, that is among the places `won`.
@@ -35,7 +36,8 @@ fn won_single(game: &ForwardGame, won: &[bool], start: &Numbers) -> Option<u32>
 /// Returns the place of the node with `identifier` if it is among the places `won`.
 fn won_place(game: &ForwardGame, won: &[bool], identifier: u32) -> Option<u32>
     requires { length won.now ≡ length game.now }
-    ensures { MatchOption result (IsWonNowhere game.now won.now identifier) (IsWonAt game.now won.now identifier) }
+    ensures { MatchOption result (IsWonNowhere game.now won.now identifier)
+        (IsWonAt game.now won.now identifier) }
 {
     game.keeps_limits();
     match game.place_of(identifier) {

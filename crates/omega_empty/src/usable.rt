@@ -1,14 +1,15 @@
 ghost use Rattle.std.specs.Prelude.{◌≡◌, ◌↔◌, IfErr, IfOk, IfSome, IsTrue, OnOk, length};
 ghost use Rattle.std.specs.Option.{option_copied};
-ghost use Rattle.omega_satisfying.specs.Satisfiable.{IsSatisfiable};
-ghost use Rattle.omega_runs.specs.Judging.{AreUsable, HasNarrow, HasNarrowLabels, HasWide, HasWideLabel, IsNarrow, IsWide};
-ghost use Rattle.omega_runs.specs.Lasso.{IsUsable};
+ghost use Rattle.omega_hoa_satisfiable.specs.Satisfiable.{IsSatisfiable};
+ghost use Rattle.omega_lang_runs.specs.Judging.{AreUsable, HasNarrow, HasNarrowLabels};
+ghost use Rattle.omega_lang_runs.specs.Judging.{HasWide, HasWideLabel, IsNarrow, IsWide};
+ghost use Rattle.omega_lang_runs.specs.Lasso.{IsUsable};
 ghost use Rattle.omega_empty.specs.private.layout.Judging.{AppendsJudged, IsWideFault, IsWideRefusal};
 ghost use Rattle.omega_empty.specs.private.layout.Nodes.{body_edge};
 
-use omega_automaton::{Automaton, EdgeRef, Refusal, State};
-use omega_label::Label;
-use omega_satisfying::satisfiable;
+use omega_hoa_automaton::{Automaton, EdgeRef, Refusal, State};
+use omega_hoa_label::Label;
+use omega_hoa_satisfiable::satisfiable;
 use std::alloc::Global;
 
 /// Returns by number which edges of `automaton` are usable. Each label is judged once. Fails with
@@ -57,7 +58,8 @@ fn is_usable(state: &State, possible: bool, edge: &EdgeRef<'_>) -> Result<bool, 
 
 /// Whether `label` can be true, as one that is absent can. Fails with [TaskFault::TooManyPropositions] alone.
 fn can_hold(label: Option<&Label>) -> Result<bool, Refusal>
-    ensures judged { IfOk result (λ possible. IsTrue possible ↔ IfSome (option_copied label.entry) IsSatisfiable) }
+    ensures judged { IfOk result
+        (λ possible. IsTrue possible ↔ IfSome (option_copied label.entry) IsSatisfiable) }
     ensures narrow { OnOk result (IsNarrow (option_copied label.entry)) }
     ensures refused { IfErr result (IsWideFault (IsWide (option_copied label.entry))) }
 {

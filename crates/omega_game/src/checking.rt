@@ -1,8 +1,8 @@
 //! Whether a strategy wins, without a solver.
 ghost use Rattle.std.specs.Prelude.{◌≡◌, ◌↔◌, ◌<◌, length, All, IfOk, IfSome, IsTrue, IsOkUnless};
-ghost use Rattle.omega_parity_game.specs.declared.player.Player.TheVariants.{One, Zero};
-ghost use Rattle.omega_parity_game.specs.Solution.{WinsAsGiven};
-ghost use Rattle.omega_parity_game.specs.Winning.{IsStrategy};
+ghost use Rattle.omega_game_values.specs.declared.player.Player.TheVariants.{One, Zero};
+ghost use Rattle.omega_game_values.specs.Solution.{WinsAsGiven};
+ghost use Rattle.omega_game_values.specs.Winning.{IsStrategy};
 ghost use Rattle.omega_game.specs.Checking.{WinsFrom};
 
 mod components;
@@ -22,7 +22,7 @@ mod union_find;
 use crate::following::followed_from;
 use deciding::{decide, decide_fast};
 use given::shows_given;
-use omega_parity_game::{ForwardGame, Player, Solution, Strategy};
+use omega_game_values::{ForwardGame, Player, Solution, Strategy};
 use omega_text::Refusal;
 use ordering::shows_none;
 use std::alloc::{AllocError, Global};
@@ -45,7 +45,8 @@ pub fn check_strategy(
 ) -> Result<bool, Refusal>
     requires places { All (λ place. place < length game.now) places.now }
     requires fits { IsStrategy game.now player strategy.now.choice }
-    ensures wins { IfOk result (λ answer. IsTrue answer ↔ WinsFrom game.now player strategy.now.choice places.now) }
+    ensures wins { IfOk result
+        (λ answer. IsTrue answer ↔ WinsFrom game.now player strategy.now.choice places.now) }
     ensures memory { IsOkUnless result Refusal.Memory }
 {
     let answer = wins_from(alloc, game, player, places, strategy.choice.as_slice())?;
@@ -85,7 +86,8 @@ pub fn check_strategy_by_order(
 ) -> Result<bool, Refusal>
     requires places { All (λ place. place < length game.now) places.now }
     requires fits { IsStrategy game.now player strategy.now.choice }
-    ensures wins { IfOk result (λ answer. IsTrue answer → WinsFrom game.now player strategy.now.choice places.now) }
+    ensures wins { IfOk result
+        (λ answer. IsTrue answer → WinsFrom game.now player strategy.now.choice places.now) }
     ensures memory { IsOkUnless result Refusal.Memory }
 {
     let shown = shows_wins(
@@ -130,7 +132,8 @@ fn wins_from(
 ) -> Result<bool, AllocError>
     requires places { All (λ place. place < length game.now) places.now }
     requires strategy { IsStrategy game.now player choices.now }
-    ensures wins { IfOk result (λ answer. IsTrue answer ↔ WinsFrom game.now player choices.now places.now) }
+    ensures wins { IfOk result
+        (λ answer. IsTrue answer ↔ WinsFrom game.now player choices.now places.now) }
 {
     game.keeps_limits();
     let marks = followed_from(alloc, game, choices, places)?;
@@ -170,7 +173,8 @@ fn shows_wins(
 ) -> Result<bool, AllocError>
     requires places { All (λ place. place < length game.now) places.now }
     requires strategy { IsStrategy game.now player choices.now }
-    ensures wins { IfOk result (λ answer. IsTrue answer → WinsFrom game.now player choices.now places.now) }
+    ensures wins { IfOk result
+        (λ answer. IsTrue answer → WinsFrom game.now player choices.now places.now) }
 {
     game.keeps_limits();
     let marks = followed_from(alloc, game, choices, places)?;

@@ -1,10 +1,11 @@
 //! The places that a strategy reaches.
 ghost use Rattle.std.specs.Prelude.{◌≡◌, ◌<◌, length, vec_len, All, IfOk, IsTrue};
-ghost use Rattle.omega_reaching.specs.Reaching.{LeadsInside};
-ghost use Rattle.omega_game.specs.private.checking.Following.{AreClosed, AreFollowed, AreMarked, LeadsToMarked};
+ghost use Rattle.omega_game_reaching.specs.Reaching.{LeadsInside};
+ghost use Rattle.omega_game.specs.private.checking.Following.{AreClosed, AreFollowed};
+ghost use Rattle.omega_game.specs.private.checking.Following.{AreMarked, LeadsToMarked};
 
-use omega_parity_game::ForwardGame;
-use omega_reaching::{edges_left, reached_from};
+use omega_game_reaching::{edges_left, reached_from};
+use omega_game_values::ForwardGame;
 use std::alloc::{AllocError, Global};
 
 /// Marks the places that are reached from the given ones. If no edge leads out of these, as out of what a strategy
@@ -21,7 +22,7 @@ pub(crate) fn followed_from(
     ensures reached { IfOk result (λ marks. AreFollowed game.now choices.now places.now marks.items) }
 {
     game.keeps_limits();
-    let marks = marked(alloc, game.len(), places)?;
+    let marks = marks_of_places(alloc, game.len(), places)?;
     if are_closed(game, choices, marks.as_slice()) {
         return Ok(marks);
     }
@@ -30,7 +31,7 @@ pub(crate) fn followed_from(
 }
 
 /// Marks the places.
-fn marked(alloc: Global, count: usize, places: &[u32]) -> Result<Vec<bool>, AllocError>
+fn marks_of_places(alloc: Global, count: usize, places: &[u32]) -> Result<Vec<bool>, AllocError>
     requires inside { All (λ place. place < count) places.now }
     ensures count { IfOk result (λ marks. vec_len marks ≡ count) }
     ensures marked { IfOk result (λ marks. AreMarked places.now marks.items) }

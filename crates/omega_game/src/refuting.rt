@@ -1,7 +1,7 @@
 //! Why a strategy does not win, without a solver.
 ghost use Rattle.std.specs.Prelude.{◌↔◌, ◌<◌, length, All, IfOk, IfSome, IsNone, IsOkUnless};
-ghost use Rattle.omega_parity_game.specs.Winning.{IsStrategy};
-ghost use Rattle.omega_reaching.specs.Reaching.{LeadsInside};
+ghost use Rattle.omega_game_values.specs.Winning.{IsStrategy};
+ghost use Rattle.omega_game_reaching.specs.Reaching.{LeadsInside};
 ghost use Rattle.omega_game.specs.Checking.{WinsFrom};
 ghost use Rattle.omega_game.specs.Counterexample.{IsCounterexample};
 ghost use Rattle.omega_game.specs.private.checking.Recurring.{Recurs};
@@ -14,8 +14,8 @@ use crate::checking::deciding::decide;
 use crate::checking::decision::Decision;
 use crate::following::followed_from;
 use crate::lasso::Lasso;
-use omega_parity_game::{ForwardGame, Player, Strategy};
-use omega_reaching::edges_left;
+use omega_game_reaching::edges_left;
+use omega_game_values::{ForwardGame, Player, Strategy};
 use omega_text::{Refusal, Seq};
 use std::alloc::{AllocError, Global};
 use ways::way_to;
@@ -37,7 +37,8 @@ pub fn counterexample(
 ) -> Result<Option<Lasso>, Refusal>
     requires places { All (λ place. place < length game.now) places.now }
     requires fits { IsStrategy game.now player strategy.now.choice }
-    ensures none { IfOk result (λ found. IsNone found ↔ WinsFrom game.now player strategy.now.choice places.now) }
+    ensures none { IfOk result
+        (λ found. IsNone found ↔ WinsFrom game.now player strategy.now.choice places.now) }
     ensures lasso { IfOk result (λ found. IfSome found
         (IsCounterexample game.now player strategy.now.choice places.now)) }
     ensures memory { IsOkUnless result Refusal.Memory }
@@ -56,8 +57,10 @@ fn lasso_against(
 ) -> Result<Option<Lasso>, AllocError>
     requires places { All (λ place. place < length game.now) places.now }
     requires strategy { IsStrategy game.now player choices.now }
-    ensures none { IfOk result (λ found. IsNone found ↔ WinsFrom game.now player choices.now places.now) }
-    ensures lasso { IfOk result (λ found. IfSome found (IsCounterexample game.now player choices.now places.now)) }
+    ensures none { IfOk result
+        (λ found. IsNone found ↔ WinsFrom game.now player choices.now places.now) }
+    ensures lasso { IfOk result
+        (λ found. IfSome found (IsCounterexample game.now player choices.now places.now)) }
 {
     game.keeps_limits();
     let marks = followed_from(alloc, game, choices, places)?;

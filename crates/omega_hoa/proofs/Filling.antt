@@ -9,10 +9,10 @@ use Rattle.omega_text.specs.declared.hoa.kind.HoaKind.TheVariants as kind
 use Rattle.omega_text.specs.hoa.Format.{hoa_format}
 use Rattle.omega_text.specs.hoa.Forms.{IsForm}
 use Rattle.omega_text.specs.hoa.Forms as forms
-use Rattle.omega_expression.specs.Symbols.{EndsThere}
-use Rattle.omega_raw.specs.Grammar.{ReadsAutomaton, automaton_symbols}
-use Rattle.omega_raw.specs.Symbols.{ReadsSymbol, Shows, ReadsSymbols, AutomatonSymbol, formula, header, label, without_last}
-use Rattle.omega_raw.specs.declared.raw_automaton.RawAutomaton.{RawAutomaton}
+use Rattle.omega_hoa_expression.specs.Symbols.{EndsThere}
+use Rattle.omega_hoa_syntax.specs.Grammar.{ReadsAutomaton, automaton_symbols}
+use Rattle.omega_hoa_syntax.specs.Symbols.{ReadsSymbol, Shows, ReadsSymbols, AutomatonSymbol, formula, header, label, without_last}
+use Rattle.omega_hoa_syntax.specs.declared.raw_automaton.RawAutomaton.{RawAutomaton}
 use Rattle.omega_hoa.specs.Laws.{FillsSegment}
 use Rattle.omega_hoa.specs.Stream.{Opens}
 use Rattle.omega_hoa.proofs.Writing.{written_ends}

@@ -12,9 +12,9 @@ use Rattle.omega_text.specs.declared.refusal.Refusal.{Refusal}
 use Rattle.omega_text.specs.declared.refusal.Refusal.TheVariants.{Automaton as AutomatonRefusal, Text}
 use Rattle.omega_text.specs.declared.refusal.text.TextFault.{TextFault}
 use Rattle.omega_text.specs.declared.refusal.text.TextFault.TheVariants.{Lex, Number, Syntax, TooLong}
-use Rattle.omega_automaton.specs.Automaton.{Description}
-use Rattle.omega_automaton.specs.Faults.{automaton_fault_of}
-use Rattle.omega_automaton.specs.Laws.{MeaningsAreThere}
+use Rattle.omega_hoa_automaton.specs.Automaton.{Description}
+use Rattle.omega_hoa_automaton.specs.Faults.{automaton_fault_of}
+use Rattle.omega_hoa_automaton.specs.Laws.{MeaningsAreThere}
 use Rattle.omega_hoa.specs.Alone.{AreRefused, IsAutomatonRefusal, IsAutomatonText}
 use Rattle.omega_hoa.specs.Segment.{IsAutomatonOf, IsSegmentFault}
 use Rattle.omega_hoa.specs.Stream.{IsOpen, IsSegment, IsStream, IsStreamFault, IsStreamRefusal, IsStreamText, NoneEnds, Opens, is_end}

@@ -15,8 +15,8 @@ use Rattle.omega_text.specs.declared.refusal.Refusal.TheVariants.{Automaton as A
 use Rattle.omega_text.specs.declared.refusal.text.TextFault.{TextFault}
 use Rattle.omega_text.specs.declared.refusal.text.TextFault.TheVariants.{Syntax}
 use Rattle.omega_hoa.specs.Alone.{AreRefused, HasNoSegmentAt, IsAutomatonRefusal, IsAutomatonText, IsInGrammar}
-use Rattle.omega_raw.specs.declared.raw_automaton.RawAutomaton.{RawAutomaton}
-use Rattle.omega_automaton.specs.Automaton.{Description}
+use Rattle.omega_hoa_syntax.specs.declared.raw_automaton.RawAutomaton.{RawAutomaton}
+use Rattle.omega_hoa_automaton.specs.Automaton.{Description}
 use Rattle.omega_hoa.specs.Segment.{IsAutomatonOf, IsRawOf, IsSegmentFault, IsFirstUnwritten}
 use Rattle.omega_hoa.specs.private.Places.{IsPartUnread, counted_from}
 use Rattle.omega_hoa.proofs.Places.{unread_here}

@@ -13,12 +13,12 @@ use Rattle.omega_text.specs.declared.hoa.kind.HoaKind.TheVariants as kind
 use Rattle.omega_text.specs.declared.refusal.Refusal.{Refusal}
 use Rattle.omega_text.specs.declared.refusal.Refusal.TheVariants.{Automaton as AutomatonRefusal, Memory, Text}
 use Rattle.omega_text.specs.declared.refusal.text.TextFault.TheVariants.{Syntax}
-use Rattle.omega_expression.proofs.ClosingLemmas.{plain}
-use Rattle.omega_expression.proofs.UnreadLemmas.{first_is_one}
-use Rattle.omega_expression.specs.Unread.{AgreeThroughNext, IsFirstUnread}
-use Rattle.omega_raw.proofs.BegunLemmas.{headed, header_first, sign_first, word_first}
-use Rattle.omega_raw.specs.Grammar.{BeginsAutomaton, ReadsNoAutomaton}
-use Rattle.omega_raw.specs.Symbols.{sign, word}
+use Rattle.omega_hoa_expression.proofs.ClosingLemmas.{plain}
+use Rattle.omega_hoa_expression.proofs.UnreadLemmas.{first_is_one}
+use Rattle.omega_hoa_expression.specs.Unread.{AgreeThroughNext, IsFirstUnread}
+use Rattle.omega_hoa_syntax.proofs.BegunLemmas.{headed, header_first, sign_first, word_first}
+use Rattle.omega_hoa_syntax.specs.Grammar.{BeginsAutomaton, ReadsNoAutomaton}
+use Rattle.omega_hoa_syntax.specs.Symbols.{sign, word}
 use Rattle.omega_hoa.specs.Segment.{IsNoRaw, IsRawOf, IsSegmentFault, IsFirstUnwritten}
 use Rattle.omega_hoa.specs.Stream.{IsSegment, is_end}
 use Rattle.omega_hoa.specs.private.Places.{IsPartFault, IsPartUnread, counted_from}

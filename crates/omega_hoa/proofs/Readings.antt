@@ -6,12 +6,12 @@ use Rattle.omega_text.specs.declared.refusal.Refusal.{Refusal}
 use Rattle.omega_text.specs.declared.refusal.Refusal.TheVariants.{Automaton as AutomatonRefusal, Game, Io, Memory, Task, Text}
 use Rattle.omega_text.specs.declared.refusal.text.TextFault.TheVariants.{Lex, Number, Syntax, TooLong}
 use Rattle.omega_text.specs.declared.refusal.automaton.AutomatonFault.{AutomatonFault}
-use Rattle.omega_raw.specs.Laws.{RawsAreOne}
-use Rattle.omega_raw.specs.declared.raw_automaton.RawAutomaton.{RawAutomaton}
-use Rattle.omega_automaton.specs.Automaton.{Description}
-use Rattle.omega_automaton.specs.Faults.{automaton_fault_of}
-use Rattle.omega_automaton.specs.Laws.{MeaningsAreOne}
-use Rattle.omega_automaton.specs.Meaning.{Means}
+use Rattle.omega_hoa_syntax.specs.Laws.{RawsAreOne}
+use Rattle.omega_hoa_syntax.specs.declared.raw_automaton.RawAutomaton.{RawAutomaton}
+use Rattle.omega_hoa_automaton.specs.Automaton.{Description}
+use Rattle.omega_hoa_automaton.specs.Faults.{automaton_fault_of}
+use Rattle.omega_hoa_automaton.specs.Laws.{MeaningsAreOne}
+use Rattle.omega_hoa_automaton.specs.Meaning.{Means}
 use Rattle.omega_hoa.proofs.Places.{first_one, through_none}
 use Rattle.omega_hoa.specs.Segment.{HasMeaningFault, IsAutomatonOf, IsRawOf, IsSegmentFault}
 

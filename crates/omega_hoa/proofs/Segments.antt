@@ -6,10 +6,10 @@ use Rattle.omega_text.specs.declared.refusal.Refusal.{Refusal}
 use Rattle.omega_text.specs.declared.refusal.Refusal.TheVariants.{Automaton as AutomatonRefusal, Memory, Text}
 use Rattle.omega_text.specs.declared.refusal.text.TextFault.{TextFault}
 use Rattle.omega_text.specs.declared.refusal.text.TextFault.TheVariants.{Syntax}
-use Rattle.omega_expression.specs.Unread.{IsFirstUnread, IsUnread}
-use Rattle.omega_raw.specs.Grammar.{BeginsAutomaton, ReadsAutomaton, ReadsNoAutomaton}
-use Rattle.omega_raw.specs.declared.raw_automaton.RawAutomaton.{RawAutomaton}
-use Rattle.omega_automaton.specs.Meaning.{IsMeaningless}
+use Rattle.omega_hoa_expression.specs.Unread.{IsFirstUnread, IsUnread}
+use Rattle.omega_hoa_syntax.specs.Grammar.{BeginsAutomaton, ReadsAutomaton, ReadsNoAutomaton}
+use Rattle.omega_hoa_syntax.specs.declared.raw_automaton.RawAutomaton.{RawAutomaton}
+use Rattle.omega_hoa_automaton.specs.Meaning.{IsMeaningless}
 use Rattle.omega_hoa.specs.Segment.{IsRawOf}
 use Rattle.omega_hoa.specs.Stream.{IsSegment}
 use Rattle.omega_hoa.specs.private.Places.{IsPartFault, IsPartUnread}

@@ -15,7 +15,7 @@ use Rattle.omega_text.specs.declared.refusal.Refusal.{Refusal}
 use Rattle.omega_text.specs.declared.refusal.Refusal.TheVariants.{Automaton as AutomatonRefusal, Game, Io, Memory, Task, Text}
 use Rattle.omega_text.specs.declared.refusal.text.TextFault.TheVariants.{Syntax}
 use Rattle.omega_hoa.specs.Feeding.{IsDivided, IsRest}
-use Rattle.omega_automaton.specs.Automaton.{Description}
+use Rattle.omega_hoa_automaton.specs.Automaton.{Description}
 use Rattle.omega_hoa.specs.Segment.{IsAutomatonOf, IsSegmentFault}
 use Rattle.omega_hoa.specs.Stream.{IsItemOf, IsOpen, IsSegment, IsStreamFault, Opens, is_end}
 use Rattle.omega_hoa.specs.private.Places.{IsPartFault}

@@ -4,14 +4,14 @@ use Rattle.omega_text.specs.Lexeme.{Lexeme}
 use Rattle.omega_text.specs.declared.hoa.kind.HoaKind.{HoaKind}
 use Rattle.omega_text.specs.declared.hoa.kind.HoaKind.TheVariants as kind
 use Rattle.std.specs.List.{AllByRecursion}
-use Rattle.omega_formula.specs.Reading.{formula_symbols}
-use Rattle.omega_formula.specs.Raw.{RawAccTree}
-use Rattle.omega_formula.specs.Raw as acc
-use Rattle.omega_label.specs.Raw.{RawLabelTree}
-use Rattle.omega_label.specs.Raw as tree
-use Rattle.omega_label_reading.specs.Reading.{label_symbols}
-use Rattle.omega_expression.specs.Symbols as seen
-use Rattle.omega_raw.specs.Symbols.{ReadsSymbol, AutomatonSymbol, alias, formula, header, label, number, sign, text, word}
+use Rattle.omega_hoa_acceptance.specs.Reading.{formula_symbols}
+use Rattle.omega_hoa_acceptance.specs.Raw.{RawAccTree}
+use Rattle.omega_hoa_acceptance.specs.Raw as acc
+use Rattle.omega_hoa_label.specs.Raw.{RawLabelTree}
+use Rattle.omega_hoa_label.specs.Raw as tree
+use Rattle.omega_hoa_label_text.specs.Reading.{label_symbols}
+use Rattle.omega_hoa_expression.specs.Symbols as seen
+use Rattle.omega_hoa_syntax.specs.Symbols.{ReadsSymbol, AutomatonSymbol, alias, formula, header, label, number, sign, text, word}
 use Rattle.omega_hoa.specs.Stream.{NoneEnds, is_end}
 
 -- what a grammar sees of a token is no mark that ends a segment

@@ -16,10 +16,10 @@ use Rattle.omega_text.specs.hoa.Cut.{Follows}
 use Rattle.omega_text.specs.hoa.Format.{hoa_format}
 use Rattle.omega_text.specs.hoa.Laws.{is_closed}
 use Rattle.omega_text.specs.hoa.Pieces.{EndsClosed, Settles}
-use Rattle.omega_raw.specs.Grammar.{ReadsAutomaton}
-use Rattle.omega_raw.specs.declared.raw_automaton.RawAutomaton.{RawAutomaton}
-use Rattle.omega_automaton.specs.Automaton.{Description}
-use Rattle.omega_automaton.specs.Meaning.{Means}
+use Rattle.omega_hoa_syntax.specs.Grammar.{ReadsAutomaton}
+use Rattle.omega_hoa_syntax.specs.declared.raw_automaton.RawAutomaton.{RawAutomaton}
+use Rattle.omega_hoa_automaton.specs.Automaton.{Description}
+use Rattle.omega_hoa_automaton.specs.Meaning.{Means}
 use Rattle.omega_hoa.specs.Feeding.{IsDivided}
 use Rattle.omega_hoa.specs.Stream.{IsItemOf, IsSegment, NoneEnds}
 use Rattle.omega_hoa.specs.private.Ahead.{BeginsAutomatonTo, IsFront}

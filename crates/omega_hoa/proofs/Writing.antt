@@ -3,12 +3,12 @@ use Rattle.std.proofs.Common.{◌≡◌, true, false, Some, None, List, [], ◌�
 use Rattle.omega_text.specs.Lexeme.{Lexeme}
 use Rattle.omega_text.specs.declared.hoa.kind.HoaKind.{HoaKind}
 use Rattle.omega_text.specs.declared.hoa.kind.HoaKind.TheVariants as kind
-use Rattle.omega_formula.specs.declared.name.Parameter.TheVariants as parameter
-use Rattle.omega_raw.specs.Grammar.{ReadsAutomaton, conj_row, content_row, each, edge_row, int_row, item_row, joined_row, label_row, optional_row, parameter_row, sig_row, automaton_symbols, state_row, string_row, value_row, word_row}
-use Rattle.omega_raw.specs.Symbols.{ReadsSymbols, AutomatonSymbol, alias, formula, header, label, number, sign, text, word}
-use Rattle.omega_raw.specs.declared.header_value.HeaderValue.TheVariants as value
-use Rattle.omega_raw.specs.declared.raw_automaton.RawAutomaton.{RawAutomaton}
-use Rattle.omega_raw.specs.declared.raw_item.RawItem.TheVariants as item
+use Rattle.omega_hoa_acceptance.specs.declared.name.Parameter.TheVariants as parameter
+use Rattle.omega_hoa_syntax.specs.Grammar.{ReadsAutomaton, conj_row, content_row, each, edge_row, int_row, item_row, joined_row, label_row, optional_row, parameter_row, sig_row, automaton_symbols, state_row, string_row, value_row, word_row}
+use Rattle.omega_hoa_syntax.specs.Symbols.{ReadsSymbols, AutomatonSymbol, alias, formula, header, label, number, sign, text, word}
+use Rattle.omega_hoa_syntax.specs.declared.header_value.HeaderValue.TheVariants as value
+use Rattle.omega_hoa_syntax.specs.declared.raw_automaton.RawAutomaton.{RawAutomaton}
+use Rattle.omega_hoa_syntax.specs.declared.raw_item.RawItem.TheVariants as item
 use Rattle.omega_hoa.specs.Segment.{IsRawOf}
 use Rattle.omega_hoa.specs.Stream.{IsOpen, IsSegment, NoneEnds, is_end}
 use Rattle.omega_hoa.proofs.Unended.{MarksNone, stands_before}

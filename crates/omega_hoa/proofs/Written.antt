@@ -2,16 +2,16 @@
 use Rattle.std.proofs.Common.{◌≡◌, ℕ, List, [], ◌∷◌, ◌++◌, map, refl, sym, ap, subst, ◌∙◌}
 use Rattle.omega_text.specs.Lexeme.{Lexeme}
 use Rattle.omega_text.specs.declared.hoa.kind.HoaKind.{HoaKind}
-use Rattle.omega_formula.specs.Reading.{ReadsAcc}
-use Rattle.omega_formula.specs.Raw.{RawAccTree}
-use Rattle.omega_label.specs.Raw.{RawLabelTree}
-use Rattle.omega_label_reading.specs.Reading.{Reads}
-use Rattle.omega_expression.specs.Symbols.{EndsThere, seen_as, expression_symbol_of}
-use Rattle.omega_raw.specs.Grammar.{automaton_symbols}
-use Rattle.omega_raw.specs.Symbols.{ReadsSymbol, IsNext, Shows, ReadsSymbols, AutomatonSymbol, alias, formula, header, label, number, sign, text, without_last, word}
+use Rattle.omega_hoa_acceptance.specs.Reading.{ReadsAcc}
+use Rattle.omega_hoa_acceptance.specs.Raw.{RawAccTree}
+use Rattle.omega_hoa_label.specs.Raw.{RawLabelTree}
+use Rattle.omega_hoa_label_text.specs.Reading.{Reads}
+use Rattle.omega_hoa_expression.specs.Symbols.{EndsThere, seen_as, expression_symbol_of}
+use Rattle.omega_hoa_syntax.specs.Grammar.{automaton_symbols}
+use Rattle.omega_hoa_syntax.specs.Symbols.{ReadsSymbol, IsNext, Shows, ReadsSymbols, AutomatonSymbol, alias, formula, header, label, number, sign, text, without_last, word}
 use Rattle.omega_text.specs.Forms.{between_quotes}
-use Rattle.omega_raw.specs.declared.raw_automaton.RawAutomaton.{RawAutomaton}
-use Rattle.omega_automaton.specs.Automaton.{Description}
+use Rattle.omega_hoa_syntax.specs.declared.raw_automaton.RawAutomaton.{RawAutomaton}
+use Rattle.omega_hoa_automaton.specs.Automaton.{Description}
 use Rattle.omega_hoa.specs.Segment.{IsAutomatonOf, IsNoRaw, IsRawOf}
 use Rattle.omega_hoa.proofs.Cutting.{moved}
 

@@ -11,8 +11,8 @@ use Rattle.omega_text.specs.declared.refusal.Refusal.{Refusal}
 use Rattle.omega_text.specs.declared.refusal.Refusal.TheVariants.{Text}
 use Rattle.omega_text.specs.declared.refusal.text.TextFault.{TextFault}
 use Rattle.omega_text.specs.declared.refusal.text.TextFault.TheVariants.{Syntax, TooLong}
-use Rattle.omega_raw.specs.declared.raw_automaton.RawAutomaton.{RawAutomaton}
-use Rattle.omega_automaton.specs.Automaton.{Description}
+use Rattle.omega_hoa_syntax.specs.declared.raw_automaton.RawAutomaton.{RawAutomaton}
+use Rattle.omega_hoa_automaton.specs.Automaton.{Description}
 use Rattle.omega_hoa.specs.Segment.{IsAutomatonOf, IsRawOf, IsSegmentFault}
 use Rattle.omega_hoa.specs.Stream.{IsOpen, IsSegment, Opens}
 
@@ -28,9 +28,8 @@ pub record IsAutomatonText (source : List ℕ) (automaton : Description) : Type 
 -- of an empty text, at the length, or at `--ABORT--`
 abbrev pub HasNoSegmentAt : ℕ → List (Lexeme HoaKind) → ℕ → Type 0
 HasNoSegmentAt length lexemes at = ((lexemes ≡ []) × (at ≡ length))
-    ⊎ (((first : Lexeme HoaKind) × (rest : List (Lexeme HoaKind))
-    × (lexemes ≡ first ∷ rest) × (Opens first → ⊥) × (at ≡ first.span.start))
-    ⊎ ((IsOpen lexemes × (at ≡ length))
+    ⊎ (((first : Lexeme HoaKind) × (rest : List (Lexeme HoaKind)) × (lexemes ≡ first ∷ rest)
+    × (Opens first → ⊥) × (at ≡ first.span.start)) ⊎ ((IsOpen lexemes × (at ≡ length))
     ⊎ ((inside : List (Lexeme HoaKind)) × (last : Lexeme HoaKind) × (rest : List (Lexeme HoaKind))
     × (lexemes ≡ inside ++ last ∷ rest) × IsOpen inside × (last.kind ≡ Abort) × (at ≡ last.span.start))))
 
@@ -46,12 +45,14 @@ pub record IsSegmentRefused (lexemes : List (Lexeme HoaKind)) (refusal : Refusal
   pub split : lexemes ≡ segment ++ rest
   pub whole : IsSegment End segment
   pub refused : (IsSegmentFault segment refusal × ((number_of refusal ≡ 3) ⊎ (rest ≡ [])))
-      ⊎ (IsInGrammar segment × ((next : Lexeme HoaKind) × (more : List (Lexeme HoaKind)) × (rest ≡ next ∷ more) × (refusal ≡ Text (Syntax next.span.start))))
+      ⊎ (IsInGrammar segment × ((next : Lexeme HoaKind) × (more : List (Lexeme HoaKind))
+      × (rest ≡ next ∷ more) × (refusal ≡ Text (Syntax next.span.start))))
 
 -- the refusal of tokens that do not make one automaton, in a text of this length
 abbrev pub AreRefused : ℕ → List (Lexeme HoaKind) → Refusal → Type 0
 AreRefused length lexemes refusal =
-    ((at : ℕ) × (refusal ≡ Text (Syntax at)) × HasNoSegmentAt length lexemes at) ⊎ IsSegmentRefused lexemes refusal
+    ((at : ℕ) × (refusal ≡ Text (Syntax at)) × HasNoSegmentAt length lexemes at)
+    ⊎ IsSegmentRefused lexemes refusal
 
 -- the refusal of a text that is not that of one automaton: its length first, then a fault of tokens wherever it is,
 -- then what the tokens are
@@ -59,4 +60,5 @@ abbrev pub IsAutomatonRefusal : List ℕ → Refusal → Type 0
 IsAutomatonRefusal source refusal = ((refusal ≡ Text TooLong) × (most_text < length source))
     ⊎ ((length source ≤ most_text)
     × (((fault : TextFault) × (refusal ≡ Text fault) × IsFault hoa_format source fault)
-    ⊎ ((lexemes : List (Lexeme HoaKind)) × IsCut hoa_format source lexemes × AreRefused (length source) lexemes refusal)))
+    ⊎ ((lexemes : List (Lexeme HoaKind)) × IsCut hoa_format source lexemes
+    × AreRefused (length source) lexemes refusal)))

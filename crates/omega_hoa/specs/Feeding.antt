@@ -1,5 +1,6 @@
 -- What a stream keeps of the bytes that it was fed, and the items that it gave.
-use Rattle.std.specs.Prelude.{◌≡◌, ℕ, ◌+◌, ◌<◌, ◌≤◌, ◌⊎◌, Bool, true, false, List, [], ◌++◌, length, drop, MatchOption}
+use Rattle.std.specs.Prelude.{◌≡◌, ℕ, ◌+◌, ◌<◌, ◌≤◌, ◌⊎◌, Bool, true, false}
+use Rattle.std.specs.Prelude.{List, [], ◌++◌, length, drop, MatchOption}
 use Rattle.omega_text.specs.Cut.{Cuts}
 use Rattle.omega_text.specs.Lexeme.{Lexeme}
 use Rattle.omega_text.specs.Limits.{most_text}
@@ -20,7 +21,8 @@ IsRest false lexemes = lexemes ≡ []
 
 -- the tokens of a text that may go on in any way are whole segments with these items, up to a place,
 -- and then such a rest
-pub record IsDivided (seen : List ℕ) (lexemes : List (Lexeme HoaKind)) (items : List Item) (begins : ℕ) (inside : Bool) : Type 0 where
+pub record IsDivided (seen : List ℕ) (lexemes : List (Lexeme HoaKind)) (items : List Item)
+    (begins : ℕ) (inside : Bool) : Type 0 where
   pub front : List (Lexeme HoaKind)
   pub rest : List (Lexeme HoaKind)
   pub split : lexemes ≡ front ++ rest
@@ -52,17 +54,19 @@ IsRefusedSoFar seen items kept refusal = ((refusal ≡ Text TooLong) × IsPastLi
 
 -- a stream was fed with these bytes, and gave these items
 abbrev pub IsFed : List ℕ → List Item → Kept → Type 0
-IsFed seen items kept = MatchOption kept.refused (IsTaken seen items kept) (IsRefusedSoFar seen items kept)
+IsFed seen items kept =
+    MatchOption kept.refused (IsTaken seen items kept) (IsRefusedSoFar seen items kept)
 
 -- with one more piece, whatever was fed before, a stream was fed with the bytes before and these, and gave these items
 -- after those before
 abbrev pub TakesPiece : Kept → List ℕ → List Item → Kept → Type 0
-TakesPiece old piece given new =
-    (seen : List ℕ) (items : List Item) → IsFed seen items old → IsFed (seen ++ piece) (items ++ given) new
+TakesPiece old piece given new = (seen : List ℕ) (items : List Item) → IsFed seen items old
+    → IsFed (seen ++ piece) (items ++ given) new
 
 -- all texts that may have been fed to a stream are streams of the items that it gave
 abbrev pub EndsAsStream : Kept → Type 0
-EndsAsStream kept = (seen : List ℕ) (items : List Item) → IsFed seen items kept → IsStreamText seen items
+EndsAsStream kept = (seen : List ℕ) (items : List Item) → IsFed seen items kept
+    → IsStreamText seen items
 
 -- all texts that may have been fed to a stream have this refusal after the items that it gave
 abbrev pub EndsInFault : Kept → Refusal → Type 0
@@ -77,10 +81,10 @@ pub record Appends {X : Type 0} (old new values : List X) (Holds : List X → Ty
 
 -- memory was refused, or the text is, however it goes on, after the items that were appended
 abbrev pub IsRefusedThen : List ℕ → (old new items : List Item) → Refusal → Type 0
-IsRefusedThen seen old new items refusal =
-    (refusal ≡ Memory) ⊎ Appends old new items (λ all. (more : List ℕ) → IsStreamFault (seen ++ more) all refusal)
+IsRefusedThen seen old new items refusal = (refusal ≡ Memory)
+    ⊎ Appends old new items (λ all. (more : List ℕ) → IsStreamFault (seen ++ more) all refusal)
 
 -- with one more piece, whatever was fed before, the text is refused so
 abbrev pub IsRefusedWith : Kept → List ℕ → (old new : List Item) → Refusal → Type 0
-IsRefusedWith kept piece old new refusal =
-    (seen : List ℕ) (items : List Item) → IsFed seen items kept → IsRefusedThen (seen ++ piece) old new items refusal
+IsRefusedWith kept piece old new refusal = (seen : List ℕ) (items : List Item)
+    → IsFed seen items kept → IsRefusedThen (seen ++ piece) old new items refusal

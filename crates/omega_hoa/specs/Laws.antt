@@ -9,9 +9,9 @@ use Rattle.omega_text.specs.declared.hoa.kind.HoaKind.TheVariants.{End}
 use Rattle.omega_text.specs.declared.refusal.Refusal.{Refusal}
 use Rattle.omega_text.specs.declared.refusal.Refusal.TheVariants.{Text}
 use Rattle.omega_text.specs.declared.refusal.text.TextFault.TheVariants.{TooLong}
-use Rattle.omega_raw.specs.Grammar.{ReadsAutomaton}
-use Rattle.omega_raw.specs.declared.raw_automaton.RawAutomaton.{RawAutomaton}
-use Rattle.omega_automaton.specs.Automaton.{Description}
+use Rattle.omega_hoa_syntax.specs.Grammar.{ReadsAutomaton}
+use Rattle.omega_hoa_syntax.specs.declared.raw_automaton.RawAutomaton.{RawAutomaton}
+use Rattle.omega_hoa_automaton.specs.Automaton.{Description}
 use Rattle.omega_hoa.specs.Alone.{IsAutomatonRefusal, IsAutomatonText}
 use Rattle.omega_hoa.specs.Feeding.{IsFed, TakesPiece}
 use Rattle.omega_hoa.specs.Kept.{Kept}
@@ -21,21 +21,18 @@ use Rattle.omega_hoa.specs.declared.item.Item.{Item}
 
 -- a text is that of at most one automaton
 abbrev pub AutomataAreOne : Type 0
-AutomataAreOne =
-    (source : List ℕ) (one other : Description) → IsAutomatonText source one → IsAutomatonText source other
-    → one ≡ other
+AutomataAreOne = (source : List ℕ) (one other : Description) → IsAutomatonText source one
+    → IsAutomatonText source other → one ≡ other
 
 -- a text that is not that of one automaton has at most one refusal
 abbrev pub RefusalsAreOne : Type 0
-RefusalsAreOne =
-    (source : List ℕ) (one other : Refusal) → IsAutomatonRefusal source one → IsAutomatonRefusal source other
-    → one ≡ other
+RefusalsAreOne = (source : List ℕ) (one other : Refusal) → IsAutomatonRefusal source one
+    → IsAutomatonRefusal source other → one ≡ other
 
 -- the text of an automaton has no refusal
 abbrev pub AutomataAreUnrefused : Type 0
-AutomataAreUnrefused =
-    (source : List ℕ) (automaton : Description) (refusal : Refusal) → IsAutomatonText source automaton
-    → IsAutomatonRefusal source refusal → ⊥
+AutomataAreUnrefused = (source : List ℕ) (automaton : Description) (refusal : Refusal)
+    → IsAutomatonText source automaton → IsAutomatonRefusal source refusal → ⊥
 
 -- no text is neither
 abbrev pub AutomataOrRefused : Type 0
@@ -45,14 +42,13 @@ AutomataOrRefused =
 
 -- a text is a stream with at most one list of items
 abbrev pub StreamsAreOne : Type 0
-StreamsAreOne =
-    (source : List ℕ) (one other : List Item) → IsStreamText source one → IsStreamText source other → one ≡ other
+StreamsAreOne = (source : List ℕ) (one other : List Item) → IsStreamText source one
+    → IsStreamText source other → one ≡ other
 
 -- a text that is no stream is refused after at most one list of items, and has at most one refusal
 abbrev pub StreamFaultsAreOne : Type 0
-StreamFaultsAreOne =
-    (source : List ℕ) (items others : List Item) (one other : Refusal) → IsStreamFault source items one
-    → IsStreamFault source others other
+StreamFaultsAreOne = (source : List ℕ) (items others : List Item) (one other : Refusal)
+    → IsStreamFault source items one → IsStreamFault source others other
     → (items ≡ others) × (one ≡ other)
 
 -- a stream has no refusal
@@ -78,11 +74,10 @@ IsAnsweredAtEnd seen items kept (Some refusal) =
 -- unless one passed the limit
 abbrev pub CutsChangeNothing : Type 0
 CutsChangeNothing =
-    (seen : List ℕ) (items others : List Item) (kept left : Kept) (one other : Option Refusal) → IsFed seen items kept
-    → IsFed seen others left
-    → (one ≡ Some (Text TooLong) → ⊥) → (other ≡ Some (Text TooLong) → ⊥) → IsAnsweredAtEnd seen items kept one
-    → IsAnsweredAtEnd seen others left other
-    → (items ≡ others) × (one ≡ other)
+    (seen : List ℕ) (items others : List Item) (kept left : Kept) (one other : Option Refusal)
+    → IsFed seen items kept → IsFed seen others left → (one ≡ Some (Text TooLong) → ⊥)
+    → (other ≡ Some (Text TooLong) → ⊥) → IsAnsweredAtEnd seen items kept one
+    → IsAnsweredAtEnd seen others left other → (items ≡ others) × (one ≡ other)
 
 -- the bytes of pieces, one piece after the other
 abbrev pub bytes_of : List (List ℕ) → List ℕ
@@ -111,17 +106,17 @@ PiecesAreFed =
 -- two lists of pieces with the same bytes, each fed to a stream that did not pass the limit, gave the same items,
 -- and the streams answer the same at their ends
 abbrev pub PiecesChangeNothing : Type 0
-PiecesChangeNothing =
-    (pieces recut : List (List ℕ)) (items others : List Item) (kept left : Kept) (one other : Option Refusal)
+PiecesChangeNothing = (pieces recut : List (List ℕ)) (items others : List Item) (kept left : Kept)
+    (one other : Option Refusal)
     → bytes_of pieces ≡ bytes_of recut
     → IsFedIn pieces items kept → IsFedIn recut others left → (one ≡ Some (Text TooLong) → ⊥)
-    → (other ≡ Some (Text TooLong) → ⊥)
-    → IsAnsweredAtEnd (bytes_of pieces) items kept one → IsAnsweredAtEnd (bytes_of recut) others left other
-    → (items ≡ others) × (one ≡ other)
+    → (other ≡ Some (Text TooLong) → ⊥) → IsAnsweredAtEnd (bytes_of pieces) items kept one
+    → IsAnsweredAtEnd (bytes_of recut) others left other → (items ≡ others) × (one ≡ other)
 
 -- the first of the tokens are a whole segment, which ends with `--END--` and is that of this automaton as it is
 -- written, and then come the rest
-pub record FillsSegment (tokens : List (Lexeme HoaKind)) (raw : RawAutomaton) (rest : List (Lexeme HoaKind)) : Type 0 where
+pub record FillsSegment (tokens : List (Lexeme HoaKind)) (raw : RawAutomaton)
+    (rest : List (Lexeme HoaKind)) : Type 0 where
   pub segment : List (Lexeme HoaKind)
   pub split : tokens ≡ segment ++ rest
   pub whole : IsSegment End segment
@@ -129,6 +124,6 @@ pub record FillsSegment (tokens : List (Lexeme HoaKind)) (raw : RawAutomaton) (r
 
 -- an automaton as it is written that tokens of texts begin with fills a whole segment: no token but its last ends one
 abbrev pub AutomataFillSegments : Type 0
-AutomataFillSegments =
-    (tokens rest : List (Lexeme HoaKind)) (raw : RawAutomaton) → AllByRecursion (IsTokenOf hoa_format) tokens
+AutomataFillSegments = (tokens rest : List (Lexeme HoaKind)) (raw : RawAutomaton)
+    → AllByRecursion (IsTokenOf hoa_format) tokens
     → ReadsAutomaton tokens raw rest → FillsSegment tokens raw rest

@@ -7,11 +7,11 @@ use Rattle.omega_text.specs.declared.refusal.Refusal.{Refusal}
 use Rattle.omega_text.specs.declared.refusal.automaton.AutomatonFault.{AutomatonFault}
 use Rattle.omega_text.specs.declared.refusal.text.TextFault.{TextFault}
 use Rattle.omega_text.specs.declared.refusal.text.TextFault.TheVariants.{Syntax}
-use Rattle.omega_raw.specs.Grammar.{BeginsAutomaton, ReadsAutomaton}
-use Rattle.omega_raw.specs.declared.raw_automaton.RawAutomaton.{RawAutomaton}
-use Rattle.omega_automaton.specs.Automaton.{Description}
-use Rattle.omega_automaton.specs.Faults.{automaton_fault_of}
-use Rattle.omega_automaton.specs.Meaning.{Means}
+use Rattle.omega_hoa_syntax.specs.Grammar.{BeginsAutomaton, ReadsAutomaton}
+use Rattle.omega_hoa_syntax.specs.declared.raw_automaton.RawAutomaton.{RawAutomaton}
+use Rattle.omega_hoa_automaton.specs.Automaton.{Description}
+use Rattle.omega_hoa_automaton.specs.Faults.{automaton_fault_of}
+use Rattle.omega_hoa_automaton.specs.Meaning.{Means}
 
 -- all the tokens spell an automaton as it is written
 abbrev pub IsRawOf : List (Lexeme HoaKind) → RawAutomaton → Type 0
@@ -52,4 +52,5 @@ IsSyntaxWithin lexemes fault = ⊥
 -- why the tokens are not an automaton's: `Syntax` at the first of them through which none begins, else a fault of
 -- meaning
 abbrev pub IsSegmentFault : List (Lexeme HoaKind) → Refusal → Type 0
-IsSegmentFault lexemes = or_text (IsSyntaxWithin lexemes) (or_automaton (HasMeaningFault lexemes) never)
+IsSegmentFault lexemes =
+    or_text (IsSyntaxWithin lexemes) (or_automaton (HasMeaningFault lexemes) never)

@@ -65,8 +65,8 @@ IsStream lexemes (item ∷ items) = (segment : List (Lexeme HoaKind)) × (rest :
 abbrev pub IsFaultOutside : List ℕ → ℕ → TextFault → Type 0
 IsFaultOutside source from (Lex at) = HasFaultFrom source from (Lex at)
 IsFaultOutside source from (Number at) = HasFaultFrom source from (Number at)
-IsFaultOutside source from (Syntax at) =
-    (lexeme : Lexeme HoaKind) × Follows source from lexeme × (Opens lexeme → ⊥) × (at ≡ lexeme.span.start)
+IsFaultOutside source from (Syntax at) = (lexeme : Lexeme HoaKind) × Follows source from lexeme
+    × (Opens lexeme → ⊥) × (at ≡ lexeme.span.start)
 IsFaultOutside source from TooLong = ⊥
 
 -- inside a segment, it goes on with a fault of tokens, or ends, and its length is the place of `Syntax`
@@ -79,7 +79,8 @@ IsFaultInside source from TooLong = ⊥
 -- after whole segments come these tokens, up to a place, and then the refusal of the text: a fault outside segments, a
 -- fault inside one, or a whole one that is no automaton
 abbrev pub IsRefusedAfter : List ℕ → List (Lexeme HoaKind) → ℕ → Refusal → Type 0
-IsRefusedAfter source lexemes from refusal = ((lexemes ≡ []) × or_text (IsFaultOutside source from) never refusal)
+IsRefusedAfter source lexemes from refusal =
+    ((lexemes ≡ []) × or_text (IsFaultOutside source from) never refusal)
     ⊎ ((IsOpen lexemes × or_text (IsFaultInside source from) never refusal)
     ⊎ (IsSegment End lexemes × IsSegmentFault lexemes refusal))
 

@@ -9,7 +9,7 @@ ghost use Rattle.omega_hoa.specs.private.outlines.Outline.{HasFollowed, HasWhole
 
 use crate::outline::{TextOutline, outline_of};
 use crate::segment::{read_front, read_segment, read_written};
-use omega_automaton::Automaton;
+use omega_hoa_automaton::Automaton;
 use omega_text::{HoaKind, MOST_TEXT, Refusal, TextFault, TokenKind, next_hoa_token};
 use std::alloc::Global;
 

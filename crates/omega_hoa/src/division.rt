@@ -1,8 +1,11 @@
-ghost use Rattle.std.specs.Prelude.{◌≡◌, ◌+◌, ◌-◌, ◌≤◌, ◌↔◌, List, None, Some, false, true, codes, drop, length, take, IfErr, IfNone, IfOk, IfSome, IsTrue, OnErr};
+ghost use Rattle.std.specs.Prelude.{◌≡◌, ◌+◌, ◌-◌, ◌≤◌, ◌↔◌, List, None, Some, false, true, codes};
+ghost use Rattle.std.specs.Prelude.{drop, length, take, IfErr, IfNone, IfOk, IfSome, IsTrue, OnErr};
 ghost use Rattle.omega_text.specs.declared.hoa.kind.HoaKind.TheVariants.{HeaderName};
 ghost use Rattle.omega_hoa.specs.Stream.{is_end};
 ghost use Rattle.omega_hoa.specs.declared.item.Item.{Item};
-ghost use Rattle.omega_hoa.specs.private.dividing.Next.{AreRefusedAt, AreTakenAs, Extends, IsItemAt, IsNextSettledSome, IsNextSome, IsRefusedAt, IsTakenAs};
+ghost use Rattle.omega_hoa.specs.private.dividing.Next.{AreRefusedAt, AreTakenAs, Extends};
+ghost use Rattle.omega_hoa.specs.private.dividing.Next.{IsItemAt, IsNextSettledSome};
+ghost use Rattle.omega_hoa.specs.private.dividing.Next.{IsNextSome, IsRefusedAt, IsTakenAs};
 
 use crate::item::Item;
 use crate::segment::read_segment;
@@ -32,10 +35,12 @@ pub(crate) fn take_all(
     out: &mut Vec<Item>,
 ) -> Result<Division, Refusal>
     requires { IsNextSettledSome bytes.now first division settled }
-    ensures taken { IfOk result (AreTakenAs bytes.now first division settled out.old.items out.new.items) }
+    ensures taken { IfOk result
+        (AreTakenAs bytes.now first division settled out.old.items out.new.items) }
     ensures forward { IfOk result (λ after. division.begins ≤ after.begins) }
     ensures sound { IfOk result (λ _. settled.fault ≡ None) }
-    ensures refused { IfErr result (AreRefusedAt bytes.now first division settled out.old.items out.new.items) }
+    ensures refused { IfErr result
+        (AreRefusedAt bytes.now first division settled out.old.items out.new.items) }
     ensures extends { Extends out.old.items out.new.items }
 {
     let middle = take_settled(alloc, bytes, first, division, settled.first, out)?;
@@ -61,7 +66,8 @@ fn take_settled(
     out: &mut Vec<Item>,
 ) -> Result<Division, Refusal>
     requires { IsNextSome bytes.now first division settled }
-    ensures taken { IfOk result (IsTakenAs bytes.now first division settled out.old.items out.new.items) }
+    ensures taken { IfOk result
+        (IsTakenAs bytes.now first division settled out.old.items out.new.items) }
     ensures forward { IfOk result (λ after. division.begins ≤ after.begins) }
     ensures refused { IfErr result (IsRefusedAt bytes.now first division settled) }
     ensures err { OnErr result (out.new.items ≡ out.old.items) }
@@ -85,7 +91,8 @@ fn take_inside(
 ) -> Result<Division, Refusal>
     requires next { IsNextSome bytes.now first division (Some token) }
     requires inside { division.inside ≡ true }
-    ensures taken { IfOk result (IsTakenAs bytes.now first division (Some token) out.old.items out.new.items) }
+    ensures taken { IfOk result
+        (IsTakenAs bytes.now first division (Some token) out.old.items out.new.items) }
     ensures forward { IfOk result (λ after. division.begins ≤ after.begins) }
     ensures refused { IfErr result (IsRefusedAt bytes.now first division (Some token)) }
     ensures err { OnErr result (out.new.items ≡ out.old.items) }

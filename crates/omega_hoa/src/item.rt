@@ -1,4 +1,4 @@
-use omega_automaton::Automaton;
+use omega_hoa_automaton::Automaton;
 
 /// The result of a segment of a stream.
 #[derive(Drop)]

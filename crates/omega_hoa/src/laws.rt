@@ -1,9 +1,12 @@
 //! Laws of texts of one automaton, of streams and of automata in tokens, whatever the code does. Each function does
 //! nothing and states one law.
-ghost use Rattle.omega_hoa.specs.Laws.{AutomataAreOne, AutomataAreUnrefused, AutomataFillSegments, AutomataOrRefused, CutsChangeNothing, PiecesAreFed, PiecesChangeNothing, RefusalsAreOne, StreamFaultsAreOne, StreamsAreOne, StreamsAreUnrefused, StreamsOrRefused};
+ghost use Rattle.omega_hoa.specs.Laws.{AutomataAreOne, AutomataAreUnrefused, AutomataFillSegments};
+ghost use Rattle.omega_hoa.specs.Laws.{AutomataOrRefused, CutsChangeNothing, PiecesAreFed};
+ghost use Rattle.omega_hoa.specs.Laws.{PiecesChangeNothing, RefusalsAreOne, StreamFaultsAreOne};
+ghost use Rattle.omega_hoa.specs.Laws.{StreamsAreOne, StreamsAreUnrefused, StreamsOrRefused};
 
-use omega_automaton::{meanings_are_one, meanings_are_there};
-use omega_raw::raws_are_one;
+use omega_hoa_automaton::{meanings_are_one, meanings_are_there};
+use omega_hoa_syntax::raws_are_one;
 use omega_text::laws::{cut_or_fault, cuts_are_one, cuts_have_no_fault, faults_are_one};
 use omega_text::{HoaKind, TokenKind};
 

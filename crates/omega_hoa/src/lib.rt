@@ -23,7 +23,7 @@ pub use laws::{
     pieces_change_nothing, refusals_are_one, stream_faults_are_one, streams_are_one,
     streams_are_unrefused, streams_or_refused,
 };
-pub use omega_automaton::{Automaton, Edge, EdgeRef, Edges, State};
+pub use omega_hoa_automaton::{Automaton, Edge, EdgeRef, Edges, State};
 pub use omega_text::Refusal;
 pub use reading::read_stream;
 pub use stream::Stream;

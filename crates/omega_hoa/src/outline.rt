@@ -45,7 +45,7 @@ fn with_token(outline: TextOutline, token: &Token<'_, HoaKind>) -> TextOutline
     ensures { GoesOnWith outline (lexeme_of token.now) result }
 {
     match outline {
-        TextOutline::Empty => begun(token),
+        TextOutline::Empty => outline_of_token(token),
         TextOutline::Open => gone_on(token),
         TextOutline::Whole { end } => TextOutline::Followed {
             end,
@@ -56,7 +56,7 @@ fn with_token(outline: TextOutline, token: &Token<'_, HoaKind>) -> TextOutline
 }
 
 /// Returns the outline of `token` alone.
-fn begun(token: &Token<'_, HoaKind>) -> TextOutline
+fn outline_of_token(token: &Token<'_, HoaKind>) -> TextOutline
     ensures { IsOutline (lexeme_of token.now ∷ []) result }
 {
     if opens(token.kind, token.text) {

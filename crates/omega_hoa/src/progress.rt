@@ -1,5 +1,6 @@
 ghost use Rattle.std.specs.Prelude.{◌+◌, ◌<◌, ◌≤◌, length, IfErr, IfOk, IsTrue};
-ghost use Rattle.omega_hoa.specs.private.dividing.Next.{Extends, IsNothing, IsPassedTo, IsProgressSome, IsReadAs, IsRefusedFrom};
+ghost use Rattle.omega_hoa.specs.private.dividing.Next.{Extends, IsNothing, IsPassedTo};
+ghost use Rattle.omega_hoa.specs.private.dividing.Next.{IsProgressSome, IsReadAs, IsRefusedFrom};
 
 use crate::division::{Division, take_all};
 use crate::item::Item;
@@ -31,8 +32,10 @@ pub(crate) fn read_bytes(
 ) -> Result<ReadProgress, Refusal>
     requires within { from ≤ length bytes.now }
     requires so_far { IsProgressSome bytes.now first from progress }
-    ensures read { IfOk result (IsReadAs bytes.now first from (length bytes.now) progress out.old.items out.new.items) }
-    ensures refused { IfErr result (IsRefusedFrom bytes.now first from progress out.old.items out.new.items) }
+    ensures read { IfOk result
+        (IsReadAs bytes.now first from (length bytes.now) progress out.old.items out.new.items) }
+    ensures refused { IfErr result
+        (IsRefusedFrom bytes.now first from progress out.old.items out.new.items) }
     ensures extends { Extends out.old.items out.new.items }
 {
     let mut reached = progress;
@@ -60,7 +63,8 @@ fn read_some(
     ensures end { IfOk result (λ read. read.1 ≤ length bytes.now) }
     ensures read { IfOk result
         (λ read. IsReadAs bytes.now first place read.1 progress out.old.items out.new.items read.0) }
-    ensures refused { IfErr result (IsRefusedFrom bytes.now first place progress out.old.items out.new.items) }
+    ensures refused { IfErr result
+        (IsRefusedFrom bytes.now first place progress out.old.items out.new.items) }
     ensures extends { Extends out.old.items out.new.items }
 {
     match read_whole(alloc, bytes, first, place, &progress) {
@@ -94,7 +98,8 @@ fn read_on(
     ensures end { IfOk result (λ read. read.1 ≤ length bytes.now) }
     ensures read { IfOk result
         (λ read. IsReadAs bytes.now first place read.1 progress out.old.items out.new.items read.0) }
-    ensures refused { IfErr result (IsRefusedFrom bytes.now first place progress out.old.items out.new.items) }
+    ensures refused { IfErr result
+        (IsRefusedFrom bytes.now first place progress out.old.items out.new.items) }
     ensures extends { Extends out.old.items out.new.items }
 {
     let (after, end) = pass_inside(bytes, first, place, progress);
@@ -142,8 +147,10 @@ fn read_byte(
 ) -> Result<ReadProgress, Refusal>
     requires within { place < length bytes.now }
     requires so_far { IsProgressSome bytes.now first place progress }
-    ensures read { IfOk result (IsReadAs bytes.now first place (place + 1) progress out.old.items out.new.items) }
-    ensures refused { IfErr result (IsRefusedFrom bytes.now first place progress out.old.items out.new.items) }
+    ensures read { IfOk result
+        (IsReadAs bytes.now first place (place + 1) progress out.old.items out.new.items) }
+    ensures refused { IfErr result
+        (IsRefusedFrom bytes.now first place progress out.old.items out.new.items) }
     ensures extends { Extends out.old.items out.new.items }
 {
     let mut tokenizer = progress.tokenizer;

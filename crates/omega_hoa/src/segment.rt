@@ -8,8 +8,8 @@ ghost use Rattle.omega_hoa.specs.private.Ahead.{BeginsAutomatonTo};
 ghost use Rattle.omega_hoa.specs.private.Places.{IsPartFault, IsPartUnread, OfSegment};
 
 use crate::segment_cursor::SegmentCursor;
-use omega_automaton::{Automaton, automaton_of};
-use omega_raw::{RawAutomaton, read_raw};
+use omega_hoa_automaton::{Automaton, automaton_of};
+use omega_hoa_syntax::{RawAutomaton, read_raw};
 use omega_text::laws::cuts_are_one;
 use omega_text::{HoaKind, Refusal, TextCursor, TextFault, TokenKind, TokenSource};
 use std::alloc::Global;
@@ -23,8 +23,10 @@ use std::alloc::Global;
 pub(crate) fn read_segment(alloc: Global, bytes: &[u8], begins: usize) -> Result<Automaton, Refusal>
     requires cut { (lexemes : List (Lexeme HoaKind)) × IsCut hoa_format bytes.now lexemes }
     requires room { begins + length bytes.now < 2 ^ 64 }
-    ensures automaton { IfOk result (λ automaton. OfSegment bytes.now (λ lexemes. IsAutomatonOf lexemes automaton)) }
-    ensures refused { IfErr result (λ refusal. OfSegment bytes.now (λ lexemes. IsPartFault begins lexemes refusal)) }
+    ensures automaton { IfOk result
+        (λ automaton. OfSegment bytes.now (λ lexemes. IsAutomatonOf lexemes automaton)) }
+    ensures refused { IfErr result
+        (λ refusal. OfSegment bytes.now (λ lexemes. IsPartFault begins lexemes refusal)) }
 {
     let raw = read_written(alloc, bytes, begins)?;
     automaton_of(alloc, raw)
@@ -63,7 +65,8 @@ pub(crate) fn read_written(
     requires cut { (lexemes : List (Lexeme HoaKind)) × IsCut hoa_format bytes.now lexemes }
     requires room { begins + length bytes.now < 2 ^ 64 }
     ensures written { IfOk result (λ raw. OfSegment bytes.now (λ lexemes. IsRawOf lexemes raw)) }
-    ensures refused { IfErr result (λ refusal. OfSegment bytes.now (λ lexemes. IsPartUnread begins lexemes refusal)) }
+    ensures refused { IfErr result
+        (λ refusal. OfSegment bytes.now (λ lexemes. IsPartUnread begins lexemes refusal)) }
 {
     HoaKind::goes_on_one_way();
     cuts_are_one::<HoaKind>();

@@ -1,9 +1,11 @@
-ghost use Rattle.std.specs.Prelude.{◌≡◌, ◌≤◌, [], drop, length, slice_get, option_map, true, false, IfNone, IfSome, IsTrue};
+ghost use Rattle.std.specs.Prelude.{◌≡◌, ◌≤◌, [], drop, length, slice_get};
+ghost use Rattle.std.specs.Prelude.{option_map, true, false, IfNone, IfSome, IsTrue};
 ghost use Rattle.omega_text.specs.Cursor.{next_place};
 ghost use Rattle.omega_text.specs.Format.{IsPartAfter};
 ghost use Rattle.omega_text.specs.Lexeme.{lexeme_of};
 ghost use Rattle.omega_text.specs.hoa.Cut.{Follows};
-ghost use Rattle.omega_hoa.specs.private.Ahead.{Ahead, Ahead-prop, IsFront, NoneFollows, is_last, token_ahead};
+ghost use Rattle.omega_hoa.specs.private.Ahead.{Ahead, Ahead-prop, IsFront};
+ghost use Rattle.omega_hoa.specs.private.Ahead.{NoneFollows, is_last, token_ahead};
 
 use omega_text::laws::cut_or_fault;
 use omega_text::{HoaKind, Span, Token, TokenKind, TokenSource};
@@ -22,7 +24,8 @@ pub(crate) struct SegmentCursor<'a> {
     span: Span,
     value: u32,
     kind: Option<HoaKind>,
-    ghost ahead: { Ahead source.now (token_ahead kind text.now value span) span.start } by { Ahead-prop source.now (token_ahead kind text.now value span) span.start },
+    ghost ahead: { Ahead source.now (token_ahead kind text.now value span)
+        span.start } by { Ahead-prop source.now (token_ahead kind text.now value span) span.start },
     ghost place: { span.start ≡ next_place ahead.front.0 ahead.front.1 },
 }
 

@@ -1,4 +1,5 @@
-ghost use Rattle.std.specs.Prelude.{◌≡◌, ◌≢◌, ◌+◌, ◌<◌, ◌≤◌, ◌++◌, [], List, ℕ, None, Some, Err, drop, length, vec_len, IfErr, IfOk, IfSome, OnOk, ◌⊎◌};
+ghost use Rattle.std.specs.Prelude.{◌≡◌, ◌≢◌, ◌+◌, ◌<◌, ◌≤◌, ◌++◌, [], List, ℕ, None, Some};
+ghost use Rattle.std.specs.Prelude.{Err, drop, length, vec_len, IfErr, IfOk, IfSome, OnOk, ◌⊎◌};
 ghost use Rattle.omega_text.specs.Limits.{most_text};
 ghost use Rattle.omega_text.specs.declared.refusal.Refusal.TheVariants.{Memory, Text};
 ghost use Rattle.omega_text.specs.declared.refusal.text.TextFault.TheVariants.{TooLong};
@@ -72,14 +73,15 @@ impl Stream {
     /// A piece is kept until its segments have ended. Each byte is scanned once, and those of a segment that ends once
     /// more.
     pub fn feed(&mut self, piece: &[u8], out: &mut Vec<Item>) -> Result<(), Refusal>
-        ensures refused_before { IfSome self.old.refused
-            (λ refusal. (result ≡ Err refusal) × (self.new ≡ self.old) × (out.new.items ≡ out.old.items)) }
+        ensures refused_before { IfSome self.old.refused (λ refusal. (result ≡ Err refusal)
+            × (self.new ≡ self.old) × (out.new.items ≡ out.old.items)) }
         ensures too_long { self.old.refused ≡ None
             → most_text < self.old.begins + length self.old.bytes + length piece.now
             → (result ≡ Err (Text TooLong))
             × (self.new ≡ record self.old { refused = Some (Text TooLong) })
             × (out.new.items ≡ out.old.items) }
-        ensures memory { result ≡ Err Memory → (self.new ≡ self.old) × (out.new.items ≡ out.old.items) }
+        ensures memory { result ≡ Err Memory
+            → (self.new ≡ self.old) × (out.new.items ≡ out.old.items) }
         ensures taken { (result ≡ Err Memory → ⊥)
             → (given : List Item)
             × (out.new.items ≡ out.old.items ++ given)
@@ -88,7 +90,8 @@ impl Stream {
             → self.old.begins + length self.old.bytes + length piece.now ≤ most_text
             → IfErr result (IsRefusedWith self.old piece.now out.old.items out.new.items) }
         ensures ok { OnOk result (self.new.refused ≡ None) }
-        ensures kept { IfErr result (λ refusal. (refusal ≡ Memory) ⊎ (self.new.refused ≡ Some refusal)) }
+        ensures kept { IfErr result
+            (λ refusal. (refusal ≡ Memory) ⊎ (self.new.refused ≡ Some refusal)) }
     {
         match self.refused {
             Some(refusal) => Err(refusal),
@@ -129,14 +132,16 @@ impl Stream {
             → (result ≡ Err (Text TooLong))
             × (self.new ≡ record self.old { refused = Some (Text TooLong) })
             × (out.new.items ≡ out.old.items) }
-        ensures memory { result ≡ Err Memory → (self.new ≡ self.old) × (out.new.items ≡ out.old.items) }
+        ensures memory { result ≡ Err Memory
+            → (self.new ≡ self.old) × (out.new.items ≡ out.old.items) }
         ensures taken { (result ≡ Err Memory → ⊥)
             → AppendsItems self.old piece.now out.old.items out.new.items self.new }
         ensures extends { (result ≡ Err Memory → ⊥) → Extends out.old.items out.new.items }
         ensures refused { self.old.begins + length self.old.bytes + length piece.now ≤ most_text
             → IfErr result (IsRefusedWith self.old piece.now out.old.items out.new.items) }
         ensures ok { OnOk result (self.new.refused ≡ None) }
-        ensures kept { IfErr result (λ refusal. (refusal ≡ Memory) ⊎ (self.new.refused ≡ Some refusal)) }
+        ensures kept { IfErr result
+            (λ refusal. (refusal ≡ Memory) ⊎ (self.new.refused ≡ Some refusal)) }
     {
         HoaKind::goes_on_one_way();
         let held = self.bytes.len();
@@ -194,8 +199,10 @@ fn read_piece(
 ) -> Result<ReadProgress, Refusal>
     requires within { from ≤ length bytes.now }
     requires so_far { IsProgressSome bytes.now first from progress }
-    ensures read { IfOk result (IsReadAs bytes.now first from (length bytes.now) progress out.old.items out.new.items) }
-    ensures refused { IfErr result (IsRefusedFrom bytes.now first from progress out.old.items out.new.items) }
+    ensures read { IfOk result
+        (IsReadAs bytes.now first from (length bytes.now) progress out.old.items out.new.items) }
+    ensures refused { IfErr result
+        (IsRefusedFrom bytes.now first from progress out.old.items out.new.items) }
     ensures memory { result ≡ Err Memory → out.new.items ≡ out.old.items }
     ensures extends { (result ≡ Err Memory → ⊥) → Extends out.old.items out.new.items }
 {

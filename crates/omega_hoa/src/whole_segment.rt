@@ -4,7 +4,7 @@ ghost use Rattle.omega_hoa.specs.private.dividing.Next.{IsProgressSome, IsWholeR
 use crate::division::Division;
 use crate::progress::ReadProgress;
 use crate::segment::read_front;
-use omega_automaton::Automaton;
+use omega_hoa_automaton::Automaton;
 use omega_text::{ByteTokenizer, HoaKind, HoaTokenizer, TokenKind};
 use std::alloc::Global;
 
@@ -33,8 +33,8 @@ pub(crate) fn read_whole(
     requires so_far { IsProgressSome bytes.now first place progress.now }
     ensures forward { IfSome result (λ whole. place < whole.end) }
     ensures end { IfSome result (λ whole. whole.end ≤ length bytes.now) }
-    ensures read { IfSome result
-        (λ whole. IsWholeRead bytes.now first place progress.now whole.automaton whole.end whole.progress) }
+    ensures read { IfSome result (λ whole.
+        IsWholeRead bytes.now first place progress.now whole.automaton whole.end whole.progress) }
 {
     if first + place != progress.division.begins {
         return None;

@@ -22,5 +22,6 @@ abbrev pub IsTransferRefusal : Refusal → Type 0
 IsTransferRefusal = or_memory (or_io never)
 
 -- which stream failed, and why, if the system tells: the output if one of its writes did, else the input
-abbrev pub failure_of : (read : Option Reason) → (failed_writes : ℕ) → (written : Option Reason) → Failure
+abbrev pub failure_of : (read : Option Reason) → (failed_writes : ℕ)
+    → (written : Option Reason) → Failure
 failure_of read failed_writes written = if failed_writes == 0 then Reading read else Writing written

@@ -16,7 +16,8 @@ lines_in name refusal = line_of refusal ++ (codes "omega: in the " ++ (name ++ c
 -- the lines for the refusal of a file: the line of the refusal, and if it could not be read another with the name and
 -- the reason, if there is one
 abbrev pub file_lines : List ℕ → Option Reason → Refusal → List ℕ
-file_lines name reason Io = line_of Io ++ (codes "omega: cannot read '" ++ (name ++ (codes "'" ++ because reason)))
+file_lines name reason Io =
+    line_of Io ++ (codes "omega: cannot read '" ++ (name ++ (codes "'" ++ because reason)))
 file_lines name reason refusal = line_of refusal
 
 -- the line that says which stream failed, and why, if there is a reason

@@ -32,8 +32,10 @@ abbrev pub ReadsFrom : {R : Type 0} → input.Ghosts R → (old new : R) → Lis
 ReadsFrom reading old new text = IsRead (reading.remaining old) (reading.remaining new) text
 
 -- the same of a whole text, and this holds of it
-abbrev pub ReadsWholeFrom : {R : Type 0} → input.Ghosts R → (old new : R) → (List ℕ → Type 0) → Type 0
-ReadsWholeFrom reading old new Holds = ReadsWhole (reading.remaining old) (reading.remaining new) Holds
+abbrev pub ReadsWholeFrom : {R : Type 0} → input.Ghosts R → (old new : R)
+    → (List ℕ → Type 0) → Type 0
+ReadsWholeFrom reading old new Holds =
+    ReadsWhole (reading.remaining old) (reading.remaining new) Holds
 
 -- the same of a text up to the end or past the limit, and this holds of it
 abbrev pub ReadsTextFrom : {R : Type 0} → input.Ghosts R → (old new : R) → (List ℕ → Type 0) → Type 0

@@ -3,7 +3,11 @@ use Rattle.std.specs.Prelude.{◌++◌, ℕ, List, Option, Some, None, codes}
 use Rattle.std.specs.declared.io.ErrorKind.{ErrorKind}
 use Rattle.std.specs.declared.io.ErrorKind.TheVariants as kind
 use Rattle.omega_io.specs.declared.reason.Reason.{Reason}
-use Rattle.omega_io.specs.declared.reason.Reason.TheVariants.{BrokenPipe, FileTooLarge, FilesystemLoop, Interrupted, InvalidFilename, IsADirectory, NotADirectory, NotFound, PermissionDenied, QuotaExceeded, ReadOnlyFilesystem, StorageFull, TimedOut}
+use Rattle.omega_io.specs.declared.reason.Reason.TheVariants.{BrokenPipe, FileTooLarge, FilesystemLoop}
+use Rattle.omega_io.specs.declared.reason.Reason.TheVariants.{Interrupted, InvalidFilename, IsADirectory}
+use Rattle.omega_io.specs.declared.reason.Reason.TheVariants.{NotADirectory, NotFound, PermissionDenied}
+use Rattle.omega_io.specs.declared.reason.Reason.TheVariants.{QuotaExceeded, ReadOnlyFilesystem, StorageFull}
+use Rattle.omega_io.specs.declared.reason.Reason.TheVariants.{TimedOut}
 
 -- the reason of an error of this kind, if it has a name
 abbrev pub reason_of : ErrorKind → Option Reason

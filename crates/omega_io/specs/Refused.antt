@@ -24,4 +24,5 @@ IsAbout none file input (Some Input) refusal = input refusal
 
 -- one of two texts is refused so, or memory is
 abbrev pub IsRefusedOf : (file input : Refusal → Type 0) → Refused → Type 0
-IsRefusedOf file input refused = IsAbout (λ refusal. refusal ≡ Memory) file input refused.text refused.refusal
+IsRefusedOf file input refused =
+    IsAbout (λ refusal. refusal ≡ Memory) file input refused.text refused.refusal

@@ -39,7 +39,8 @@ pub fn read_piece<R: Input>(input: &mut R, total: usize, piece: &mut [u8]) -> Re
     requires room { 0 < length piece.old }
     ensures bound { IfOk result (λ count. count ≤ length piece.new) }
     ensures limit { IfOk result (λ count. total + count ≤ most_text + 1) }
-    ensures consumed { IfOk result (λ count. ConsumesFrom R.Input input.old input.new (take count piece.new)) }
+    ensures consumed { IfOk result
+        (λ count. ConsumesFrom R.Input input.old input.new (take count piece.new)) }
     ensures end { IfOk result (λ count. count ≡ 0 → IsAtEnd (R.remaining input.new)) }
     ensures counted { R.failed input.new ≡ R.failed input.old + failures_of result }
     ensures io { IsOkUnless result Refusal.Io }

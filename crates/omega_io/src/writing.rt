@@ -10,7 +10,8 @@ use omega_text::Refusal;
 pub fn write_text<W: Output>(output: &mut W, text: &[u8]) -> Result<(), Refusal>
     requires { W.failed output.old < 2 ^ 64 - 1 }
     ensures whole { OnOk result (Appends (W.contents output.old) (W.contents output.new) text.now) }
-    ensures beginning { OnErr result (WritesBeginning (W.contents output.old) (W.contents output.new) text.now) }
+    ensures beginning { OnErr result
+        (WritesBeginning (W.contents output.old) (W.contents output.new) text.now) }
     ensures counted { W.failed output.new ≡ W.failed output.old + failures_of result }
     ensures io { IsOkUnless result Refusal.Io }
 {

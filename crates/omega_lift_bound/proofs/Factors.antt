@@ -1,10 +1,10 @@
 -- The bound as a product over the priorities counted.
 use Rattle.std.proofs.Common.{◌≡◌, ℕ, ◌+◌, ◌<◌, ◌⊎◌, inl, inr, Bool, true, false, cond, List, [], ◌∷◌, map, refl, sym, ap, ap₂, ◌*◌, ◌∙◌, arith}
 use Rattle.std.proofs.lemmas.Bool.{cases_Bool}
-use Rattle.omega_parity_game.specs.declared.player.Player.{Player}
-use Rattle.omega_parity_game.specs.declared.priority_counts.PriorityCount.{PriorityCount}
-use Rattle.omega_parity_game.specs.Player.{loses}
-use Rattle.omega_parity_game.specs.Bound.{occurrences, priorities_in_use, priority_counts, product, product_of}
+use Rattle.omega_game_values.specs.declared.player.Player.{Player}
+use Rattle.omega_game_values.specs.declared.priority_counts.PriorityCount.{PriorityCount}
+use Rattle.omega_game_values.specs.Player.{loses}
+use Rattle.omega_game_values.specs.Bound.{occurrences, priorities_in_use, priority_counts, product, product_of}
 use Rattle.omega_lift_bound.specs.private.Factors.{factor_of}
 use Rattle.omega_lift_bound.proofs.Products.{product_kept}
 

@@ -2,7 +2,7 @@
 use Rattle.std.proofs.Common.{◌≡◌, ℕ, ◌+◌, ◌*◌, ◌<◌, ◌≤◌, Bool, true, false, cond, List, [], ◌∷◌, length, map, filter, drop, get_or, refl, sym, ap, ◌∙◌, arith}
 use Rattle.std.proofs.Math.Nat.{mul-le-mul_left, mul_assoc}
 use Rattle.std.proofs.lemmas.List.{drop_more}
-use Rattle.omega_parity_game.specs.Bound.{product}
+use Rattle.omega_game_values.specs.Bound.{product}
 
 -- numbers above 0 have a product above 0
 positive : (a b : ℕ) → 0 < a → 0 < b → 0 < a * b

@@ -4,4 +4,4 @@
 mod bounds;
 
 pub use bounds::bound;
-pub use omega_parity_game::{ForwardGame, Player};
+pub use omega_game_values::{ForwardGame, Player};

@@ -6,11 +6,11 @@ use Rattle.std.proofs.lemmas.Cmp.{nat_list_cmp_total}
 use Rattle.std.proofs.lemmas.Bool.{cases_eq, cases_lt}
 use Rattle.std.proofs.lemmas.List.{length-map, get_or_past, get_or_default}
 use Rattle.std.proofs.lemmas.Option.{slice_get_within, get_or_from_slice_get, slice_get-get_or}
-use Rattle.omega_parity_game.specs.declared.player.Player.{Player}
-use Rattle.omega_parity_game.specs.declared.player.Player.TheVariants.{Zero, One}
-use Rattle.omega_parity_game.specs.Game.{Node, IsGame, HasEdge, owner_at, priority_at, priorities, successors_at}
-use Rattle.omega_parity_game.specs.Winning.{Chooses, IsStrategy, IsWalk, IsClosedWalk, Leaves, Wins, end_of, greatest_on}
-use Rattle.omega_parity_game.specs.Player.{loses}
+use Rattle.omega_game_values.specs.declared.player.Player.{Player}
+use Rattle.omega_game_values.specs.declared.player.Player.TheVariants.{Zero, One}
+use Rattle.omega_game_values.specs.Game.{Node, IsGame, HasEdge, owner_at, priority_at, priorities, successors_at}
+use Rattle.omega_game_values.specs.Winning.{Chooses, IsStrategy, IsWalk, IsClosedWalk, Leaves, Wins, end_of, greatest_on}
+use Rattle.omega_game_values.specs.Player.{loses}
 use Rattle.omega_lift_laws.specs.Measure.{Measure, IsAtMost, compare, compare_from, entries_from}
 use Rattle.omega_lift_laws.specs.Allowance.{IsAllowanceOf, IsLiftValue, measure_at, suffices}
 use Rattle.omega_lift_laws.specs.Least.{least_sufficient}

@@ -4,8 +4,8 @@ use Rattle.std.specs.Cmp.Lexicographic.{slice_cmp}
 use Rattle.std.specs.Option.{option_map_or}
 use Rattle.std.specs.Ordering.{nat_cmp, ordering_then}
 use Rattle.std.proofs.lemmas.Bool.{ltb-true, ltb-false}
-use Rattle.omega_parity_game.specs.declared.player.Player.{Player}
-use Rattle.omega_parity_game.specs.Bound.{occurrences, losing_priorities}
+use Rattle.omega_game_values.specs.declared.player.Player.{Player}
+use Rattle.omega_game_values.specs.Bound.{occurrences, losing_priorities}
 use Rattle.omega_lift_laws.specs.Measure.{Measure, IsMeasure, compare}
 use Rattle.omega_lift_laws.specs.Least.{limits_of, cleared_after, raised}
 use Rattle.omega_lift_laws.proofs.Order.{HeadsCompare, cases_heads, less_or_greater, cmp_greater, cmp_same}

@@ -4,9 +4,9 @@ use Rattle.std.specs.Cmp.Lexicographic.{slice_cmp}
 use Rattle.std.specs.Ordering.{nat_cmp, ordering_then}
 use Rattle.std.proofs.lemmas.Bool.{cases_lt, cases_eq, cond-true, le-leb, lt-leb, lt-ltb, eq-eqb}
 use Rattle.std.proofs.lemmas.List.Sums.{sum_by-cons, get_or-le-sum_by}
-use Rattle.omega_parity_game.specs.declared.player.Player.{Player}
-use Rattle.omega_parity_game.specs.Bound.{occurrences, below_falling, priorities_in_use, greatest, losing_priorities}
-use Rattle.omega_parity_game.specs.Player.{loses}
+use Rattle.omega_game_values.specs.declared.player.Player.{Player}
+use Rattle.omega_game_values.specs.Bound.{occurrences, below_falling, priorities_in_use, greatest, losing_priorities}
+use Rattle.omega_game_values.specs.Player.{loses}
 use Rattle.omega_lift_laws.proofs.Counting.{counted_once}
 use Rattle.omega_lift_laws.proofs.Order.{HeadsCompare, cases_heads, less_or_greater, cmp_greater}
 

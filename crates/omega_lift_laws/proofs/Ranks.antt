@@ -2,8 +2,8 @@
 use Rattle.std.proofs.Common.{◌≡◌, ℕ, ◌+◌, ◌*◌, ◌<◌, ◌≤◌, None, Some, List, [], ◌∷◌, map, IsSome, Ordering, Greater, inl, inr, refl, sym, ap, ◌∙◌, arith, mul-le-mul_left}
 use Rattle.std.specs.Cmp.Lexicographic.{slice_cmp}
 use Rattle.std.specs.Ordering.{nat_cmp}
-use Rattle.omega_parity_game.specs.declared.player.Player.{Player}
-use Rattle.omega_parity_game.specs.Bound.{occurrences, losing_priorities, product, product_of}
+use Rattle.omega_game_values.specs.declared.player.Player.{Player}
+use Rattle.omega_game_values.specs.Bound.{occurrences, losing_priorities, product, product_of}
 use Rattle.omega_lift_laws.specs.Measure.{Measure, IsMeasure, IsAbove, mixed_radix, rank}
 use Rattle.omega_lift_laws.specs.Laws.{RanksAreBounded}
 use Rattle.omega_lift_laws.proofs.Order.{HeadsCompare, cases_heads, less_or_greater}

@@ -4,9 +4,9 @@ use Rattle.std.proofs.lemmas.Bool.{cases_eq, cases_lt, leb-true, le-leb}
 use Rattle.std.proofs.lemmas.Bool.Decides.{Decides-and, Decides-or, Decides-eqb, Decides-by_or}
 use Rattle.std.proofs.lemmas.List.{get_or_past}
 use Rattle.std.proofs.lemmas.List.Elements.{Decides-contains}
-use Rattle.omega_parity_game.specs.declared.player.Player.{Player}
-use Rattle.omega_parity_game.specs.Game.{Node, IsGame, HasEdge, no_node, priority_at, successors_at}
-use Rattle.omega_parity_game.specs.Winning.{Chooses, IsStrategy, IsWalk, Leaves, end_of, greatest_on}
+use Rattle.omega_game_values.specs.declared.player.Player.{Player}
+use Rattle.omega_game_values.specs.Game.{Node, IsGame, HasEdge, no_node, priority_at, successors_at}
+use Rattle.omega_game_values.specs.Winning.{Chooses, IsStrategy, IsWalk, Leaves, end_of, greatest_on}
 
 -- steps lead from a to b by way of places below k alone
 abbrev pub Joined : (ℕ → ℕ → Type 0) → ℕ → ℕ → ℕ → Type 0

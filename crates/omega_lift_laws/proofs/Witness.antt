@@ -4,11 +4,11 @@ use Rattle.std.specs.Cmp.Lexicographic.{slice_cmp}
 use Rattle.std.specs.Ordering.{nat_cmp}
 use Rattle.std.proofs.lemmas.Bool.{cases_eq, and_from, and_parts, and_right, eq-eqb, false_from_ne_true}
 use Rattle.std.proofs.lemmas.List.{length-map, get_or_default, get_or-map, get_or-replicate, get_or-set_same, get_or-set_other}
-use Rattle.omega_parity_game.specs.declared.player.Player.{Player}
-use Rattle.omega_parity_game.specs.Bound.{occurrences, losing_priorities}
-use Rattle.omega_parity_game.specs.Game.{Node, IsGame, no_node, owner_at, priority_at, priorities, successors_at}
-use Rattle.omega_parity_game.specs.Winning.{Chooses, InRegion, IsStrategy, IsWalk, IsClosedWalk, Leaves, Wins, end_of, greatest_on}
-use Rattle.omega_parity_game.specs.Player.{loses}
+use Rattle.omega_game_values.specs.declared.player.Player.{Player}
+use Rattle.omega_game_values.specs.Bound.{occurrences, losing_priorities}
+use Rattle.omega_game_values.specs.Game.{Node, IsGame, no_node, owner_at, priority_at, priorities, successors_at}
+use Rattle.omega_game_values.specs.Winning.{Chooses, InRegion, IsStrategy, IsWalk, IsClosedWalk, Leaves, Wins, end_of, greatest_on}
+use Rattle.omega_game_values.specs.Player.{loses}
 use Rattle.omega_lift_laws.specs.Measure.{Measure, IsMeasure, IsAtMost, entries_from, zero_measure}
 use Rattle.omega_lift_laws.specs.Allowance.{IsAllowanceOf, IsLiftValue, measure_at, suffices}
 use Rattle.omega_lift_laws.specs.Run.{Lifts, IsLiftingRun, IsTable, zero_table}

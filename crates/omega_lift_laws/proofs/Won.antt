@@ -3,9 +3,9 @@ use Rattle.std.proofs.Common.{◌≡◌, ◌≢◌, ℕ, zero, suc, ◌<◌, ◌
 use Rattle.std.proofs.lemmas.Option.{get_or_from_slice_get, slice_get-get_or, slice_get_within}
 use Rattle.std.proofs.lemmas.Bool.{cases_lt}
 use Rattle.std.proofs.lemmas.List.{length-map}
-use Rattle.omega_parity_game.specs.declared.player.Player.{Player}
-use Rattle.omega_parity_game.specs.Game.{Node, IsGame, owner_at, priority_at, priorities, successors_at}
-use Rattle.omega_parity_game.specs.Winning.{Chooses}
+use Rattle.omega_game_values.specs.declared.player.Player.{Player}
+use Rattle.omega_game_values.specs.Game.{Node, IsGame, owner_at, priority_at, priorities, successors_at}
+use Rattle.omega_game_values.specs.Winning.{Chooses}
 use Rattle.omega_lift_laws.specs.Measure.{Measure, IsAbove, IsAtMost}
 use Rattle.omega_lift_laws.specs.Allowance.{IsAllowanceOf, measure_at}
 use Rattle.omega_lift_laws.specs.Run.{IsTable}

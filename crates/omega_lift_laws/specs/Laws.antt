@@ -1,11 +1,12 @@
 -- The laws of lifting, each the contract of a public function.
-use Rattle.std.specs.Prelude.{◌≡◌, ◌≢◌, ◌==◌, ℕ, ◌<◌, ◌≤◌, ◌⊎◌, IsTrue, IsSome, Option, List, count_by, length}
+use Rattle.std.specs.Prelude.{◌≡◌, ◌≢◌, ◌==◌, ℕ, ◌<◌, ◌≤◌, ◌⊎◌, IsTrue}
+use Rattle.std.specs.Prelude.{IsSome, Option, List, count_by, length}
 use Rattle.std.specs.declared.cmp.Ordering.TheVariants.{Greater, Less}
 use Rattle.std.specs.Cmp.{IsTotalOrder}
-use Rattle.omega_parity_game.specs.declared.player.Player.{Player}
-use Rattle.omega_parity_game.specs.Bound.{bound_of, product_of}
-use Rattle.omega_parity_game.specs.Game.{Node, IsGame, priorities}
-use Rattle.omega_parity_game.specs.Winning.{IsStrategy, Wins, InRegion}
+use Rattle.omega_game_values.specs.declared.player.Player.{Player}
+use Rattle.omega_game_values.specs.Bound.{bound_of, product_of}
+use Rattle.omega_game_values.specs.Game.{Node, IsGame, priorities}
+use Rattle.omega_game_values.specs.Winning.{IsStrategy, Wins, InRegion}
 use Rattle.omega_lift_laws.specs.Measure.{Measure, IsMeasure, IsAbove, IsAtMost, compare, compare_from, rank}
 use Rattle.omega_lift_laws.specs.Allowance.{IsAllowance, measure_at, suffices}
 use Rattle.omega_lift_laws.specs.Least.{least_sufficient}
@@ -18,15 +19,15 @@ MeasuresAreOrdered = IsTotalOrder compare
 
 -- comparing fewer entries only forgets: a measure that is at most another stays so
 abbrev pub CoarseningForgets : Type 0
-CoarseningForgets =
-    (player : Player) (priorities : List ℕ) (p q : ℕ) (x y : Measure)
-    → p ≤ q → compare_from player priorities p x y ≢ Greater → compare_from player priorities q x y ≢ Greater
+CoarseningForgets = (player : Player) (priorities : List ℕ) (p q : ℕ) (x y : Measure)
+    → p ≤ q → compare_from player priorities p x y ≢ Greater
+    → compare_from player priorities q x y ≢ Greater
 
 -- the allowance towards a measure is the least sufficient one
 abbrev pub AllowancesAreLeastSufficient : Type 0
 AllowancesAreLeastSufficient =
-    (player : Player) (priorities : List ℕ) (p : ℕ) (y : Measure)
-    → IsMeasure player priorities y → IsAllowance player priorities p y (least_sufficient player priorities p y)
+    (player : Player) (priorities : List ℕ) (p : ℕ) (y : Measure) → IsMeasure player priorities y
+    → IsAllowance player priorities p y (least_sufficient player priorities p y)
 
 -- there is an allowance towards each measure
 abbrev pub AllowancesExist : Type 0
@@ -50,10 +51,10 @@ AllowancesAreMonotone =
 -- the allowance towards a measure that is greater on the entries for priorities at least p is greater,
 -- if the lesser is below top
 abbrev pub AllowancesAreStrict : Type 0
-AllowancesAreStrict =
-    (player : Player) (priorities : List ℕ) (p : ℕ) (y z x w : Measure)
-    → IsMeasure player priorities y → IsMeasure player priorities z → compare_from player priorities p y z ≡ Less
-    → IsAllowance player priorities p y x → IsAllowance player priorities p z w → IsSome x → IsAbove w x
+AllowancesAreStrict = (player : Player) (priorities : List ℕ) (p : ℕ) (y z x w : Measure)
+    → IsMeasure player priorities y → IsMeasure player priorities z
+    → compare_from player priorities p y z ≡ Less → IsAllowance player priorities p y x
+    → IsAllowance player priorities p z w → IsSome x → IsAbove w x
 
 -- a measure does not suffice exactly if the allowance exceeds it
 abbrev pub AllowancesExceed : Type 0
@@ -64,9 +65,10 @@ AllowancesExceed =
 
 -- the rank of a measure is at most the product, and below it if the measure is below top
 pub record RanksAreBounded : Type 0 where
-  pub all : (player : Player) (priorities : List ℕ) (x : Measure) → IsMeasure player priorities x → rank player priorities x ≤ product_of player priorities
-  pub below_top :
-      (player : Player) (priorities : List ℕ) (x : Measure) → IsMeasure player priorities x → IsSome x
+  pub all : (player : Player) (priorities : List ℕ) (x : Measure) → IsMeasure player priorities x
+      → rank player priorities x ≤ product_of player priorities
+  pub below_top : (player : Player) (priorities : List ℕ) (x : Measure)
+      → IsMeasure player priorities x → IsSome x
       → rank player priorities x < product_of player priorities
 
 -- a measure above another has a greater rank
@@ -78,13 +80,14 @@ RanksRise =
 
 -- the all-zero table is a table
 abbrev pub ZeroTablesAreTables : Type 0
-ZeroTablesAreTables = (player : Player) (priorities : List ℕ) → IsTable player priorities (zero_table player priorities)
+ZeroTablesAreTables = (player : Player) (priorities : List ℕ)
+    → IsTable player priorities (zero_table player priorities)
 
 -- a lifting run leads from a table to a table
 abbrev pub RunsKeepTables : Type 0
-RunsKeepTables =
-    (nodes : List Node) (player : Player) (old new : List Measure) (places : List ℕ)
-    → IsTable player (priorities nodes) old → IsLiftingRun nodes player old places new → IsTable player (priorities nodes) new
+RunsKeepTables = (nodes : List Node) (player : Player) (old new : List Measure) (places : List ℕ)
+    → IsTable player (priorities nodes) old → IsLiftingRun nodes player old places new
+    → IsTable player (priorities nodes) new
 
 -- a lifting run from the all-zero table has at most as many entries as the bound
 abbrev pub RunsAreBounded : Type 0

@@ -1,9 +1,10 @@
 -- The allowance towards a measure, by its entries.
-use Rattle.std.specs.Prelude.{ℕ, zero, suc, ◌-◌, ◌++◌, Option, Some, None, List, [], ◌∷◌, length, map, take, replicate, nat_lt, if◌then◌else◌}
+use Rattle.std.specs.Prelude.{ℕ, zero, suc, ◌-◌, ◌++◌, Option, Some, None, List, []}
+use Rattle.std.specs.Prelude.{◌∷◌, length, map, take, replicate, nat_lt, if◌then◌else◌}
 use Rattle.std.specs.Option.{option_map_or}
-use Rattle.omega_parity_game.specs.declared.player.Player.{Player}
-use Rattle.omega_parity_game.specs.Bound.{occurrences, losing_priorities}
-use Rattle.omega_parity_game.specs.Player.{loses}
+use Rattle.omega_game_values.specs.declared.player.Player.{Player}
+use Rattle.omega_game_values.specs.Bound.{occurrences, losing_priorities}
+use Rattle.omega_game_values.specs.Player.{loses}
 use Rattle.omega_lift_laws.specs.Measure.{Measure, entries_from}
 
 -- the greatest entries of a measure below top: the number of nodes of each losing priority, the greatest priority first
@@ -30,4 +31,5 @@ abbrev pub least_sufficient : Player → List ℕ → ℕ → Measure → Measur
 least_sufficient player priorities p None = None
 least_sufficient player priorities p (Some entries) =
     let kept = entries_from player priorities p in
-    if loses player p then raised kept (limits_of player priorities) entries else Some (cleared_after kept entries)
+    if loses player p then raised kept (limits_of player priorities) entries
+    else Some (cleared_after kept entries)

@@ -1,7 +1,7 @@
 -- The words of lifting, with the words of games that they cite.
-pub use Rattle.omega_parity_game.specs.Game
-pub use Rattle.omega_parity_game.specs.Winning
-pub use Rattle.omega_parity_game.specs.Bound
+pub use Rattle.omega_game_values.specs.Game
+pub use Rattle.omega_game_values.specs.Winning
+pub use Rattle.omega_game_values.specs.Bound
 pub mod Measure
 pub mod Allowance
 pub mod Least

@@ -1,12 +1,13 @@
 -- Tables of measures, and runs of lifts in them.
 use Rattle.std.specs.Prelude.{◌≡◌, ℕ, ◌<◌, List, [], ◌∷◌, length, replicate, slice_set}
-use Rattle.omega_parity_game.specs.declared.player.Player.{Player}
-use Rattle.omega_parity_game.specs.Game.{Node}
+use Rattle.omega_game_values.specs.declared.player.Player.{Player}
+use Rattle.omega_game_values.specs.Game.{Node}
 use Rattle.omega_lift_laws.specs.Measure.{Measure, IsMeasure, IsAbove, zero_measure}
 use Rattle.omega_lift_laws.specs.Allowance.{IsLiftValue, measure_at}
 
 -- lifting v gives it the measure x: its lift value, which exceeds its measure
-pub record Lifts (nodes : List Node) (player : Player) (table : List Measure) (v : ℕ) (x : Measure) : Type 0 where
+pub record Lifts (nodes : List Node) (player : Player) (table : List Measure) (v : ℕ)
+    (x : Measure) : Type 0 where
   pub value : IsLiftValue nodes player table v x
   pub above : IsAbove x (measure_at table v)
 
@@ -21,8 +22,8 @@ IsStable nodes player table = (v : ℕ) → v < length nodes → ¬ IsDue nodes 
 -- a lifting run from one table to another: each place of the list is lifted in the table so far
 abbrev pub IsLiftingRun : List Node → Player → List Measure → List ℕ → List Measure → Type 0
 IsLiftingRun nodes player old [] new = old ≡ new
-IsLiftingRun nodes player old (v ∷ vs) new =
-    (x : Measure) × (v < length nodes) × Lifts nodes player old v x × IsLiftingRun nodes player (slice_set old v x) vs new
+IsLiftingRun nodes player old (v ∷ vs) new = (x : Measure) × (v < length nodes)
+    × Lifts nodes player old v x × IsLiftingRun nodes player (slice_set old v x) vs new
 
 -- the table in which every entry of every measure is 0
 abbrev pub zero_table : Player → List ℕ → List Measure

@@ -1,4 +1,6 @@
-ghost use Rattle.omega_lift_laws.specs.Laws.{AllowancesAreLeastSufficient, AllowancesAreMonotone, AllowancesAreStrict, AllowancesAreUnique, AllowancesExceed, AllowancesExist};
+ghost use Rattle.omega_lift_laws.specs.Laws.{AllowancesAreLeastSufficient, AllowancesAreMonotone};
+ghost use Rattle.omega_lift_laws.specs.Laws.{AllowancesAreStrict, AllowancesAreUnique};
+ghost use Rattle.omega_lift_laws.specs.Laws.{AllowancesExceed, AllowancesExist};
 
 /// States that the allowance towards a measure is the least sufficient one, which is given by its entries.
 pub fn allowances_are_least_sufficient()

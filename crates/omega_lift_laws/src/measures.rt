@@ -1,4 +1,5 @@
-ghost use Rattle.omega_lift_laws.specs.Laws.{CoarseningForgets, MeasuresAreOrdered, RanksAreBounded, RanksRise};
+ghost use Rattle.omega_lift_laws.specs.Laws.{CoarseningForgets, MeasuresAreOrdered};
+ghost use Rattle.omega_lift_laws.specs.Laws.{RanksAreBounded, RanksRise};
 
 /// States that the order of measures is total.
 pub fn measures_are_ordered()

@@ -1,4 +1,5 @@
-ghost use Rattle.omega_lift_laws.specs.Laws.{PlacesAreLiftedBoundedly, RunsAreBounded, RunsKeepTables, ZeroTablesAreTables};
+ghost use Rattle.omega_lift_laws.specs.Laws.{PlacesAreLiftedBoundedly, RunsAreBounded};
+ghost use Rattle.omega_lift_laws.specs.Laws.{RunsKeepTables, ZeroTablesAreTables};
 
 /// States that the all-zero table is a table.
 pub fn zero_tables_are_tables()

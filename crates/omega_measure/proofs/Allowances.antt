@@ -4,14 +4,14 @@ use Rattle.std.specs.Prelude.{◌↔◌, is_none, not, slice_index}
 use Rattle.std.specs.Ordering.{is_gt, is_lt}
 use Rattle.std.specs.declared.cmp.Ordering.TheVariants.{Less, Equal, Greater}
 use Rattle.std.proofs.lemmas.Bool.{false≢true, not-false, cases_Bool}
-use Rattle.omega_parity_game.specs.declared.player.Player.{Player}
-use Rattle.omega_parity_game.specs.Player.{loses}
+use Rattle.omega_game_values.specs.declared.player.Player.{Player}
+use Rattle.omega_game_values.specs.Player.{loses}
 use Rattle.omega_lift_laws.specs.Allowance.{IsAllowance, measure_at, suffices}
 use Rattle.omega_lift_laws.specs.Laws.{AllowancesAreLeastSufficient, AllowancesExceed}
 use Rattle.omega_lift_laws.specs.Least.{least_sufficient, limits_of}
 use Rattle.omega_lift_laws.specs.Measure.{Measure, IsMeasure, compare_from, entries_from}
 use Rattle.omega_measure.specs.private.layout.Due.{is_short}
-use Rattle.omega_measure_rows.specs.Rows.{allowance_of}
+use Rattle.omega_lift_rows.specs.Rows.{allowance_of}
 use Rattle.omega_measure.specs.Table.{Content, Exceeds}
 
 -- to be short is not to suffice

@@ -3,19 +3,19 @@ use Rattle.std.proofs.Common.{◌≡◌, ◌≢◌, ℕ, ◌-◌, ◌*◌, ◌<�
 use Rattle.std.specs.Prelude.{slice_index}
 use Rattle.std.proofs.lemmas.Bool.{cases_eq}
 use Rattle.std.proofs.lemmas.List.{length-map, length-set, get_or-set_same, get_or-set_other, length-replicate, get_or-replicate, take-replicate, drop-replicate}
-use Rattle.omega_parity_game.specs.Bound.{occurrences, losing_priorities}
-use Rattle.omega_parity_game.specs.Player.{loses}
+use Rattle.omega_game_values.specs.Bound.{occurrences, losing_priorities}
+use Rattle.omega_game_values.specs.Player.{loses}
 use Rattle.omega_lift_laws.specs.Allowance.{measure_at}
 use Rattle.omega_lift_laws.specs.Laws.{AllowancesAreLeastSufficient}
 use Rattle.omega_lift_laws.specs.Least.{limits_of}
 use Rattle.omega_lift_laws.specs.Measure.{AreEntries, Measure, IsMeasure, entries_from, zero_measure}
 use Rattle.omega_measure.specs.private.layout.Plain.{AreRows, content_of}
-use Rattle.omega_measure_rows.specs.Rows.{WritesMeasure, allowance_of, measure_in, row_of}
+use Rattle.omega_lift_rows.specs.Rows.{WritesMeasure, allowance_of, measure_in, row_of}
 use Rattle.omega_measure.specs.private.layout.Shape.{Setting, width_of}
 use Rattle.omega_measure.specs.Table.{Content, IsAllowanceIn, Raises, with_measure, zero_content}
 use Rattle.omega_measure.proofs.Allowances.{allowance_is}
 use Rattle.omega_measure.proofs.Measures.{length-listed, listed-same, listed-written, measure_at-listed}
-use Rattle.omega_measure_rows.proofs.RowWrites.{measure_in-below, rows_before}
+use Rattle.omega_lift_rows.proofs.RowWrites.{measure_in-below, rows_before}
 
 pub length-limits : (setting : Setting) → length (limits_of setting.player setting.priorities) ≡ width_of setting.player setting.priorities
 length-limits setting = length-map (losing_priorities setting.player setting.priorities) (occurrences setting.priorities)

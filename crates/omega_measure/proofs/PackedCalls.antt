@@ -5,8 +5,8 @@ use Rattle.std.proofs.lemmas.Bool.{cases_eq}
 use Rattle.std.proofs.lemmas.List.{get_or_default, get_or-map, length-map, length-take, length-drop, length-replicate, get_or-replicate, take-replicate, drop-replicate}
 use Rattle.std.proofs.lemmas.List.Sums.{count_by-le-length}
 use Rattle.std.proofs.Math.Nat.{zero-div, zero-mod}
-use Rattle.omega_parity_game.specs.Bound.{occurrences, losing_priorities}
-use Rattle.omega_parity_game.specs.Player.{loses}
+use Rattle.omega_game_values.specs.Bound.{occurrences, losing_priorities}
+use Rattle.omega_game_values.specs.Player.{loses}
 use Rattle.omega_lift_laws.specs.Allowance.{measure_at}
 use Rattle.omega_lift_laws.specs.Laws.{AllowancesAreLeastSufficient, AllowancesExceed}
 use Rattle.omega_lift_laws.specs.Least.{limits_of}
@@ -15,7 +15,7 @@ use Rattle.omega_measure.specs.declared.field.Field.{Field}
 use Rattle.omega_measure.specs.private.layout.Field.{AreAtMost, AreFields, ArePacked, IsInside, IsPackedRow, field_places, digit_in, digits_in, entry_limits, front_order, last_field, limits_in, measure_of, top_field, value, word_places}
 use Rattle.omega_measure.specs.private.layout.Due.{is_short}
 use Rattle.omega_measure.specs.private.layout.Packed.{ArePackedRows, HoldsAllowance, packed_content, packed_measure}
-use Rattle.omega_measure_rows.specs.Rows.{AreAtLimits, IsLastBelow, WritesRow, allowance_of, compare_kept, row_of}
+use Rattle.omega_lift_rows.specs.Rows.{AreAtLimits, IsLastBelow, WritesRow, allowance_of, compare_kept, row_of}
 use Rattle.omega_measure.specs.private.layout.Shape.{Setting, width_of}
 use Rattle.omega_measure.specs.Table.{Content, Exceeds, IsAllowanceIn, Raises, with_measure, zero_content}
 use Rattle.omega_measure.proofs.Allowances.{allowance_is, due_from}
@@ -23,7 +23,7 @@ use Rattle.omega_measure.proofs.Digits.{value-zeros}
 use Rattle.omega_measure.proofs.Measures.{length-listed, listed-same, listed-written, measure_at-listed}
 use Rattle.omega_measure.proofs.PackedMeasures.{AreDigits, IsMeasure-digits, allowance-cleared, allowance-raised, compare-digits, flag_is}
 use Rattle.omega_measure.proofs.PackedRows.{at_most_at, at_most_zeros, fields_inside, digits-new_row, front_order-digits, length-digits, limits_packed, packed-new_row, word_small}
-use Rattle.omega_measure_rows.proofs.RowWrites.{rows_before}
+use Rattle.omega_lift_rows.proofs.RowWrites.{rows_before}
 
 -- ---- one row
 

@@ -7,15 +7,15 @@ use Rattle.std.specs.Cmp.Lexicographic.{slice_cmp}
 use Rattle.std.proofs.lemmas.Cmp.{nat_list_cmp_total, tied_itself}
 use Rattle.std.proofs.lemmas.Grind.{same_number_lists}
 use Rattle.std.proofs.lemmas.List.{get_or-map, length-map}
-use Rattle.omega_parity_game.specs.Bound.{occurrences, losing_priorities}
-use Rattle.omega_parity_game.specs.declared.player.Player.{Player}
+use Rattle.omega_game_values.specs.Bound.{occurrences, losing_priorities}
+use Rattle.omega_game_values.specs.declared.player.Player.{Player}
 use Rattle.omega_lift_laws.specs.Least.{limits_of, raised}
 use Rattle.omega_lift_laws.specs.Measure.{IsMeasure, Measure}
 use Rattle.omega_measure.specs.private.layout.Field.{AreAtMost, measure_of}
-use Rattle.omega_measure_rows.specs.Rows.{IsLastBelow, allowance_of, compare_kept}
+use Rattle.omega_lift_rows.specs.Rows.{IsLastBelow, allowance_of, compare_kept}
 use Rattle.omega_measure.proofs.Digits.{nat_cmp-greater, nat_cmp-less}
 use Rattle.omega_measure.proofs.PackedRows.{at_most_at, length-at_most}
-use Rattle.omega_measure_rows.proofs.Raising.{raised_some}
+use Rattle.omega_lift_rows.proofs.Raising.{raised_some}
 
 -- digits of a row: a flag of at most 1 and entries at most their limits, all 0 if the flag is set
 pub record AreDigits (limits ds : List ℕ) : Type 0 where

@@ -2,13 +2,13 @@
 use Rattle.std.proofs.Common.{◌≡◌, ℕ, ◌<◌, Bool, true, false, cond, List, Some, None, Ordering, length, get_or, sym, refl, ap, ◌∙◌, subst, arith}
 use Rattle.std.specs.Prelude.{◌↔◌, slice_index}
 use Rattle.std.specs.declared.cmp.Ordering.TheVariants.{Greater}
-use Rattle.omega_parity_game.specs.Player.{loses}
+use Rattle.omega_game_values.specs.Player.{loses}
 use Rattle.omega_lift_laws.specs.Allowance.{measure_at}
 use Rattle.omega_lift_laws.specs.Laws.{AllowancesAreLeastSufficient, AllowancesExceed}
 use Rattle.omega_lift_laws.specs.Measure.{Measure, compare, compare_from, entries_from}
 use Rattle.omega_measure.specs.private.layout.Due.{is_short}
 use Rattle.omega_measure.specs.private.layout.Plain.{AreRows, content_of}
-use Rattle.omega_measure_rows.specs.Rows.{compare_kept, measure_in}
+use Rattle.omega_lift_rows.specs.Rows.{compare_kept, measure_in}
 use Rattle.omega_measure.specs.private.layout.Shape.{Setting, width_of}
 use Rattle.omega_measure.specs.Table.{Content, Exceeds}
 use Rattle.omega_measure.proofs.Allowances.{due_from}

@@ -2,8 +2,8 @@
 use Rattle.std.proofs.Common.{◌≡◌, ℕ, ◌+◌, ◌<◌, List, [], ◌∷◌, ◌++◌, length, get_or, take, sym, ap, ◌∙◌, arith}
 use Rattle.std.specs.Prelude.{map}
 use Rattle.std.proofs.lemmas.List.{get_or_default, get_or-map, length-map, map-append, take_more}
-use Rattle.omega_parity_game.specs.Game.{Node, no_node, priorities, priority_at}
-use Rattle.omega_parity_game.specs.declared.player.Player.{Player}
+use Rattle.omega_game_values.specs.Game.{Node, no_node, priorities, priority_at}
+use Rattle.omega_game_values.specs.declared.player.Player.{Player}
 use Rattle.omega_lift_laws.specs.Measure.{entries_from}
 use Rattle.omega_measure.specs.private.layout.Falling.{count_from}
 use Rattle.omega_measure.specs.private.layout.Shape.{IsShape}

@@ -1,13 +1,13 @@
 -- Tables of measures: their content, the games that are too wide for one, and how a measure is raised.
 use Rattle.std.specs.Prelude.{◌≡◌, ℕ, ◌*◌, Bool, true, List, length, nat_lt, slice_set, slice_index}
-use Rattle.omega_parity_game.specs.declared.player.Player.{Player}
-use Rattle.omega_parity_game.specs.Bound.{losing_priorities}
+use Rattle.omega_game_values.specs.declared.player.Player.{Player}
+use Rattle.omega_game_values.specs.Bound.{losing_priorities}
 use Rattle.omega_lift_laws.specs.Measure.{Measure, IsAbove}
 use Rattle.omega_lift_laws.specs.Allowance.{IsAllowance, measure_at}
 use Rattle.omega_lift_laws.specs.Run.{zero_table}
 use Rattle.omega_text.specs.Cases.{never, or_memory, or_task}
-use Rattle.omega_parity_game.specs.declared.Refusal.{Refusal}
-use Rattle.omega_parity_game.specs.declared.TaskFault.TheVariants.{TooWide}
+use Rattle.omega_game_values.specs.declared.Refusal.{Refusal}
+use Rattle.omega_game_values.specs.declared.TaskFault.TheVariants.{TooWide}
 use Rattle.omega_measure.specs.Limits.{most_cells}
 
 -- the content of a table: the player, the nodes' priorities by place, and a measure for each place
@@ -30,8 +30,8 @@ with_measure content v x = record content { measures = slice_set content.measure
 
 -- x is the allowance of the node at v towards the node at w
 abbrev pub IsAllowanceIn : Content → ℕ → ℕ → Measure → Type 0
-IsAllowanceIn content v w x =
-    IsAllowance content.player content.priorities (slice_index content.priorities v) (measure_at content.measures w) x
+IsAllowanceIn content v w x = IsAllowance content.player content.priorities
+    (slice_index content.priorities v) (measure_at content.measures w) x
 
 -- the allowance of the node at v towards the node at w exceeds the measure of v
 pub record Exceeds (content : Content) (v w : ℕ) : Type 0 where

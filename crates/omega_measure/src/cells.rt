@@ -1,12 +1,12 @@
 //! Whether a table of measures has no more cells than a table may have.
 ghost use Rattle.std.specs.Prelude.{◌≡◌, ◌*◌, ◌<◌, ◌≤◌, count_by, false, nat_lt, not};
-ghost use Rattle.omega_parity_game.specs.Game.{priorities};
-ghost use Rattle.omega_parity_game.specs.Player.{loses};
+ghost use Rattle.omega_game_values.specs.Game.{priorities};
+ghost use Rattle.omega_game_values.specs.Player.{loses};
 ghost use Rattle.omega_measure.specs.Limits.{most_cells};
 ghost use Rattle.omega_measure.specs.Table.{is_too_wide};
 
 use crate::limits::MOST_CELLS;
-use omega_parity_game::{ForwardGame, Player, PriorityCount};
+use omega_game_values::{ForwardGame, Player, PriorityCount};
 
 /// Whether a table of the measures of `player` over `game` has at most `MOST_CELLS` cells. Requests no memory, and
 /// takes a step for each priority in use.

@@ -2,7 +2,7 @@ ghost use Rattle.std.specs.Prelude.{◌≡◌, ◌+◌, ◌-◌, ◌*◌, ◌<�
 ghost use Rattle.omega_measure.specs.private.layout.Field.{ArePacked, FollowsField, last_field, top_field};
 
 use crate::field::Field;
-use omega_parity_game::Refusal;
+use omega_game_values::Refusal;
 use std::alloc::Global;
 
 /// Lays out the fields of a row: the flag for top, and then an entry for each of `limits`.
@@ -43,7 +43,8 @@ fn next(before: Field, limit: u32) -> Field
     ensures word { result.word ≤ before.word + 1 }
     ensures room { result.bits ≤ before.shift
         → (result.word ≡ before.word) × (result.shift + result.bits ≡ before.shift) }
-    ensures full { before.shift < result.bits → (result.word ≡ before.word + 1) × (result.shift + result.bits ≡ 64) }
+    ensures full { before.shift < result.bits
+        → (result.word ≡ before.word + 1) × (result.shift + result.bits ≡ 64) }
 {
     let bits = 32 - limit.leading_zeros();
     if bits <= before.shift {

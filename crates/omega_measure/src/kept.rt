@@ -1,9 +1,9 @@
 ghost use Rattle.std.specs.Prelude.{◌≡◌, ◌≤◌, length, map, IfOk, IsOkUnless};
 ghost use Rattle.omega_measure.specs.Limits.{most_cells};
-ghost use Rattle.omega_parity_game.specs.Bound.{IsStrictlyFalling};
+ghost use Rattle.omega_game_values.specs.Bound.{IsStrictlyFalling};
 ghost use Rattle.omega_measure.specs.private.layout.Falling.{count_from};
 
-use omega_parity_game::Refusal;
+use omega_game_values::Refusal;
 use std::alloc::Global;
 
 /// Counts the falling `numbers` that are at least `p`.
@@ -22,7 +22,8 @@ pub(crate) fn kept_of(
 ) -> Result<Vec<u32>, Refusal>
     requires falling { IsStrictlyFalling losing.now }
     requires few { length losing.now ≤ most_cells }
-    ensures kept { IfOk result (λ kept. kept.items ≡ map (λ p. count_from p losing.now) priorities.now) }
+    ensures kept { IfOk result
+        (λ kept. kept.items ≡ map (λ p. count_from p losing.now) priorities.now) }
     ensures memory { IsOkUnless result Refusal.Memory }
 {
     let mut kept = Vec::with_capacity(alloc, priorities.len())?;

@@ -18,7 +18,7 @@ mod words;
 
 pub use cells::fits;
 pub use limits::{MOST_CELLS, measure_limits_are_stated};
-pub use omega_parity_game::{Game, Player, Refusal, TaskFault};
+pub use omega_game_values::{Game, Player, Refusal, TaskFault};
 pub use packed::PackedTable;
 pub use plain::PlainTable;
 pub use table::MeasureTable;

@@ -7,8 +7,8 @@ use crate::fields::fields_of;
 use crate::shape::Shape;
 use crate::table::MeasureTable;
 use crate::words::{compare_at, is_top_at, raise_at};
+use omega_game_values::{Game, Player, Refusal};
 use omega_lift_laws::{allowances_are_least_sufficient, allowances_exceed};
-use omega_parity_game::{Game, Player, Refusal};
 use std::alloc::Global;
 use std::cmp::Ordering;
 use std::marker::Model;
@@ -64,13 +64,13 @@ impl MeasureTable for PackedTable {
 
     #[inline(always)]
     fn compare_for(&self, place: u32, a: u32, b: u32) -> Ordering {
-        let field = self.fields[self.shape.kept(place)];
+        let field = self.fields[self.shape.entries_kept(place)];
         compare_at(&self.words, self.size, field, a as usize, b as usize)
     }
 
     #[inline(always)]
     fn due(&self, v: u32, w: u32) -> bool {
-        let field = self.fields[self.shape.kept(v)];
+        let field = self.fields[self.shape.entries_kept(v)];
         let order = compare_at(&self.words, self.size, field, v as usize, w as usize);
         let top = is_top_at(&self.words, self.size, &self.fields, v as usize);
         allowances_are_least_sufficient();
@@ -80,7 +80,7 @@ impl MeasureTable for PackedTable {
 
     #[inline(always)]
     fn raise(&mut self, v: u32, w: u32) {
-        let kept = self.shape.kept(v);
+        let kept = self.shape.entries_kept(v);
         let strict = self.shape.is_strict(v);
         let size = self.size;
         allowances_are_least_sufficient();

@@ -3,9 +3,9 @@ ghost use Rattle.std.specs.Prelude.{◌≡◌, ℕ, ◌<◌, length};
 use crate::due::is_short;
 use crate::shape::Shape;
 use crate::table::MeasureTable;
+use omega_game_values::{Game, Player, Refusal};
 use omega_lift_laws::{allowances_are_least_sufficient, allowances_exceed};
-use omega_measure_rows::{compare_at, raise_at};
-use omega_parity_game::{Game, Player, Refusal};
+use omega_lift_rows::{compare_at, raise_at};
 use std::alloc::Global;
 use std::cmp::Ordering;
 use std::marker::Model;
@@ -64,7 +64,7 @@ impl MeasureTable for PlainTable {
 
     fn compare_for(&self, place: u32, a: u32, b: u32) -> Ordering {
         let width = self.shape.width();
-        let kept = self.shape.kept(place);
+        let kept = self.shape.entries_kept(place);
         compare_at(
             &self.tops,
             &self.entries,
@@ -77,7 +77,7 @@ impl MeasureTable for PlainTable {
 
     fn due(&self, v: u32, w: u32) -> bool {
         let width = self.shape.width();
-        let kept = self.shape.kept(v);
+        let kept = self.shape.entries_kept(v);
         let order = compare_at(
             &self.tops,
             &self.entries,
@@ -92,7 +92,7 @@ impl MeasureTable for PlainTable {
     }
 
     fn raise(&mut self, v: u32, w: u32) {
-        let kept = self.shape.kept(v);
+        let kept = self.shape.entries_kept(v);
         let strict = self.shape.is_strict(v);
         let limits = self.shape.limits();
         allowances_are_least_sufficient();

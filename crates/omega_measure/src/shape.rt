@@ -1,7 +1,8 @@
-ghost use Rattle.std.specs.Prelude.{◌≡◌, ℕ, ◌*◌, ◌<◌, ◌≤◌, false, length, slice_index, IsOk, IfOk, IfErr, IsOkUnless};
-ghost use Rattle.omega_parity_game.specs.Game.{priorities};
-ghost use Rattle.omega_parity_game.specs.Limits.{most_nodes};
-ghost use Rattle.omega_parity_game.specs.Player.{loses};
+ghost use Rattle.std.specs.Prelude.{◌≡◌, ℕ, ◌*◌, ◌<◌, ◌≤◌, false, length};
+ghost use Rattle.std.specs.Prelude.{slice_index, IsOk, IfOk, IfErr, IsOkUnless};
+ghost use Rattle.omega_game_values.specs.Game.{priorities};
+ghost use Rattle.omega_game_values.specs.Limits.{most_nodes};
+ghost use Rattle.omega_game_values.specs.Player.{loses};
 ghost use Rattle.omega_lift_laws.specs.Least.{limits_of};
 ghost use Rattle.omega_lift_laws.specs.Measure.{entries_from};
 ghost use Rattle.omega_measure.specs.Limits.{most_cells};
@@ -11,7 +12,7 @@ ghost use Rattle.omega_measure.specs.private.layout.Shape.{width_of};
 use crate::cells::is_too_wide;
 use crate::kept::{count_from, kept_of};
 use crate::losing::losing_of;
-use omega_parity_game::{Game, Player, Refusal, TaskFault};
+use omega_game_values::{Game, Player, Refusal, TaskFault};
 use std::alloc::Global;
 use std::marker::Model;
 
@@ -33,14 +34,16 @@ impl Model for Shape {
 
     ghost view = { λ s. record { player = s.player; priorities = s.priorities.items } };
 
-    ghost invariant = { λ s. IsShape s.player s.priorities.items s.losing.items s.limits.items s.kept.items };
+    ghost invariant = { λ s.
+        IsShape s.player s.priorities.items s.losing.items s.limits.items s.kept.items };
 }
 
 impl Shape {
     /// Returns the shape of the measures of `player` over `game`. Fails with [TaskFault::TooWide] if they have more
     /// than `MOST_CELLS` entries in all.
     pub(crate) fn prepare(alloc: Global, game: &Game, player: Player) -> Result<Shape, Refusal>
-        ensures shape { IfOk result (λ shape. shape ≡ record { player = player; priorities = priorities game.now }) }
+        ensures shape { IfOk result
+            (λ shape. shape ≡ record { player = player; priorities = priorities game.now }) }
         ensures fits { IsOk result → is_too_wide player (priorities game.now) ≡ false }
         ensures refused { IfErr result (IsPrepareRefusal player (priorities game.now)) }
     {
@@ -84,9 +87,10 @@ impl Shape {
     }
 
     /// Returns the number of entries for priorities at least that of `place`.
-    pub(crate) fn kept(&self, place: u32) -> usize
+    pub(crate) fn entries_kept(&self, place: u32) -> usize
         requires { place < length self.now.priorities }
-        ensures { result ≡ entries_from self.now.player self.now.priorities (slice_index self.now.priorities place) }
+        ensures { result ≡ entries_from self.now.player self.now.priorities
+            (slice_index self.now.priorities place) }
     {
         self.kept[place as usize] as usize
     }

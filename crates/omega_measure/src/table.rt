@@ -1,10 +1,12 @@
-ghost use Rattle.std.specs.Prelude.{◌≡◌, ◌↔◌, ◌<◌, false, length, slice_index, IsTrue, IsOk, IfOk, IfErr, None};
-ghost use Rattle.omega_parity_game.specs.Game.{priorities};
+ghost use Rattle.std.specs.Prelude.{◌≡◌, ◌↔◌, ◌<◌, false, length, slice_index};
+ghost use Rattle.std.specs.Prelude.{IsTrue, IsOk, IfOk, IfErr, None};
+ghost use Rattle.omega_game_values.specs.Game.{priorities};
 ghost use Rattle.omega_lift_laws.specs.Allowance.{measure_at};
 ghost use Rattle.omega_lift_laws.specs.Measure.{compare_from};
-ghost use Rattle.omega_measure.specs.Table.{Content, Exceeds, IsPrepareRefusal, Raises, is_too_wide, with_measure, zero_content};
+ghost use Rattle.omega_measure.specs.Table.{Content, Exceeds, IsPrepareRefusal, Raises};
+ghost use Rattle.omega_measure.specs.Table.{is_too_wide, with_measure, zero_content};
 
-use omega_parity_game::{Game, Player, Refusal};
+use omega_game_values::{Game, Player, Refusal};
 use std::alloc::Global;
 use std::cmp::Ordering;
 
@@ -19,7 +21,8 @@ pub trait MeasureTable: Drop {
     fn prepare(alloc: Global, game: &Game, player: Player) -> Result<Self, Refusal>
     where
         Self: Sized,
-        ensures zero { IfOk result (λ table. content table ≡ zero_content player (priorities game.now)) }
+        ensures zero { IfOk result
+            (λ table. content table ≡ zero_content player (priorities game.now)) }
         ensures fits { IsOk result → is_too_wide player (priorities game.now) ≡ false }
         ensures refused { IfErr result (IsPrepareRefusal player (priorities game.now)) };
 

@@ -1,10 +1,12 @@
-ghost use Rattle.std.specs.Prelude.{◌≡◌, ◌≢◌, ◌↔◌, ℕ, ◌+◌, ◌-◌, ◌*◌, ◌/◌, ◌<◌, ◌≤◌, ◌^◌, [], ◌∷◌, ◌++◌, suc, length, take, replicate, slice_index, slice_index_or, IsTrue};
-ghost use Rattle.omega_measure.specs.private.layout.Field.{AreFields, IsInside, IsPackedRow, digit_in, digits_in, flag_in, front_order, limits_in};
+ghost use Rattle.std.specs.Prelude.{◌≡◌, ◌≢◌, ◌↔◌, ℕ, ◌+◌, ◌-◌, ◌*◌, ◌/◌, ◌<◌, ◌≤◌, ◌^◌, [], ◌∷◌, ◌++◌, suc};
+ghost use Rattle.std.specs.Prelude.{length, take, replicate, slice_index, slice_index_or, IsTrue};
+ghost use Rattle.omega_measure.specs.private.layout.Field.{AreFields, IsInside, IsPackedRow, digit_in};
+ghost use Rattle.omega_measure.specs.private.layout.Field.{digits_in, flag_in, front_order, limits_in};
 ghost use Rattle.omega_measure.specs.private.layout.Packed.{HoldsAllowance};
-ghost use Rattle.omega_measure_rows.specs.Rows.{IsLastBelow, WritesRow, row_of};
+ghost use Rattle.omega_lift_rows.specs.Rows.{IsLastBelow, WritesRow, row_of};
 
 use crate::field::Field;
-use omega_measure_rows::{copy_row, row};
+use omega_lift_rows::{copy_row, row};
 use std::cmp::Ordering;
 
 /// The field of the flag for top: the first bit of each row.
@@ -69,7 +71,8 @@ fn raise_front(row: &mut [u64], field: Field, by: u64)
     requires field { IsInside (length row.old) field }
     requires fits { (slice_index row.old field.word / 2 ^ field.shift + by) * 2 ^ field.shift < 2 ^ 64 }
     ensures { let front = slice_index row.old field.word / 2 ^ field.shift + by in
-        row.new ≡ take field.word row.old ++ (front * 2 ^ field.shift) ∷ replicate (length row.old - suc field.word) 0 }
+        row.new ≡ take field.word row.old
+        ++ (front * 2 ^ field.shift) ∷ replicate (length row.old - suc field.word) 0 }
 {
     let word = field.word as usize;
     row[word] = front(row, field, by);
@@ -123,7 +126,8 @@ pub(crate) fn compare_at(words: &[u64], size: usize, field: Field, a: usize, b: 
     requires first { a * size + size ≤ length words.now }
     requires second { b * size + size ≤ length words.now }
     requires field { IsInside size field }
-    ensures { result ≡ front_order field.word field.shift (row_of size words.now a) (row_of size words.now b) }
+    ensures { result
+        ≡ front_order field.word field.shift (row_of size words.now a) (row_of size words.now b) }
 {
     if size == 1 {
         return (words[a] >> field.shift).cmp(&(words[b] >> field.shift));
@@ -171,7 +175,8 @@ pub(crate) fn raise_at(
     requires within { kept < length fields.now }
     requires packed { IsPackedRow fields.now (row_of size words.old w) }
     ensures others { WritesRow size words.old words.new v (row_of size words.new v) }
-    ensures allowance { HoldsAllowance fields.now kept strict (row_of size words.old w) (row_of size words.new v) }
+    ensures allowance { HoldsAllowance fields.now kept strict (row_of size words.old w)
+        (row_of size words.new v) }
 {
     if size == 1 {
         let towards = row(words, size, w);
@@ -203,7 +208,8 @@ fn raise_row_at(
     requires within { kept < length fields.now }
     requires packed { IsPackedRow fields.now (row_of size words.old w) }
     ensures others { WritesRow size words.old words.new v (row_of size words.new v) }
-    ensures allowance { HoldsAllowance fields.now kept strict (row_of size words.old w) (row_of size words.new v) }
+    ensures allowance { HoldsAllowance fields.now kept strict (row_of size words.old w)
+        (row_of size words.new v) }
 {
     let top = is_top_at(words, size, fields, w);
     copy_row(words, size, w, v);

@@ -4,7 +4,8 @@ use Rattle.omega_text.specs.Lexeme.{Lexeme}
 use Rattle.omega_text.specs.Syntax.{Syntax}
 use Rattle.omega_text.specs.pg.Format.{pg_format}
 use Rattle.omega_text.specs.declared.pg.kind.PgKind.{PgKind}
-use Rattle.omega_text.specs.declared.pg.kind.PgKind.TheVariants.{Comma, Name, Number, Parity, ParitySol, Semicolon}
+use Rattle.omega_text.specs.declared.pg.kind.PgKind.TheVariants.{Comma, Name, Number, Parity}
+use Rattle.omega_text.specs.declared.pg.kind.PgKind.TheVariants.{ParitySol, Semicolon}
 use Rattle.omega_text.specs.Forms.{between_quotes}
 
 -- a token as a grammar sees it: a number with its value, a name with its bytes, a word or a sign

@@ -9,7 +9,7 @@ mod solution;
 
 pub use game::reading::{read_forward_game, read_game};
 pub use game::writing::{write_game, write_game_with_priorities};
-pub use omega_parity_game::{
+pub use omega_game_values::{
     ForwardGame, Game, GameFault, Player, Refusal, Seq, Solution, Strategy, TaskFault,
 };
 pub use solution::reading::read_solution;

@@ -2,17 +2,17 @@
 -- counts.
 use Rattle.std.proofs.Common.{◌≡◌, ◌-◌, ◌^◌, ◌<◌, ℕ, List, [], ◌∷◌, Option, None, Some, Result, Ok, Err, IfOk, inr, subst, sym}
 use Rattle.omega_text.specs.declared.refusal.Refusal.{Refusal}
-use Rattle.omega_parity_game.specs.declared.player.Player.{Player}
-use Rattle.omega_game_answers.specs.Observing.{CountsReportedOfText}
-use Rattle.omega_game_answers.specs.declared.solve.asked.Asked.TheVariants as way
+use Rattle.omega_game_values.specs.declared.player.Player.{Player}
+use Rattle.omega_answers_game.specs.Observing.{CountsReportedOfText}
+use Rattle.omega_answers_game.specs.declared.solve.asked.Asked.TheVariants as way
 use Rattle.omega_io.specs.declared.exit.Exit.{Exit}
 use Rattle.omega_io.specs.Reading.{IsRead}
-use Rattle.omega_command.specs.declared.command.Command.{Command}
-use Rattle.omega_command.specs.declared.each.OfEach.{OfEach}
-use Rattle.omega_command.specs.declared.command.Command.TheVariants.{Canon, CanonLeast, CanonPart, Check, Complement, Draw, DrawLasso, DrawPart, Each, Empty, EmptySearch, Game, RealizabilityGame, Realize, RealizeByLifting, Search, Show, ShowJson, Solve, Trim}
-use Rattle.omega_budget.specs.Observing.{IsObserved, ReportsRun, refusal_in}
-use Rattle.omega_budget.specs.declared.observing.Progress.{Progress}
-use Rattle.omega_budget.proofs.Observed.{one_made}
+use Rattle.omega_cli_command.specs.declared.command.Command.{Command}
+use Rattle.omega_cli_command.specs.declared.each.OfEach.{OfEach}
+use Rattle.omega_cli_command.specs.declared.command.Command.TheVariants.{Canon, CanonLeast, CanonPart, Check, Complement, Draw, DrawLasso, DrawPart, Each, Empty, EmptySearch, Game, RealizabilityGame, Realize, RealizeByLifting, Search, Show, ShowJson, Solve, Trim}
+use Rattle.omega_solve.specs.budget.Observing.{IsObserved, ReportsRun, refusal_in}
+use Rattle.omega_solve.specs.declared.budget.observing.Progress.{Progress}
+use Rattle.omega_solve.proofs.within_budget.Observed.{one_made}
 use Rattle.omega_run.proofs.ProgressLines.{HasLines, TellsLines, nothing_reported, run_lines, observed_lines}
 use Rattle.omega_run.specs.declared.kinds.Kind.{Kind}
 use Rattle.omega_run.specs.declared.kinds.Kind.TheVariants as kind

@@ -5,13 +5,13 @@ use Rattle.std.proofs.lemmas.List.{length-append}
 use Rattle.omega_text.specs.Limits.{most_text}
 use Rattle.omega_text.specs.declared.refusal.Refusal.{Refusal}
 use Rattle.omega_text.specs.declared.refusal.Refusal.TheVariants.{Io}
-use Rattle.omega_command.specs.declared.beside.Beside.TheVariants.{ContainedStream}
+use Rattle.omega_cli_command.specs.declared.beside.Beside.TheVariants.{ContainedStream}
 use Rattle.omega_io.specs.Failures.{failures_in}
 use Rattle.omega_io.specs.Reading.{IsRead, ReadsText}
 use Rattle.omega_io.specs.Refused.{IsAbout}
 use Rattle.omega_io.specs.declared.refused.Which.{Which}
 use Rattle.omega_io.specs.declared.refused.Which.TheVariants.{File, Input}
-use Rattle.omega_stream_questions.specs.Contained as stream
+use Rattle.omega_answers_stream_questions.specs.Contained as stream
 use Rattle.omega_run.proofs.TwoTexts.{IsRefusedBeside}
 
 -- a text of at most one byte over the limit is read whole

@@ -3,18 +3,18 @@ use Rattle.std.proofs.Common.{◌≡◌, ◌≢◌, ℕ, List, [], Option, None,
 use Rattle.omega_text.specs.declared.refusal.Refusal.{Refusal}
 use Rattle.omega_text.specs.declared.refusal.Refusal.TheVariants.{Task}
 use Rattle.omega_text.specs.declared.refusal.task.TaskFault.TheVariants.{Budget}
-use Rattle.omega_parity_game.specs.Game.{Node}
-use Rattle.omega_parity_game.specs.declared.player.Player.{Player}
-use Rattle.omega_command.specs.declared.command.Command.{Command}
-use Rattle.omega_command.specs.declared.each.OfEach.{OfEach}
-use Rattle.omega_command.specs.declared.command.Command.TheVariants.{Canon, CanonLeast, CanonPart, Check, Complement, Draw, DrawLasso, DrawPart, Each, Empty, EmptySearch, Game, RealizabilityGame, Realize, RealizeByLifting, Search, Show, ShowJson, Solve, Trim}
-use Rattle.omega_budget.proofs.Observed.{made_refused}
-use Rattle.omega_budget.specs.Observing.{IsObserved}
-use Rattle.omega_budget.specs.declared.observing.Progress.{Progress}
-use Rattle.omega_empty_answers.proofs.Observing.{text_refused}
-use Rattle.omega_game_answers.proofs.Observing.{runs_refused}
-use Rattle.omega_game_answers.specs.declared.solve.asked.Asked.TheVariants as way
-use Rattle.omega_realize_answers.specs.Observing as realize
+use Rattle.omega_game_values.specs.Game.{Node}
+use Rattle.omega_game_values.specs.declared.player.Player.{Player}
+use Rattle.omega_cli_command.specs.declared.command.Command.{Command}
+use Rattle.omega_cli_command.specs.declared.each.OfEach.{OfEach}
+use Rattle.omega_cli_command.specs.declared.command.Command.TheVariants.{Canon, CanonLeast, CanonPart, Check, Complement, Draw, DrawLasso, DrawPart, Each, Empty, EmptySearch, Game, RealizabilityGame, Realize, RealizeByLifting, Search, Show, ShowJson, Solve, Trim}
+use Rattle.omega_solve.proofs.within_budget.Observed.{made_refused}
+use Rattle.omega_solve.specs.budget.Observing.{IsObserved}
+use Rattle.omega_solve.specs.declared.budget.observing.Progress.{Progress}
+use Rattle.omega_answers_empty.proofs.Observing.{text_refused}
+use Rattle.omega_answers_game.proofs.Observing.{runs_refused}
+use Rattle.omega_answers_game.specs.declared.solve.asked.Asked.TheVariants as way
+use Rattle.omega_answers_synth.specs.Observing as realize
 use Rattle.omega_run.specs.Progress.{LiftsInput}
 use Rattle.omega_run.specs.declared.kinds.Kind.{Kind}
 use Rattle.omega_run.specs.declared.kinds.Kind.TheVariants as kind

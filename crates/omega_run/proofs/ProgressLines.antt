@@ -6,10 +6,10 @@ use Rattle.std.proofs.Math.Nat.{eq-or-lt_of_le}
 use Rattle.std.proofs.Math.Seq.{take-append-add}
 use Rattle.std.specs.Io.KnownBytes.{Appends}
 use Rattle.omega_text.specs.declared.refusal.Refusal.{Refusal}
-use Rattle.omega_parity_game.specs.declared.player.Player.{Player}
-use Rattle.omega_parity_game.specs.Game.{Node}
-use Rattle.omega_budget.specs.Observing.{IsObserved, ReportsEach, ReportsRun, ReportsRuns, most_of, progress}
-use Rattle.omega_budget.specs.declared.observing.Progress.{Progress}
+use Rattle.omega_game_values.specs.declared.player.Player.{Player}
+use Rattle.omega_game_values.specs.Game.{Node}
+use Rattle.omega_solve.specs.budget.Observing.{IsObserved, ReportsEach, ReportsRun, ReportsRuns, most_of, progress}
+use Rattle.omega_solve.specs.declared.budget.observing.Progress.{Progress}
 use Rattle.omega_io.specs.Writing.{Tells, WritesBeginning}
 use Rattle.omega_run.specs.Progress.{GoesOnByLine, HasReported, progress_line}
 use Rattle.omega_run.specs.private.steps.Telling.{TellsLast, TellsOn}

@@ -3,26 +3,26 @@ use Rattle.std.proofs.Common.{◌≡◌, ◌⊎◌, Bool, List, ℕ, Option, Non
 use Rattle.omega_text.specs.Cases.{or_io, or_memory}
 use Rattle.omega_text.specs.declared.refusal.Refusal.{Refusal}
 use Rattle.omega_text.specs.declared.refusal.Refusal.TheVariants.{Automaton, Game, Io, Memory, Task, Text}
-use Rattle.omega_command.specs.declared.beside.Beside.{Beside}
-use Rattle.omega_command.specs.declared.beside.Beside.TheVariants.{Accepts, Contained, ContainedStream, DrawSolution, DrawWalk, Equal, Join, Meet, Verify, VerifyController, VerifyLasso, VerifyNamed, VerifyWinners}
+use Rattle.omega_cli_command.specs.declared.beside.Beside.{Beside}
+use Rattle.omega_cli_command.specs.declared.beside.Beside.TheVariants.{Accepts, Contained, ContainedStream, DrawSolution, DrawWalk, Equal, Join, Meet, Verify, VerifyController, VerifyLasso, VerifyNamed, VerifyWinners}
 use Rattle.omega_io.specs.Failures.{IsTransferRefusal, failures_in, failures_of}
 use Rattle.omega_io.specs.Reading.{IsRead, ReadsText}
-use Rattle.omega_accepts.proofs.Refused.{membership_io}
-use Rattle.omega_accepts_answers.specs.Accepts as accepts
-use Rattle.omega_containment.specs.Refusing.{IsContainmentRefusal, no_memory, not_complemented, not_met}
-use Rattle.omega_containment_answers.specs.Contained as contained
-use Rattle.omega_containment_answers.specs.Equal as equal
-use Rattle.omega_controller_answers.specs.Verify as controller
-use Rattle.omega_controller_judge.specs.Refusing as judge
-use Rattle.omega_automaton.specs.Automaton.{Description}
-use Rattle.omega_game_answers.specs.Winners.{IsWinnersGameRefusal}
+use Rattle.omega_lang_inclusion.proofs.Refused.{membership_io}
+use Rattle.omega_answers_inclusion.specs.Accepts as accepts
+use Rattle.omega_lang_inclusion.specs.Refusing.{IsContainmentRefusal, no_memory, not_complemented, not_met}
+use Rattle.omega_answers_inclusion.specs.Contained as contained
+use Rattle.omega_answers_inclusion.specs.Equal as equal
+use Rattle.omega_answers_synth.specs.Verify as controller
+use Rattle.omega_synth_check.specs.Refusing as judge
+use Rattle.omega_hoa_automaton.specs.Automaton.{Description}
+use Rattle.omega_answers_game.specs.Winners.{IsWinnersGameRefusal}
 use Rattle.omega_hoa.specs.Alone.{IsAutomatonRefusal}
 use Rattle.omega_hoa.specs.Stream.{IsStreamRefusal}
 use Rattle.omega_io.specs.Refused.{IsAbout, IsRefusedOf}
 use Rattle.omega_io.specs.declared.refused.Refused.{Refused}
 use Rattle.omega_io.specs.declared.refused.Which.{Which}
 use Rattle.omega_io.specs.declared.refused.Which.TheVariants.{File, Input}
-use Rattle.omega_stream_questions.specs.Contained as stream
+use Rattle.omega_answers_stream_questions.specs.Contained as stream
 use Rattle.omega_run.specs.Beside.{IsRefusalAbout, RefusesBoth, RefusesFile, RefusesInput}
 use Rattle.omega_run.specs.Respond.{AnswersBeside, IsAcceptsRefusal, IsContainedRefusal, IsContainedStreamRefusal, IsEqualRefusal, IsRunRefusal, RefusesText}
 use Rattle.omega_run.specs.private.steps.Beside.{plain}

@@ -4,19 +4,21 @@ use Rattle.omega_text.specs.Refusal.{place_of}
 use Rattle.omega_text.specs.declared.refusal.Refusal.{Refusal}
 use Rattle.omega_text.specs.declared.refusal.Refusal.TheVariants.{Automaton, Game, Task, Text}
 use Rattle.omega_text.specs.declared.refusal.task.TaskFault.TheVariants.{BadSolution, NotDeterministic}
-use Rattle.omega_parity_game.specs.Game.{Node}
-use Rattle.omega_automaton_causes.specs.AutomatonCauses.{IsAutomatonCause}
-use Rattle.omega_causes.specs.GameCauses.{IsGameCause}
-use Rattle.omega_causes.specs.Places.{place_line}
-use Rattle.omega_causes.specs.SolutionCauses.{IsSolutionCause}
-use Rattle.omega_choice_causes.specs.ChoiceCauses.{IsChoiceCause}
-use Rattle.omega_command.specs.declared.beside.Beside.{Beside}
-use Rattle.omega_command.specs.declared.beside.Beside.TheVariants as two
-use Rattle.omega_command.specs.declared.command.Command.{Command}
-use Rattle.omega_command.specs.declared.command.Command.TheVariants.{Canon, CanonLeast, CanonPart, Check, Draw, DrawPart, Search, Show, ShowJson, Solve}
-use Rattle.omega_command.specs.declared.command.Format.{Format}
-use Rattle.omega_command.specs.declared.command.Format.TheVariants.{Hoa, Pg}
-use Rattle.omega_game_answers.specs.Verify.{IsJudgedGame}
+use Rattle.omega_game_values.specs.Game.{Node}
+use Rattle.omega_hoa_diagnostics.specs.AutomatonCauses.{IsAutomatonCause}
+use Rattle.omega_pg_diagnostics.specs.GameCauses.{IsGameCause}
+use Rattle.omega_pg_diagnostics.specs.Places.{place_line}
+use Rattle.omega_pg_diagnostics.specs.SolutionCauses.{IsSolutionCause}
+use Rattle.omega_hoa_diagnostics.specs.ChoiceCauses.{IsChoiceCause}
+use Rattle.omega_cli_command.specs.declared.beside.Beside.{Beside}
+use Rattle.omega_cli_command.specs.declared.beside.Beside.TheVariants as two
+use Rattle.omega_cli_command.specs.declared.command.Command.{Command}
+use Rattle.omega_cli_command.specs.declared.command.Command.TheVariants.{Canon, CanonLeast, CanonPart, Check}
+use Rattle.omega_cli_command.specs.declared.command.Command.TheVariants.{Draw, DrawPart, Search, Show}
+use Rattle.omega_cli_command.specs.declared.command.Command.TheVariants.{ShowJson, Solve}
+use Rattle.omega_cli_command.specs.declared.command.Format.{Format}
+use Rattle.omega_cli_command.specs.declared.command.Format.TheVariants.{Hoa, Pg}
+use Rattle.omega_answers_game.specs.Verify.{IsJudgedGame}
 use Rattle.omega_io.specs.declared.exit.Exit.{Exit}
 use Rattle.omega_io.specs.declared.refused.Which.{Which}
 use Rattle.omega_io.specs.declared.refused.Which.TheVariants.{File, Input}
@@ -67,7 +69,8 @@ line_at text (Some at) = place_line text at
 
 -- the line that says why a text is no solution of the game that is judged, if it is said by this text
 abbrev pub IsCauseBeside : (game_text : List ℕ) → (from : Option ℕ) → (text line : List ℕ) → Type 0
-IsCauseBeside game_text from text line = (nodes : List Node) × IsJudgedGame game_text from nodes × IsSolutionCause nodes text line
+IsCauseBeside game_text from text line = (nodes : List Node) × IsJudgedGame game_text from nodes
+    × IsSolutionCause nodes text line
 
 -- the cause of a refusal of a text of this kind, which is written so and read as this text, beside another text: the
 -- place of 1, 2 and 3 as the text is written; why a game text makes no game, or a solution text is none of the game
@@ -75,9 +78,11 @@ IsCauseBeside game_text from text line = (nodes : List Node) × IsJudgedGame gam
 abbrev pub IsCause : TextKind → (written text beside : List ℕ) → Refusal → List ℕ → Type 0
 IsCause of written text beside (Text fault) line = line ≡ line_at written (place_of (Text fault))
 IsCause kind.Game written text beside (Game fault) line = IsGameCause text line
-IsCause (kind.Solution from) written text beside (Task BadSolution) line = IsCauseBeside beside from text line
+IsCause (kind.Solution from) written text beside (Task BadSolution) line =
+    IsCauseBeside beside from text line
 IsCause kind.Automata written text beside (Automaton fault) line = IsAutomatonCause text line
-IsCause kind.Automata written text beside (Task (NotDeterministic state)) line = IsChoiceCause text line
+IsCause kind.Automata written text beside (Task (NotDeterministic state)) line =
+    IsChoiceCause text line
 IsCause of written text beside refusal line = line ≡ []
 
 -- no line
@@ -110,10 +115,11 @@ other_of pair Input = pair.of_file
 -- none there is no line
 abbrev pub IsCauseAbout : Beside → (written read : Texts) → Option Which → Refusal → List ℕ → Type 0
 IsCauseAbout asked written read None refusal line = line ≡ []
-IsCauseAbout asked written read (Some which) refusal line =
-    IsCause (kind_beside asked which) (text_of written which) (text_of read which) (other_of read which) refusal line
+IsCauseAbout asked written read (Some which) refusal line = IsCause (kind_beside asked which)
+    (text_of written which) (text_of read which) (other_of read which) refusal line
 
 -- with `--verbose` that cause is told, and else none
-abbrev pub IsCauseTold : (verbose : Bool) → Beside → (written read : Texts) → Option Which → Refusal → List ℕ → Type 0
+abbrev pub IsCauseTold : (verbose : Bool) → Beside → (written read : Texts) → Option Which
+    → Refusal → List ℕ → Type 0
 IsCauseTold false asked written read which = IsNoCause
 IsCauseTold true asked written read which = IsCauseAbout asked written read which

@@ -14,9 +14,11 @@ pub record IsUnanswered (refusal : Refusal) (before after : Streams) : Type 0 wh
 
 -- the input was read as a text, to its end or past the limit, and then this was done, for this text, with the text as
 -- input; or memory was wanting or a read failed, and the lines for that were written
-abbrev pub IsHeld : (verbose : Bool) → (List ℕ → Streams → Streams → Type 0) → ℕ → (List ℕ → Type 0) → Streams → Streams → Type 0
+abbrev pub IsHeld : (verbose : Bool) → (List ℕ → Streams → Streams → Type 0) → ℕ → (List ℕ → Type 0)
+    → Streams → Streams → Type 0
 IsHeld verbose IsDone status tells before after =
     ((text : List ℕ) × (rest : Option (List ℕ)) × IsRead before.unread after.unread text
-    × (after.failed_reads ≡ before.failed_reads) × IsDone text (over (Some text) before) (over rest after))
-    ⊎ ((refusal : Refusal) × IsTransferRefusal refusal × Reports verbose after (Err refusal) status tells
-    × IsUnanswered refusal before after)
+    × (after.failed_reads ≡ before.failed_reads)
+    × IsDone text (over (Some text) before) (over rest after))
+    ⊎ ((refusal : Refusal) × IsTransferRefusal refusal
+    × Reports verbose after (Err refusal) status tells × IsUnanswered refusal before after)

@@ -1,9 +1,9 @@
 -- Games, and solutions of them, that are read as other tools write them.
 use Rattle.std.specs.Prelude.{◌≡◌, Bool, true, false, List, [], ℕ}
 use Rattle.omega_text.specs.declared.refusal.Refusal.{Refusal}
-use Rattle.omega_lenient.specs.Refusing.{RefusesLenient}
-use Rattle.omega_lenient.specs.SolutionLines.{bare_text}
-use Rattle.omega_lenient.specs.StrictText.{IsStrictGameText}
+use Rattle.omega_pg_lenient.specs.Refusing.{RefusesLenient}
+use Rattle.omega_pg_lenient.specs.SolutionLines.{bare_text}
+use Rattle.omega_pg_lenient.specs.StrictText.{IsStrictGameText}
 use Rattle.omega_run.specs.Causes.{IsCause, IsNoCause}
 use Rattle.omega_run.specs.declared.text_kind.TextKind.{TextKind}
 use Rattle.omega_run.specs.declared.text_kind.TextKind.TheVariants.{Game, Solution, Winners}

@@ -1,6 +1,6 @@
 -- What contracts of running commands and obeying command lines cite; in `private` what private contracts alone cite.
-pub use Rattle.omega_command.specs.CommandLine
-pub use Rattle.omega_command.specs.Line
+pub use Rattle.omega_cli_command.specs.CommandLine
+pub use Rattle.omega_cli_command.specs.Line
 pub use Rattle.omega_io.specs.Exit
 pub use Rattle.omega_io.specs.Failures
 pub use Rattle.omega_io.specs.Reading

@@ -19,7 +19,8 @@ pub record Streams : Type 0 where
   pub failed_writes : ℕ
   pub write_reason : Option Reason
 
-abbrev pub streams : Option (List ℕ) → ℕ → Option Reason → Option (List ℕ) → ℕ → Option Reason → Streams
+abbrev pub streams : Option (List ℕ) → ℕ → Option Reason → Option (List ℕ) → ℕ
+    → Option Reason → Streams
 streams unread failed_reads read_reason held failed_writes write_reason = record {
   unread = unread;
   failed_reads = failed_reads;
@@ -31,12 +32,13 @@ streams unread failed_reads read_reason held failed_writes write_reason = record
 
 -- the streams of an input and an output
 abbrev pub streams_of : {R W : Type 0} → input.Ghosts R → output.Ghosts W → R → W → Streams
-streams_of reading writing from to =
-    streams (reading.remaining from) (reading.failed from) (reading.reason from) (writing.contents to) (writing.failed to) (writing.reason to)
+streams_of reading writing from to = streams (reading.remaining from) (reading.failed from)
+    (reading.reason from) (writing.contents to) (writing.failed to) (writing.reason to)
 
 -- the streams of an input that has this left and whose reads never failed, and an output
 abbrev pub streams_over : {W : Type 0} → output.Ghosts W → Option (List ℕ) → W → Streams
-streams_over writing unread to = streams unread 0 None (writing.contents to) (writing.failed to) (writing.reason to)
+streams_over writing unread to =
+    streams unread 0 None (writing.contents to) (writing.failed to) (writing.reason to)
 
 -- the streams with an input that has this left and whose reads never failed
 abbrev pub over : Option (List ℕ) → Streams → Streams
@@ -48,7 +50,8 @@ failure_in streams = failure_of streams.read_reason streams.failed_writes stream
 
 -- standard error took a text, or a beginning of it if one of its writes failed
 abbrev pub tells_of : {E : Type 0} → output.Ghosts E → (before after : E) → List ℕ → Type 0
-tells_of telling before after = Tells (telling.contents before) (telling.contents after) (telling.failed before) (telling.failed after)
+tells_of telling before after = Tells (telling.contents before) (telling.contents after)
+    (telling.failed before) (telling.failed after)
 
 -- how the files are read and refused by their names; the streams before and after; and what standard error took in
 -- between
@@ -60,7 +63,8 @@ pub record World : Type 1 where
   pub tells : List ℕ → Type 0
 
 -- the world of files and a standard error, with these streams
-abbrev pub world_of : {F E : Type 0} → file.Ghosts F → output.Ghosts E → F → (errors errors' : E) → (before after : Streams) → World
+abbrev pub world_of : {F E : Type 0} → file.Ghosts F → output.Ghosts E → F → (errors errors' : E)
+    → (before after : Streams) → World
 world_of reading telling files errors errors' before after = record {
   reads = reading.reads files;
   refuses = reading.refuses files;

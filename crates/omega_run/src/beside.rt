@@ -11,16 +11,13 @@ ghost use Rattle.omega_run.specs.World.{streams_of};
 ghost use Rattle.omega_run.specs.private.steps.Beside.{plain, text_in};
 
 use crate::each::contained_each;
-use omega_accepts_answers::accepts_text;
-use omega_command::Beside;
-use omega_containment_answers::{contained_texts, equal_texts};
-use omega_controller_answers::verify_controller;
-use omega_game_answers::{draw_solution_text, verify_solution, verify_winners};
+use omega_answers_automaton::{join_texts, meet_texts, meet_trimmed_texts, verify_lasso};
+use omega_answers_game::{draw_solution_text, verify_solution, verify_winners};
+use omega_answers_inclusion::{accepts_text, contained_texts, equal_texts};
+use omega_answers_synth::verify_controller;
+use omega_answers_walk::{draw_walk_text, verify_with_names};
+use omega_cli_command::Beside;
 use omega_io::{Exit, Input, Output, Refused, read_all, write_text};
-use omega_language_answers::{meet_texts, verify_lasso};
-use omega_trim_answers::meet_trimmed_texts;
-use omega_union_answers::join_texts;
-use omega_walk_answers::{draw_walk_text, verify_with_names};
 use std::alloc::Global;
 
 /// Reads the input, makes the whole answer to its text and that of the file in memory, and then writes it.
@@ -34,9 +31,10 @@ pub(crate) fn write_beside<R: Input, W: Output>(
     requires reads { R.failed input.old < 2 ^ 64 - 1 }
     requires writes { W.failed output.old < 2 ^ 64 - 1 }
     ensures performed { Performs (AnswersBeside asked file.items) (plain result)
-        (streams_of R.Input W.Output input.old output.old) (streams_of R.Input W.Output input.new output.new) }
-    ensures refused { IfErr (plain result)
-        (IsRefusalAbout asked file.items (R.remaining input.old) (R.remaining input.new) (text_in result)) }
+        (streams_of R.Input W.Output input.old output.old)
+        (streams_of R.Input W.Output input.new output.new) }
+    ensures refused { IfErr (plain result) (IsRefusalAbout asked file.items (R.remaining input.old)
+        (R.remaining input.new) (text_in result)) }
 {
     match answer_beside(alloc, asked, file, input) {
         Ok((exit, made)) => match write_text(output, made.as_slice()) {
@@ -77,7 +75,8 @@ fn answer_texts(
     input: Vec<u8>,
 ) -> Result<(Exit, Vec<u8>), Refused>
     requires { length input.items ≤ most_text + 1 }
-    ensures answered { IfOk result (λ made. AnswersBeside asked file.items input.items (Ok (made.0, made.1.items))) }
+    ensures answered { IfOk result
+        (λ made. AnswersBeside asked file.items input.items (Ok (made.0, made.1.items))) }
     ensures limit { OnOk result (length input.items ≤ most_text) }
     ensures refused { IfErr result (λ refused. IsAbout
         (λ refusal. (refusal ≡ Memory) ⊎ RefusesBoth asked file.items input.items refusal)

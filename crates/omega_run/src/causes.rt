@@ -1,16 +1,15 @@
 //! What is to be mended in a refused text: the cause of its refusal, in one line.
 ghost use Rattle.std.specs.Prelude.{◌≡◌, [], IfOk, Some};
-ghost use Rattle.omega_run.specs.Causes.{IsCause, IsCauseAbout, IsCauseBeside, IsCauseTold, MayExplain, line_at};
-ghost use Rattle.omega_run.specs.Causes.{texts};
+ghost use Rattle.omega_run.specs.Causes.{IsCause, IsCauseAbout, IsCauseBeside};
+ghost use Rattle.omega_run.specs.Causes.{IsCauseTold, MayExplain, line_at, texts};
 ghost use Rattle.omega_run.specs.private.steps.Beside.{plain, text_in};
 
 use crate::text_kind::{TextKind, kind_beside};
-use omega_automaton_causes::automaton_cause;
-use omega_causes::{game_cause, place_line, solution_cause};
-use omega_choice_causes::choice_cause;
-use omega_command::Beside;
-use omega_game_answers::judged_game;
+use omega_answers_game::judged_game;
+use omega_cli_command::Beside;
+use omega_hoa_diagnostics::{automaton_cause, choice_cause};
 use omega_io::{Exit, Refusal, Refused, Which};
+use omega_pg_diagnostics::{game_cause, place_line, solution_cause};
 use omega_text::TaskFault;
 use std::alloc::Global;
 
@@ -50,8 +49,10 @@ pub(crate) fn cause_about(
     read: Texts<'_>,
     outcome: &Result<Exit, Refused>,
 ) -> Vec<u8>
-    ensures { MayExplain (IsCauseTold verbose asked (texts written.entry.file.now written.entry.input.now)
-        (texts read.entry.file.now read.entry.input.now) (text_in outcome.now)) (plain outcome.now) result.items }
+    ensures { MayExplain
+        (IsCauseTold verbose asked (texts written.entry.file.now written.entry.input.now)
+        (texts read.entry.file.now read.entry.input.now) (text_in outcome.now))
+        (plain outcome.now) result.items }
 {
     if !verbose {
         return Vec::new(alloc);
@@ -79,7 +80,8 @@ fn cause_of(
     which: Which,
     refusal: Refusal,
 ) -> Result<Vec<u8>, Refusal>
-    ensures { IfOk result (λ line. IsCauseAbout asked (texts written.entry.file.now written.entry.input.now)
+    ensures { IfOk result
+        (λ line. IsCauseAbout asked (texts written.entry.file.now written.entry.input.now)
         (texts read.entry.file.now read.entry.input.now) (Some which) refusal line.items) }
 {
     let kind = kind_beside(asked, which);

@@ -2,23 +2,23 @@
 ghost use Rattle.std.specs.Prelude.{◌≡◌, ◌+◌, ◌-◌, ◌^◌, ◌<◌, ◌≤◌, ◌⊎◌, ◌&&◌, Ok, IfOk, IfErr, OnOk, length};
 ghost use Rattle.omega_text.specs.Limits.{most_text};
 ghost use Rattle.omega_text.specs.declared.refusal.Refusal.TheVariants.{Memory};
-ghost use Rattle.omega_command.specs.declared.beside.Beside.TheVariants.{ContainedStream};
-ghost use Rattle.omega_command.specs.declared.command.Command.TheVariants.{Each};
+ghost use Rattle.omega_cli_command.specs.declared.beside.Beside.TheVariants.{ContainedStream};
+ghost use Rattle.omega_cli_command.specs.declared.command.Command.TheVariants.{Each};
 ghost use Rattle.omega_io.specs.Failures.{failures_of};
 ghost use Rattle.omega_io.specs.Refused.{IsAbout};
 ghost use Rattle.omega_solve.specs.Limits.{most_lifts};
-ghost use Rattle.omega_stream_questions.specs.Contained.{exit_for};
+ghost use Rattle.omega_answers_stream_questions.specs.Contained.{exit_for};
 ghost use Rattle.omega_run.specs.Beside.{RefusesBoth, RefusesFile, RefusesInput};
 ghost use Rattle.omega_run.specs.Respond.{Answers, AnswersBeside, IsRunRefusal, Responds};
 
 use crate::held_text::HeldText;
-use omega_command::OfEach;
-use omega_empty_answers::Lines;
-use omega_io::{Exit, Input, Refusal, Refused};
-use omega_stream_questions::{
+use omega_answers_empty::Lines;
+use omega_answers_stream_questions::{
     complement_stream, contained_stream, empty_stream_by_lifting, empty_stream_by_search,
     trim_stream,
 };
+use omega_cli_command::OfEach;
+use omega_io::{Exit, Input, Refusal, Refused};
 use std::alloc::Global;
 
 /// Reads a stream of automata, and returns the answers to them, one after the other, with how the command ends, or the
@@ -86,8 +86,8 @@ pub(crate) fn contained_each(
     ensures answered { IfOk result (λ made.
         AnswersBeside (ContainedStream explain) file.items input.items (Ok (made.0, made.1.items))) }
     ensures limit { OnOk result (length input.items ≤ most_text) }
-    ensures refused { IfErr result (λ refused. IsAbout
-        (λ refusal. (refusal ≡ Memory) ⊎ RefusesBoth (ContainedStream explain) file.items input.items refusal)
+    ensures refused { IfErr result (λ refused. IsAbout (λ refusal. (refusal ≡ Memory)
+        ⊎ RefusesBoth (ContainedStream explain) file.items input.items refusal)
         (RefusesFile (ContainedStream explain) file.items input.items)
         (RefusesInput (ContainedStream explain) file.items input.items) refused.text refused.refusal) }
 {

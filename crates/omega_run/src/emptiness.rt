@@ -2,17 +2,17 @@
 ghost use Rattle.std.specs.Prelude.{◌≡◌, ◌≤◌, IfOk, IfErr, OnOk, length};
 ghost use Rattle.omega_text.specs.Cases.{or_memory};
 ghost use Rattle.omega_text.specs.Limits.{most_text};
-ghost use Rattle.omega_budget.specs.Observing.{IsObserved, refusal_in};
-ghost use Rattle.omega_empty_answers.specs.Observing.{LiftsAutomatonText};
-ghost use Rattle.omega_empty_answers.specs.empty.Answer.{IsEmptyRefusal, IsEmptySearchRefusal};
+ghost use Rattle.omega_solve.specs.budget.Observing.{IsObserved, refusal_in};
+ghost use Rattle.omega_answers_empty.specs.Observing.{LiftsAutomatonText};
+ghost use Rattle.omega_answers_empty.specs.empty.Answer.{IsEmptyRefusal, IsEmptySearchRefusal};
 ghost use Rattle.omega_io.specs.Failures.{failures_of};
 ghost use Rattle.omega_solve.specs.Limits.{most_lifts};
 ghost use Rattle.omega_run.specs.Respond.{EndsEmpty, EndsEmptySearch};
 ghost use Rattle.omega_run.specs.private.steps.Emptiness.{exit_after};
 
-use omega_budget::Reporter;
-use omega_empty_answers::{Lines, decide_emptiness, search_emptiness};
+use omega_answers_empty::{Lines, decide_emptiness, search_emptiness};
 use omega_io::{Exit, Refusal};
+use omega_solve::budget::Reporter;
 use std::alloc::Global;
 
 /// Returns what `empty` answers to `text` by lifting within `budget`, with these `lines`. With `status` it ends with
@@ -27,7 +27,8 @@ pub(crate) fn decided_emptiness<L, T: Reporter<L>>(
     observer: &mut L,
 ) -> Result<(Exit, Vec<u8>), Refusal>
     requires budget { budget ≤ most_lifts }
-    ensures answered { IfOk result (λ made. EndsEmpty text.items budget lines status made.0 made.1.items) }
+    ensures answered { IfOk result
+        (λ made. EndsEmpty text.items budget lines status made.0 made.1.items) }
     ensures limit { OnOk result (length text.items ≤ most_text) }
     ensures refused { IfErr result (or_memory (IsEmptyRefusal text.items budget)) }
     ensures unfailed { failures_of result ≡ 0 }
@@ -47,7 +48,8 @@ pub(crate) fn searched_emptiness(
     lines: Lines,
     status: bool,
 ) -> Result<(Exit, Vec<u8>), Refusal>
-    ensures answered { IfOk result (λ made. EndsEmptySearch text.items lines status made.0 made.1.items) }
+    ensures answered { IfOk result
+        (λ made. EndsEmptySearch text.items lines status made.0 made.1.items) }
     ensures limit { OnOk result (length text.items ≤ most_text) }
     ensures refused { IfErr result (or_memory (IsEmptySearchRefusal text.items)) }
     ensures unfailed { failures_of result ≡ 0 }

@@ -1,6 +1,6 @@
 ghost use Rattle.omega_run.specs.Formats.{IsFormatOf};
 
-use omega_command::Format;
+use omega_cli_command::Format;
 use omega_text::next_hoa_token;
 
 /// Returns the format of `text`: that of automata if its first token is `HOA:`, else that of games.

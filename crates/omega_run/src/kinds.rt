@@ -1,9 +1,9 @@
 ghost use Rattle.std.specs.Prelude.{◌≡◌};
 ghost use Rattle.omega_run.specs.private.steps.Kinds.{of_kind};
 
-use omega_command::{Command, Format, OfEach};
-use omega_empty_answers::Lines;
-use omega_parity_game::Player;
+use omega_answers_empty::Lines;
+use omega_cli_command::{Command, Format, OfEach};
+use omega_game_values::Player;
 
 /// A command, by what it reads.
 #[derive(Drop)]

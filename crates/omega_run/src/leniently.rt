@@ -1,7 +1,7 @@
 //! Tasks whose games, and solutions of them, are read as other tools write them.
 ghost use Rattle.std.specs.Prelude.{◌≡◌, ◌-◌, ◌^◌, ◌<◌, ◌⊎◌, ℕ, List, Option, Err, IfErr, IfOk};
 ghost use Rattle.omega_text.specs.declared.refusal.Refusal.TheVariants.{Memory};
-ghost use Rattle.omega_command.specs.Line.{IsRunnableTask};
+ghost use Rattle.omega_cli_command.specs.Line.{IsRunnableTask};
 ghost use Rattle.omega_io.specs.Lines.{stream_lines};
 ghost use Rattle.omega_io.specs.Refused.{IsRefusedOf};
 ghost use Rattle.omega_io.specs.declared.refused.Which.TheVariants as which;
@@ -19,9 +19,9 @@ use crate::reporting::{report, report_about, report_file, report_with};
 use crate::task::run;
 use crate::text_kind::{TextKind, kind_beside};
 use crate::two_texts::run_texts;
-use omega_command::{Beside, Task};
+use omega_cli_command::{Beside, Task};
 use omega_io::{Failure, Input, InputFiles, Output, Refusal, Refused, Which, failure_of, read_all};
-use omega_lenient::{bare_text, strict_game_text};
+use omega_pg_lenient::{bare_text, strict_game_text};
 use std::alloc::Global;
 
 /// Does a task with the text of an input, writes the lines of a refusal, and returns the status to end with. If
@@ -42,7 +42,8 @@ pub(crate) fn run_reading<F: InputFiles, R: Input, W: Output, E: Output>(
     requires tells { E.failed errors.old < 2 ^ 64 - 1 }
     ensures { IsPerformedReading lenient verbose task result
         (world_of F.InputFiles E.Output files.now errors.old errors.new
-        (streams_of R.Input W.Output input.old output.old) (streams_of R.Input W.Output input.new output.new)) }
+        (streams_of R.Input W.Output input.old output.old)
+        (streams_of R.Input W.Output input.new output.new)) }
 {
     if lenient {
         run_leniently(alloc, task, verbose, files, input, output, errors)
@@ -67,7 +68,8 @@ fn run_leniently<F: InputFiles, R: Input, W: Output, E: Output>(
     requires tells { E.failed errors.old < 2 ^ 64 - 1 }
     ensures { IsPerformedLeniently verbose task result
         (world_of F.InputFiles E.Output files.now errors.old errors.new
-        (streams_of R.Input W.Output input.old output.old) (streams_of R.Input W.Output input.new output.new)) }
+        (streams_of R.Input W.Output input.old output.old)
+        (streams_of R.Input W.Output input.new output.new)) }
 {
     match task {
         Task::Beside { file, asked } => run_files(
@@ -111,7 +113,8 @@ fn run_game<F: InputFiles, R: Input, W: Output, E: Output>(
     requires tells { E.failed errors.old < 2 ^ 64 - 1 }
     ensures { IsDoneOfGame verbose task result
         (world_of F.InputFiles E.Output files.now errors.old errors.new
-        (streams_of R.Input W.Output input.old output.old) (streams_of R.Input W.Output input.new output.new)) }
+        (streams_of R.Input W.Output input.old output.old)
+        (streams_of R.Input W.Output input.new output.new)) }
 {
     match read_all(alloc, input) {
         Ok(source) => run_source(
@@ -168,8 +171,8 @@ fn report_game<E: Output>(
     errors: &mut E,
 ) -> u8
     requires { E.failed errors.old < 2 ^ 64 - 1 }
-    ensures { ReportsCause (stream_lines verbose failure) (IsGameCauseTold verbose source.now) (Err refusal) result
-        (tells_of E.Output errors.old errors.new) }
+    ensures { ReportsCause (stream_lines verbose failure) (IsGameCauseTold verbose source.now)
+        (Err refusal) result (tells_of E.Output errors.old errors.new) }
 {
     let outcome = Err(refusal);
     if !verbose {
@@ -196,7 +199,8 @@ fn run_files<F: InputFiles, R: Input, W: Output, E: Output>(
     requires tells { E.failed errors.old < 2 ^ 64 - 1 }
     ensures { IsRunOfFiles verbose asked name.now result
         (world_of F.InputFiles E.Output files.now errors.old errors.new
-        (streams_of R.Input W.Output input.old output.old) (streams_of R.Input W.Output input.new output.new)) }
+        (streams_of R.Input W.Output input.old output.old)
+        (streams_of R.Input W.Output input.new output.new)) }
 {
     match files.read_file(alloc, name) {
         Ok(source) => run_with(
@@ -227,7 +231,8 @@ fn run_with<R: Input, W: Output, E: Output>(
     requires tells { E.failed errors.old < 2 ^ 64 - 1 }
     ensures { IsHeld verbose (λ written. IsRunOfTexts verbose asked source.now written result
         (tells_of E.Output errors.old errors.new)) result (tells_of E.Output errors.old errors.new)
-        (streams_of R.Input W.Output input.old output.old) (streams_of R.Input W.Output input.new output.new) }
+        (streams_of R.Input W.Output input.old output.old)
+        (streams_of R.Input W.Output input.new output.new) }
 {
     match read_all(alloc, input) {
         Ok(text) => {
@@ -255,8 +260,8 @@ fn run_written<W: Output, E: Output>(
 ) -> u8
     requires writes { W.failed output.old < 2 ^ 64 - 1 }
     requires tells { E.failed errors.old < 2 ^ 64 - 1 }
-    ensures { (before after : Option (List ℕ)) → IsRunOfTexts verbose asked written.entry.file.now written.entry.input.now
-        result (tells_of E.Output errors.old errors.new)
+    ensures { (before after : Option (List ℕ)) → IsRunOfTexts verbose asked written.entry.file.now
+        written.entry.input.now result (tells_of E.Output errors.old errors.new)
         (streams_over W.Output before output.old) (streams_over W.Output after output.new) }
 {
     match texts_for(alloc, asked, written.file, written.input) {
@@ -291,10 +296,12 @@ fn texts_for(
     file: &[u8],
     input: &[u8],
 ) -> Result<(Vec<u8>, Vec<u8>), Refused>
-    ensures file { IfOk result (λ texts. IsReadAs (kind_beside asked which.File) file.now texts.0.items) }
-    ensures input { IfOk result (λ texts. IsReadAs (kind_beside asked which.Input) input.now texts.1.items) }
-    ensures refused { IfErr result (IsRefusedOf
-        (IsUnread (kind_beside asked which.File) file.now) (IsUnread (kind_beside asked which.Input) input.now)) }
+    ensures file { IfOk result
+        (λ texts. IsReadAs (kind_beside asked which.File) file.now texts.0.items) }
+    ensures input { IfOk result
+        (λ texts. IsReadAs (kind_beside asked which.Input) input.now texts.1.items) }
+    ensures refused { IfErr result (IsRefusedOf (IsUnread (kind_beside asked which.File) file.now)
+        (IsUnread (kind_beside asked which.Input) input.now)) }
 {
     let file = match text_for(alloc, kind_beside(asked, Which::File), file) {
         Ok(text) => text,

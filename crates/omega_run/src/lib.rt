@@ -27,10 +27,12 @@ mod two_texts;
 pub use laws::budgets_are_of_solvers;
 pub use obeying::obey;
 pub use observing::run_observed;
-pub use omega_budget::{NoObserver, Progress, Reporter};
-pub use omega_command::{Beside, Command, Format, Line, OfEach, OfEither, Player, Source, Task};
+pub use omega_cli_command::{
+    Beside, Command, Format, Line, OfEach, OfEither, Player, Source, Task,
+};
 pub use omega_io::{
     Exit, FromRead, HostFiles, Input, InputFiles, Output, Reason, Refusal, ToWrite, Unread,
     exit_code, refusal_line,
 };
+pub use omega_solve::budget::{NoObserver, Progress, Reporter};
 pub use run::run_command;

@@ -1,5 +1,5 @@
 ghost use Rattle.std.specs.Prelude.{◌≡◌, ◌-◌, ◌^◌, ◌<◌, ℕ, IfOk, List, Option};
-ghost use Rattle.omega_command.specs.Line.{IsRunnable, IsRunnableTask};
+ghost use Rattle.omega_cli_command.specs.Line.{IsRunnable, IsRunnableTask};
 ghost use Rattle.omega_run.specs.Obey.{IsDone, IsDoneByText, IsDoneWithFile, IsObeyed, Prints};
 ghost use Rattle.omega_io.specs.declared.reason.Reason.{Reason};
 ghost use Rattle.omega_run.specs.World.{streams, streams_of, world_of};
@@ -9,7 +9,7 @@ use crate::held_text::HeldText;
 use crate::leniently::run_reading;
 use crate::reporting::{report, report_file};
 use crate::task::run;
-use omega_command::{Line, MOST_BUDGET, OfEither, Source, Task};
+use omega_cli_command::{Line, MOST_BUDGET, OfEither, Source, Task};
 use omega_io::{Exit, Input, InputFiles, Output, Refusal, failure_of, tell, write_text};
 use std::alloc::Global;
 
@@ -35,9 +35,9 @@ pub fn obey<F: InputFiles, R: Input, W: Output, E: Output>(
     requires reads { R.failed input.old < 2 ^ 64 - 1 }
     requires writes { W.failed output.old < 2 ^ 64 - 1 }
     requires tells { E.failed errors.old < 2 ^ 64 - 1 }
-    ensures { IsObeyed asked result
-        (world_of F.InputFiles E.Output files.now errors.old errors.new
-        (streams_of R.Input W.Output input.old output.old) (streams_of R.Input W.Output input.new output.new)) }
+    ensures { IsObeyed asked result (world_of F.InputFiles E.Output files.now errors.old errors.new
+        (streams_of R.Input W.Output input.old output.old)
+        (streams_of R.Input W.Output input.new output.new)) }
 {
     match asked {
         Ok(
@@ -91,7 +91,8 @@ fn with_input<F: InputFiles, R: Input, W: Output, E: Output>(
     requires tells { E.failed errors.old < 2 ^ 64 - 1 }
     ensures { IsDone lenient verbose task source result
         (world_of F.InputFiles E.Output files.now errors.old errors.new
-        (streams_of R.Input W.Output input.old output.old) (streams_of R.Input W.Output input.new output.new)) }
+        (streams_of R.Input W.Output input.old output.old)
+        (streams_of R.Input W.Output input.new output.new)) }
 {
     match source {
         Source::Input => run_reading(alloc, task, lenient, verbose, files, input, output, errors),
@@ -124,9 +125,9 @@ fn with_file<F: InputFiles, W: Output, E: Output>(
     requires tells { E.failed errors.old < 2 ^ 64 - 1 }
     ensures { (unread : Option (List ℕ)) → (failed_reads : ℕ) → (reason : Option Reason)
         → IsDoneWithFile lenient verbose task name.now result
-        (world_of F.InputFiles E.Output files.now errors.old errors.new
-        (streams unread failed_reads reason (W.contents output.old) (W.failed output.old) (W.reason output.old))
-        (streams unread failed_reads reason (W.contents output.new) (W.failed output.new) (W.reason output.new))) }
+        (world_of F.InputFiles E.Output files.now errors.old errors.new (streams unread failed_reads
+        reason (W.contents output.old) (W.failed output.old) (W.reason output.old)) (streams unread
+        failed_reads reason (W.contents output.new) (W.failed output.new) (W.reason output.new))) }
 {
     match files.read_file(alloc, name) {
         Ok(text) => {
@@ -154,9 +155,9 @@ fn by_text<F: InputFiles, W: Output, E: Output>(
     requires tells { E.failed errors.old < 2 ^ 64 - 1 }
     ensures { (unread : Option (List ℕ)) → (failed_reads : ℕ) → (reason : Option Reason)
         → IsDoneByText verbose asked file.now result
-        (world_of F.InputFiles E.Output files.now errors.old errors.new
-        (streams unread failed_reads reason (W.contents output.old) (W.failed output.old) (W.reason output.old))
-        (streams unread failed_reads reason (W.contents output.new) (W.failed output.new) (W.reason output.new))) }
+        (world_of F.InputFiles E.Output files.now errors.old errors.new (streams unread failed_reads
+        reason (W.contents output.old) (W.failed output.old) (W.reason output.old)) (streams unread
+        failed_reads reason (W.contents output.new) (W.failed output.new) (W.reason output.new))) }
 {
     match files.read_file(alloc, file) {
         Ok(text) => {

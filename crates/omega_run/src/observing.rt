@@ -1,6 +1,6 @@
 //! Commands that lift, with their progress reported on standard error.
 ghost use Rattle.std.specs.Prelude.{◌≡◌, ◌-◌, ◌^◌, ◌<◌, ◌≤◌, List, ℕ, max};
-ghost use Rattle.omega_budget.specs.Observing.{refusal_in};
+ghost use Rattle.omega_solve.specs.budget.Observing.{refusal_in};
 ghost use Rattle.omega_run.specs.Perform.{Performs};
 ghost use Rattle.omega_run.specs.Progress.{AreProgressLines, CountsLines, HasReported};
 ghost use Rattle.omega_run.specs.Respond.{Answers};
@@ -9,7 +9,7 @@ ghost use Rattle.omega_solve.specs.Limits.{most_lifts};
 
 use crate::progress::ProgressLines;
 use crate::run::run_command;
-use omega_command::Command;
+use omega_cli_command::Command;
 use omega_io::{Exit, Input, Output, Refusal};
 use std::alloc::Global;
 
@@ -29,14 +29,15 @@ pub fn run_observed<R: Input, W: Output, E: Output>(
     requires writes { W.failed output.old < 2 ^ 64 - 1 }
     requires tells { E.failed errors.old < 2 ^ 64 - 1 }
     ensures performed { Performs (Answers command budget) result
-        (streams_of R.Input W.Output input.old output.old) (streams_of R.Input W.Output input.new output.new) }
+        (streams_of R.Input W.Output input.old output.old)
+        (streams_of R.Input W.Output input.new output.new) }
     ensures reported { (lines : List ℕ)
         × AreProgressLines command (refusal_in result) (max 1 every) budget
         (R.remaining input.old) (R.remaining input.new) lines
-        × CountsLines command result (max 1 every) budget
-        (R.remaining input.old) (R.remaining input.new) (W.contents output.old) (W.contents output.new) lines
-        × HasReported
-        (E.contents errors.old) (E.contents errors.new) (E.failed errors.old) (E.failed errors.new) lines }
+        × CountsLines command result (max 1 every) budget (R.remaining input.old)
+        (R.remaining input.new) (W.contents output.old) (W.contents output.new) lines
+        × HasReported (E.contents errors.old) (E.contents errors.new) (E.failed errors.old)
+        (E.failed errors.new) lines }
 {
     let lines = ProgressLines {
         every,

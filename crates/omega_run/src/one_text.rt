@@ -12,9 +12,9 @@ use crate::observing::run_observed;
 use crate::reporting::{report, report_after, report_with};
 use crate::run::run_command;
 use crate::text_kind::kind_for;
-use omega_budget::{LIFTS_BETWEEN_REPORTS, NoObserver};
-use omega_command::Command;
+use omega_cli_command::Command;
 use omega_io::{Input, Output, failure_of, read_all};
+use omega_solve::budget::{LIFTS_BETWEEN_REPORTS, NoObserver};
 use std::alloc::Global;
 
 /// Runs a command, writes the lines of a refusal, and returns the status to end with. If `verbose` is set, the input is
@@ -33,9 +33,10 @@ pub(crate) fn run_telling<R: Input, W: Output, E: Output>(
     requires writes { W.failed output.old < 2 ^ 64 - 1 }
     requires tells { E.failed errors.old < 2 ^ 64 - 1 }
     ensures { IsRunTelling verbose command
-        (λ IsReason. IsCommandRun verbose IsReason command budget result (tells_of E.Output errors.old errors.new))
-        result (tells_of E.Output errors.old errors.new)
-        (streams_of R.Input W.Output input.old output.old) (streams_of R.Input W.Output input.new output.new) }
+        (λ IsReason. IsCommandRun verbose IsReason command budget result
+        (tells_of E.Output errors.old errors.new)) result (tells_of E.Output errors.old errors.new)
+        (streams_of R.Input W.Output input.old output.old)
+        (streams_of R.Input W.Output input.new output.new) }
 {
     if !verbose {
         let outcome = run_command(alloc, command, input, output, budget, &NoObserver, &mut ());
@@ -64,7 +65,8 @@ fn run_held<W: Output, E: Output>(
     requires budget { budget ≤ most_lifts }
     requires writes { W.failed output.old < 2 ^ 64 - 1 }
     requires tells { E.failed errors.old < 2 ^ 64 - 1 }
-    ensures { (rest : Option (List ℕ)) × IsCommandRun true (IsCause (kind_for command) text.now text.now []) command budget
+    ensures { (rest : Option (List ℕ))
+        × IsCommandRun true (IsCause (kind_for command) text.now text.now []) command budget
         result (tells_of E.Output errors.old errors.new)
         (streams_over W.Output (Some text.now) output.old) (streams_over W.Output rest output.new) }
 {
@@ -101,9 +103,10 @@ pub(crate) fn observe<R: Input, W: Output, E: Output>(
     requires writes { W.failed output.old < 2 ^ 64 - 1 }
     requires tells { E.failed errors.old < 2 ^ 64 - 1 }
     ensures { IsRunTelling verbose command
-        (λ IsReason. IsObservedRun verbose IsReason command budget result (tells_of E.Output errors.old errors.new))
-        result (tells_of E.Output errors.old errors.new)
-        (streams_of R.Input W.Output input.old output.old) (streams_of R.Input W.Output input.new output.new) }
+        (λ IsReason. IsObservedRun verbose IsReason command budget result
+        (tells_of E.Output errors.old errors.new)) result (tells_of E.Output errors.old errors.new)
+        (streams_of R.Input W.Output input.old output.old)
+        (streams_of R.Input W.Output input.new output.new) }
 {
     if !verbose {
         return observe_input(alloc, command, budget, input, output, errors);
@@ -130,8 +133,9 @@ fn observe_input<R: Input, W: Output, E: Output>(
     requires reads { R.failed input.old < 2 ^ 64 - 1 }
     requires writes { W.failed output.old < 2 ^ 64 - 1 }
     requires tells { E.failed errors.old < 2 ^ 64 - 1 }
-    ensures { IsObservedRun false IsNoCause command budget result (tells_of E.Output errors.old errors.new)
-        (streams_of R.Input W.Output input.old output.old) (streams_of R.Input W.Output input.new output.new) }
+    ensures { IsObservedRun false IsNoCause command budget result
+        (tells_of E.Output errors.old errors.new) (streams_of R.Input W.Output input.old output.old)
+        (streams_of R.Input W.Output input.new output.new) }
 {
     let sound = errors.failures();
     let outcome = run_observed(
@@ -159,7 +163,8 @@ fn observe_held<W: Output, E: Output>(
     requires budget { budget ≤ most_lifts }
     requires writes { W.failed output.old < 2 ^ 64 - 1 }
     requires tells { E.failed errors.old < 2 ^ 64 - 1 }
-    ensures { (rest : Option (List ℕ)) × IsObservedRun true (IsCause (kind_for command) text.now text.now []) command budget
+    ensures { (rest : Option (List ℕ))
+        × IsObservedRun true (IsCause (kind_for command) text.now text.now []) command budget
         result (tells_of E.Output errors.old errors.new)
         (streams_over W.Output (Some text.now) output.old) (streams_over W.Output rest output.new) }
 {

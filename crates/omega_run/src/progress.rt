@@ -4,8 +4,8 @@ ghost use Rattle.omega_run.specs.Progress.{progress_line};
 ghost use Rattle.omega_run.specs.private.steps.Telling.{TellsOn};
 
 use itoa::Buffer;
-use omega_budget::{Progress, Reporter};
 use omega_io::{Output, write_text};
+use omega_solve::budget::{Progress, Reporter};
 
 /// Reports on an output, line by line, how far runs have come. The lines and what is written after them are one text:
 /// once a write of it failed, no more of it is written.
@@ -20,8 +20,8 @@ pub(crate) struct ProgressLines {
 impl<E: Output> Reporter<E> for ProgressLines {
     ghost pace = { λ lines. max 1 lines.every };
 
-    ghost tells = { λ lines progress before after. TellsOn lines.sound
-        (E.contents before) (E.contents after) (E.failed before) (E.failed after) (progress_line progress) };
+    ghost tells = { λ lines progress before after. TellsOn lines.sound (E.contents before)
+        (E.contents after) (E.failed before) (E.failed after) (progress_line progress) };
 
     fn every(&self) -> u64 {
         self.every.max(1)
@@ -40,8 +40,8 @@ impl<E: Output> Reporter<E> for ProgressLines {
 
 /// Writes a number in decimal after the text so far, unless more than `sound` writes have failed. It takes no memory.
 fn tell_number<E: Output>(errors: &mut E, sound: u64, number: u64)
-    ensures { TellsOn sound
-        (E.contents errors.old) (E.contents errors.new) (E.failed errors.old) (E.failed errors.new) (decimal number) }
+    ensures { TellsOn sound (E.contents errors.old) (E.contents errors.new) (E.failed errors.old)
+        (E.failed errors.new) (decimal number) }
 {
     let mut buffer = Buffer::new();
     tell_on(errors, sound, buffer.format(number).as_bytes());
@@ -49,8 +49,8 @@ fn tell_number<E: Output>(errors: &mut E, sound: u64, number: u64)
 
 /// Writes a text after the text so far, unless more than `sound` writes have failed.
 fn tell_on<E: Output>(errors: &mut E, sound: u64, text: &[u8])
-    ensures { TellsOn sound
-        (E.contents errors.old) (E.contents errors.new) (E.failed errors.old) (E.failed errors.new) text.now }
+    ensures { TellsOn sound (E.contents errors.old) (E.contents errors.new) (E.failed errors.old)
+        (E.failed errors.new) text.now }
 {
     if errors.failures() == sound && sound < u64::MAX {
         let _ = write_text(errors, text);

@@ -2,9 +2,9 @@
 ghost use Rattle.std.specs.Prelude.{◌≡◌, ◌≤◌, ℕ, List, Option, Ok, Err, IfOk, IfErr, OnOk, length};
 ghost use Rattle.omega_text.specs.Cases.{or_memory};
 ghost use Rattle.omega_text.specs.Limits.{most_text};
-ghost use Rattle.omega_budget.specs.Observing.{IsObserved, refusal_in};
-ghost use Rattle.omega_realize_answers.specs.Observing.{LiftsText};
-ghost use Rattle.omega_realize_answers.specs.Refusing.{IsRealizeRefusal};
+ghost use Rattle.omega_solve.specs.budget.Observing.{IsObserved, refusal_in};
+ghost use Rattle.omega_answers_synth.specs.Observing.{LiftsText};
+ghost use Rattle.omega_answers_synth.specs.Refusing.{IsRealizeRefusal};
 ghost use Rattle.omega_solve.specs.Limits.{most_lifts};
 ghost use Rattle.omega_run.specs.Progress.{LiftsInput};
 ghost use Rattle.omega_run.specs.Respond.{Answers, IsRealizeAnswer};
@@ -14,11 +14,11 @@ ghost use Rattle.omega_io.specs.Reading.{IsRead};
 
 use crate::emptiness::{decided_emptiness, searched_emptiness};
 use crate::kinds::OfQuestion;
-use omega_budget::Reporter;
-use omega_io::{Exit, Refusal};
-use omega_realize_answers::{
+use omega_answers_synth::{
     decide_realizability, decide_realizability_by_lifting, write_winner, write_winner_by_lifting,
 };
+use omega_io::{Exit, Refusal};
+use omega_solve::budget::Reporter;
 use std::alloc::Global;
 
 /// Returns the whole answer to a question about one text, with how it ends, or its refusal. Each run of a solver makes
@@ -38,7 +38,8 @@ pub(crate) fn answer_question<L, T: Reporter<L>>(
     ensures refused { IfErr result (or_memory (λ refusal.
         Answers (of_question question) budget text.items (Err refusal))) }
     ensures unfailed { failures_of result ≡ 0 }
-    ensures reported { (unread_before unread_after : Option (List ℕ)) → IsRead unread_before unread_after text.items
+    ensures reported { (unread_before unread_after : Option (List ℕ))
+        → IsRead unread_before unread_after text.items
         → IsObserved (LiftsInput (of_question question) unread_before unread_after) (refusal_in result)
         (T.tells reporter.now) (T.pace reporter.now) budget observer.old observer.new }
 {
@@ -47,7 +48,7 @@ pub(crate) fn answer_question<L, T: Reporter<L>>(
             decided_emptiness(alloc, text, lines, status, budget, reporter, observer)
         }
         OfQuestion::EmptySearch { lines, status } => searched_emptiness(alloc, text, lines, status),
-        OfQuestion::Realize { controller } => realized(alloc, text, controller),
+        OfQuestion::Realize { controller } => decide_or_write_controller(alloc, text, controller),
         OfQuestion::RealizeByLifting { controller } => {
             realized_by_lifting(alloc, text, controller, budget, reporter, observer)
         }
@@ -55,8 +56,13 @@ pub(crate) fn answer_question<L, T: Reporter<L>>(
 }
 
 /// Returns whether the automaton of `text` is realizable, or with `controller` the winner's automaton.
-fn realized(alloc: Global, text: Vec<u8>, controller: bool) -> Result<(Exit, Vec<u8>), Refusal>
-    ensures answered { IfOk result (λ made. IsRealizeAnswer controller text.items made.0 made.1.items) }
+fn decide_or_write_controller(
+    alloc: Global,
+    text: Vec<u8>,
+    controller: bool,
+) -> Result<(Exit, Vec<u8>), Refusal>
+    ensures answered { IfOk result
+        (λ made. IsRealizeAnswer controller text.items made.0 made.1.items) }
     ensures limit { OnOk result (length text.items ≤ most_text) }
     ensures refused { IfErr result (or_memory (IsRealizeRefusal text.items most_lifts)) }
     ensures unfailed { failures_of result ≡ 0 }
@@ -78,7 +84,8 @@ fn realized_by_lifting<L, T: Reporter<L>>(
     observer: &mut L,
 ) -> Result<(Exit, Vec<u8>), Refusal>
     requires budget { budget ≤ most_lifts }
-    ensures answered { IfOk result (λ made. IsRealizeAnswer controller text.items made.0 made.1.items) }
+    ensures answered { IfOk result
+        (λ made. IsRealizeAnswer controller text.items made.0 made.1.items) }
     ensures limit { OnOk result (length text.items ≤ most_text) }
     ensures refused { IfErr result (or_memory (IsRealizeRefusal text.items budget)) }
     ensures unfailed { failures_of result ≡ 0 }

@@ -10,7 +10,7 @@ ghost use Rattle.omega_run.specs.World.{tells_of};
 ghost use Rattle.omega_run.specs.private.steps.Beside.{plain, text_in};
 ghost use Rattle.omega_run.specs.private.steps.Telling.{IsToldOf, ReportsWith, TellsLast};
 
-use omega_command::Beside;
+use omega_cli_command::Beside;
 use omega_io::{
     Exit, Failure, Output, Refusal, Refused, Unread, Which, exit_code, file_lines, lines_in,
     refusal_line, stream_lines, tell,
@@ -27,7 +27,8 @@ pub(crate) fn report<E: Output>(
     errors: &mut E,
 ) -> u8
     requires { E.failed errors.old < 2 ^ 64 - 1 }
-    ensures { ReportsBy (stream_lines verbose failure) outcome result (tells_of E.Output errors.old errors.new) }
+    ensures { ReportsBy (stream_lines verbose failure) outcome result
+        (tells_of E.Output errors.old errors.new) }
 {
     let Err(refusal) = outcome else {
         return exit_code(&outcome);
@@ -103,8 +104,8 @@ pub(crate) fn report_about<E: Output>(
     errors: &mut E,
 ) -> u8
     requires { E.failed errors.old < 2 ^ 64 - 1 }
-    ensures { ReportsWith (lines_about verbose failure asked (text_in outcome)) cause.now (plain outcome) result
-        (tells_of E.Output errors.old errors.new) }
+    ensures { ReportsWith (lines_about verbose failure asked (text_in outcome)) cause.now
+        (plain outcome) result (tells_of E.Output errors.old errors.new) }
 {
     match outcome {
         Ok(exit) => report_with(alloc, Ok(exit), verbose, failure, cause, errors),
@@ -224,8 +225,9 @@ fn report_lines<E: Output>(
 ) -> u8
     requires tells { E.failed errors.old < 2 ^ 64 - 1 }
     requires memory { IsOkUnless lines Memory }
-    ensures reported { IfOk lines (λ lines. (told : List ℕ) × IsToldOf cause.now told
-        × IsRefusalReported refusal (lines.items ++ told) result (tells_of E.Output errors.old errors.new)) }
+    ensures reported { IfOk lines
+        (λ lines. (told : List ℕ) × IsToldOf cause.now told × IsRefusalReported refusal
+        (lines.items ++ told) result (tells_of E.Output errors.old errors.new)) }
     ensures wanting { IfErr lines (λ _.
         IsRefusalReported Memory (line_of Memory) result (tells_of E.Output errors.old errors.new)) }
 {

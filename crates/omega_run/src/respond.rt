@@ -2,7 +2,7 @@ ghost use Rattle.std.specs.Prelude.{◌≡◌, ◌+◌, ◌-◌, ◌^◌, ◌<�
 ghost use Rattle.std.specs.Prelude.{Ok, Err, IfOk, IfErr, OnOk, length};
 ghost use Rattle.omega_text.specs.Cases.{or_memory};
 ghost use Rattle.omega_text.specs.Limits.{most_text};
-ghost use Rattle.omega_budget.specs.Observing.{IsObserved, refusal_in};
+ghost use Rattle.omega_solve.specs.budget.Observing.{IsObserved, refusal_in};
 ghost use Rattle.omega_solve.specs.Limits.{most_lifts};
 ghost use Rattle.omega_run.specs.Progress.{CountsReportedOfInput, LiftsInput};
 ghost use Rattle.omega_run.specs.Respond.{Answers, IsRunRefusal, Responds, asked_for};
@@ -14,19 +14,18 @@ ghost use Rattle.omega_io.specs.declared.exit.Exit.TheVariants.{Done};
 use crate::each::answer_each;
 use crate::kinds::{Kind, OfStream, OfText, kind_of};
 use crate::questions::answer_question;
-use omega_budget::Reporter;
-use omega_command::Command;
-use omega_empty_answers::{draw_automaton_text, draw_lasso_text, write_emptiness_game};
-use omega_game_answers::{
+use omega_answers_automaton::{complement_text, trim_text};
+use omega_answers_empty::{draw_automaton_text, draw_lasso_text, write_emptiness_game};
+use omega_answers_game::{
     Asked, canon_game, canon_least, canon_part, check_game, draw_game_text, show_game, show_json,
     solve_game,
 };
+use omega_answers_stream::{canon_stream, check_stream, show_stream, show_stream_json};
+use omega_answers_synth::write_realizability_game;
+use omega_cli_command::Command;
+use omega_game_values::Player;
 use omega_io::{Exit, Input, Refusal, read_all};
-use omega_language_answers::complement_text;
-use omega_parity_game::Player;
-use omega_realize_answers::write_realizability_game;
-use omega_stream_answers::{canon_stream, check_stream, show_stream, show_stream_json};
-use omega_trim_answers::trim_text;
+use omega_solve::budget::Reporter;
 use std::alloc::Global;
 
 /// Reads what a command needs, and returns its whole answer, with how it ends, or its refusal. Each command reads for
@@ -47,10 +46,12 @@ pub(crate) fn answer<R: Input, L, T: Reporter<L>>(
     ensures refused { IfErr result
         (IsRunRefusal (Answers command budget) (R.remaining input.old) (R.remaining input.new)) }
     ensures counted { R.failed input.new ≡ R.failed input.old + failures_of result }
-    ensures printed { IfOk result (λ made. CountsReportedOfInput (T.tells reporter.now) (T.pace reporter.now) command
+    ensures printed { IfOk result
+        (λ made. CountsReportedOfInput (T.tells reporter.now) (T.pace reporter.now) command
         (R.remaining input.old) (R.remaining input.new) budget made.1.items observer.old observer.new) }
-    ensures reported { IsObserved (LiftsInput command (R.remaining input.old) (R.remaining input.new))
-        (refusal_in result) (T.tells reporter.now) (T.pace reporter.now) budget observer.old observer.new }
+    ensures reported { IsObserved
+        (LiftsInput command (R.remaining input.old) (R.remaining input.new)) (refusal_in result)
+        (T.tells reporter.now) (T.pace reporter.now) budget observer.old observer.new }
 {
     match kind_of(command) {
         Kind::Stream(OfStream::Show) => Ok((Exit::Done, show_stream(alloc, input)?)),
@@ -81,14 +82,18 @@ fn answer_text<L, T: Reporter<L>>(
     observer: &mut L,
 ) -> Result<Vec<u8>, Refusal>
     requires budget { budget ≤ most_lifts }
-    ensures answered { IfOk result (λ output. Answers (of_text command) budget text.items (Ok (Done, output.items))) }
+    ensures answered { IfOk result
+        (λ output. Answers (of_text command) budget text.items (Ok (Done, output.items))) }
     ensures limit { OnOk result (length text.items ≤ most_text) }
-    ensures refused { IfErr result (or_memory (λ refusal. Answers (of_text command) budget text.items (Err refusal))) }
+    ensures refused { IfErr result
+        (or_memory (λ refusal. Answers (of_text command) budget text.items (Err refusal))) }
     ensures unfailed { failures_of result ≡ 0 }
-    ensures printed { (unread_before unread_after : Option (List ℕ)) → IsRead unread_before unread_after text.items
-        → IfOk result (λ output. CountsReportedOfInput (T.tells reporter.now) (T.pace reporter.now) (of_text command)
-        unread_before unread_after budget output.items observer.old observer.new) }
-    ensures reported { (unread_before unread_after : Option (List ℕ)) → IsRead unread_before unread_after text.items
+    ensures printed { (unread_before unread_after : Option (List ℕ))
+        → IsRead unread_before unread_after text.items
+        → IfOk result (λ output. CountsReportedOfInput (T.tells reporter.now) (T.pace reporter.now)
+        (of_text command) unread_before unread_after budget output.items observer.old observer.new) }
+    ensures reported { (unread_before unread_after : Option (List ℕ))
+        → IsRead unread_before unread_after text.items
         → IsObserved (LiftsInput (of_text command) unread_before unread_after) (refusal_in result)
         (T.tells reporter.now) (T.pace reporter.now) budget observer.old observer.new }
 {

@@ -1,16 +1,16 @@
 ghost use Rattle.std.specs.Prelude.{◌≡◌, ◌+◌, ◌-◌, ◌^◌, ◌<◌, ◌≤◌, IfOk, IfErr, OnErr};
 ghost use Rattle.omega_solve.specs.Limits.{most_lifts};
 ghost use Rattle.std.specs.Io.KnownBytes.{Keeps};
-ghost use Rattle.omega_budget.specs.Observing.{IsObserved, refusal_in};
+ghost use Rattle.omega_solve.specs.budget.Observing.{IsObserved, refusal_in};
 ghost use Rattle.omega_run.specs.Progress.{CountsWritten, LiftsInput};
 ghost use Rattle.omega_run.specs.Respond.{Answers, IsRunRefusal};
 ghost use Rattle.omega_run.specs.Run.{BreaksOff, Completes};
 ghost use Rattle.omega_io.specs.Failures.{failures_of};
 
 use crate::respond::answer;
-use omega_budget::Reporter;
-use omega_command::Command;
+use omega_cli_command::Command;
 use omega_io::{Exit, Input, Output, Refusal, write_text};
+use omega_solve::budget::Reporter;
 use std::alloc::Global;
 
 /// Reads the one text of a command, makes its whole answer in memory, and then writes it. Each run of a solver makes at
@@ -31,16 +31,17 @@ pub fn run_command<R: Input, W: Output, L, T: Reporter<L>>(
     requires writes { W.failed output.old < 2 ^ 64 - 1 }
 
     // What was read and written if the command is done, and why it is refused if it is not.
-    ensures completed { IfOk result (Completes (Answers command budget)
-        (R.remaining input.old) (R.remaining input.new) (W.contents output.old) (W.contents output.new)) }
+    ensures completed { IfOk result (Completes (Answers command budget) (R.remaining input.old)
+        (R.remaining input.new) (W.contents output.old) (W.contents output.new)) }
     ensures refused { IfErr result
         (IsRunRefusal (Answers command budget) (R.remaining input.old) (R.remaining input.new)) }
 
     // What a refused run has written: nothing, unless a write failed.
-    ensures unwritten { OnErr result
-        (W.failed output.new ≡ W.failed output.old → Keeps (W.contents output.old) (W.contents output.new)) }
-    ensures broken_off { OnErr result (W.failed output.old < W.failed output.new → BreaksOff (Answers command budget)
-        (R.remaining input.old) (R.remaining input.new) (W.contents output.old) (W.contents output.new)) }
+    ensures unwritten { OnErr result (W.failed output.new ≡ W.failed output.old
+        → Keeps (W.contents output.old) (W.contents output.new)) }
+    ensures broken_off { OnErr result (W.failed output.old < W.failed output.new
+        → BreaksOff (Answers command budget) (R.remaining input.old) (R.remaining input.new)
+        (W.contents output.old) (W.contents output.new)) }
 
     // One read or write failed if it is refused for that, and else none.
     ensures counted { R.failed input.new + W.failed output.new
@@ -49,11 +50,12 @@ pub fn run_command<R: Input, W: Output, L, T: Reporter<L>>(
     ensures writes_kept { W.failed output.old ≤ W.failed output.new }
 
     // What is reported to the observer of the runs of a solver that the command makes, whose lifts its answer counts.
-    ensures printed { IfOk result (λ _. CountsWritten (T.tells reporter.now) (T.pace reporter.now) command budget
-        (R.remaining input.old) (R.remaining input.new) (W.contents output.old) (W.contents output.new)
-        observer.old observer.new) }
-    ensures reported { IsObserved (LiftsInput command (R.remaining input.old) (R.remaining input.new))
-        (refusal_in result) (T.tells reporter.now) (T.pace reporter.now) budget observer.old observer.new }
+    ensures printed { IfOk result (λ _. CountsWritten (T.tells reporter.now)
+        (T.pace reporter.now) command budget (R.remaining input.old) (R.remaining input.new)
+        (W.contents output.old) (W.contents output.new) observer.old observer.new) }
+    ensures reported { IsObserved
+        (LiftsInput command (R.remaining input.old) (R.remaining input.new)) (refusal_in result)
+        (T.tells reporter.now) (T.pace reporter.now) budget observer.old observer.new }
 {
     let (exit, made) = answer(alloc, command, input, budget, reporter, observer)?;
     write_text(output, made.as_slice())?;

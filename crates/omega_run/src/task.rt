@@ -1,12 +1,12 @@
 //! A task is done with the text of an input.
 ghost use Rattle.std.specs.Prelude.{◌≡◌, ◌-◌, ◌^◌, ◌<◌, ◌≤◌, string_bytes};
-ghost use Rattle.omega_command.specs.Line.{IsRunnableTask};
+ghost use Rattle.omega_cli_command.specs.Line.{IsRunnableTask};
 ghost use Rattle.omega_run.specs.Obey.{IsPerformed};
 ghost use Rattle.omega_run.specs.World.{streams_of, world_of};
 
 use crate::one_text::{observe, run_telling};
 use crate::two_texts::{run_beside, run_given};
-use omega_command::Task;
+use omega_cli_command::Task;
 use omega_io::{Input, InputFiles, Output};
 use std::alloc::Global;
 
@@ -26,7 +26,8 @@ pub(crate) fn run<F: InputFiles, R: Input, W: Output, E: Output>(
     requires tells { E.failed errors.old < 2 ^ 64 - 1 }
     ensures { IsPerformed verbose task result
         (world_of F.InputFiles E.Output files.now errors.old errors.new
-        (streams_of R.Input W.Output input.old output.old) (streams_of R.Input W.Output input.new output.new)) }
+        (streams_of R.Input W.Output input.old output.old)
+        (streams_of R.Input W.Output input.new output.new)) }
 {
     match task {
         Task::Run(command, budget) => {

@@ -1,7 +1,7 @@
 ghost use Rattle.std.specs.Prelude.{◌≡◌};
 ghost use Rattle.omega_run.specs.Causes.{kind_beside, kind_for, kind_of_format};
 
-use omega_command::{Beside, Command, Format};
+use omega_cli_command::{Beside, Command, Format};
 use omega_io::Which;
 
 /// What a text is read as, by which the causes of its refusals differ.

@@ -12,7 +12,7 @@ use crate::beside::write_beside;
 use crate::causes::{Texts, cause_about};
 use crate::held_text::HeldText;
 use crate::reporting::{report, report_about, report_file};
-use omega_command::Beside;
+use omega_cli_command::Beside;
 use omega_io::{Exit, Input, InputFiles, Output, Refusal, Refused, failure_of, read_all};
 use std::alloc::Global;
 
@@ -33,7 +33,8 @@ pub(crate) fn run_beside<F: InputFiles, R: Input, W: Output, E: Output>(
     requires tells { E.failed errors.old < 2 ^ 64 - 1 }
     ensures { IsRunWithFile verbose asked name.now result
         (world_of F.InputFiles E.Output files.now errors.old errors.new
-        (streams_of R.Input W.Output input.old output.old) (streams_of R.Input W.Output input.new output.new)) }
+        (streams_of R.Input W.Output input.old output.old)
+        (streams_of R.Input W.Output input.new output.new)) }
 {
     match files.read_file(alloc, name) {
         Ok(file) => run_both(alloc, file, asked, verbose, input, output, errors),
@@ -55,8 +56,9 @@ pub(crate) fn run_given<R: Input, W: Output, E: Output>(
     requires reads { R.failed input.old < 2 ^ 64 - 1 }
     requires writes { W.failed output.old < 2 ^ 64 - 1 }
     requires tells { E.failed errors.old < 2 ^ 64 - 1 }
-    ensures { IsRunBeside verbose asked (string_bytes text) result (tells_of E.Output errors.old errors.new)
-        (streams_of R.Input W.Output input.old output.old) (streams_of R.Input W.Output input.new output.new) }
+    ensures { IsRunBeside verbose asked (string_bytes text) result
+        (tells_of E.Output errors.old errors.new) (streams_of R.Input W.Output input.old output.old)
+        (streams_of R.Input W.Output input.new output.new) }
 {
     run_both(
         alloc,
@@ -84,7 +86,8 @@ fn run_both<R: Input, W: Output, E: Output>(
     requires writes { W.failed output.old < 2 ^ 64 - 1 }
     requires tells { E.failed errors.old < 2 ^ 64 - 1 }
     ensures { IsRunBeside verbose asked file.items result (tells_of E.Output errors.old errors.new)
-        (streams_of R.Input W.Output input.old output.old) (streams_of R.Input W.Output input.new output.new) }
+        (streams_of R.Input W.Output input.old output.old)
+        (streams_of R.Input W.Output input.new output.new) }
 {
     if !verbose {
         let outcome = write_beside(alloc, asked, file, input, output);
@@ -119,10 +122,12 @@ pub(crate) fn run_texts<W: Output, E: Output>(
 ) -> u8
     requires writes { W.failed output.old < 2 ^ 64 - 1 }
     requires tells { E.failed errors.old < 2 ^ 64 - 1 }
-    ensures { (rest : Option (List ℕ)) × IsAnswered (IsCauseTold verbose asked
-        (texts written.entry.file.now written.entry.input.now) (texts read.entry.file.now read.entry.input.now))
+    ensures { (rest : Option (List ℕ)) × IsAnswered
+        (IsCauseTold verbose asked (texts written.entry.file.now written.entry.input.now)
+        (texts read.entry.file.now read.entry.input.now))
         verbose asked read.entry.file.now result (tells_of E.Output errors.old errors.new)
-        (streams_over W.Output (Some read.entry.input.now) output.old) (streams_over W.Output rest output.new) }
+        (streams_over W.Output (Some read.entry.input.now) output.old)
+        (streams_over W.Output rest output.new) }
 {
     let outcome = write_texts(alloc, asked, read, output);
     let cause = cause_about(alloc, verbose, asked, written, read, &outcome);
@@ -146,9 +151,11 @@ fn write_texts<W: Output>(
     output: &mut W,
 ) -> Result<Exit, Refused>
     requires { W.failed output.old < 2 ^ 64 - 1 }
-    ensures { (rest : Option (List ℕ)) × Performs (AnswersBeside asked read.entry.file.now) (plain result)
-        (streams_over W.Output (Some read.entry.input.now) output.old) (streams_over W.Output rest output.new)
-        × IfErr (plain result) (IsRefusalAbout asked read.entry.file.now (Some read.entry.input.now) rest (text_in result)) }
+    ensures { (rest : Option (List ℕ)) × Performs (AnswersBeside asked read.entry.file.now)
+        (plain result) (streams_over W.Output (Some read.entry.input.now) output.old)
+        (streams_over W.Output rest output.new)
+        × IfErr (plain result)
+        (IsRefusalAbout asked read.entry.file.now (Some read.entry.input.now) rest (text_in result)) }
 {
     let Ok(file) = Vec::from_slice(alloc, read.file) else {
         return Err(Refused::from(Refusal::Memory));

@@ -3,3 +3,4 @@ mod lifting
 mod answers
 mod runs
 mod turning
+pub mod within_budget

@@ -1,7 +1,7 @@
 -- Each node is in exactly one of the two players' answers.
 use Rattle.std.specs.Prelude.{◌≡◌, ◌⊎◌, ℕ, ◌<◌, Bool, true, false, Some, List, length, slice_get}
-use Rattle.omega_parity_game.specs.declared.player.Player.TheVariants.{Zero, One}
-use Rattle.omega_parity_game.specs.Game.{Node, IsGame}
+use Rattle.omega_game_values.specs.declared.player.Player.TheVariants.{Zero, One}
+use Rattle.omega_game_values.specs.Game.{Node, IsGame}
 use Rattle.omega_lift_laws.specs.Answer.{won_in}
 use Rattle.omega_solve.specs.Solver.{SolverState, IsFinished, IsReached}
 

@@ -1,7 +1,7 @@
 -- The least table in which no lift is due, to which lifting runs lead.
 use Rattle.std.specs.Prelude.{ℕ, ◌<◌, List, length}
-use Rattle.omega_parity_game.specs.declared.player.Player.{Player}
-use Rattle.omega_parity_game.specs.Game.{Node, IsGame, priorities}
+use Rattle.omega_game_values.specs.declared.player.Player.{Player}
+use Rattle.omega_game_values.specs.Game.{Node, IsGame, priorities}
 use Rattle.omega_lift_laws.specs.Allowance.{measure_at}
 use Rattle.omega_lift_laws.specs.Measure.{Measure, IsAtMost}
 use Rattle.omega_lift_laws.specs.Run.{IsLiftingRun, IsStable, IsTable, zero_table}

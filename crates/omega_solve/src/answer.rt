@@ -1,5 +1,5 @@
 ghost use Rattle.std.specs.Prelude.{◌≡◌, length};
-ghost use Rattle.omega_parity_game.specs.Game.{IsGame, IsWithinLimits};
+ghost use Rattle.omega_game_values.specs.Game.{IsGame, IsWithinLimits};
 ghost use Rattle.omega_lift_laws.specs.Answer.{AreChoices, won_in};
 ghost use Rattle.omega_lift_laws.specs.Run.{IsStable};
 ghost use Rattle.omega_solve.specs.private.solving.Successor.{IsTableOf};

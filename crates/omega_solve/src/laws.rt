@@ -4,11 +4,11 @@ ghost use Rattle.omega_solve.specs.Headline.{Headline};
 ghost use Rattle.omega_solve.specs.LeastTables.{RunsLeadToLeastTables};
 ghost use Rattle.omega_solve.specs.Turns.{RaisesAreBounded};
 
+use omega_game_region_laws::{regions_are_apart, regions_cover};
 use omega_lift_laws::{
     choices_are_a_strategy, choices_win, regions_stay_below_top, runs_are_bounded,
     runs_keep_tables, won_places_are_in_regions, zero_tables_are_tables,
 };
-use omega_region_laws::{regions_are_apart, regions_cover};
 
 /// States the headline. However a budget is dealt out to the runs of a solver, it makes at most as many lifts as the
 /// bound, and budgets that together reach the bound suffice. Once it is done, its answer is exactly the player's

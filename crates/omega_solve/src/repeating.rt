@@ -1,12 +1,12 @@
 ghost use Rattle.std.specs.Prelude.{◌≡◌, ◌+◌, ◌-◌, ◌^◌, ◌<◌, ◌≤◌, length, IsTrue, MatchBool};
-ghost use Rattle.omega_parity_game.specs.Game.{HasEdge, IsGame};
+ghost use Rattle.omega_game_values.specs.Game.{HasEdge, IsGame};
 ghost use Rattle.omega_solve.specs.private.solving.Repeating.{LiftsAgain};
 ghost use Rattle.omega_solve.specs.private.solving.Successor.{IsTableOf};
 
 use crate::successor::{due_towards, owns};
 use omega_lift_laws::{allowances_are_unique, runs_keep_tables};
+use omega_lift_schedules::Schedule;
 use omega_measure::{Game, MeasureTable, Player};
-use omega_schedules::Schedule;
 
 /// Lifts `place` again while it leads to itself, a lift is due there and the schedule takes it again, at most `most`
 /// times. Returns how often. Wakes nothing: predecessors are woken once, after the last of these lifts.
@@ -29,8 +29,8 @@ pub(crate) fn lift_again<T: MeasureTable, S: Schedule>(
     requires table { IsTableOf game.now player (T.content table.old) }
     requires counted { (S.waiting schedule.old).taken + most ≤ 2 ^ 64 - 1 }
     ensures within { result ≤ most }
-    ensures lifted { LiftsAgain game.now player place result
-        (T.content table.old) (T.content table.new) (S.waiting schedule.old) (S.waiting schedule.new) }
+    ensures lifted { LiftsAgain game.now player place result (T.content table.old)
+        (T.content table.new) (S.waiting schedule.old) (S.waiting schedule.new) }
 {
     if !may_repeat(game, player, place, towards) {
         return 0;
@@ -56,8 +56,8 @@ fn lift_while_due<T: MeasureTable, S: Schedule>(
     requires table { IsTableOf game.now player (T.content table.old) }
     requires counted { (S.waiting schedule.old).taken + most ≤ 2 ^ 64 - 1 }
     ensures within { result ≤ most }
-    ensures lifted { LiftsAgain game.now player place result
-        (T.content table.old) (T.content table.new) (S.waiting schedule.old) (S.waiting schedule.new) }
+    ensures lifted { LiftsAgain game.now player place result (T.content table.old)
+        (T.content table.new) (S.waiting schedule.old) (S.waiting schedule.new) }
 {
     let mut made = 0u64;
     while made < most && lift_once_more(game, player, table, schedule, place) {
@@ -80,11 +80,10 @@ fn lift_once_more<T: MeasureTable, S: Schedule>(
     requires itself { HasEdge game.now place place }
     requires table { IsTableOf game.now player (T.content table.old) }
     requires counted { (S.waiting schedule.old).taken < 2 ^ 64 - 1 }
-    ensures { MatchBool result
-        (LiftsAgain game.now player place 1
-        (T.content table.old) (T.content table.new) (S.waiting schedule.old) (S.waiting schedule.new))
-        (LiftsAgain game.now player place 0
-        (T.content table.old) (T.content table.new) (S.waiting schedule.old) (S.waiting schedule.new)) }
+    ensures { MatchBool result (LiftsAgain game.now player place 1 (T.content table.old)
+        (T.content table.new) (S.waiting schedule.old) (S.waiting schedule.new))
+        (LiftsAgain game.now player place 0 (T.content table.old) (T.content table.new)
+        (S.waiting schedule.old) (S.waiting schedule.new)) }
 {
     allowances_are_unique();
     runs_keep_tables();

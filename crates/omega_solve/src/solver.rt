@@ -1,5 +1,7 @@
-ghost use Rattle.std.specs.Prelude.{◌≡◌, ◌↔◌, ℕ, ◌+◌, ◌-◌, ◌^◌, ◌<◌, ◌≤◌, true, false, is_some, length, slice_get, Some, IsTrue, IsOk, IsOkUnless, IsSome, IfOk, IfErr, IfSome, MatchOption};
-ghost use Rattle.omega_parity_game.specs.Game.{priorities};
+ghost use Rattle.std.specs.Prelude.{◌≡◌, ◌↔◌, ℕ, ◌+◌, ◌-◌, ◌^◌, ◌<◌, ◌≤◌, true, false};
+ghost use Rattle.std.specs.Prelude.{is_some, length, slice_get, Some, IsTrue, IsOk};
+ghost use Rattle.std.specs.Prelude.{IsOkUnless, IsSome, IfOk, IfErr, IfSome, MatchOption};
+ghost use Rattle.omega_game_values.specs.Game.{priorities};
 ghost use Rattle.omega_measure.specs.Table.{IsPrepareRefusal, is_too_wide, zero_content};
 ghost use Rattle.omega_solve.specs.Limits.{most_lifts};
 ghost use Rattle.omega_solve.specs.Solver.{start_of};
@@ -14,8 +16,8 @@ use omega_lift_laws::{
     allowances_are_unique, choices_are_a_strategy, choices_win, places_are_lifted_boundedly,
     regions_stay_below_top, runs_are_bounded, runs_keep_tables, zero_tables_are_tables,
 };
+use omega_lift_schedules::Schedule;
 use omega_measure::{Game, MeasureTable, Player, Refusal};
-use omega_schedules::Schedule;
 use std::alloc::Global;
 use std::marker::Model;
 
@@ -41,7 +43,8 @@ impl<'g, T: MeasureTable, S: Schedule> Model for Solver<'g, T, S> {
 
     ghost Value = { SolverState };
 
-    ghost view = { λ s. solver_state s.game.now s.player (T.content s.table) (S.waiting s.schedule) s.lifts s.done };
+    ghost view = { λ s. solver_state s.game.now s.player (T.content s.table)
+        (S.waiting s.schedule) s.lifts s.done };
 
     ghost invariant = { λ s. IsSolver
         (solver_state s.game.now s.player (T.content s.table) (S.waiting s.schedule) s.lifts s.done)
@@ -51,7 +54,7 @@ impl<'g, T: MeasureTable, S: Schedule> Model for Solver<'g, T, S> {
 impl<'g, T: MeasureTable, S: Schedule> Solver<'g, T, S> {
     ghost use Rattle.omega_lift_laws.specs.Answer.{AreChoices, won_in};
     ghost use Rattle.omega_lift_laws.specs.Run.{IsDue};
-    ghost use Rattle.omega_schedules.specs.Schedule.{IsIdle, IsPending, all_pending, with_taken};
+    ghost use Rattle.omega_lift_schedules.specs.Schedule.{IsIdle, IsPending, all_pending, with_taken};
     ghost use Rattle.omega_solve.specs.declared.outcome.Outcome.TheVariants.{Done};
     ghost use Rattle.omega_solve.specs.Headline.{IsExact, Runs};
     ghost use Rattle.omega_solve.specs.private.solving.Successor.{IsDueTowards};
@@ -71,7 +74,7 @@ impl<'g, T: MeasureTable, S: Schedule> Solver<'g, T, S> {
     {
         let table = T::prepare(alloc, game, player)?;
         let schedule = S::prepare_for(alloc, game)?;
-        let solver = Solver::assembled(alloc, game, player, table, schedule)?;
+        let solver = Solver::of_parts(alloc, game, player, table, schedule)?;
         Ok(solver)
     }
 
@@ -88,12 +91,12 @@ impl<'g, T: MeasureTable, S: Schedule> Solver<'g, T, S> {
     {
         let table = T::prepare(alloc, game, player)?;
         let schedule = S::prepare(alloc, game.len() as u32)?;
-        let solver = Solver::assembled(alloc, game, player, table, schedule)?;
+        let solver = Solver::of_parts(alloc, game, player, table, schedule)?;
         Ok(solver)
     }
 
     /// Makes a solver of `game` that has made no lift.
-    fn assembled(
+    fn of_parts(
         alloc: Global,
         game: &'g Game,
         player: Player,
@@ -206,7 +209,8 @@ impl<'g, T: MeasureTable, S: Schedule> Solver<'g, T, S> {
     /// Returns a pending place. If it returns `None`, no lift is due.
     fn next(&self) -> Option<u32>
         ensures pending { MatchOption result (IsIdle self.now.pending) (IsPending self.now.pending) }
-        ensures finished { MatchOption result (IsFinished self.now) (λ place. place < length self.now.nodes) }
+        ensures finished { MatchOption result (IsFinished self.now)
+            (λ place. place < length self.now.nodes) }
     {
         self.schedule.look()
     }
@@ -238,7 +242,8 @@ impl<'g, T: MeasureTable, S: Schedule> Solver<'g, T, S> {
     fn lift(&mut self, place: u32, towards: u32, most: u64) -> u64
         requires pending { IsPending self.old.pending place }
         requires done { self.old.done ≡ false }
-        requires due { IsDueTowards self.old.nodes self.old.player self.old.table.measures place towards }
+        requires due { IsDueTowards self.old.nodes self.old.player
+            self.old.table.measures place towards }
         requires some { 0 < most }
         requires room { self.old.lifts + most ≤ most_lifts }
         ensures { IsLifted self.old most result self.new }

@@ -1,8 +1,10 @@
 ghost use Rattle.std.specs.Prelude.{◌≡◌, ◌≢◌, ◌↔◌, ◌<◌, ℕ, length, IsTrue, MatchOption};
 ghost use Rattle.std.specs.declared.cmp.Ordering.TheVariants.{Equal};
-ghost use Rattle.omega_parity_game.specs.Game.{IsGame, owner_at, priorities, priority_at, successors_at};
+ghost use Rattle.omega_game_values.specs.Game.{IsGame, owner_at, priorities, priority_at, successors_at};
 ghost use Rattle.omega_lift_laws.specs.Run.{IsDue};
-ghost use Rattle.omega_solve.specs.private.solving.Successor.{IsChoiceAt, IsDueTowards, IsFirstBest, IsLeastExceeded, IsTableOf, KeepsToSome, order_from};
+ghost use Rattle.omega_solve.specs.private.solving.Successor.{IsChoiceAt, IsDueTowards};
+ghost use Rattle.omega_solve.specs.private.solving.Successor.{IsFirstBest, IsLeastExceeded};
+ghost use Rattle.omega_solve.specs.private.solving.Successor.{IsTableOf, KeepsToSome, order_from};
 
 use omega_lift_laws::{
     allowances_are_monotone, allowances_are_strict, allowances_exist, measures_are_ordered,
@@ -23,7 +25,8 @@ pub(crate) fn due_towards<T: MeasureTable>(
     requires game { IsGame game.now }
     requires table { IsTableOf game.now player (T.content table.now) }
     ensures { let measures = (T.content table.now).measures in
-        MatchOption result (¬ IsDue game.now player measures place) (IsDueTowards game.now player measures place) }
+        MatchOption result (¬ IsDue game.now player measures place)
+        (IsDueTowards game.now player measures place) }
 {
     measures_are_ordered();
     allowances_exist();

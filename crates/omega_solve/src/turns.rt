@@ -1,9 +1,9 @@
 //! Solves for both players in turns. Each turn makes some lifts for one player, finds places that this player has won
 //! by then, and hands them on to the other player, for whom they are lost without a further lift.
 ghost use Rattle.std.specs.Prelude.{◌≡◌, length, IfOk, IfErr, IfSome, IsOkUnless, IsTrue};
-ghost use Rattle.omega_parity_game.specs.declared.player.Player.TheVariants.{One, Zero};
-ghost use Rattle.omega_parity_game.specs.Game.{IsGame, IsWithinLimits, priorities};
-ghost use Rattle.omega_parity_game.specs.Player.{opponent_of};
+ghost use Rattle.omega_game_values.specs.declared.player.Player.TheVariants.{One, Zero};
+ghost use Rattle.omega_game_values.specs.Game.{IsGame, IsWithinLimits, priorities};
+ghost use Rattle.omega_game_values.specs.Player.{opponent_of};
 ghost use Rattle.omega_measure.specs.Table.{IsPrepareRefusal, zero_content};
 ghost use Rattle.omega_solve.specs.Turns.{EndsRaised, IsAnswerOfRun, IsTurnsRefusal};
 ghost use Rattle.omega_solve.specs.private.turning.Side.{HasEnded, IsSide};
@@ -19,8 +19,8 @@ use keeping::{are_won, mark_lost};
 use omega_lift_laws::{
     choices_are_a_strategy, choices_win, regions_stay_below_top, zero_tables_are_tables,
 };
+use omega_lift_schedules::Schedule;
 use omega_measure::{Game, MeasureTable, Player, Refusal};
-use omega_schedules::Schedule;
 use side::{Side, is_idle, lift_until, take_out};
 use std::alloc::Global;
 
@@ -66,8 +66,10 @@ pub fn solve_in_turns<T: MeasureTable, S: Schedule>(
         (λ both. IsAnswerOfRun game.now Zero both.zero.won.items both.zero.choice.items)) }
     ensures one { IfOk result (λ found. IfSome found
         (λ both. IsAnswerOfRun game.now One both.one.won.items both.one.choice.items)) }
-    ensures zero_raises { IfOk result (λ found. IfSome found (λ both. EndsRaised game.now Zero both.zero.raises)) }
-    ensures one_raises { IfOk result (λ found. IfSome found (λ both. EndsRaised game.now One both.one.raises)) }
+    ensures zero_raises { IfOk result
+        (λ found. IfSome found (λ both. EndsRaised game.now Zero both.zero.raises)) }
+    ensures one_raises { IfOk result
+        (λ found. IfSome found (λ both. EndsRaised game.now One both.one.raises)) }
     ensures refused { IfErr result (IsTurnsRefusal (priorities game.now)) }
 {
     game.keeps_limits();
@@ -91,7 +93,8 @@ fn new_side<T: MeasureTable, S: Schedule>(
     player: Player,
 ) -> Result<Side<T, S>, Refusal>
     requires { IsGame game.now }
-    ensures side { IfOk result (λ side. IsSide game.now player (T.content side.table) (S.waiting side.schedule) side.raises) }
+    ensures side { IfOk result
+        (λ side. IsSide game.now player (T.content side.table) (S.waiting side.schedule) side.raises) }
     ensures refused { IfErr result (IsPrepareRefusal player (priorities game.now)) }
 {
     zero_tables_are_tables();
@@ -113,9 +116,11 @@ fn take_out_winning<T: MeasureTable, S: Schedule>(
     side: &mut Side<T, S>,
 )
     requires game { IsGame game.now }
-    requires side { IsSide game.now player (T.content side.old.table) (S.waiting side.old.schedule) side.old.raises }
+    requires side { IsSide game.now player (T.content side.old.table)
+        (S.waiting side.old.schedule) side.old.raises }
     requires zero { T.content side.old.table ≡ zero_content player (priorities game.now) }
-    ensures { IsSide game.now player (T.content side.new.table) (S.waiting side.new.schedule) side.new.raises }
+    ensures { IsSide game.now player (T.content side.new.table)
+        (S.waiting side.new.schedule) side.new.raises }
 {
     for place in 0..game.len() {
         if !player.loses(game.priority(place as u32)) {
@@ -133,11 +138,15 @@ fn take_turns<T: MeasureTable, S: Schedule>(
     stack: &mut [u32],
 ) -> bool
     requires game { IsGame game.now }
-    requires zero { IsSide game.now Zero (T.content zero.old.table) (S.waiting zero.old.schedule) zero.old.raises }
-    requires one { IsSide game.now One (T.content one.old.table) (S.waiting one.old.schedule) one.old.raises }
+    requires zero { IsSide game.now Zero (T.content zero.old.table)
+        (S.waiting zero.old.schedule) zero.old.raises }
+    requires one { IsSide game.now One (T.content one.old.table)
+        (S.waiting one.old.schedule) one.old.raises }
     requires entries { length lost.old ≡ length game.now }
-    ensures zero { IsTrue result → HasEnded game.now Zero (T.content zero.new.table) (S.waiting zero.new.schedule) zero.new.raises }
-    ensures one { IsTrue result → HasEnded game.now One (T.content one.new.table) (S.waiting one.new.schedule) one.new.raises }
+    ensures zero { IsTrue result → HasEnded game.now Zero (T.content zero.new.table)
+        (S.waiting zero.new.schedule) zero.new.raises }
+    ensures one { IsTrue result → HasEnded game.now One (T.content one.new.table)
+        (S.waiting one.new.schedule) one.new.raises }
 {
     let first = (game.len() as u64 / 2)
         .saturating_add(game.edges() as u64 / 2)
@@ -167,11 +176,15 @@ fn turn<T: MeasureTable, S: Schedule>(
     quota: u64,
 ) -> u64
     requires game { IsGame game.now }
-    requires side { IsSide game.now player (T.content side.old.table) (S.waiting side.old.schedule) side.old.raises }
-    requires other { IsSide game.now (opponent_of player) (T.content other.old.table) (S.waiting other.old.schedule) other.old.raises }
+    requires side { IsSide game.now player (T.content side.old.table)
+        (S.waiting side.old.schedule) side.old.raises }
+    requires other { IsSide game.now (opponent_of player) (T.content other.old.table)
+        (S.waiting other.old.schedule) other.old.raises }
     requires entries { length lost.old ≡ length game.now }
-    ensures side { IsSide game.now player (T.content side.new.table) (S.waiting side.new.schedule) side.new.raises }
-    ensures other { IsSide game.now (opponent_of player) (T.content other.new.table) (S.waiting other.new.schedule) other.new.raises }
+    ensures side { IsSide game.now player (T.content side.new.table)
+        (S.waiting side.new.schedule) side.new.raises }
+    ensures other { IsSide game.now (opponent_of player) (T.content other.new.table)
+        (S.waiting other.new.schedule) other.new.raises }
     ensures entries { length lost.new ≡ length lost.old }
 {
     if is_idle(&side.schedule) {
@@ -199,8 +212,10 @@ fn answer_of<T: MeasureTable, S: Schedule>(
 ) -> Result<TurnsAnswer, Refusal>
     requires game { IsGame game.now }
     requires limits { IsWithinLimits game.now }
-    requires ended { HasEnded game.now player (T.content side.now.table) (S.waiting side.now.schedule) side.now.raises }
-    ensures answer { IfOk result (λ answer. IsAnswerOfRun game.now player answer.won.items answer.choice.items) }
+    requires ended { HasEnded game.now player (T.content side.now.table)
+        (S.waiting side.now.schedule) side.now.raises }
+    ensures answer { IfOk result
+        (λ answer. IsAnswerOfRun game.now player answer.won.items answer.choice.items) }
     ensures raises { IfOk result (λ answer. EndsRaised game.now player answer.raises) }
     ensures memory { IsOkUnless result Refusal.Memory }
 {

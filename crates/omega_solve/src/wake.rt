@@ -1,9 +1,9 @@
 ghost use Rattle.std.specs.Prelude.{◌≡◌, ◌<◌, length};
-ghost use Rattle.omega_parity_game.specs.Game.{predecessors_of};
+ghost use Rattle.omega_game_values.specs.Game.{predecessors_of};
 ghost use Rattle.omega_solve.specs.private.solving.Wake.{Wakes};
 
+use omega_lift_schedules::Schedule;
 use omega_measure::{Game, MeasureTable};
-use omega_schedules::Schedule;
 
 /// Makes the predecessors of `place` pending. A predecessor at top is left out: no lift is ever due there.
 #[inline(always)]

@@ -6,4 +6,5 @@ use Rattle.omega_text.specs.hoa.Pieces.{Reading}
 
 -- this many bytes were read
 abbrev pub HasReadTo : Reading → ℕ → Type 0
-HasReadTo IsRead place = (seen : List ℕ) × (lexemes : List (Lexeme HoaKind)) × IsRead seen lexemes × (length seen ≡ place)
+HasReadTo IsRead place = (seen : List ℕ) × (lexemes : List (Lexeme HoaKind)) × IsRead seen lexemes
+    × (length seen ≡ place)

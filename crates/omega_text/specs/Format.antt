@@ -26,12 +26,20 @@ IsLexical TooLong = ⊥
 
 -- a text goes on from each place in one way: with one token, with one fault, or with nothing more
 pub record GoesOneWay {Kind : Type 0} (format : TextFormat Kind) : Type 0 where
-  pub following : (source : List ℕ) (from : ℕ) (lexeme : Lexeme Kind) → format.follows source from lexeme → IsPartAfter source from lexeme.span
-  pub lexical : (source : List ℕ) (from : ℕ) (fault : TextFault) → format.faults source from fault → IsLexical fault
-  pub one_token : (source : List ℕ) (from : ℕ) (one other : Lexeme Kind) → format.follows source from one → format.follows source from other → one ≡ other
-  pub one_fault : (source : List ℕ) (from : ℕ) (one other : TextFault) → format.faults source from one → format.faults source from other → one ≡ other
-  pub no_token_and_fault : (source : List ℕ) (from : ℕ) (lexeme : Lexeme Kind) (fault : TextFault) → format.follows source from lexeme → format.faults source from fault → ⊥
-  pub no_token_at_end : (source : List ℕ) (from : ℕ) (lexeme : Lexeme Kind) → format.follows source from lexeme → format.ends source from → ⊥
-  pub no_fault_at_end : (source : List ℕ) (from : ℕ) (fault : TextFault) → format.faults source from fault → format.ends source from → ⊥
+  pub following : (source : List ℕ) (from : ℕ) (lexeme : Lexeme Kind)
+      → format.follows source from lexeme → IsPartAfter source from lexeme.span
+  pub lexical : (source : List ℕ) (from : ℕ) (fault : TextFault)
+      → format.faults source from fault → IsLexical fault
+  pub one_token : (source : List ℕ) (from : ℕ) (one other : Lexeme Kind)
+      → format.follows source from one → format.follows source from other → one ≡ other
+  pub one_fault : (source : List ℕ) (from : ℕ) (one other : TextFault)
+      → format.faults source from one → format.faults source from other → one ≡ other
+  pub no_token_and_fault : (source : List ℕ) (from : ℕ) (lexeme : Lexeme Kind) (fault : TextFault)
+      → format.follows source from lexeme → format.faults source from fault → ⊥
+  pub no_token_at_end : (source : List ℕ) (from : ℕ) (lexeme : Lexeme Kind)
+      → format.follows source from lexeme → format.ends source from → ⊥
+  pub no_fault_at_end : (source : List ℕ) (from : ℕ) (fault : TextFault)
+      → format.faults source from fault → format.ends source from → ⊥
   pub some_way : (source : List ℕ) (from : ℕ) → from ≤ length source
-      → format.ends source from ⊎ (((lexeme : Lexeme Kind) × format.follows source from lexeme) ⊎ ((fault : TextFault) × format.faults source from fault))
+      → format.ends source from ⊎ (((lexeme : Lexeme Kind) × format.follows source from lexeme)
+      ⊎ ((fault : TextFault) × format.faults source from fault))

@@ -12,8 +12,18 @@ pub record Lexeme (Kind : Type 0) : Type 0 where
 
 -- the lexeme that a token is
 abbrev pub lexeme_of : {Kind : Type 0} → Token Kind → Lexeme Kind
-lexeme_of token = record { kind = token.kind; text = token.text.now; value = token.value; span = token.span }
+lexeme_of token = record {
+  kind = token.kind;
+  text = token.text.now;
+  value = token.value;
+  span = token.span;
+}
 
 -- the lexeme of this kind, value and text at a place
 abbrev pub lexeme_at : {Kind : Type 0} → ℕ → Kind → ℕ → List ℕ → Lexeme Kind
-lexeme_at place kind value text = record { kind = kind; text = text; value = value; span = record { start = place; end = place + length text } }
+lexeme_at place kind value text = record {
+  kind = kind;
+  text = text;
+  value = value;
+  span = record { start = place; end = place + length text };
+}

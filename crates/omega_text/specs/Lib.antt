@@ -1,4 +1,5 @@
 -- What contracts cite: refusals and limits, then tokens, texts and how they are read; of PGSolver's texts in `pg`.
+-- Labels in the DOT language, and texts of numbered items: what contracts cite.
 pub mod Bytes
 pub mod Cases
 pub mod Cursor
@@ -13,3 +14,5 @@ pub mod Syntax
 pub mod hoa
 pub mod pg
 pub mod private
+pub mod Labels
+pub mod Numbered

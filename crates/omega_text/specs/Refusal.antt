@@ -5,11 +5,24 @@ use Rattle.omega_text.specs.declared.refusal.Refusal.TheVariants.{Automaton, Gam
 use Rattle.omega_text.specs.declared.refusal.text.TextFault.{TextFault}
 use Rattle.omega_text.specs.declared.refusal.text.TextFault.TheVariants.{Lex, Number, Syntax, TooLong}
 use Rattle.omega_text.specs.declared.refusal.game.GameFault.{GameFault}
-use Rattle.omega_text.specs.declared.refusal.game.GameFault.TheVariants.{DuplicateNode, HeaderTooSmall, TooManyEdges, TooManyNodes, UndefinedSuccessor}
+use Rattle.omega_text.specs.declared.refusal.game.GameFault.TheVariants.{DuplicateNode, HeaderTooSmall}
+use Rattle.omega_text.specs.declared.refusal.game.GameFault.TheVariants.{TooManyEdges, TooManyNodes}
+use Rattle.omega_text.specs.declared.refusal.game.GameFault.TheVariants.{UndefinedSuccessor}
 use Rattle.omega_text.specs.declared.refusal.automaton.AutomatonFault.{AutomatonFault}
-use Rattle.omega_text.specs.declared.refusal.automaton.AutomatonFault.TheVariants.{AcceptanceAtom, Alias, Expansion, ImplicitCount, MissingAcceptance, MixedLabels, Proposition, RepeatedHeader, SetRange, StateRange, StateTwice, TooDeep, UnknownHeader, Version}
+use Rattle.omega_text.specs.declared.refusal.automaton.AutomatonFault.TheVariants.{AcceptanceAtom, Alias}
+use Rattle.omega_text.specs.declared.refusal.automaton.AutomatonFault.TheVariants.{Expansion, ImplicitCount}
+use Rattle.omega_text.specs.declared.refusal.automaton.AutomatonFault.TheVariants.{MissingAcceptance}
+use Rattle.omega_text.specs.declared.refusal.automaton.AutomatonFault.TheVariants.{MixedLabels, Proposition}
+use Rattle.omega_text.specs.declared.refusal.automaton.AutomatonFault.TheVariants.{RepeatedHeader, SetRange}
+use Rattle.omega_text.specs.declared.refusal.automaton.AutomatonFault.TheVariants.{StateRange, StateTwice}
+use Rattle.omega_text.specs.declared.refusal.automaton.AutomatonFault.TheVariants.{TooDeep, UnknownHeader}
+use Rattle.omega_text.specs.declared.refusal.automaton.AutomatonFault.TheVariants.{Version}
 use Rattle.omega_text.specs.declared.refusal.task.TaskFault.{TaskFault}
-use Rattle.omega_text.specs.declared.refusal.task.TaskFault.TheVariants.{BadSolution, Budget, Controllable, NotDeterministic, NotParity, TooLarge, TooManyPropositions, TooWide, UniversalBranch, UnknownNode}
+use Rattle.omega_text.specs.declared.refusal.task.TaskFault.TheVariants.{BadSolution, Budget, Controllable}
+use Rattle.omega_text.specs.declared.refusal.task.TaskFault.TheVariants.{NotDeterministic, NotParity}
+use Rattle.omega_text.specs.declared.refusal.task.TaskFault.TheVariants.{TooLarge, TooManyPropositions}
+use Rattle.omega_text.specs.declared.refusal.task.TaskFault.TheVariants.{TooWide, UniversalBranch}
+use Rattle.omega_text.specs.declared.refusal.task.TaskFault.TheVariants.{UnknownNode}
 
 -- the number of a fault of a text
 abbrev pub text_number : TextFault → ℕ

@@ -22,7 +22,8 @@ pub fn check_tokens<K: TokenKind>(source: &[u8]) -> Result<(), TextFault>
 /// Checks that `source` can be cut into tokens from `from` on, as `check_tokens` does for a whole text.
 pub(crate) fn check_from<K: TokenKind>(source: &[u8], from: usize) -> Result<(), TextFault>
     requires { from ≤ length source.now }
-    ensures cut { OnOk result ((lexemes : List (Lexeme K)) × IsRestOfText K.format source.now from lexemes) }
+    ensures cut { OnOk result
+        ((lexemes : List (Lexeme K)) × IsRestOfText K.format source.now from lexemes) }
     ensures fault { IfErr result (IsFaultFrom K.format source.now from) }
     ensures lexical { IfErr result IsLexical }
 {

@@ -1,7 +1,8 @@
 //! Laws of the texts of every format and syntax, for callers' proofs. Each function does nothing and states one law.
 
 ghost use Rattle.omega_text.specs.Cut.{CutOrFault, CutsAreOne, CutsHaveNoFault, CutsJoin, FaultsAreOne};
-ghost use Rattle.omega_text.specs.Syntax.{IsDecidable, SyntaxFaultsAreFirst, TextFaultsAreOne, TextsAreReadOrFaulty, TextsHaveNoFault};
+ghost use Rattle.omega_text.specs.Syntax.{IsDecidable, SyntaxFaultsAreFirst, TextFaultsAreOne};
+ghost use Rattle.omega_text.specs.Syntax.{TextsAreReadOrFaulty, TextsHaveNoFault};
 
 pub use crate::limits::text_limits_are_stated;
 use crate::syntax::TextSyntax;

@@ -3,6 +3,10 @@
 //! Each format has a module of its own, with its laws in that module's `laws`.
 //!
 //! docs/formats.md says when each `Refusal` comes.
+//!
+//! Labels in the DOT language: their names and lines.
+//!
+//! Numbers of refusals are those of `Refusal`; docs/formats.md says when each comes.
 #![tactic(auto)]
 
 mod byte_string;
@@ -12,6 +16,7 @@ mod cursor;
 mod decimal;
 mod digits;
 pub mod hoa;
+mod labels;
 pub mod laws;
 mod limits;
 mod marks;
@@ -35,6 +40,7 @@ pub use decimal::write_number;
 pub use hoa::{
     ByteTokenizer, HoaKind, HoaTokenizer, PlacedToken, Settled, hoa_tokens, next_hoa_token,
 };
+pub use labels::{write_escaped, write_name_line};
 pub use limits::{MOST_NUMBER, MOST_TEXT};
 pub use marks::Marks;
 pub use numbers::Numbers;

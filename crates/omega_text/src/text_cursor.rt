@@ -21,7 +21,8 @@ pub struct TextCursor<'a, K: TokenKind> {
     span: Span,
     value: u32,
     kind: Option<K>,
-    ghost left: { Left K.format source.now (next_of kind text.now value span) } by { Left-prop K.code K.format source.now (next_of kind text.now value span) },
+    ghost left: { Left K.format source.now (next_of kind text.now value span) } by { Left-prop
+        K.code K.format source.now (next_of kind text.now value span) },
     ghost place: { span.start ≡ next_place left.lexemes (length source.now) },
 }
 
@@ -161,7 +162,8 @@ fn next_left<K: TokenKind>(source: &[u8], at: usize) -> Option<Token<'_, K>>
 #[inline(always)]
 fn plain_left<K: TokenKind>(source: &[u8], at: usize) -> Option<Token<'_, K>>
     requires { at ≤ length source.now }
-    ensures { IfSome result (λ token. (lexemes : List (Lexeme K)) → IsRestOfText K.format source.now at lexemes
+    ensures { IfSome result
+        (λ token. (lexemes : List (Lexeme K)) → IsRestOfText K.format source.now at lexemes
         → IsAllLeft K.format source.now (Some (lexeme_of token)) lexemes) }
 {
     K::goes_on_one_way();

@@ -13,11 +13,13 @@ pub trait TokenKind: Copy {
     /// Returns the next token of `source` from `at` on, or none if only what the format passes over is left.
     fn next_token(source: &[u8], at: usize) -> Result<Option<Token<'_, Self>>, TextFault>
         requires { at ≤ length source.now }
-        ensures token { IfOk result (λ found. IfSome found (λ token. format.follows source.now at (lexeme_of token))) }
+        ensures token { IfOk result
+            (λ found. IfSome found (λ token. format.follows source.now at (lexeme_of token))) }
         ensures end { IfOk result (λ found. IfNone found (format.ends source.now at)) }
         ensures fault { IfErr result (format.faults source.now at) }
         ensures lexical { IfErr result IsLexical }
-        ensures progress { IfOk result (λ found. IfSome found (λ token. IsPartAfter source.now at token.span)) };
+        ensures progress { IfOk result
+            (λ found. IfSome found (λ token. IsPartAfter source.now at token.span)) };
 
     /// Returns the next token from `at` on, if it is recognized at once. `None` may come if there is a token too: call
     /// `next_token` then.

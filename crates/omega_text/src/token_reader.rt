@@ -25,8 +25,9 @@ pub trait TokenReader<K: TokenKind>: Drop {
     fn take(&mut self, token: &Token<'_, K>) -> Result<bool, Refusal>
         requires begun { ((start : Self) × ((before : List (Lexeme K)) × becomes start before self.old)) }
         requires token { IsTokenOf K.format (lexeme_of token.now) }
-        ensures takes { IfOk result (λ taken. (start : Self) (before : List (Lexeme K)) → becomes start before self.old
-            → TakesOrRefuses taken begins (λ all. becomes start all self.new) before (lexeme_of token.now)) }
+        ensures takes { IfOk result (λ taken. (start : Self) (before : List (Lexeme K))
+            → becomes start before self.old → TakesOrRefuses taken begins
+            (λ all. becomes start all self.new) before (lexeme_of token.now)) }
         ensures memory { IsOkUnless result Refusal.Memory };
 
     /// Takes as many tokens from `from` on as can be taken at once, and returns the place after them. A reader that
@@ -34,7 +35,8 @@ pub trait TokenReader<K: TokenKind>: Drop {
     fn take_run(&mut self, source: &[u8], from: usize) -> Result<usize, Refusal>
         requires begun { ((start : Self) × ((before : List (Lexeme K)) × becomes start before self.old)) }
         requires within { from ≤ length source.now }
-        ensures takes { IfOk result (λ to. (start : Self) (before : List (Lexeme K)) → becomes start before self.old
+        ensures takes { IfOk result
+            (λ to. (start : Self) (before : List (Lexeme K)) → becomes start before self.old
             → TakesRun K.format (λ all. becomes start all self.new) source.now from to before) }
         ensures forward { IfOk result (λ to. from ≤ to) }
         ensures inside { IfOk result (λ to. to ≤ length source.now) }
@@ -58,7 +60,8 @@ pub(crate) fn read_tokens<K: TokenKind, R: TokenReader<K>>(
     bytes: &[u8],
 ) -> Result<R, Refusal>
     requires { R.becomes reader [] reader }
-    ensures read { IfOk result (λ after. IsReadWhole K.format (λ lexemes. R.becomes reader lexemes after) bytes.now) }
+    ensures read { IfOk result
+        (λ after. IsReadWhole K.format (λ lexemes. R.becomes reader lexemes after) bytes.now) }
     ensures refused { IfErr result (IsTokenRefusal K.format R.begins bytes.now) }
 {
     let mut at = reader.take_run(bytes, 0)?;

@@ -3,9 +3,9 @@
 
 ghost use Rattle.std.specs.Prelude.{IfOk, IsOkUnless};
 ghost use Rattle.omega_text.specs.declared.refusal.Refusal.TheVariants.{Memory};
-ghost use Rattle.omega_command.specs.Line.{IsFaultLine, IsRunnable};
+ghost use Rattle.omega_cli_command.specs.Line.{IsFaultLine, IsRunnable};
 
-use omega_command_line::read_words;
+use omega_cli::read_words;
 use omega_run::{FromRead, HostFiles, Line, Refusal, ToWrite, obey};
 use std::alloc::Global;
 use std::io;

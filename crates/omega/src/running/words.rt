@@ -7,7 +7,8 @@ use std::alloc::Global;
 
 /// Returns the words of a command line, the program's name first, or none if one of them is not UTF-8.
 pub(crate) fn words_in(alloc: Global, text: &[u8]) -> Result<Option<Vec<String>>, Refusal>
-    ensures words { IfOk result (λ found. IfSome found (λ words. AreWords text.now (map string_bytes words.items))) }
+    ensures words { IfOk result
+        (λ found. IfSome found (λ words. AreWords text.now (map string_bytes words.items))) }
     ensures none { IfOk result (λ found. IfNone found (HasNoText text.now)) }
     ensures memory { IsOkUnless result Memory }
 {

@@ -1,15 +1,15 @@
 -- An acceptance formula as it is written is no deeper than any expression that means it.
 use Rattle.std.proofs.Common.{◌≡◌, ℕ, ◌+◌, ◌≤◌, Bool, true, false, cond, Option, Some, None, codes, max, nat_le, nat_lt, ap, refl, subst, ◌∙◌, arith}
 use Rattle.std.specs.Str.{bytes_eq}
-use Rattle.omega_formula.specs.Meaning.{acc_meant, both_meant}
-use Rattle.omega_formula.specs.Reading.{IsAccOf}
-use Rattle.omega_formula.specs.Acceptance.{AccTree, conjunction, constant, disjunction, fin, inf}
-use Rattle.omega_formula.specs.Acceptance as acc
-use Rattle.omega_formula.specs.Raw.{RawAccTree, raw_acc_depth}
-use Rattle.omega_formula.specs.Raw as raw
-use Rattle.omega_expression.specs.Symbols.{Rank, TakesAnd, TakesOr, conjunctive, disjunctive, unary}
-use Rattle.omega_formula.specs.Writing.{acc_text}
-use Rattle.omega_formula.specs.Writing.{acc_grouped, acc_written}
+use Rattle.omega_hoa_acceptance.specs.Meaning.{acc_meant, both_meant}
+use Rattle.omega_hoa_acceptance.specs.Reading.{IsAccOf}
+use Rattle.omega_hoa_acceptance.specs.Acceptance.{AccTree, conjunction, constant, disjunction, fin, inf}
+use Rattle.omega_hoa_acceptance.specs.Acceptance as acc
+use Rattle.omega_hoa_acceptance.specs.Raw.{RawAccTree, raw_acc_depth}
+use Rattle.omega_hoa_acceptance.specs.Raw as raw
+use Rattle.omega_hoa_expression.specs.Symbols.{Rank, TakesAnd, TakesOr, conjunctive, disjunctive, unary}
+use Rattle.omega_hoa_acceptance.specs.Writing.{acc_text}
+use Rattle.omega_hoa_acceptance.specs.Writing.{acc_grouped, acc_written}
 
 -- how deep a formula is written where a case of the grammar is wanted
 abbrev depth_at : Rank → AccTree → ℕ

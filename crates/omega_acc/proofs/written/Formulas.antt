@@ -2,16 +2,16 @@
 -- and its tokens are that formula's.
 use Rattle.std.proofs.Common.{◌≡◌, ◌≢◌, ℕ, ◌+◌, ◌≤◌, Bool, true, false, List, [], ◌∷◌, ◌++◌, Some, codes, decimal, drop, length, nat_le, nat_lt, ap, refl, sym, ◌∙◌, subst, arith, lit<}
 use Rattle.std.proofs.lemmas.List.Sums.{AllPass-from_list_all}
-use Rattle.omega_formula.specs.Meaning.{acc_meant, both_meant}
-use Rattle.omega_formula.specs.Reading.{IsAccOf, formula_symbols, mark_symbols}
-use Rattle.omega_formula.specs.Acceptance.{AccTree, conjunction, constant, disjunction, fin, inf}
-use Rattle.omega_formula.specs.Acceptance as acc
-use Rattle.omega_formula.specs.Raw.{RawAccTree}
-use Rattle.omega_formula.specs.Raw as raw
-use Rattle.omega_expression.specs.Symbols.{conjunctive, disjunctive, number, sign, unary, word}
-use Rattle.omega_expression.specs.Writing.{bracketed, set_text, truth_text}
-use Rattle.omega_formula.specs.Writing.{acc_text}
-use Rattle.omega_formula.specs.Writing.{SetsFit, acc_grouped, acc_written}
+use Rattle.omega_hoa_acceptance.specs.Meaning.{acc_meant, both_meant}
+use Rattle.omega_hoa_acceptance.specs.Reading.{IsAccOf, formula_symbols, mark_symbols}
+use Rattle.omega_hoa_acceptance.specs.Acceptance.{AccTree, conjunction, constant, disjunction, fin, inf}
+use Rattle.omega_hoa_acceptance.specs.Acceptance as acc
+use Rattle.omega_hoa_acceptance.specs.Raw.{RawAccTree}
+use Rattle.omega_hoa_acceptance.specs.Raw as raw
+use Rattle.omega_hoa_expression.specs.Symbols.{conjunctive, disjunctive, number, sign, unary, word}
+use Rattle.omega_hoa_expression.specs.Writing.{bracketed, set_text, truth_text}
+use Rattle.omega_hoa_acceptance.specs.Writing.{acc_text}
+use Rattle.omega_hoa_acceptance.specs.Writing.{SetsFit, acc_grouped, acc_written}
 use Rattle.omega_acc.specs.WritingLaws.{AccMeansItself, AreThere, StandsApart}
 use Rattle.omega_acc.proofs.written.TokenLemmas.{Tokens, there-then, there-token}
 use Rattle.omega_acc.proofs.written.Labels.{apart-and, apart-close, apart-or, apart-sign, there-number, there-truth}

@@ -1,15 +1,15 @@
 -- A label as it is written is no deeper than any expression that means it.
 use Rattle.std.proofs.Common.{◌≡◌, ℕ, ◌+◌, ◌≤◌, Bool, true, false, cond, List, [], ◌∷◌, ◌++◌, Option, Some, None, option_map, max, nat_le, nat_lt, ap, refl, subst, ◌∙◌, arith}
 use Rattle.std.specs.Str.{bytes_eq}
-use Rattle.omega_aliases.specs.Expanding.{Defined, Entry, Meaning, both, entries_of, expansion, in_parentheses, negated, replaced, stands_for}
-use Rattle.omega_label.specs.Label.{LabelTree, conjunction, constant, disjunction, negation, proposition}
-use Rattle.omega_label.specs.Label as label
-use Rattle.omega_label.specs.Raw.{RawLabelTree, raw_depth}
-use Rattle.omega_label.specs.Raw as raw
-use Rattle.omega_label_reading.specs.Reading.{IsOf}
-use Rattle.omega_expression.specs.Symbols.{Rank, TakesAnd, TakesOr, conjunctive, disjunctive, unary}
-use Rattle.omega_label.specs.Writing.{label_text}
-use Rattle.omega_label.specs.Writing.{grouped, label_written}
+use Rattle.omega_hoa_label_text.specs.Expanding.{Defined, Entry, Meaning, both, entries_of, expansion, in_parentheses, negated, replaced, stands_for}
+use Rattle.omega_hoa_label.specs.Label.{LabelTree, conjunction, constant, disjunction, negation, proposition}
+use Rattle.omega_hoa_label.specs.Label as label
+use Rattle.omega_hoa_label.specs.Raw.{RawLabelTree, raw_depth}
+use Rattle.omega_hoa_label.specs.Raw as raw
+use Rattle.omega_hoa_label_text.specs.Reading.{IsOf}
+use Rattle.omega_hoa_expression.specs.Symbols.{Rank, TakesAnd, TakesOr, conjunctive, disjunctive, unary}
+use Rattle.omega_hoa_label.specs.Writing.{label_text}
+use Rattle.omega_hoa_label.specs.Writing.{grouped, label_written}
 use Rattle.omega_acc.specs.WritingLaws.{AreExpressions}
 
 -- how deep a label is written where a case of the grammar is wanted

@@ -1,16 +1,16 @@
 -- The canonical text of a label is that of the label as it is written, and its tokens are that label's.
 use Rattle.std.proofs.Common.{◌≡◌, ℕ, ◌+◌, ◌≤◌, Bool, true, false, List, [], ◌∷◌, ◌++◌, Option, Some, option_map, codes, decimal, drop, length, nat_le, nat_lt, slice_index, ap, refl, sym, ◌∙◌, subst, arith, lit<}
 use Rattle.std.proofs.lemmas.List.Sums.{AllPass-from_list_all}
-use Rattle.omega_aliases.specs.Expanding.{Entry, Meaning, both, in_parentheses, negated, replaced}
-use Rattle.omega_label.specs.Label.{LabelTree, conjunction, constant, disjunction, negation, proposition}
-use Rattle.omega_label.specs.Label as label
-use Rattle.omega_label.specs.Raw.{RawLabelTree, raw_depth}
-use Rattle.omega_label.specs.Raw as raw
-use Rattle.omega_label_reading.specs.Reading.{IsOf, label_symbols}
-use Rattle.omega_expression.specs.Symbols.{conjunctive, disjunctive, number, sign, truth_kind, unary}
-use Rattle.omega_expression.specs.Writing.{bracketed, truth_text}
-use Rattle.omega_label.specs.Writing.{label_text}
-use Rattle.omega_label.specs.Writing.{NumbersFit, grouped, label_written}
+use Rattle.omega_hoa_label_text.specs.Expanding.{Entry, Meaning, both, in_parentheses, negated, replaced}
+use Rattle.omega_hoa_label.specs.Label.{LabelTree, conjunction, constant, disjunction, negation, proposition}
+use Rattle.omega_hoa_label.specs.Label as label
+use Rattle.omega_hoa_label.specs.Raw.{RawLabelTree, raw_depth}
+use Rattle.omega_hoa_label.specs.Raw as raw
+use Rattle.omega_hoa_label_text.specs.Reading.{IsOf, label_symbols}
+use Rattle.omega_hoa_expression.specs.Symbols.{conjunctive, disjunctive, number, sign, truth_kind, unary}
+use Rattle.omega_hoa_expression.specs.Writing.{bracketed, truth_text}
+use Rattle.omega_hoa_label.specs.Writing.{label_text}
+use Rattle.omega_hoa_label.specs.Writing.{NumbersFit, grouped, label_written}
 use Rattle.omega_acc.specs.WritingLaws.{AreThere, MeansItself, StandsApart}
 use Rattle.omega_acc.proofs.written.TokenLemmas.{Tokens, no-digit, there-then, there-token}
 use Rattle.omega_text.specs.Limits.{most_number}

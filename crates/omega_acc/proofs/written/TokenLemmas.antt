@@ -2,7 +2,7 @@
 use Rattle.std.proofs.Common.{◌≡◌, ℕ, ◌+◌, Bool, true, false, ◌||◌, ◌==◌, List, [], ◌∷◌, ◌++◌, drop, length, map, ap, append_assoc, refl, sym, ◌∙◌, subst, arith, length-append}
 use Rattle.std.proofs.lemmas.List.{drop-drop, map-append}
 use Rattle.std.proofs.Math.Seq.{drop-append_seam}
-use Rattle.omega_expression.specs.Symbols.{ExpressionSymbol, seen_as, expression_symbol_of}
+use Rattle.omega_hoa_expression.specs.Symbols.{ExpressionSymbol, seen_as, expression_symbol_of}
 use Rattle.omega_acc.specs.WritingLaws.{AreThere}
 use Rattle.omega_text.specs.Cut.{Cuts, CutsJoin}
 use Rattle.omega_text.specs.Lexeme.{lexeme_at}

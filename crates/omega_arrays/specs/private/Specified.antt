@@ -1,7 +1,7 @@
 -- The specifications of the nodes of a game as arrays.
 use Rattle.std.specs.Prelude.{ℕ, List, None, map, slice_index}
 use Rattle.std.specs.List.{range_with_len}
-use Rattle.omega_parity_game.specs.declared.node_spec.NodeSpec.{NodeSpec}
+use Rattle.omega_game_values.specs.declared.node_spec.NodeSpec.{NodeSpec}
 use Rattle.omega_arrays.specs.Arrays.{GameArrays, listed_at, player_of}
 
 -- the specification of the node at a place, with these successors

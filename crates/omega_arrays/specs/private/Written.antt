@@ -1,9 +1,9 @@
 -- How solutions are written into arrays, and judged there.
 use Rattle.std.specs.Prelude.{◌≡◌, ◌↔◌, ◌≢◌, ℕ, ◌<◌, ◌≤◌, List, slice_index, unwrap_or}
-use Rattle.omega_parity_game.specs.declared.solution.Solution.{Solution}
-use Rattle.omega_parity_game.specs.Game.{Node, owner_at}
-use Rattle.omega_parity_game.specs.Solution.{choices_of, winner_at}
-use Rattle.omega_parity_game.specs.Winning.{choice_at}
+use Rattle.omega_game_values.specs.declared.solution.Solution.{Solution}
+use Rattle.omega_game_values.specs.Game.{Node, owner_at}
+use Rattle.omega_game_values.specs.Solution.{choices_of, winner_at}
+use Rattle.omega_game_values.specs.Winning.{choice_at}
 use Rattle.omega_arrays.specs.Arrays.{player_of}
 use Rattle.omega_arrays.specs.Answer.{no_choice}
 
@@ -11,7 +11,8 @@ use Rattle.omega_arrays.specs.Answer.{no_choice}
 pub record IsEntry (solution : Solution) (winner choice place : ℕ) : Type 0 where
   pub player : winner ≤ 1
   pub winner_is : player_of winner ≡ winner_at solution place
-  pub choice_is : choice ≡ unwrap_or (choice_at (choices_of solution (winner_at solution place)) place) no_choice
+  pub choice_is : choice
+      ≡ unwrap_or (choice_at (choices_of solution (winner_at solution place)) place) no_choice
 
 -- the entries of the places below a count
 abbrev pub AreWritten : Solution → ℕ → (winners choices : List ℕ) → Type 0

@@ -5,22 +5,22 @@ use Rattle.std.proofs.lemmas.Bool.{le-ltb}
 use Rattle.std.proofs.lemmas.List.Elements.{All-contains_itself, All-weaker}
 use Rattle.omega_text.specs.declared.refusal.Refusal.{Refusal}
 use Rattle.omega_text.specs.declared.refusal.Refusal.TheVariants.{Memory}
-use Rattle.omega_formula.specs.declared.kind.AccKind.{AccKind}
-use Rattle.omega_automaton.specs.Automaton.{AreBelow, BodyEdge, Description, IsAutomaton, IsEdge, IsState, edges_of}
-use Rattle.omega_automaton.specs.declared.edge.Edge.{Edge}
-use Rattle.omega_automaton.specs.declared.state.State.{State}
-use Rattle.omega_parity_game.proofs.building.Duplicates.{no_duplicate}
-use Rattle.omega_parity_game.proofs.building.Refusals.{memory_alone}
-use Rattle.omega_parity_game.specs.Building.{IsBuildRefusal, game_fault_of, has_duplicate, has_undefined, listed_successors}
-use Rattle.omega_parity_game.specs.Game.{Node}
-use Rattle.omega_parity_game.specs.Limits.{most_nodes, most_successors}
-use Rattle.omega_parity_game.specs.declared.node_spec.NodeSpec.{NodeSpec}
+use Rattle.omega_hoa_acceptance.specs.declared.kind.AccKind.{AccKind}
+use Rattle.omega_hoa_automaton.specs.Automaton.{AreBelow, BodyEdge, Description, IsAutomaton, IsEdge, IsState, edges_of}
+use Rattle.omega_hoa_automaton.specs.declared.edge.Edge.{Edge}
+use Rattle.omega_hoa_automaton.specs.declared.state.State.{State}
+use Rattle.omega_game_values.proofs.building.Duplicates.{no_duplicate}
+use Rattle.omega_game_values.proofs.building.Refusals.{memory_alone}
+use Rattle.omega_game_values.specs.Building.{IsBuildRefusal, game_fault_of, has_duplicate, has_undefined, listed_successors}
+use Rattle.omega_game_values.specs.Game.{Node}
+use Rattle.omega_game_values.specs.Limits.{most_nodes, most_successors}
+use Rattle.omega_game_values.specs.declared.node_spec.NodeSpec.{NodeSpec}
 use Rattle.omega_empty.specs.Counters.{counters}
-use Rattle.omega_automaton.specs.Branching.{has_universal_branching}
+use Rattle.omega_hoa_automaton.specs.Branching.{has_universal_branching}
 use Rattle.omega_empty.specs.EmptinessGame.{span, table}
-use Rattle.omega_runs.proofs.Flat.{IsListed, listed_flat}
+use Rattle.omega_lang_runs.proofs.Flat.{IsListed, listed_flat}
 use Rattle.omega_empty.proofs.making.Named.{table_defined}
-use Rattle.omega_runs.proofs.SingleTargets.{single_target}
+use Rattle.omega_lang_runs.proofs.SingleTargets.{single_target}
 use Rattle.omega_empty.proofs.making.Rising.{increasing, rising_length, table_rises}
 use Rattle.omega_empty.proofs.making.Sums.{table_listed}
 

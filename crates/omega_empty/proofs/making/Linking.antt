@@ -4,8 +4,8 @@ use Rattle.std.proofs.lemmas.List.{append-nil, map-append}
 use Rattle.std.specs.Prelude.{filter}
 use Rattle.std.specs.List.{range_with_len}
 use Rattle.std.proofs.lemmas.List.Elements.{filter-append}
-use Rattle.omega_parity_game.specs.Building.{with_last, with_successor}
-use Rattle.omega_parity_game.specs.declared.node_spec.NodeSpec.{NodeSpec}
+use Rattle.omega_game_values.specs.Building.{with_last, with_successor}
+use Rattle.omega_game_values.specs.declared.node_spec.NodeSpec.{NodeSpec}
 use Rattle.omega_empty.specs.EmptinessGame.{is_usable, plain_node}
 use Rattle.omega_empty.specs.private.layout.Nodes.{begun, linked}
 use Rattle.omega_empty.specs.private.layout.Ranges.{usable_in}

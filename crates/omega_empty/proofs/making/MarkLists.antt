@@ -2,14 +2,14 @@
 use Rattle.std.proofs.Common.{◌≡◌, ℕ, zero, suc, ◌+◌, ◌-◌, ◌<◌, ◌≤◌, ◌||◌, Bool, true, false, cond, nat_eq, List, [], ◌∷◌, ◌++◌, length, max, min, All, ap, refl, ◌∙◌, arith}
 use Rattle.std.proofs.lemmas.List.Folds.{list_any-append}
 use Rattle.std.proofs.lemmas.List.Elements.{All-head, All-tail}
-use Rattle.omega_parity_kind.specs.Priority.{beyond, has_parity, least_from, least_mark, priority_by, priority_of}
-use Rattle.omega_parity_kind.specs.declared.kind.Order.{Order}
-use Rattle.omega_parity_kind.specs.declared.kind.Order.TheVariants.{Max, Min}
-use Rattle.omega_parity_kind.specs.declared.kind.Parity.{Parity}
-use Rattle.omega_parity_kind.specs.declared.kind.Parity.TheVariants.{Even, Odd}
-use Rattle.omega_parity_kind.specs.declared.kind.ParityKind.{ParityKind}
-use Rattle.omega_formula.specs.Acceptance.{acc_depth, conjunction, disjunction, fin, holds, inf}
-use Rattle.omega_formula.specs.Kind.{formula_of, parity_formula, sets_left}
+use Rattle.omega_hoa_parity_kind.specs.Priority.{beyond, has_parity, least_from, least_mark, priority_by, priority_of}
+use Rattle.omega_hoa_parity_kind.specs.declared.kind.Order.{Order}
+use Rattle.omega_hoa_parity_kind.specs.declared.kind.Order.TheVariants.{Max, Min}
+use Rattle.omega_hoa_parity_kind.specs.declared.kind.Parity.{Parity}
+use Rattle.omega_hoa_parity_kind.specs.declared.kind.Parity.TheVariants.{Even, Odd}
+use Rattle.omega_hoa_parity_kind.specs.declared.kind.ParityKind.{ParityKind}
+use Rattle.omega_hoa_acceptance.specs.Acceptance.{acc_depth, conjunction, disjunction, fin, holds, inf}
+use Rattle.omega_hoa_acceptance.specs.Kind.{formula_of, parity_formula, sets_left}
 
 -- a set is held by the one or by the other
 pub holds_on : (set : ℕ) (xs ys : List ℕ) → holds set (xs ++ ys) ≡ (holds set xs || holds set ys)

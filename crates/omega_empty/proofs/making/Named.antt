@@ -4,13 +4,13 @@ use Rattle.std.specs.List.{flat_map, list_any, range_with_len}
 use Rattle.std.proofs.lemmas.Bool.{and_parts, cases_eq, eq-eqb, ne_eqb, or_from}
 use Rattle.std.proofs.lemmas.List.Elements.{All-head, All-tail}
 use Rattle.std.proofs.lemmas.List.Sums.{sum_by-cons}
-use Rattle.omega_formula.specs.declared.kind.AccKind.{AccKind}
-use Rattle.omega_automaton.specs.Automaton.{AreBelow, BodyEdge, Description, edge_count, edges_of}
-use Rattle.omega_parity_game.specs.Building.{has_undefined, specified_times}
-use Rattle.omega_parity_game.specs.declared.node_spec.NodeSpec.{NodeSpec}
+use Rattle.omega_hoa_acceptance.specs.declared.kind.AccKind.{AccKind}
+use Rattle.omega_hoa_automaton.specs.Automaton.{AreBelow, BodyEdge, Description, edge_count, edges_of}
+use Rattle.omega_game_values.specs.Building.{has_undefined, specified_times}
+use Rattle.omega_game_values.specs.declared.node_spec.NodeSpec.{NodeSpec}
 use Rattle.omega_empty.specs.Counters.{counter_after, counters}
 use Rattle.omega_empty.specs.EmptinessGame.{edge_id, edge_node, edge_nodes, is_usable, leaving, nodes_at, or_sink, sink_id, sink_node, state_id, state_node, table}
-use Rattle.omega_runs.specs.Lasso.{marks_of}
+use Rattle.omega_lang_runs.specs.Lasso.{marks_of}
 use Rattle.omega_empty.proofs.Counters.{counter_after_below}
 
 -- some specification has the identifier

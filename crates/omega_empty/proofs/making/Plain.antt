@@ -3,22 +3,22 @@ use Rattle.std.proofs.Common.{◌≡◌, ℕ, zero, suc, ◌+◌, ◌*◌, ◌<�
 use Rattle.std.specs.List.{list_any}
 use Rattle.std.proofs.lemmas.Bool.{ltb-false, or_parts}
 use Rattle.std.proofs.Math.Nat.{add-mul, one-mul}
-use Rattle.omega_formula.specs.Acceptance.{AccTree, acc_depth}
-use Rattle.omega_formula.specs.Names.{IsAcceptanceRow}
-use Rattle.omega_formula.specs.declared.kind.AccKind.{AccKind}
-use Rattle.omega_formula.specs.declared.kind.AccKind.TheVariants as kinds
-use Rattle.omega_formula.specs.declared.name.AccName.{AccName}
-use Rattle.omega_automaton.specs.Automaton.{AreBelow, Description, IsAutomaton, IsEdge, IsState}
-use Rattle.omega_automaton.specs.declared.edge.Edge.{Edge}
-use Rattle.omega_automaton.specs.declared.state.State.{State}
-use Rattle.omega_parity_game.specs.Limits.{most_nodes}
+use Rattle.omega_hoa_acceptance.specs.Acceptance.{AccTree, acc_depth}
+use Rattle.omega_hoa_acceptance.specs.Names.{IsAcceptanceRow}
+use Rattle.omega_hoa_acceptance.specs.declared.kind.AccKind.{AccKind}
+use Rattle.omega_hoa_acceptance.specs.declared.kind.AccKind.TheVariants as kinds
+use Rattle.omega_hoa_acceptance.specs.declared.name.AccName.{AccName}
+use Rattle.omega_hoa_automaton.specs.Automaton.{AreBelow, Description, IsAutomaton, IsEdge, IsState}
+use Rattle.omega_hoa_automaton.specs.declared.edge.Edge.{Edge}
+use Rattle.omega_hoa_automaton.specs.declared.state.State.{State}
+use Rattle.omega_game_values.specs.Limits.{most_nodes}
 use Rattle.omega_empty.specs.Counters.{counters}
-use Rattle.omega_automaton.specs.AcceptanceKind.{HasKind}
-use Rattle.omega_automaton.specs.Branching.{has_universal_branching, state_branches}
+use Rattle.omega_hoa_automaton.specs.AcceptanceKind.{HasKind}
+use Rattle.omega_hoa_automaton.specs.Branching.{has_universal_branching, state_branches}
 use Rattle.omega_empty.specs.EmptinessGame.{span}
 use Rattle.omega_empty.specs.private.layout.Marks.{AreMarksBelow, IsSmall}
 use Rattle.omega_empty.specs.private.layout.Ready.{IsPlainState}
-use Rattle.omega_runs.proofs.SingleTargets.{none_passes}
+use Rattle.omega_lang_runs.proofs.SingleTargets.{none_passes}
 use Rattle.omega_empty.proofs.making.MarkLists.{count_shallow}
 
 -- marks of the automaton are marks of its kind

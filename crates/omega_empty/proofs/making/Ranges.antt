@@ -4,10 +4,10 @@ use Rattle.std.specs.Prelude.{filter}
 use Rattle.std.specs.List.{flat_map, list_any, range_with_len}
 use Rattle.std.proofs.lemmas.Bool.{cases_eq, eq-eqb, eqb-false, ne_eqb, or_parts}
 use Rattle.std.proofs.lemmas.List.{append-nil, get_or-replicate, get_or-set_other, get_or-set_same, length-map}
-use Rattle.omega_automaton.specs.Automaton.{BodyEdge, edges_from, has_repeat}
-use Rattle.omega_automaton.specs.declared.edge.Edge.{Edge}
-use Rattle.omega_automaton.specs.declared.state.State.{State}
-use Rattle.omega_runs.proofs.Edges.{flat_more}
+use Rattle.omega_hoa_automaton.specs.Automaton.{BodyEdge, edges_from, has_repeat}
+use Rattle.omega_hoa_automaton.specs.declared.edge.Edge.{Edge}
+use Rattle.omega_hoa_automaton.specs.declared.state.State.{State}
+use Rattle.omega_lang_runs.proofs.Edges.{flat_more}
 use Rattle.omega_empty.specs.EmptinessGame.{is_usable, leaving}
 use Rattle.omega_empty.specs.declared.edge_ranges.EdgeRange.{EdgeRange}
 use Rattle.omega_empty.specs.private.layout.Ranges.{IsRangeOf, no_range, range_of}

@@ -4,9 +4,9 @@ use Rattle.std.proofs.Math.Nat.{add-mul, one-mul, zero-mul}
 use Rattle.std.proofs.lemmas.List.{length-map}
 use Rattle.std.specs.List.{flat_map, range_with_len}
 use Rattle.std.specs.List.Sorted.{IsStrictlyIncreasing}
-use Rattle.omega_formula.specs.declared.kind.AccKind.{AccKind}
-use Rattle.omega_automaton.specs.Automaton.{BodyEdge, Description, edges_of}
-use Rattle.omega_parity_game.specs.declared.node_spec.NodeSpec.{NodeSpec}
+use Rattle.omega_hoa_acceptance.specs.declared.kind.AccKind.{AccKind}
+use Rattle.omega_hoa_automaton.specs.Automaton.{BodyEdge, Description, edges_of}
+use Rattle.omega_game_values.specs.declared.node_spec.NodeSpec.{NodeSpec}
 use Rattle.omega_empty.specs.Counters.{counters}
 use Rattle.omega_empty.specs.EmptinessGame.{edge_node, edge_nodes, is_usable, nodes_at, sink_node, span, state_node, table}
 

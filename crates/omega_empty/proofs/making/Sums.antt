@@ -6,13 +6,13 @@ use Rattle.std.proofs.lemmas.Bool.{and_parts, cases_Bool, eqb-true}
 use Rattle.std.proofs.lemmas.List.{length-map}
 use Rattle.std.proofs.lemmas.List.Elements.{All-head, All-tail}
 use Rattle.std.proofs.lemmas.List.Sums.{sum_by-append, sum_by-cons}
-use Rattle.omega_formula.specs.declared.kind.AccKind.{AccKind}
-use Rattle.omega_automaton.specs.Automaton.{BodyEdge, Description, edges_of}
-use Rattle.omega_parity_game.specs.Building.{listed_successors}
-use Rattle.omega_parity_game.specs.declared.node_spec.NodeSpec.{NodeSpec}
+use Rattle.omega_hoa_acceptance.specs.declared.kind.AccKind.{AccKind}
+use Rattle.omega_hoa_automaton.specs.Automaton.{BodyEdge, Description, edges_of}
+use Rattle.omega_game_values.specs.Building.{listed_successors}
+use Rattle.omega_game_values.specs.declared.node_spec.NodeSpec.{NodeSpec}
 use Rattle.omega_empty.specs.Counters.{counter_after, counters}
 use Rattle.omega_empty.specs.EmptinessGame.{edge_id, edge_node, edge_nodes, is_usable, leaving, nodes_at, or_sink, sink_id, sink_node, span, state_id, state_node, table}
-use Rattle.omega_runs.specs.Lasso.{marks_of}
+use Rattle.omega_lang_runs.specs.Lasso.{marks_of}
 
 abbrev listed : NodeSpec → ℕ
 listed spec = length spec.successors

@@ -4,24 +4,24 @@ use Rattle.std.proofs.Common.{◌≡◌, ℕ, ◌+◌, ◌%◌, ◌<◌, List, [
 use Rattle.std.specs.Prelude.{slice_index_or}
 use Rattle.std.proofs.lemmas.List.{length-map}
 use Rattle.std.proofs.lemmas.List.Elements.{All-contains, All-head, All-map}
-use Rattle.omega_parity_kind.specs.Priority.{greatest_number}
-use Rattle.omega_formula.specs.Acceptance.{accepts}
-use Rattle.omega_formula.specs.KindLaws.{BuchiIsEverySet, ParityIsPriority}
-use Rattle.omega_formula.specs.declared.kind.AccKind.{AccKind}
-use Rattle.omega_formula.specs.declared.kind.AccKind.TheVariants as kinds
-use Rattle.omega_automaton.specs.Automaton.{AreTargets, BodyEdge, Description, IsAutomaton, edge_at}
-use Rattle.omega_parity_game.specs.Game.{Node, identifier_at}
-use Rattle.omega_parity_game.specs.Winning.{IsClosedWalk, end_of, greatest_on}
-use Rattle.omega_parity_game.specs.declared.player.Player.TheVariants.{Zero}
+use Rattle.omega_hoa_parity_kind.specs.Priority.{greatest_number}
+use Rattle.omega_hoa_acceptance.specs.Acceptance.{accepts}
+use Rattle.omega_hoa_acceptance.specs.KindLaws.{BuchiIsEverySet, ParityIsPriority}
+use Rattle.omega_hoa_acceptance.specs.declared.kind.AccKind.{AccKind}
+use Rattle.omega_hoa_acceptance.specs.declared.kind.AccKind.TheVariants as kinds
+use Rattle.omega_hoa_automaton.specs.Automaton.{AreTargets, BodyEdge, Description, IsAutomaton, edge_at}
+use Rattle.omega_game_values.specs.Game.{Node, identifier_at}
+use Rattle.omega_game_values.specs.Winning.{IsClosedWalk, end_of, greatest_on}
+use Rattle.omega_game_values.specs.declared.player.Player.TheVariants.{Zero}
 use Rattle.omega_empty.specs.Counters.{counters}
-use Rattle.omega_automaton.specs.AcceptanceKind.{HasKind}
+use Rattle.omega_hoa_automaton.specs.AcceptanceKind.{HasKind}
 use Rattle.omega_empty.specs.EmptinessGame.{IsEmptinessGame, span, state_id}
 use Rattle.omega_empty.specs.GameLaws.{WonWalksAccept, numbers_on}
-use Rattle.omega_runs.specs.Lasso.{AcceptsFrom, IsAcceptingLasso, IsStart, Leads, marks_at}
+use Rattle.omega_lang_runs.specs.Lasso.{AcceptsFrom, IsAcceptingLasso, IsStart, Leads, marks_at}
 use Rattle.omega_empty.proofs.Counters.{AreWithin, closed_accepts, counter_after_marks, formula_of, priorities_from}
-use Rattle.omega_runs.proofs.Kept.{marks_low}
+use Rattle.omega_lang_runs.proofs.Kept.{marks_low}
 use Rattle.omega_empty.proofs.meaning.Reading.{Reading, half, reading, sink_greatest, sunk, whole}
-use Rattle.omega_runs.proofs.SingleTargets.{EntersOne, enters_one}
+use Rattle.omega_lang_runs.proofs.SingleTargets.{EntersOne, enters_one}
 use Rattle.omega_empty.proofs.meaning.Steps.{AtEdge, AtSink, AtState, edge_within, one_state, state_no_edge, state_no_sink}
 
 -- what a kind says: its formula, that it has a counter, and that marks are within its count

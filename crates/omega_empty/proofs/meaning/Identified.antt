@@ -2,10 +2,10 @@
 use Rattle.std.proofs.Common.{◌≡◌, ℕ, ◌<◌, List, length, map, Contains, sym, ap, ◌∙◌, subst, arith}
 use Rattle.std.proofs.lemmas.List.{get_or-map, length-map}
 use Rattle.std.proofs.lemmas.List.Sorted.{Contains-permutation}
-use Rattle.omega_parity_game.proofs.elements.Membership.{Contains-under}
-use Rattle.omega_parity_game.specs.Building.{IsGameOf, specified}
-use Rattle.omega_parity_game.specs.Game.{HasEdge, Node, identifier_at, no_node, node_at, successors_at}
-use Rattle.omega_parity_game.specs.declared.node_spec.NodeSpec.{NodeSpec}
+use Rattle.omega_game_values.proofs.elements.Membership.{Contains-under}
+use Rattle.omega_game_values.specs.Building.{IsGameOf, specified}
+use Rattle.omega_game_values.specs.Game.{HasEdge, Node, identifier_at, no_node, node_at, successors_at}
+use Rattle.omega_game_values.specs.declared.node_spec.NodeSpec.{NodeSpec}
 use Rattle.omega_empty.proofs.playing.Places.{same_place}
 
 -- the node at a place is as it is specified

@@ -1,22 +1,22 @@
 -- Walks of an emptiness game from a state's node: edges of the automaton in order, unless they end in the sink.
 use Rattle.std.proofs.Common.{◌≡◌, ℕ, suc, ◌+◌, ◌<◌, ◌⊎◌, inl, inr, Bool, List, [], ◌∷◌, ◌++◌, length, map, max, Option, Some, sym, ap, refl, ◌∙◌, subst, arith}
-use Rattle.omega_parity_kind.specs.Priority.{greatest_number}
-use Rattle.omega_formula.specs.declared.kind.AccKind.{AccKind}
-use Rattle.omega_automaton.specs.Automaton.{BodyEdge, Description, IsAutomaton, edge_at}
-use Rattle.omega_parity_game.specs.Building.{IsGameOf}
-use Rattle.omega_parity_game.specs.Game.{Node, priority_at}
-use Rattle.omega_parity_game.specs.Winning.{IsWalk, end_of, greatest_on}
-use Rattle.omega_parity_game.specs.declared.node_spec.NodeSpec.{NodeSpec}
-use Rattle.omega_parity_game.specs.declared.player.Player.{Player}
+use Rattle.omega_hoa_parity_kind.specs.Priority.{greatest_number}
+use Rattle.omega_hoa_acceptance.specs.declared.kind.AccKind.{AccKind}
+use Rattle.omega_hoa_automaton.specs.Automaton.{BodyEdge, Description, IsAutomaton, edge_at}
+use Rattle.omega_game_values.specs.Building.{IsGameOf}
+use Rattle.omega_game_values.specs.Game.{Node, priority_at}
+use Rattle.omega_game_values.specs.Winning.{IsWalk, end_of, greatest_on}
+use Rattle.omega_game_values.specs.declared.node_spec.NodeSpec.{NodeSpec}
+use Rattle.omega_game_values.specs.declared.player.Player.{Player}
 use Rattle.omega_empty.specs.Counters.{counter_after, priority_at_counter}
-use Rattle.omega_runs.specs.Judging.{AreUsable}
+use Rattle.omega_lang_runs.specs.Judging.{AreUsable}
 use Rattle.omega_empty.specs.EmptinessGame.{table}
 use Rattle.omega_empty.specs.GameLaws.{number_at, numbers_on}
-use Rattle.omega_runs.specs.Lasso.{Leads, marks_at, marks_of}
+use Rattle.omega_lang_runs.specs.Lasso.{Leads, marks_at, marks_of}
 use Rattle.omega_empty.proofs.Counters.{counter_after_marks, priorities_from}
 use Rattle.omega_empty.proofs.playing.Places.{stands_priority}
-use Rattle.omega_runs.proofs.Kept.{marks_are}
-use Rattle.omega_runs.proofs.SingleTargets.{EntersOne}
+use Rattle.omega_lang_runs.proofs.Kept.{marks_are}
+use Rattle.omega_lang_runs.proofs.SingleTargets.{EntersOne}
 use Rattle.omega_empty.proofs.meaning.Steps.{AtEdge, AtSink, AtState, Entering, Leaving, edge_number, edge_stands, leaves_edge, leaves_sink, leaves_state, sink_stands, state_number, step_of}
 
 module _ (kind : AccKind) (a : Description) (usable : List Bool) (game : List Node)

@@ -2,18 +2,18 @@
 -- until a place comes again.
 use Rattle.std.proofs.Common.{◌≡◌, ℕ, zero, suc, ◌+◌, ◌-◌, ◌%◌, ◌<◌, ◌⊎◌, inl, inr, List, length, map, IsTrue, sym, ap, refl, ◌∙◌, subst, arith, eq-eqb}
 use Rattle.std.proofs.lemmas.Bool.{cases_eq}
-use Rattle.omega_formula.specs.KindLaws.{BuchiIsEverySet, ParityIsPriority}
-use Rattle.omega_automaton.specs.Automaton.{Description, IsAutomaton}
-use Rattle.omega_parity_game.specs.Game.{Node, identifier_at}
-use Rattle.omega_parity_game.specs.Player.{loses}
-use Rattle.omega_parity_game.specs.Winning.{InRegion, IsClosedWalk, IsWalk, Leaves, end_of, greatest_on}
-use Rattle.omega_parity_game.specs.declared.player.Player.TheVariants.{Zero}
-use Rattle.omega_region_laws.proofs.Following.{choice_at, end-trail, longer_trail, reached, reached-add, reached_below, some_left, trail, walk_of_trail}
-use Rattle.omega_region_laws.proofs.Pigeonhole.{Repeats, repeats}
-use Rattle.omega_region_laws.specs.Laws.{RegionsCover}
+use Rattle.omega_hoa_acceptance.specs.KindLaws.{BuchiIsEverySet, ParityIsPriority}
+use Rattle.omega_hoa_automaton.specs.Automaton.{Description, IsAutomaton}
+use Rattle.omega_game_values.specs.Game.{Node, identifier_at}
+use Rattle.omega_game_values.specs.Player.{loses}
+use Rattle.omega_game_values.specs.Winning.{InRegion, IsClosedWalk, IsWalk, Leaves, end_of, greatest_on}
+use Rattle.omega_game_values.specs.declared.player.Player.TheVariants.{Zero}
+use Rattle.omega_game_region_laws.proofs.Following.{choice_at, end-trail, longer_trail, reached, reached-add, reached_below, some_left, trail, walk_of_trail}
+use Rattle.omega_game_region_laws.proofs.Pigeonhole.{Repeats, repeats}
+use Rattle.omega_game_region_laws.specs.Laws.{RegionsCover}
 use Rattle.omega_empty.specs.EmptinessGame.{IsEmptinessGame}
 use Rattle.omega_empty.specs.GameLaws.{UnwonIsEmpty, WonStartsAccept, numbers_on, within_counter}
-use Rattle.omega_runs.specs.Lasso.{AcceptsFrom, IsStart, marks_at}
+use Rattle.omega_lang_runs.specs.Lasso.{AcceptsFrom, IsStart, marks_at}
 use Rattle.omega_empty.proofs.Counters.{counter_after_marks}
 use Rattle.omega_empty.proofs.playing.Winning.{lassos_are_won}
 use Rattle.omega_empty.proofs.meaning.Accepting.{at_start, first_counter, first_id, not_sunk, single, start_below, won_walks_accept}

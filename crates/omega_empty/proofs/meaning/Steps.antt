@@ -4,22 +4,22 @@ use Rattle.std.proofs.Common.{◌≡◌, ℕ, ◌+◌, ◌-◌, ◌*◌, ◌%◌
 use Rattle.std.proofs.lemmas.Bool.{lt-ltb, le-ltb}
 use Rattle.std.proofs.lemmas.Nat.{mod-mul-add, mul-add-lt}
 use Rattle.std.proofs.lemmas.Option.{slice_get-get_or, slice_get_within}
-use Rattle.omega_formula.specs.declared.kind.AccKind.{AccKind}
-use Rattle.omega_automaton.specs.Automaton.{BodyEdge, Description, IsAutomaton, edge_at, edge_count, edges_of}
-use Rattle.omega_parity_game.proofs.elements.Membership.{Contains-cases, Contains-nothing, map-Contains}
-use Rattle.omega_parity_game.specs.Building.{IsGameOf}
-use Rattle.omega_parity_game.specs.Game.{HasEdge, Node, identifier_at}
-use Rattle.omega_parity_game.specs.declared.node_spec.NodeSpec.{NodeSpec}
+use Rattle.omega_hoa_acceptance.specs.declared.kind.AccKind.{AccKind}
+use Rattle.omega_hoa_automaton.specs.Automaton.{BodyEdge, Description, IsAutomaton, edge_at, edge_count, edges_of}
+use Rattle.omega_game_values.proofs.elements.Membership.{Contains-cases, Contains-nothing, map-Contains}
+use Rattle.omega_game_values.specs.Building.{IsGameOf}
+use Rattle.omega_game_values.specs.Game.{HasEdge, Node, identifier_at}
+use Rattle.omega_game_values.specs.declared.node_spec.NodeSpec.{NodeSpec}
 use Rattle.omega_empty.specs.Counters.{counter_after, counters}
-use Rattle.omega_runs.specs.Judging.{AreUsable}
+use Rattle.omega_lang_runs.specs.Judging.{AreUsable}
 use Rattle.omega_empty.specs.EmptinessGame.{edge_id, edge_node, is_usable, leaving, sink_id, sink_node, span, state_id, state_node, table}
 use Rattle.omega_empty.specs.GameLaws.{number_at, within_counter}
-use Rattle.omega_runs.specs.Lasso.{IsStep, marks_of}
+use Rattle.omega_lang_runs.specs.Lasso.{IsStep, marks_of}
 use Rattle.omega_empty.proofs.Counters.{counter_after_below}
 use Rattle.omega_empty.proofs.playing.Places.{Stands}
 use Rattle.omega_empty.proofs.playing.Table.{same_digits}
 use Rattle.omega_empty.proofs.meaning.Identified.{IsAt, known, listed, place}
-use Rattle.omega_runs.proofs.SingleTargets.{EntersOne}
+use Rattle.omega_lang_runs.proofs.SingleTargets.{EntersOne}
 use Rattle.omega_empty.proofs.meaning.Tables.{IsLeaving, leaving_is, or_sink_is, table_has_edge, table_has_sink, table_has_state}
 
 -- the remainder of an identifier

@@ -4,12 +4,12 @@ use Rattle.std.specs.List.{flat_map, range_with_len}
 use Rattle.std.proofs.lemmas.Bool.{and_parts, eqb-true}
 use Rattle.std.proofs.lemmas.List.Elements.{Contains-append_left, Contains-append_right}
 use Rattle.std.proofs.lemmas.Option.{none-some, same_Some}
-use Rattle.omega_formula.specs.declared.kind.AccKind.{AccKind}
-use Rattle.omega_automaton.specs.Automaton.{BodyEdge, Description, edge_at, edges_of}
-use Rattle.omega_parity_game.specs.declared.node_spec.NodeSpec.{NodeSpec}
+use Rattle.omega_hoa_acceptance.specs.declared.kind.AccKind.{AccKind}
+use Rattle.omega_hoa_automaton.specs.Automaton.{BodyEdge, Description, edge_at, edges_of}
+use Rattle.omega_game_values.specs.declared.node_spec.NodeSpec.{NodeSpec}
 use Rattle.omega_empty.specs.Counters.{counters}
 use Rattle.omega_empty.specs.EmptinessGame.{edge_node, edge_nodes, is_usable, leaving, nodes_at, or_sink, sink_node, state_node, table}
-use Rattle.omega_parity_game.proofs.elements.Membership.{Contains-cases, Contains-here, Contains-nothing, Contains-there}
+use Rattle.omega_game_values.proofs.elements.Membership.{Contains-cases, Contains-here, Contains-nothing, Contains-there}
 use Rattle.omega_empty.proofs.meaning.Membership.{contains_joined, contains_mapped, contains_range}
 
 -- what the rest contains is there whether or not something comes first

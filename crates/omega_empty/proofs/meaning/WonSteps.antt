@@ -1,11 +1,11 @@
 -- Steps from a state's node that player 0 wins: by any strategy that wins,
 -- an edge's node and then that of the state that it enters.
 use Rattle.std.proofs.Common.{◌≡◌, ℕ, ◌%◌, ◌⊎◌, inl, inr, [], ◌∷◌, List, Option, sym, ap, ◌∙◌, arith, eq-eqb}
-use Rattle.omega_automaton.specs.Automaton.{Description, IsAutomaton}
-use Rattle.omega_parity_game.specs.Game.{Node}
-use Rattle.omega_parity_game.specs.Winning.{IsClosedWalk, Leaves, Wins, greatest_on}
-use Rattle.omega_parity_game.specs.declared.player.Player.TheVariants.{Zero}
-use Rattle.omega_region_laws.proofs.Walks.{wins_onward}
+use Rattle.omega_hoa_automaton.specs.Automaton.{Description, IsAutomaton}
+use Rattle.omega_game_values.specs.Game.{Node}
+use Rattle.omega_game_values.specs.Winning.{IsClosedWalk, Leaves, Wins, greatest_on}
+use Rattle.omega_game_values.specs.declared.player.Player.TheVariants.{Zero}
+use Rattle.omega_game_region_laws.proofs.Walks.{wins_onward}
 use Rattle.omega_empty.specs.EmptinessGame.{IsEmptinessGame}
 use Rattle.omega_empty.proofs.playing.Places.{same_place}
 use Rattle.omega_empty.proofs.meaning.Accepting.{single}

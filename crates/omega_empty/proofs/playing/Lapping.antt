@@ -1,11 +1,11 @@
 -- Laps of a cycle: what they bring a counter to, and that they are accepted as the cycle is.
 use Rattle.std.proofs.Common.{◌≡◌, ℕ, zero, suc, ◌+◌, ◌<◌, Bool, not, ◌&&◌, ◌||◌, List, [], ◌∷◌, ◌++◌, length, map, ap, refl, ◌∙◌, arith, append_assoc, length-append}
 use Rattle.std.proofs.lemmas.List.{map-append}
-use Rattle.omega_formula.specs.Acceptance.{AccTree, accepts, conjunction, constant, disjunction, fin, inf, occurs}
-use Rattle.omega_formula.specs.declared.kind.AccKind.{AccKind}
+use Rattle.omega_hoa_acceptance.specs.Acceptance.{AccTree, accepts, conjunction, constant, disjunction, fin, inf, occurs}
+use Rattle.omega_hoa_acceptance.specs.declared.kind.AccKind.{AccKind}
 use Rattle.omega_empty.specs.Counters.{counter_after}
 use Rattle.omega_empty.proofs.Counters.{counter_after_marks}
-use Rattle.omega_runs.proofs.Leads.{laps, occurs_on, or_false, or_same}
+use Rattle.omega_lang_runs.proofs.Leads.{laps, occurs_on, or_false, or_same}
 
 -- a number of laps and then more
 pub laps_on : (cycle : List ℕ) (p m q : ℕ) → p + m ≡ q → laps cycle p ++ laps cycle m ≡ laps cycle q

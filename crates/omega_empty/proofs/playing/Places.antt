@@ -8,21 +8,21 @@ use Rattle.std.proofs.lemmas.List.Kept.{AllPairs-from_increasing}
 use Rattle.std.proofs.lemmas.List.Sorted.{Contains-permutation, IsPermutation-sym}
 use Rattle.std.proofs.lemmas.List.{length-map}
 use Rattle.std.proofs.lemmas.Option.{slice_get_within}
-use Rattle.omega_parity_kind.specs.Priority.{greatest_number}
-use Rattle.omega_formula.specs.declared.kind.AccKind.{AccKind}
-use Rattle.omega_automaton.specs.Automaton.{AreBelow, Description, IsAutomaton, edge_count, edges_of}
-use Rattle.omega_parity_game.proofs.elements.Membership.{map-Contains}
-use Rattle.omega_parity_game.specs.Building.{IsGameOf, specified}
-use Rattle.omega_parity_game.specs.Game.{HasEdge, Node, identifier_at, identifiers, node_at, owner_at, priority_at, successors_at}
-use Rattle.omega_parity_game.specs.Winning.{IsWalk, Leaves, end_of, greatest_on}
-use Rattle.omega_parity_game.specs.declared.node_spec.NodeSpec.{NodeSpec}
-use Rattle.omega_parity_game.specs.declared.player.Player.TheVariants.{Zero, One}
+use Rattle.omega_hoa_parity_kind.specs.Priority.{greatest_number}
+use Rattle.omega_hoa_acceptance.specs.declared.kind.AccKind.{AccKind}
+use Rattle.omega_hoa_automaton.specs.Automaton.{AreBelow, Description, IsAutomaton, edge_count, edges_of}
+use Rattle.omega_game_values.proofs.elements.Membership.{map-Contains}
+use Rattle.omega_game_values.specs.Building.{IsGameOf, specified}
+use Rattle.omega_game_values.specs.Game.{HasEdge, Node, identifier_at, identifiers, node_at, owner_at, priority_at, successors_at}
+use Rattle.omega_game_values.specs.Winning.{IsWalk, Leaves, end_of, greatest_on}
+use Rattle.omega_game_values.specs.declared.node_spec.NodeSpec.{NodeSpec}
+use Rattle.omega_game_values.specs.declared.player.Player.TheVariants.{Zero, One}
 use Rattle.omega_empty.specs.Counters.{counter_after, counters, priority_at_counter}
-use Rattle.omega_runs.specs.Judging.{AreUsable}
+use Rattle.omega_lang_runs.specs.Judging.{AreUsable}
 use Rattle.omega_empty.specs.EmptinessGame.{edge_id, edge_node, is_usable, leaving, or_sink, sink_id, state_id, state_node, table}
-use Rattle.omega_runs.specs.Lasso.{IsStep, Leads, marks_at, marks_of}
+use Rattle.omega_lang_runs.specs.Lasso.{IsStep, Leads, marks_at, marks_of}
 use Rattle.omega_empty.proofs.Counters.{counter_after_below, counter_after_marks, priorities_from}
-use Rattle.omega_runs.proofs.Kept.{edge_kept, marks_are}
+use Rattle.omega_lang_runs.proofs.Kept.{edge_kept, marks_are}
 use Rattle.omega_empty.proofs.playing.Table.{IsRow, edge_row, leaving_has, row_of, state_row}
 
 -- identifiers tell places

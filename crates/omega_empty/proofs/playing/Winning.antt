@@ -6,27 +6,27 @@ use Rattle.std.proofs.Math.Nat.{zero-mul}
 use Rattle.std.proofs.lemmas.Bool.{eq-eqb}
 use Rattle.std.proofs.lemmas.List.{length-map, map-append}
 use Rattle.std.proofs.lemmas.List.Elements.{All-map}
-use Rattle.omega_parity_kind.specs.Priority.{greatest_number}
-use Rattle.omega_formula.specs.Acceptance.{accepts}
-use Rattle.omega_formula.specs.KindLaws.{BuchiIsEverySet, ParityIsPriority}
-use Rattle.omega_formula.specs.declared.kind.AccKind.{AccKind}
-use Rattle.omega_formula.specs.declared.kind.AccKind.TheVariants as kinds
-use Rattle.omega_automaton.specs.Automaton.{AreBelow, Description, IsAutomaton}
-use Rattle.omega_parity_game.specs.Game.{Node}
-use Rattle.omega_parity_game.specs.Winning.{InRegion, Wins, end_of, greatest_on}
-use Rattle.omega_parity_game.specs.declared.player.Player.TheVariants.{Zero, One}
-use Rattle.omega_region_laws.proofs.Pigeonhole.{Repeats, repeats}
-use Rattle.omega_region_laws.specs.Laws.{RegionsCover}
+use Rattle.omega_hoa_parity_kind.specs.Priority.{greatest_number}
+use Rattle.omega_hoa_acceptance.specs.Acceptance.{accepts}
+use Rattle.omega_hoa_acceptance.specs.KindLaws.{BuchiIsEverySet, ParityIsPriority}
+use Rattle.omega_hoa_acceptance.specs.declared.kind.AccKind.{AccKind}
+use Rattle.omega_hoa_acceptance.specs.declared.kind.AccKind.TheVariants as kinds
+use Rattle.omega_hoa_automaton.specs.Automaton.{AreBelow, Description, IsAutomaton}
+use Rattle.omega_game_values.specs.Game.{Node}
+use Rattle.omega_game_values.specs.Winning.{InRegion, Wins, end_of, greatest_on}
+use Rattle.omega_game_values.specs.declared.player.Player.TheVariants.{Zero, One}
+use Rattle.omega_game_region_laws.proofs.Pigeonhole.{Repeats, repeats}
+use Rattle.omega_game_region_laws.specs.Laws.{RegionsCover}
 use Rattle.omega_empty.specs.Counters.{counters}
-use Rattle.omega_automaton.specs.AcceptanceKind.{HasKind}
+use Rattle.omega_hoa_automaton.specs.AcceptanceKind.{HasKind}
 use Rattle.omega_empty.specs.EmptinessGame.{IsEmptinessGame, span, state_id}
-use Rattle.omega_runs.specs.Lasso.{IsAcceptingLasso, IsStart, Leads, marks_at}
+use Rattle.omega_lang_runs.specs.Lasso.{IsAcceptingLasso, IsStart, Leads, marks_at}
 use Rattle.omega_empty.specs.Laws.{AcceptingLassosAreWon}
 use Rattle.omega_empty.proofs.Counters.{AreWithin, closed_accepts, counter_after_marks, counter_after_marks_below, formula_of, priorities_from}
-use Rattle.omega_runs.proofs.Leads.{laps, laps_lead, leads_on}
+use Rattle.omega_lang_runs.proofs.Leads.{laps, laps_lead, leads_on}
 use Rattle.omega_empty.proofs.playing.Lapping.{counter_on, laps_accept, laps_longer, laps_on}
 use Rattle.omega_empty.proofs.playing.Places.{Stands, same_place, walks}
-use Rattle.omega_runs.proofs.Kept.{marks_low}
+use Rattle.omega_lang_runs.proofs.Kept.{marks_low}
 
 -- the formula of the automaton is that of its kind, and its marks are within
 formula_is : (a : Description) (kind : AccKind) → HasKind a kind → a.acceptance ≡ formula_of kind

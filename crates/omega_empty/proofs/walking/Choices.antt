@@ -7,17 +7,17 @@ use Rattle.std.proofs.lemmas.Grind.{flat_map-append}
 use Rattle.std.proofs.lemmas.List.{get_or-replicate, get_or-set_other, get_or-set_same, length-replicate, length-set}
 use Rattle.std.proofs.lemmas.List.Sums.{sum_by-set}
 use Rattle.std.proofs.lemmas.Option.{get_or_from_slice_get, none-some, slice_get-get_or, slice_get_read, slice_get_within}
-use Rattle.omega_automaton.specs.Automaton.{Description, IsAutomaton, edge_count, edges_of}
-use Rattle.omega_parity_game.specs.Game.{Node, owner_at}
-use Rattle.omega_parity_game.specs.Winning.{Chooses, IsClosedWalk, IsWalk, Leaves, Wins, end_of, greatest_on}
-use Rattle.omega_parity_game.specs.declared.node_spec.NodeSpec.{NodeSpec}
-use Rattle.omega_parity_game.specs.declared.player.Player.TheVariants.{Zero}
+use Rattle.omega_hoa_automaton.specs.Automaton.{Description, IsAutomaton, edge_count, edges_of}
+use Rattle.omega_game_values.specs.Game.{Node, owner_at}
+use Rattle.omega_game_values.specs.Winning.{Chooses, IsClosedWalk, IsWalk, Leaves, Wins, end_of, greatest_on}
+use Rattle.omega_game_values.specs.declared.node_spec.NodeSpec.{NodeSpec}
+use Rattle.omega_game_values.specs.declared.player.Player.TheVariants.{Zero}
 use Rattle.omega_lift_laws.proofs.Reaching.{end_of-append, walk-append}
-use Rattle.omega_region_laws.proofs.Walks.{wins_onward}
+use Rattle.omega_game_region_laws.proofs.Walks.{wins_onward}
 use Rattle.omega_solve.specs.Headline.{IsExact}
 use Rattle.omega_empty.specs.EmptinessGame.{IsEmptinessGame}
 use Rattle.omega_empty.specs.GameLaws.{WonWalksAccept, number_at, numbers_on, within_counter}
-use Rattle.omega_runs.specs.Lasso.{IsAcceptingLasso}
+use Rattle.omega_lang_runs.specs.Lasso.{IsAcceptingLasso}
 use Rattle.omega_empty.specs.private.layout.Following.{IsLooped, IsWonStart}
 use Rattle.omega_empty.proofs.meaning.Accepting.{at_start}
 use Rattle.omega_empty.proofs.meaning.Searching.{even_from}

@@ -3,10 +3,10 @@ use Rattle.std.proofs.Common.{◌≢◌, List, Option, None, Some, subst, sym}
 use Rattle.omega_text.specs.declared.refusal.Refusal.{Refusal}
 use Rattle.omega_text.specs.declared.refusal.Refusal.TheVariants.{Task}
 use Rattle.omega_text.specs.declared.refusal.task.TaskFault.TheVariants.{Budget}
-use Rattle.omega_automaton.specs.Automaton.{Description}
-use Rattle.omega_parity_game.specs.Game.{Node}
-use Rattle.omega_parity_game.specs.declared.player.Player.{Player}
-use Rattle.omega_budget.proofs.Observed.{made_refused}
+use Rattle.omega_hoa_automaton.specs.Automaton.{Description}
+use Rattle.omega_game_values.specs.Game.{Node}
+use Rattle.omega_game_values.specs.declared.player.Player.{Player}
+use Rattle.omega_solve.proofs.within_budget.Observed.{made_refused}
 use Rattle.omega_empty.specs.EmptinessGame.{IsEmptinessGame}
 use Rattle.omega_empty.specs.Observing.{LiftsAutomaton}
 use Rattle.omega_empty.specs.private.layout.Solving.{LiftsGame}

@@ -2,12 +2,12 @@
 use Rattle.std.proofs.Common.{◌≡◌, ℕ, List, Ok, Err, Result, IfOk, IfErr, IsErrAnd, IsOk, OnOk, false, inl, inr, refl, subst, sym}
 use Rattle.omega_text.specs.declared.refusal.Refusal.{Refusal}
 use Rattle.omega_text.specs.declared.refusal.Refusal.TheVariants.{Automaton, Game, Io, Memory, Task, Text}
-use Rattle.omega_automaton.specs.Automaton.{Description}
-use Rattle.omega_parity_game.specs.Game.{Node, priorities}
-use Rattle.omega_parity_game.specs.declared.player.Player.TheVariants.{Zero}
+use Rattle.omega_hoa_automaton.specs.Automaton.{Description}
+use Rattle.omega_game_values.specs.Game.{Node, priorities}
+use Rattle.omega_game_values.specs.declared.player.Player.TheVariants.{Zero}
 use Rattle.omega_measure.specs.Table.{is_too_wide}
-use Rattle.omega_budget.specs.Within.{IsFound, IsSolvingRefusal}
-use Rattle.omega_budget.specs.declared.found.Found.{Found}
+use Rattle.omega_solve.specs.budget.Within.{IsFound, IsSolvingRefusal}
+use Rattle.omega_solve.specs.declared.budget.found.Found.{Found}
 use Rattle.omega_empty.specs.EmptinessGame.{IsEmptinessGame}
 use Rattle.omega_empty.specs.Refusing.{IsGameRefusal, IsGiven}
 use Rattle.omega_empty.specs.Deciding.{IsEmptinessRefusal, IsSolvedWithin}

@@ -3,9 +3,9 @@ use Rattle.std.proofs.Common.{◌≡◌, ◌==◌, ℕ, ◌<◌, Bool, true, fal
 use Rattle.std.proofs.lemmas.List.{get_or-map, length-map}
 use Rattle.std.proofs.lemmas.List.Quantifiers.{position-Some}
 use Rattle.std.proofs.lemmas.Option.{get_or_from_slice_get, none-some, slice_get-get_or}
-use Rattle.omega_automaton.specs.Automaton.{Description}
-use Rattle.omega_parity_game.proofs.elements.Membership.{place_of_contained}
-use Rattle.omega_parity_game.specs.Game.{IsGame, Node, identifier_at, identifiers, no_node}
+use Rattle.omega_hoa_automaton.specs.Automaton.{Description}
+use Rattle.omega_game_values.proofs.elements.Membership.{place_of_contained}
+use Rattle.omega_game_values.specs.Game.{IsGame, Node, identifier_at, identifiers, no_node}
 use Rattle.omega_empty.specs.private.layout.Following.{HasNoWonStart, IsWonAt}
 use Rattle.omega_empty.proofs.playing.Places.{same_place}
 

@@ -1,17 +1,17 @@
 -- Verdicts: the lasso of a loop is right, and so is `Empty` if no start is won.
 use Rattle.std.proofs.Common.{◌≡◌, ℕ, Bool, List, Some, Ok, Err, Result, IfOk, drop, slice_get, sym, subst, take, true}
 use Rattle.omega_text.specs.declared.refusal.Refusal.{Refusal}
-use Rattle.omega_automaton.specs.Automaton.{Description, IsAutomaton}
-use Rattle.omega_parity_game.specs.Game.{Node}
-use Rattle.omega_parity_game.specs.declared.player.Player.TheVariants.{Zero}
+use Rattle.omega_hoa_automaton.specs.Automaton.{Description, IsAutomaton}
+use Rattle.omega_game_values.specs.Game.{Node}
+use Rattle.omega_game_values.specs.declared.player.Player.TheVariants.{Zero}
 use Rattle.omega_solve.specs.Headline.{IsExact}
-use Rattle.omega_budget.specs.declared.found.Found.{Found}
+use Rattle.omega_solve.specs.declared.budget.found.Found.{Found}
 use Rattle.omega_empty.specs.EmptinessGame.{IsEmptinessGame}
 use Rattle.omega_empty.specs.GameLaws.{UnwonIsEmpty}
-use Rattle.omega_runs.specs.Lasso.{IsAcceptingLasso}
-use Rattle.omega_runs.specs.Verdict.{IsVerdict}
-use Rattle.omega_runs.specs.declared.verdict.Verdict.{Verdict}
-use Rattle.omega_runs.specs.declared.verdict.Verdict.TheVariants.{Lasso}
+use Rattle.omega_lang_runs.specs.Lasso.{IsAcceptingLasso}
+use Rattle.omega_lang_runs.specs.Verdict.{IsVerdict}
+use Rattle.omega_lang_runs.specs.declared.verdict.Verdict.{Verdict}
+use Rattle.omega_lang_runs.specs.declared.verdict.Verdict.TheVariants.{Lasso}
 use Rattle.omega_empty.specs.private.layout.Following.{HasNoWonStart, IsLooped}
 
 -- the edges before the loop and those from there on are a right verdict

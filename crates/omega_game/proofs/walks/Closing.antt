@@ -3,11 +3,11 @@ use Rattle.std.proofs.Common.{◌≡◌, ℕ, ◌+◌, ◌<◌, ◌≤◌, ◌�
 use Rattle.std.proofs.lemmas.Bool.{cases_eq, false≢true}
 use Rattle.std.proofs.lemmas.List.{take_more}
 use Rattle.std.proofs.lemmas.List.Elements.{Contains-append_left, Contains-push, Contains-push_cases}
-use Rattle.omega_parity_game.specs.Game.{Node, priority_at}
-use Rattle.omega_reaching.specs.Reaching.{mark_at, IsLowPath, AreReached}
-use Rattle.omega_parity_game.specs.Winning.{end_of}
-use Rattle.omega_parity_game.proofs.elements.Membership.{Contains-nothing}
-use Rattle.omega_reaching.proofs.Marking.{mark_set, mark_other, mark_kept, reached_on, unmarked}
+use Rattle.omega_game_values.specs.Game.{Node, priority_at}
+use Rattle.omega_game_reaching.specs.Reaching.{mark_at, IsLowPath, AreReached}
+use Rattle.omega_game_values.specs.Winning.{end_of}
+use Rattle.omega_game_values.proofs.elements.Membership.{Contains-nothing}
+use Rattle.omega_game_reaching.proofs.Marking.{mark_set, mark_other, mark_kept, reached_on, unmarked}
 use Rattle.omega_game.specs.private.checking.Following.{AreMarked, AreClosed}
 
 -- what is reached without a bound leads to what is reached

@@ -1,10 +1,10 @@
 -- A place of a losing priority that is reached and recurs gives a lasso that shows that the strategy does not win.
 use Rattle.std.proofs.Common.{ℕ, ◌<◌, IsTrue, Option, List, length, All, sym, subst}
 use Rattle.std.proofs.lemmas.List.Elements.{All-contains}
-use Rattle.omega_parity_game.specs.declared.player.Player.{Player}
-use Rattle.omega_parity_game.specs.Game.{Node, IsGame, priority_at}
-use Rattle.omega_parity_game.specs.Winning.{IsStrategy, IsWalk, IsClosedWalk, greatest_on}
-use Rattle.omega_parity_game.specs.Player.{loses}
+use Rattle.omega_game_values.specs.declared.player.Player.{Player}
+use Rattle.omega_game_values.specs.Game.{Node, IsGame, priority_at}
+use Rattle.omega_game_values.specs.Winning.{IsStrategy, IsWalk, IsClosedWalk, greatest_on}
+use Rattle.omega_game_values.specs.Player.{loses}
 use Rattle.omega_game.specs.declared.lasso.Lasso.{Lasso}
 use Rattle.omega_game.specs.Counterexample.{IsCounterexample}
 use Rattle.omega_game.specs.private.refuting.Ways.{LeadsTo, IsCycle}

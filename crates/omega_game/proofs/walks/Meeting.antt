@@ -3,11 +3,11 @@ use Rattle.std.proofs.Common.{◌≡◌, ℕ, ◌+◌, ◌<◌, ◌≤◌, ◌�
 use Rattle.std.proofs.lemmas.Bool.{cases_eq, cases_lt, false≢true}
 use Rattle.std.proofs.lemmas.List.{length-set, length_push, take_more, get_or_push, get_or_append_left, get_or_default}
 use Rattle.std.proofs.lemmas.List.Elements.{All-contains, Contains-append_left, Contains-push, Contains-push_cases, Contains-get_or}
-use Rattle.omega_parity_game.specs.Game.{Node, priority_at}
-use Rattle.omega_parity_game.specs.Winning.{end_of}
-use Rattle.omega_reaching.specs.Reaching.{left_at, mark_at, IsLowPath, LeadsInside}
-use Rattle.omega_parity_game.proofs.elements.Membership.{Contains-nothing}
-use Rattle.omega_reaching.proofs.Marking.{mark_set, mark_other, mark_kept, one_fewer, unmarked}
+use Rattle.omega_game_values.specs.Game.{Node, priority_at}
+use Rattle.omega_game_values.specs.Winning.{end_of}
+use Rattle.omega_game_reaching.specs.Reaching.{left_at, mark_at, IsLowPath, LeadsInside}
+use Rattle.omega_game_values.proofs.elements.Membership.{Contains-nothing}
+use Rattle.omega_game_reaching.proofs.Marking.{mark_set, mark_other, mark_kept, one_fewer, unmarked}
 use Rattle.omega_game.specs.private.refuting.Ways.{origin_at, IsMetInTree, IsTree, MeetsAll, AreMet}
 
 -- nothing to meet

@@ -2,9 +2,9 @@
 use Rattle.std.proofs.Common.{◌≡◌, ℕ, ◌<◌, ◌≤◌, ◌⊎◌, inl, inr, Option, Some, List, [], ◌∷◌, ◌++◌, length, get_or, Contains, refl, sym, ◌∙◌, ap, subst, arith, append_assoc, reverse}
 use Rattle.std.proofs.lemmas.Bool.{cases_lt}
 use Rattle.std.proofs.lemmas.List.{get_or_default, reverse-append}
-use Rattle.omega_parity_game.specs.Game.{Node, priority_at}
-use Rattle.omega_reaching.specs.Reaching.{left_at}
-use Rattle.omega_reaching.proofs.Marking.{path_on, end_on}
+use Rattle.omega_game_values.specs.Game.{Node, priority_at}
+use Rattle.omega_game_reaching.specs.Reaching.{left_at}
+use Rattle.omega_game_reaching.proofs.Marking.{path_on, end_on}
 use Rattle.omega_game.specs.private.refuting.Ways.{origin_at, IsTree, IsWay, root, onward, LeadsTo}
 
 module _ (nodes : List Node) (choices : List (Option ℕ)) (most : ℕ) (places met : List ℕ) (origins : List (Option ℕ)) (tree : IsTree nodes choices most places met origins) where

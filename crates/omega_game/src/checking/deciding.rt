@@ -1,7 +1,7 @@
 //! Whether no place that is reached bears a losing priority and recurs: suggested by a fast search, checked, and else
 //! tested plainly.
 ghost use Rattle.std.specs.Prelude.{◌≡◌, ◌<◌, length, IfOk, IfSome, IsTrue};
-ghost use Rattle.omega_reaching.specs.Reaching.{LeadsInside};
+ghost use Rattle.omega_game_reaching.specs.Reaching.{LeadsInside};
 ghost use Rattle.omega_game.specs.private.checking.Decision.{IsLosingPlace, IsRightDecision};
 ghost use Rattle.omega_game.specs.private.checking.Following.{AreClosed};
 
@@ -12,8 +12,8 @@ use crate::checking::nesting::search_nested;
 use crate::checking::ordering::shows_none;
 use crate::checking::recurring::{decide_plainly, recurs};
 use crate::checking::top_nodes::search_by_top_nodes;
-use omega_parity_game::{ForwardGame, Player};
-use omega_reaching::edges_left;
+use omega_game_reaching::edges_left;
+use omega_game_values::{ForwardGame, Player};
 use std::alloc::{AllocError, Global};
 
 /// Decides whether no marked place of a priority that loses for the player recurs.
@@ -47,19 +47,20 @@ pub(crate) fn decide_fast(
     requires count { length marks.now ≡ length game.now }
     requires choices { LeadsInside game.now choices.now }
     requires closed { AreClosed game.now choices.now marks.now }
-    ensures right { IfOk result (λ found. IfSome found (IsRightDecision game.now player choices.now marks.now)) }
+    ensures right { IfOk result
+        (λ found. IfSome found (IsRightDecision game.now player choices.now marks.now)) }
 {
     if let Some(finding) = search_by_top_nodes(alloc, game, player, choices, marks)?
-        && let Some(decision) = confirmed(alloc, game, player, choices, marks, finding)?
+        && let Some(decision) = confirmed_decision(alloc, game, player, choices, marks, finding)?
     {
         return Ok(Some(decision));
     }
     let finding = suggest(alloc, game, player, choices, marks)?;
-    confirmed(alloc, game, player, choices, marks, finding)
+    confirmed_decision(alloc, game, player, choices, marks, finding)
 }
 
 /// Returns the decision that a search suggests, or `None` if it is not confirmed.
-fn confirmed(
+fn confirmed_decision(
     alloc: Global,
     game: &ForwardGame,
     player: Player,
@@ -70,7 +71,8 @@ fn confirmed(
     requires count { length marks.now ≡ length game.now }
     requires choices { LeadsInside game.now choices.now }
     requires closed { AreClosed game.now choices.now marks.now }
-    ensures right { IfOk result (λ found. IfSome found (IsRightDecision game.now player choices.now marks.now)) }
+    ensures right { IfOk result
+        (λ found. IfSome found (IsRightDecision game.now player choices.now marks.now)) }
 {
     match finding {
         Finding::Recurring(place) => {
@@ -98,7 +100,8 @@ fn loses_at(
 ) -> Result<bool, AllocError>
     requires count { length marks.now ≡ length game.now }
     requires choices { LeadsInside game.now choices.now }
-    ensures loses { IfOk result (λ answer. IsTrue answer → IsLosingPlace game.now player choices.now marks.now place) }
+    ensures loses { IfOk result
+        (λ answer. IsTrue answer → IsLosingPlace game.now player choices.now marks.now place) }
 {
     if place as usize >= game.len() || !marks[place as usize] {
         return Ok(false);

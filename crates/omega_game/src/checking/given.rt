@@ -1,13 +1,13 @@
 //! Both players' strategies judged at once along one order, each at the places given to its player.
 ghost use Rattle.std.specs.Prelude.{◌≡◌, ◌<◌, length, IfOk, IsTrue};
-ghost use Rattle.omega_parity_game.specs.declared.player.Player.{Player};
-ghost use Rattle.omega_parity_game.specs.Solution.{WinsAsGiven, choices_of};
-ghost use Rattle.omega_parity_game.specs.Winning.{IsStrategy};
+ghost use Rattle.omega_game_values.specs.declared.player.Player.{Player};
+ghost use Rattle.omega_game_values.specs.Solution.{WinsAsGiven, choices_of};
+ghost use Rattle.omega_game_values.specs.Winning.{IsStrategy};
 ghost use Rattle.omega_game.specs.private.checking.Ordering.{AreEnds, StandsAsGiven};
 
 use crate::checking::ordering::{ends_of, is_in_order, numbers_in, ranks_along};
-use omega_parity_game::{ForwardGame, Solution};
-use omega_reaching::edges_left;
+use omega_game_reaching::edges_left;
+use omega_game_values::{ForwardGame, Solution};
 use std::alloc::{AllocError, Global};
 
 /// Whether an order of the places shows that each player's choices win from all places given to the player. No edge
@@ -19,7 +19,8 @@ pub(crate) fn shows_given(
     order: &[u32],
 ) -> Result<bool, AllocError>
     requires winners { length solution.now.winners ≡ length game.now }
-    requires strategies { (player : Player) → IsStrategy game.now player (choices_of solution.now player) }
+    requires strategies { (player : Player)
+        → IsStrategy game.now player (choices_of solution.now player) }
     ensures wins { IfOk result (λ answer. IsTrue answer → WinsAsGiven game.now solution.now) }
 {
     if order.len() >= u32::MAX as usize {
@@ -47,7 +48,8 @@ fn all_stand_as_given(
     ends: &[u32],
 ) -> bool
     requires winners { length solution.now.winners ≡ length game.now }
-    requires strategies { (player : Player) → IsStrategy game.now player (choices_of solution.now player) }
+    requires strategies { (player : Player)
+        → IsStrategy game.now player (choices_of solution.now player) }
     requires numbers { length numbers.now ≡ length game.now }
     requires even { length ends.now ≡ length ranks.now }
     requires ends { AreEnds ranks.now ends.now }
@@ -74,10 +76,12 @@ fn stands_as_given(
 ) -> bool
     requires place { place < length game.now }
     requires winners { length solution.now.winners ≡ length game.now }
-    requires strategies { (player : Player) → IsStrategy game.now player (choices_of solution.now player) }
+    requires strategies { (player : Player)
+        → IsStrategy game.now player (choices_of solution.now player) }
     requires numbers { length numbers.now ≡ length game.now }
     requires ends { length ends.now ≡ length ranks.now }
-    ensures { IsTrue result → StandsAsGiven game.now solution.now numbers.now ranks.now ends.now place }
+    ensures { IsTrue result
+        → StandsAsGiven game.now solution.now numbers.now ranks.now ends.now place }
 {
     game.keeps_limits();
     let number = numbers[place as usize] as usize;

@@ -1,13 +1,13 @@
 //! A proof that a strategy wins, as an order of the places: each edge leads forward, or back to a place whose priority
 //! does not lose and is the greatest on the way. A closed walk passes its greatest priority by such a step back.
 ghost use Rattle.std.specs.Prelude.{◌≡◌, ℕ, ◌<◌, ◌≤◌, ◌+◌, ◌^◌, length, vec_len, IfOk, IsTrue, slice_index};
-ghost use Rattle.omega_reaching.specs.Reaching.{LeadsInside};
+ghost use Rattle.omega_game_reaching.specs.Reaching.{LeadsInside};
 ghost use Rattle.omega_game.specs.private.checking.Following.{AreClosed};
 ghost use Rattle.omega_game.specs.private.checking.Ordering.{AreEnds, AreEndsAfter, IsInOrder, StandsInOrder};
 ghost use Rattle.omega_game.specs.private.checking.Recurring.{NoneRecurs};
 
-use omega_parity_game::{ForwardGame, Player};
-use omega_reaching::edges_left;
+use omega_game_reaching::edges_left;
+use omega_game_values::{ForwardGame, Player};
 use std::alloc::{AllocError, Global};
 
 /// Whether an order of the places shows that no marked place of a losing priority recurs. Linear in nodes and edges.
@@ -22,7 +22,8 @@ pub(crate) fn shows_none(
     requires count { length marks.now ≡ length game.now }
     requires choices { LeadsInside game.now choices.now }
     requires closed { AreClosed game.now choices.now marks.now }
-    ensures none { IfOk result (λ answer. IsTrue answer → NoneRecurs game.now player choices.now marks.now) }
+    ensures none { IfOk result
+        (λ answer. IsTrue answer → NoneRecurs game.now player choices.now marks.now) }
 {
     if order.len() >= u32::MAX as usize {
         return Ok(false);
@@ -102,7 +103,8 @@ fn end_after(ranks: &[u32], ends: &[u32], index: u32) -> u32
     requires onward { (i : ℕ) → index < i → i < length ranks.now → i < slice_index ends.now i }
     requires ends { AreEndsAfter index ranks.now ends.now }
     ensures following { index < result }
-    ensures ranks { (k : ℕ) → index ≤ k → k < result → slice_index ranks.now k ≤ slice_index ranks.now index }
+    ensures ranks { (k : ℕ) → index ≤ k → k < result
+        → slice_index ranks.now k ≤ slice_index ranks.now index }
 {
     let rank = ranks[index as usize];
     let mut end = index + 1;
@@ -152,7 +154,8 @@ fn stands(
     requires choices { LeadsInside game.now choices.now }
     requires numbers { length numbers.now ≡ length game.now }
     requires ends { length ends.now ≡ length ranks.now }
-    ensures { IsTrue result → StandsInOrder game.now player choices.now numbers.now ranks.now ends.now place }
+    ensures { IsTrue result
+        → StandsInOrder game.now player choices.now numbers.now ranks.now ends.now place }
 {
     let number = numbers[place as usize] as usize;
     if number >= ranks.len() || ranks[number] != game.priority(place) {

@@ -1,12 +1,12 @@
 //! The plain test: whether a place that is reached bears a losing priority and recurs.
 ghost use Rattle.std.specs.Prelude.{◌≡◌, ◌↔◌, ◌<◌, length, IfOk, IsTrue};
-ghost use Rattle.omega_reaching.specs.Reaching.{LeadsInside};
+ghost use Rattle.omega_game_reaching.specs.Reaching.{LeadsInside};
 ghost use Rattle.omega_game.specs.private.checking.Decision.{IsRightDecision};
 ghost use Rattle.omega_game.specs.private.checking.Recurring.{Recurs};
 
 use crate::checking::decision::Decision;
-use omega_parity_game::{ForwardGame, Player};
-use omega_reaching::{edges_left, reached_from};
+use omega_game_reaching::{edges_left, reached_from};
+use omega_game_values::{ForwardGame, Player};
 use std::alloc::{AllocError, Global};
 
 /// Whether a place is reached again after itself through priorities at most its own.

@@ -1,10 +1,10 @@
 //! A search in breadth: each place that is reached is met on a shortest way.
 ghost use Rattle.std.specs.Prelude.{◌≡◌, ◌<◌, length, vec_len, All, IfOk, OnOk};
-ghost use Rattle.omega_reaching.specs.Reaching.{LeadsInside};
+ghost use Rattle.omega_game_reaching.specs.Reaching.{LeadsInside};
 ghost use Rattle.omega_game.specs.private.refuting.Ways.{AreMet, IsTree, MeetsAll};
 
-use omega_parity_game::ForwardGame;
-use omega_reaching::edges_left;
+use omega_game_reaching::edges_left;
+use omega_game_values::ForwardGame;
 use std::alloc::{AllocError, Global};
 
 /// The places that a search met, in its order, and for each the index of the one from which it was met. Those that the
@@ -25,7 +25,8 @@ pub(crate) fn met_from(
 ) -> Result<Met, AllocError>
     requires inside { All (λ place. place < length game.now) places.now }
     requires choices { LeadsInside game.now choices.now }
-    ensures tree { IfOk result (λ met. IsTree game.now choices.now most places.now met.places.items met.origins.items) }
+    ensures tree { IfOk result
+        (λ met. IsTree game.now choices.now most places.now met.places.items met.origins.items) }
     ensures all { IfOk result (λ met. MeetsAll game.now choices.now most places.now met.places.items) }
 {
     let mut marks = vec![in alloc; false; game.len()]?;

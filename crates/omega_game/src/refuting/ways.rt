@@ -1,10 +1,10 @@
 //! Shortest ways to a place that is reached.
 ghost use Rattle.std.specs.Prelude.{◌≡◌, ◌<◌, length, All, Contains, IfOk, slice_index};
-ghost use Rattle.omega_reaching.specs.Reaching.{LeadsInside, IsReachedFrom};
+ghost use Rattle.omega_game_reaching.specs.Reaching.{LeadsInside, IsReachedFrom};
 ghost use Rattle.omega_game.specs.private.refuting.Ways.{IsWay, LeadBack, LeadsTo};
 
 use crate::refuting::breadth::met_from;
-use omega_parity_game::ForwardGame;
+use omega_game_values::ForwardGame;
 use std::alloc::{AllocError, Global};
 
 /// Returns the places before the target on a shortest way to it from one of the places, through priorities at most
@@ -20,7 +20,8 @@ pub(crate) fn way_to(
     requires inside { All (λ place. place < length game.now) places.now }
     requires choices { LeadsInside game.now choices.now }
     requires reached { IsReachedFrom game.now choices.now most places.now target }
-    ensures way { IfOk result (λ before. LeadsTo game.now choices.now most places.now target before.items) }
+    ensures way { IfOk result
+        (λ before. LeadsTo game.now choices.now most places.now target before.items) }
 {
     let met = met_from(alloc, game, choices, most, places)?;
     let index = index_of(met.places.as_slice(), target);

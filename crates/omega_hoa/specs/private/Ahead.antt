@@ -12,7 +12,7 @@ use Rattle.omega_text.specs.declared.token.Span.{Span}
 use Rattle.omega_text.specs.hoa.Cut.{Follows}
 use Rattle.omega_text.specs.hoa.Format.{hoa_format}
 use Rattle.omega_text.specs.private.Left.{lexeme_code}
-use Rattle.omega_automaton.specs.Automaton.{Description}
+use Rattle.omega_hoa_automaton.specs.Automaton.{Description}
 use Rattle.omega_hoa.specs.Segment.{IsAutomatonOf}
 use Rattle.omega_hoa.specs.Stream.{IsSegment}
 
@@ -29,8 +29,8 @@ NoneFollows source from = (lexeme : Lexeme HoaKind) → Follows source from lexe
 -- them there is none
 abbrev pub IsFront : List ℕ → Bool → ℕ → List (Lexeme HoaKind) → ℕ → Type 0
 IsFront source ended from [] to = (from ≡ to) × (ended ≡ false → NoneFollows source from)
-IsFront source ended from (lexeme ∷ lexemes) to =
-    (ended ≡ false) × Follows source from lexeme × IsFront source (is_last lexeme.kind) lexeme.span.end lexemes to
+IsFront source ended from (lexeme ∷ lexemes) to = (ended ≡ false) × Follows source from lexeme
+    × IsFront source (is_last lexeme.kind) lexeme.span.end lexemes to
 
 -- some tokens, and where they end
 abbrev pub Front : Type 0
@@ -46,7 +46,8 @@ pub record IsNextAhead (source : List ℕ) (lexeme : Lexeme HoaKind) (front : Fr
 -- the next token, by its parts, if there is one
 abbrev pub token_ahead : Option HoaKind → List ℕ → ℕ → Span → Option (Lexeme HoaKind)
 token_ahead None text value span = None
-token_ahead (Some kind) text value span = Some (record { kind = kind; text = text; value = value; span = span })
+token_ahead (Some kind) text value span =
+    Some (record { kind = kind; text = text; value = value; span = span })
 
 -- the front by its next token, or by the place where it ends
 abbrev pub IsAhead : List ℕ → Option (Lexeme HoaKind) → ℕ → Front → Type 0
@@ -54,7 +55,8 @@ IsAhead source None place front = (front.0 ≡ []) × (front.1 ≡ place)
 IsAhead source (Some lexeme) place front = IsNextAhead source lexeme front
 
 -- this is the front, and no other is
-pub record IsAllAhead (source : List ℕ) (next : Option (Lexeme HoaKind)) (place : ℕ) (front : Front) : Type 0 where
+pub record IsAllAhead (source : List ℕ) (next : Option (Lexeme HoaKind)) (place : ℕ)
+    (front : Front) : Type 0 where
   pub is : IsAhead source next place front
   pub only : (other : Front) → IsAhead source next place other → front ≡ other
 
@@ -65,17 +67,20 @@ pub record Ahead (source : List ℕ) (next : Option (Lexeme HoaKind)) (place : �
 
 -- fronts are equal in one way
 pub Front-set : (one other : Front) → IsProp (one ≡ other)
-Front-set one other = Coded-set (coded× (coded_list (lexeme_code hoa_kind.the_row.coded)) coded_ℕ) one other
+Front-set one other =
+    Coded-set (coded× (coded_list (lexeme_code hoa_kind.the_row.coded)) coded_ℕ) one other
 
 -- the tokens that are ahead are one list
-pub Ahead-prop : (source : List ℕ) (next : Option (Lexeme HoaKind)) (place : ℕ) → IsProp (Ahead source next place)
+pub Ahead-prop : (source : List ℕ) (next : Option (Lexeme HoaKind)) (place : ℕ)
+    → IsProp (Ahead source next place)
 Ahead-prop source next place one other =
     let set : IsProp (one.front ≡ other.front) = Front-set one.front other.front in
     let same : one.front ≡ other.front =
     ∥∥₁_elim one.all set (λ all. ∥∥₁_elim other.all set (λ again. all.only other.front again.is)) in
     λ i. record {
       front = same i;
-      all = is_prop→PathP (λ j. ∥ IsAllAhead source next place (same j) ∥₁) (λ j. ∥∥₁_prop) one.all other.all i;
+      all = is_prop→PathP (λ j. ∥ IsAllAhead source next place (same j) ∥₁)
+          (λ j. ∥∥₁_prop) one.all other.all i;
     }
 
 -- bytes begin with a segment up to a place, whose tokens are this automaton's

@@ -7,9 +7,9 @@ use Rattle.std.specs.List.{list_any}
 use Rattle.std.proofs.lemmas.Bool.{ltb-false, or_parts}
 use Rattle.std.proofs.lemmas.List.Elements.{All-cons, All-nil}
 use Rattle.omega_text.specs.declared.refusal.game.GameFault.{GameFault}
-use Rattle.omega_parity_game.specs.Building.{IsGameOf, has_duplicate, has_undefined, fault_with}
-use Rattle.omega_parity_game.specs.Game.{IsWithinLimits, Node}
-use Rattle.omega_parity_game.specs.declared.node_spec.NodeSpec.{NodeSpec}
+use Rattle.omega_game_values.specs.Building.{IsGameOf, has_duplicate, has_undefined, fault_with}
+use Rattle.omega_game_values.specs.Game.{IsWithinLimits, Node}
+use Rattle.omega_game_values.specs.declared.node_spec.NodeSpec.{NodeSpec}
 use Rattle.omega_pg.specs.private.game.reader.Automaton.{IsReachedBy, IsReadyAt, GameReaderState}
 use Rattle.omega_pg.specs.private.game.reader.Built.{IsBuiltRefusal}
 use Rattle.omega_pg.specs.game.Grammar.{game_syntax}

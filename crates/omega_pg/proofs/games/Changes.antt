@@ -1,7 +1,7 @@
 -- Changes of the last specification.
 use Rattle.std.proofs.Common.{◌≡◌, suc, List, [], ◌∷◌, ◌++◌, length, refl, ap}
-use Rattle.omega_parity_game.specs.Building.{with_last}
-use Rattle.omega_parity_game.specs.declared.node_spec.NodeSpec.{NodeSpec}
+use Rattle.omega_game_values.specs.Building.{with_last}
+use Rattle.omega_game_values.specs.declared.node_spec.NodeSpec.{NodeSpec}
 
 -- a change keeps how many there are
 pub length_with_last : (change : NodeSpec → NodeSpec) (specs : List NodeSpec) → length (with_last change specs) ≡ length specs

@@ -4,9 +4,9 @@ use Rattle.std.specs.List.{AllByRecursion, flat_map}
 use Rattle.omega_text.specs.Limits.{most_text}
 use Rattle.omega_text.specs.declared.refusal.Refusal.{Refusal}
 use Rattle.omega_text.specs.declared.refusal.Refusal.TheVariants.{Game, Text}
-use Rattle.omega_parity_game.specs.Building.{IsWellFormed, game_fault_of, fault_with}
-use Rattle.omega_parity_game.specs.Game.{Node}
-use Rattle.omega_parity_game.specs.Laws.{GamesExist, GamesKeepLimits}
+use Rattle.omega_game_values.specs.Building.{IsWellFormed, game_fault_of, fault_with}
+use Rattle.omega_game_values.specs.Game.{Node}
+use Rattle.omega_game_values.specs.Laws.{GamesExist, GamesKeepLimits}
 use Rattle.omega_pg.specs.game.Grammar.{RawGame, header_symbols, node_symbols, game_syntax}
 use Rattle.omega_pg.specs.game.Laws.{TextsAreReadOrRefused}
 use Rattle.omega_pg.specs.game.Refusing.{IsRefusal, fault_in, is_header_small}

@@ -1,6 +1,6 @@
 -- The automaton of game texts decides their grammar.
 use Rattle.std.proofs.Common.{◌≡◌, ℕ, ◌⊎◌, inl, inr, Bool, true, false, Result, Ok, Err, IfOk, Option, Some, List, [], ◌∷◌, refl, ◌∙◌, subst, IfSome, append-nil}
-use Rattle.omega_parity_game.specs.declared.node_spec.NodeSpec.{NodeSpec}
+use Rattle.omega_game_values.specs.declared.node_spec.NodeSpec.{NodeSpec}
 use Rattle.omega_text.specs.declared.refusal.Refusal.{Refusal}
 use Rattle.omega_pg.specs.private.game.reader.Automaton.{IsReachedBy, GameReaderState, Takes, initial, run, step}
 use Rattle.omega_pg.specs.game.Grammar.{RawGame, SpellsGame, game_syntax}

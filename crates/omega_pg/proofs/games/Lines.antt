@@ -2,8 +2,8 @@
 use Rattle.std.proofs.Common.{◌≡◌, ℕ, ◌+◌, ◌<◌, ◌≤◌, List, [], ◌∷◌, ◌++◌, length, map, take, sym, ap, ◌∙◌}
 use Rattle.std.specs.List.{flat_map}
 use Rattle.std.proofs.lemmas.List.{flat_map_more, map-append, take_all, take_more}
-use Rattle.omega_parity_game.specs.Building.{specified}
-use Rattle.omega_parity_game.specs.Game.{Node, greatest_identifier, no_node, node_at}
+use Rattle.omega_game_values.specs.Building.{specified}
+use Rattle.omega_game_values.specs.Game.{Node, greatest_identifier, no_node, node_at}
 use Rattle.omega_pg.specs.game.Canonical.{canonical_game, header_line, node_line}
 
 -- one line more is written after the others

@@ -13,11 +13,11 @@ use Rattle.omega_text.specs.declared.pg.kind.PgKind.TheVariants.{Comma, Number, 
 use Rattle.omega_text.specs.declared.refusal.Refusal.{Refusal}
 use Rattle.omega_text.proofs.formats.Cutting.{cuts_join}
 use Rattle.omega_text.proofs.pg_texts.Written.{sign_longest, written_follows}
-use Rattle.omega_parity_game.specs.Building.{with_last, with_successor}
-use Rattle.omega_parity_game.specs.Player.{player_number}
-use Rattle.omega_parity_game.specs.declared.node_spec.NodeSpec.{NodeSpec}
-use Rattle.omega_parity_game.specs.declared.player.Player.{Player}
-use Rattle.omega_parity_game.specs.declared.player.Player.TheVariants.{One, Zero}
+use Rattle.omega_game_values.specs.Building.{with_last, with_successor}
+use Rattle.omega_game_values.specs.Player.{player_number}
+use Rattle.omega_game_values.specs.declared.node_spec.NodeSpec.{NodeSpec}
+use Rattle.omega_game_values.specs.declared.player.Player.{Player}
+use Rattle.omega_game_values.specs.declared.player.Player.TheVariants.{One, Zero}
 use Rattle.omega_pg.specs.Symbols.{PgSymbol, comma, number, semicolon, pg_symbol_of, symbol}
 use Rattle.omega_pg.specs.private.reader.Symbols.{symbols_of}
 use Rattle.omega_pg.specs.private.game.reader.Automaton.{GameReaderState, IsReachedBy, IsReady, IsReadyAt, begun, initial, run, step, to_stage, with_node}

@@ -5,10 +5,10 @@ use Rattle.std.specs.List.{flat_map, range_with_len}
 use Rattle.std.proofs.lemmas.Bool.{cases_lt}
 use Rattle.std.proofs.lemmas.List.{flat_map_more, get_or_past, get_or-map, length-map}
 use Rattle.std.proofs.lemmas.List.FromFn.{fill_by_all, get_or-map-range_with_len, length-map-range_with_len, map-range_with_len_more}
-use Rattle.omega_parity_game.specs.Building.{specified}
-use Rattle.omega_parity_game.specs.Game.{Node, greatest_identifier, identifier_at, no_node, node_at}
-use Rattle.omega_parity_game.specs.declared.node_spec.NodeSpec.{NodeSpec}
-use Rattle.omega_parity_game.specs.declared.player.Player.{Player}
+use Rattle.omega_game_values.specs.Building.{specified}
+use Rattle.omega_game_values.specs.Game.{Node, greatest_identifier, identifier_at, no_node, node_at}
+use Rattle.omega_game_values.specs.declared.node_spec.NodeSpec.{NodeSpec}
+use Rattle.omega_game_values.specs.declared.player.Player.{Player}
 use Rattle.omega_pg.specs.game.Canonical.{canonical_game, header_line, node_line}
 use Rattle.omega_pg.specs.game.Priorities.{with_priorities, with_priority}
 

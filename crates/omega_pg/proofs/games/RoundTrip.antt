@@ -6,10 +6,10 @@ use Rattle.std.proofs.lemmas.List.{get_or-map, length-map}
 use Rattle.std.proofs.lemmas.List.Elements.{All-from_get_or, All-map}
 use Rattle.std.proofs.lemmas.List.Sorted.{IsPermutation-refl}
 use Rattle.omega_text.specs.pg.Laws.{EndsAreGaps, NamesAreLongest, NumbersAreLongest, SignsAreLongest, TokensFollow, WordsAreLongest}
-use Rattle.omega_parity_game.specs.Building.{IsWellFormed, specified}
-use Rattle.omega_parity_game.specs.Game.{IsGame, IsWithinLimits, Node, identifiers, no_node, node_at, successors_at, greatest_identifier, identifier_at}
+use Rattle.omega_game_values.specs.Building.{IsWellFormed, specified}
+use Rattle.omega_game_values.specs.Game.{IsGame, IsWithinLimits, Node, identifiers, no_node, node_at, successors_at, greatest_identifier, identifier_at}
 use Rattle.omega_text.specs.Limits.{most_number}
-use Rattle.omega_parity_game.specs.declared.node_spec.NodeSpec.{NodeSpec}
+use Rattle.omega_game_values.specs.declared.node_spec.NodeSpec.{NodeSpec}
 use Rattle.omega_pg.specs.game.Canonical.{canonical_game}
 use Rattle.omega_pg.specs.game.Laws.{CanonicalGamesAreRead}
 use Rattle.omega_pg.proofs.games.Written.{text_written}

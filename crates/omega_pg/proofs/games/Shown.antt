@@ -6,14 +6,14 @@ use Rattle.std.specs.List.{flat_map, list_any}
 use Rattle.std.proofs.lemmas.List.Concat.{flat_map-append}
 use Rattle.std.proofs.lemmas.List.Elements.{All-push, All-nil}
 use Rattle.std.proofs.lemmas.List.Folds.{list_any-append}
-use Rattle.omega_parity_game.specs.Building.{with_last, with_name, with_successor}
-use Rattle.omega_parity_game.specs.declared.node_spec.NodeSpec.{NodeSpec}
+use Rattle.omega_game_values.specs.Building.{with_last, with_name, with_successor}
+use Rattle.omega_game_values.specs.declared.node_spec.NodeSpec.{NodeSpec}
 use Rattle.omega_pg.proofs.games.Players.{player_of-number}
 use Rattle.omega_pg.specs.private.game.reader.Automaton.{GameReaderState, after_comma, after_name, after_number, after_semicolon, after_word, begun, is_above, player_of, step, to_stage}
 use Rattle.omega_pg.specs.game.Grammar.{header_symbols, name_symbols, node_symbols, successor_symbols}
 use Rattle.omega_pg.specs.game.Refusing.{is_header_small}
 use Rattle.omega_pg.specs.Symbols.{PgSymbol, comma, name, number, parity, paritysol, semicolon}
-use Rattle.omega_parity_game.specs.Player.{player_number}
+use Rattle.omega_game_values.specs.Player.{player_number}
 use Rattle.omega_pg.specs.declared.game.stage.Stage.{Stage}
 use Rattle.omega_pg.specs.declared.game.stage.Stage.TheVariants.{Comma, Ended, Headed, Identifier, Listed, Named, Number, Owner, Priority, Start, Word}
 use Rattle.omega_pg.proofs.games.Changes.{with_last_push}

@@ -2,14 +2,14 @@
 use Rattle.std.proofs.Common.{◌≡◌, ℕ, ◌<◌, Bool, false, append-nil, Option, Some, None, List, [], ◌∷◌, ◌++◌, length, refl, ap, sym, ◌∙◌, append_assoc, arith, All, ◌||◌}
 use Rattle.std.specs.List.{flat_map}
 use Rattle.std.proofs.lemmas.List.Elements.{All-head, All-tail}
-use Rattle.omega_parity_game.specs.Building.{with_name, with_successor}
-use Rattle.omega_parity_game.specs.declared.node_spec.NodeSpec.{NodeSpec}
-use Rattle.omega_parity_game.specs.declared.player.Player.{Player}
-use Rattle.omega_parity_game.specs.declared.player.Player.TheVariants.{One, Zero}
+use Rattle.omega_game_values.specs.Building.{with_name, with_successor}
+use Rattle.omega_game_values.specs.declared.node_spec.NodeSpec.{NodeSpec}
+use Rattle.omega_game_values.specs.declared.player.Player.{Player}
+use Rattle.omega_game_values.specs.declared.player.Player.TheVariants.{One, Zero}
 use Rattle.omega_pg.specs.private.game.reader.Automaton.{GameReaderState, begun, initial, is_above, run}
 use Rattle.omega_pg.specs.game.Grammar.{RawGame, SpellsGame, header_symbols, name_symbols, node_symbols, successor_symbols}
 use Rattle.omega_pg.specs.Symbols.{PgSymbol, comma, number, semicolon}
-use Rattle.omega_parity_game.specs.Player.{player_number}
+use Rattle.omega_game_values.specs.Player.{player_number}
 use Rattle.omega_pg.specs.declared.game.stage.Stage.{Stage}
 use Rattle.omega_pg.specs.declared.game.stage.Stage.TheVariants.{Ended, Identifier, Listed, Owner, Priority}
 use Rattle.omega_pg.proofs.games.Changes.{with_last_push}

@@ -8,9 +8,9 @@ use Rattle.omega_text.specs.Syntax.{TextFaultsAreOne, TextsHaveNoFault}
 use Rattle.omega_text.specs.pg.Format.{pg_format}
 use Rattle.omega_text.specs.declared.refusal.Refusal.TheVariants.{Automaton, Game, Io, Memory, Task, Text}
 use Rattle.omega_text.specs.declared.refusal.game.GameFault.{GameFault}
-use Rattle.omega_parity_game.specs.Building.{IsGameOf, game_fault_of, fault_with}
-use Rattle.omega_parity_game.specs.Laws.{GamesHaveNoFault, SpecificationsHaveOneGame}
-use Rattle.omega_parity_game.specs.declared.node_spec.NodeSpec.{NodeSpec}
+use Rattle.omega_game_values.specs.Building.{IsGameOf, game_fault_of, fault_with}
+use Rattle.omega_game_values.specs.Laws.{GamesHaveNoFault, SpecificationsHaveOneGame}
+use Rattle.omega_game_values.specs.declared.node_spec.NodeSpec.{NodeSpec}
 use Rattle.omega_pg.specs.game.Grammar.{RawGame, game_syntax}
 use Rattle.omega_pg.specs.game.Laws.{GamesAreNotRefused, GamesOfTextsAreOne, GameRefusalsAreOne}
 use Rattle.omega_pg.specs.game.Refusing.{fault_in, is_header_small}

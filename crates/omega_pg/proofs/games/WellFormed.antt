@@ -13,10 +13,10 @@ use Rattle.omega_text.specs.Lexeme.{Lexeme}
 use Rattle.omega_text.specs.pg.Format.{pg_format}
 use Rattle.omega_text.specs.declared.pg.kind.PgKind.{PgKind}
 use Rattle.omega_text.specs.declared.pg.kind.PgKind.TheVariants.{Comma, Name, Number, Parity, ParitySol, Semicolon}
-use Rattle.omega_parity_game.specs.Building.{IsWellFormed}
-use Rattle.omega_parity_game.specs.Game.{IsNameByte}
+use Rattle.omega_game_values.specs.Building.{IsWellFormed}
+use Rattle.omega_game_values.specs.Game.{IsNameByte}
 use Rattle.omega_text.specs.Limits.{most_number}
-use Rattle.omega_parity_game.specs.declared.node_spec.NodeSpec.{NodeSpec}
+use Rattle.omega_game_values.specs.declared.node_spec.NodeSpec.{NodeSpec}
 use Rattle.omega_pg.specs.game.Grammar.{name_symbols, node_symbols, successor_symbols}
 use Rattle.omega_pg.specs.Symbols.{PgSymbol, comma, name, number, parity, paritysol, semicolon, symbol}
 use Rattle.omega_pg.specs.private.reader.Symbols.{symbols_of}

@@ -5,16 +5,16 @@ use Rattle.std.specs.List.{AllPass, flat_map}
 use Rattle.std.proofs.lemmas.List.Elements.{All-cons, All-head, All-nil, All-tail}
 use Rattle.omega_text.specs.Bytes.{is_white}
 use Rattle.omega_text.specs.pg.Laws.{EndsAreGaps, NamesAreLongest, NumbersAreLongest, SignsAreLongest, TokensFollow, WordsAreLongest}
-use Rattle.omega_parity_game.specs.Building.{IsWellFormed}
-use Rattle.omega_parity_game.specs.Game.{IsNameByte}
+use Rattle.omega_game_values.specs.Building.{IsWellFormed}
+use Rattle.omega_game_values.specs.Game.{IsNameByte}
 use Rattle.omega_text.specs.Limits.{most_number}
-use Rattle.omega_parity_game.specs.declared.node_spec.NodeSpec.{NodeSpec}
-use Rattle.omega_parity_game.specs.declared.player.Player.{Player}
-use Rattle.omega_parity_game.specs.declared.player.Player.TheVariants.{One, Zero}
+use Rattle.omega_game_values.specs.declared.node_spec.NodeSpec.{NodeSpec}
+use Rattle.omega_game_values.specs.declared.player.Player.{Player}
+use Rattle.omega_game_values.specs.declared.player.Player.TheVariants.{One, Zero}
 use Rattle.omega_pg.specs.game.Canonical.{header_line, name_part, node_line, successors_after, successors_text}
 use Rattle.omega_pg.specs.game.Grammar.{header_symbols, name_symbols, node_symbols, successor_symbols}
 use Rattle.omega_pg.specs.Symbols.{PgSymbol, comma, number, semicolon}
-use Rattle.omega_parity_game.specs.Player.{player_number}
+use Rattle.omega_game_values.specs.Player.{player_number}
 use Rattle.omega_pg.proofs.reader.Pieces.{EndsNumber, IsWritten, comma_written, end_written, name_written, number_written, parity_written, semicolon_written}
 
 -- a space is white

@@ -19,7 +19,7 @@ use Rattle.omega_text.specs.pg.Format.{pg_format}
 use Rattle.omega_text.specs.Limits.{most_number}
 use Rattle.omega_text.specs.declared.pg.kind.PgKind.{PgKind}
 use Rattle.omega_text.specs.declared.pg.kind.PgKind.TheVariants.{Comma, Name, Number, Parity, ParitySol, Semicolon}
-use Rattle.omega_parity_game.specs.Game.{IsNameByte}
+use Rattle.omega_game_values.specs.Game.{IsNameByte}
 use Rattle.omega_pg.specs.Symbols.{PgSymbol, comma, name, number, parity, paritysol, semicolon, symbol}
 use Rattle.omega_pg.specs.private.reader.Symbols.{symbols_of}
 use Rattle.omega_pg.proofs.games.WellFormed.{between-quoted}

@@ -12,16 +12,16 @@ use Rattle.omega_text.specs.Cut.{CutsAreOne}
 use Rattle.omega_text.specs.Syntax.{TextFaultsAreOne, TextsHaveNoFault}
 use Rattle.omega_text.specs.pg.Format.{pg_format}
 use Rattle.omega_text.specs.declared.refusal.Refusal.TheVariants.{Automaton, Game, Io, Memory, Task, Text}
-use Rattle.omega_parity_game.specs.Game.{IsGame, Node, identifiers, no_node, owner_at, successors_at, identifier_at}
-use Rattle.omega_parity_game.specs.declared.player.Player.{Player}
-use Rattle.omega_parity_game.specs.declared.player.Player.TheVariants.{One, Zero}
+use Rattle.omega_game_values.specs.Game.{IsGame, Node, identifiers, no_node, owner_at, successors_at, identifier_at}
+use Rattle.omega_game_values.specs.declared.player.Player.{Player}
+use Rattle.omega_game_values.specs.declared.player.Player.TheVariants.{One, Zero}
 use Rattle.omega_pg.specs.solution.BadSolution.{IsNoSolution, IsWrongSuccessor}
 use Rattle.omega_pg.specs.solution.Grammar.{SolutionLine, RawSolution, no_line, solution_syntax}
-use Rattle.omega_parity_game.specs.Solution.{IsSolution, choices_of, winner_at}
-use Rattle.omega_parity_game.specs.Winning.{choice_at}
+use Rattle.omega_game_values.specs.Solution.{IsSolution, choices_of, winner_at}
+use Rattle.omega_game_values.specs.Winning.{choice_at}
 use Rattle.omega_pg.specs.solution.Text.{line_at, raw_solution}
 use Rattle.omega_pg.specs.solution.Laws.{ReasonsAreExact, SolutionRefusalsAreOne, SolutionsAreNotRefused, SolutionsOfTextsAreOne}
-use Rattle.omega_parity_game.specs.declared.solution.Solution.{Solution}
+use Rattle.omega_game_values.specs.declared.solution.Solution.{Solution}
 use Rattle.omega_pg.proofs.reader.Deciding.{texts_one}
 use Rattle.omega_pg.proofs.solutions.Outcomes.{solution_of}
 use Rattle.omega_pg.proofs.solutions.Decided.{raw_decided}

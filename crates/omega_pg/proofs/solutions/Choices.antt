@@ -1,16 +1,16 @@
 -- Choices and lines of solutions.
 use Rattle.std.proofs.Common.{◌≡◌, ℕ, zero, suc, ◌+◌, ◌<◌, Option, Some, None, IfSome, List, [], ◌∷◌, ◌++◌, length, map, refl, ap, sym, ◌∙◌, arith}
 use Rattle.std.specs.Prelude.{codes, decimal}
-use Rattle.omega_parity_game.specs.Game.{greatest_identifier, IsGame, Node}
+use Rattle.omega_game_values.specs.Game.{greatest_identifier, IsGame, Node}
 use Rattle.std.specs.List.{flat_map, range_with_len}
 use Rattle.std.proofs.lemmas.List.{append_assoc, flat_map_more}
 use Rattle.std.proofs.lemmas.List.FromFn.{map-range_with_len_more}
-use Rattle.omega_parity_game.specs.Winning.{Chooses, IsStrategy, choice_at}
-use Rattle.omega_parity_game.specs.declared.player.Player.{Player}
+use Rattle.omega_game_values.specs.Winning.{Chooses, IsStrategy, choice_at}
+use Rattle.omega_game_values.specs.declared.player.Player.{Player}
 use Rattle.omega_pg.specs.solution.Grammar.{SolutionLine}
 use Rattle.omega_pg.specs.solution.Canonical.{solution_line, solution_text}
 use Rattle.omega_pg.specs.solution.Text.{line_at}
-use Rattle.omega_parity_game.specs.declared.solution.Solution.{Solution}
+use Rattle.omega_game_values.specs.declared.solution.Solution.{Solution}
 
 -- a choice that is at a place is chosen there
 pub Chooses-from_choice : (choices : List (Option ℕ)) (v w : ℕ) → choice_at choices v ≡ Some w → Chooses choices v w

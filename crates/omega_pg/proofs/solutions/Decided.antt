@@ -8,18 +8,18 @@ use Rattle.omega_text.specs.Limits.{most_text}
 use Rattle.omega_text.specs.declared.refusal.Refusal.{Refusal}
 use Rattle.omega_text.specs.declared.refusal.Refusal.TheVariants.{Task, Text}
 use Rattle.omega_text.specs.declared.refusal.task.TaskFault.TheVariants.{BadSolution}
-use Rattle.omega_parity_game.specs.Game.{Node, owner_at, successors_at, greatest_identifier, identifier_at}
-use Rattle.omega_parity_game.specs.declared.player.Player.{Player}
-use Rattle.omega_parity_game.specs.declared.player.Player.TheVariants.{One, Zero}
+use Rattle.omega_game_values.specs.Game.{Node, owner_at, successors_at, greatest_identifier, identifier_at}
+use Rattle.omega_game_values.specs.declared.player.Player.{Player}
+use Rattle.omega_game_values.specs.declared.player.Player.TheVariants.{One, Zero}
 use Rattle.omega_pg.specs.solution.BadSolution.{IsNoSolution, IsWrongSuccessor}
 use Rattle.omega_pg.specs.solution.Grammar.{SolutionLine, RawSolution, no_line, solution_syntax}
-use Rattle.omega_parity_game.specs.Solution.{IsSolution}
+use Rattle.omega_game_values.specs.Solution.{IsSolution}
 use Rattle.omega_pg.specs.solution.Text.{raw_solution, IsSolutionText}
 use Rattle.omega_pg.specs.solution.Laws.{SolutionTextsAreReadOrRefused}
 use Rattle.omega_pg.specs.private.solution.reader.Lines.{AreJudged, IsWrongLine, Says}
 use Rattle.omega_pg.specs.solution.Refusing.{IsSolutionRefusal}
 use Rattle.omega_text.specs.Syntax.{IsDecidable as IsDecidedSyntax, IsTextOf, TextsAreReadOrFaulty}
-use Rattle.omega_parity_game.specs.declared.solution.Solution.{Solution}
+use Rattle.omega_game_values.specs.declared.solution.Solution.{Solution}
 use Rattle.omega_pg.proofs.reader.Deciding.{decided_from_run}
 use Rattle.omega_pg.proofs.solutions.Judging.{judged_kept, judged_wrong}
 use Rattle.omega_pg.proofs.solutions.Outcomes.{other_count, other_number, outcome_kept, solution_of, wrong_line}

@@ -3,9 +3,9 @@ use Rattle.std.proofs.Common.{◌≡◌, ℕ, ◌<◌, Bool, true, false, Option
 use Rattle.std.specs.Prelude.{is_some}
 use Rattle.std.proofs.Math.ListN.{get_or-append}
 use Rattle.std.proofs.Math.Seq.{get_or-append_seam}
-use Rattle.omega_parity_game.specs.Game.{Node, owner_at}
-use Rattle.omega_parity_game.specs.declared.player.Player.{Player}
-use Rattle.omega_parity_game.specs.declared.player.Player.TheVariants.{One, Zero}
+use Rattle.omega_game_values.specs.Game.{Node, owner_at}
+use Rattle.omega_game_values.specs.declared.player.Player.{Player}
+use Rattle.omega_game_values.specs.declared.player.Player.TheVariants.{One, Zero}
 use Rattle.omega_pg.specs.solution.Grammar.{SolutionLine, no_line}
 use Rattle.omega_pg.specs.private.solution.reader.Lines.{AreJudged, AreSaid, IsKept, IsWrongLine, Says, entry_of}
 

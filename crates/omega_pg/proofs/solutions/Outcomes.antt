@@ -5,16 +5,16 @@ use Rattle.std.specs.List.{range_with_len}
 use Rattle.std.proofs.lemmas.Bool.{cases_lt}
 use Rattle.std.proofs.lemmas.List.{get_or-map, length-map}
 use Rattle.std.proofs.lemmas.List.FromFn.{fill_by_all}
-use Rattle.omega_parity_game.specs.Game.{HasEdge, Node, no_node, owner_at, greatest_identifier, identifier_at}
-use Rattle.omega_parity_game.specs.Winning.{Chooses, choice_at}
-use Rattle.omega_parity_game.specs.declared.player.Player.{Player}
-use Rattle.omega_parity_game.specs.declared.player.Player.TheVariants.{One, Zero}
+use Rattle.omega_game_values.specs.Game.{HasEdge, Node, no_node, owner_at, greatest_identifier, identifier_at}
+use Rattle.omega_game_values.specs.Winning.{Chooses, choice_at}
+use Rattle.omega_game_values.specs.declared.player.Player.{Player}
+use Rattle.omega_game_values.specs.declared.player.Player.TheVariants.{One, Zero}
 use Rattle.omega_pg.specs.solution.BadSolution.{IsNoSolution}
 use Rattle.omega_pg.specs.solution.Grammar.{SolutionLine, RawSolution, no_line}
-use Rattle.omega_parity_game.specs.Solution.{IsSolution, choices_of}
+use Rattle.omega_game_values.specs.Solution.{IsSolution, choices_of}
 use Rattle.omega_pg.specs.solution.Text.{line_at, raw_solution}
 use Rattle.omega_pg.specs.private.solution.reader.Lines.{AreJudged, AreSaid, IsKept, entry_of}
-use Rattle.omega_parity_game.specs.declared.solution.Solution.{Solution}
+use Rattle.omega_game_values.specs.declared.solution.Solution.{Solution}
 
 -- a header with another number
 pub other_number : (nodes : List Node) (greatest : ℕ) (lines : List SolutionLine) → greatest_identifier nodes ≢ greatest

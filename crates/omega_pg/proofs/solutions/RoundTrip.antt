@@ -5,17 +5,17 @@ use Rattle.std.specs.List.{flat_map}
 use Rattle.std.proofs.lemmas.List.Elements.{All-from_get_or, All-head, All-tail}
 use Rattle.std.proofs.lemmas.List.FromFn.{get_or-map-range_with_len, length-map-range_with_len}
 use Rattle.omega_text.specs.pg.Laws.{EndsAreGaps, NamesAreLongest, NumbersAreLongest, SignsAreLongest, TokensFollow, WordsAreLongest}
-use Rattle.omega_parity_game.specs.Game.{IsGame, IsWithinLimits, Node, owner_at, greatest_identifier, identifier_at}
+use Rattle.omega_game_values.specs.Game.{IsGame, IsWithinLimits, Node, owner_at, greatest_identifier, identifier_at}
 use Rattle.omega_text.specs.Limits.{most_number}
 use Rattle.omega_pg.specs.solution.Grammar.{SolutionLine, RawSolution, no_line, choice_symbols, line_symbols}
-use Rattle.omega_parity_game.specs.Solution.{IsSolution, choices_of}
-use Rattle.omega_parity_game.specs.Winning.{choice_at}
+use Rattle.omega_game_values.specs.Solution.{IsSolution, choices_of}
+use Rattle.omega_game_values.specs.Winning.{choice_at}
 use Rattle.omega_pg.specs.solution.Text.{line_at, raw_solution}
 use Rattle.omega_pg.specs.solution.Laws.{WrittenSolutionsAreRead}
 use Rattle.omega_pg.specs.solution.Canonical.{choice_part, solution_line, solution_text, written_solution}
 use Rattle.omega_pg.specs.Symbols.{PgSymbol, number, paritysol, semicolon}
-use Rattle.omega_parity_game.specs.Player.{player_number}
-use Rattle.omega_parity_game.specs.declared.solution.Solution.{Solution}
+use Rattle.omega_game_values.specs.Player.{player_number}
+use Rattle.omega_game_values.specs.declared.solution.Solution.{Solution}
 use Rattle.omega_pg.proofs.games.Written.{line_feed, player_number-le, space}
 use Rattle.omega_pg.proofs.reader.Pieces.{EndsNumber, IsWritten, end_written, number_written, paritysol_written, semicolon_written}
 use Rattle.omega_pg.proofs.games.RoundTrip.{identifier_fits}

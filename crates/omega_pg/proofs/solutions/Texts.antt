@@ -4,7 +4,7 @@ use Rattle.omega_text.specs.Reading.{IsReadText}
 use Rattle.omega_text.specs.Syntax.{IsTextOf, TokensComplete}
 use Rattle.omega_text.specs.pg.Format.{pg_format}
 use Rattle.omega_text.specs.declared.refusal.Refusal.{Refusal}
-use Rattle.omega_parity_game.specs.Game.{Node}
+use Rattle.omega_game_values.specs.Game.{Node}
 use Rattle.omega_pg.specs.private.reader.Symbols.{symbols_of}
 use Rattle.omega_pg.specs.solution.Grammar.{SolutionLine, SpellsSolution, solution_syntax}
 use Rattle.omega_pg.specs.solution.Refusing.{IsReadSolutionRefusal}
@@ -12,7 +12,7 @@ use Rattle.omega_pg.specs.solution.Text.{IsSolutionText}
 use Rattle.omega_pg.specs.private.solution.reader.Lines.{IsOutcome, KeepsLines}
 use Rattle.omega_pg.specs.private.solution.reader.Reader.{HasBecome}
 use Rattle.omega_pg.specs.private.solution.reader.Reading.{HasTaken}
-use Rattle.omega_parity_game.specs.declared.solution.Solution.{Solution}
+use Rattle.omega_game_values.specs.declared.solution.Solution.{Solution}
 use Rattle.omega_pg.specs.declared.solution.lines.Lines.{Lines}
 use Rattle.omega_pg.specs.declared.solution.reader.Reader.{Reader}
 use Rattle.omega_pg.specs.declared.solution.stage.Stage.{Stage}

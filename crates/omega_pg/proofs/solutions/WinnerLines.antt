@@ -2,8 +2,8 @@
 use Rattle.std.proofs.Common.{◌≡◌, ◌≢◌, ℕ, ◌<◌, Bool, true, false, List, [], ◌∷◌, ◌++◌, length, get_or, ap, sym, ◌∙◌, subst, arith, length-append, append_assoc, append-nil}
 use Rattle.std.proofs.Math.Seq.{get_or-append_seam}
 use Rattle.std.proofs.lemmas.List.{get_or-map, length-map, map-append}
-use Rattle.omega_parity_game.specs.Game.{Node, identifiers, no_node}
-use Rattle.omega_parity_game.specs.declared.player.Player.{Player}
+use Rattle.omega_game_values.specs.Game.{Node, identifiers, no_node}
+use Rattle.omega_game_values.specs.declared.player.Player.{Player}
 use Rattle.omega_pg.specs.solution.Grammar.{SolutionLine}
 use Rattle.omega_pg.specs.solution.Winners.{identifiers_of, winners_of}
 use Rattle.omega_pg.specs.private.solution.winners.Lines.{AreKept, IsNext}

@@ -4,8 +4,8 @@ use Rattle.omega_text.specs.Syntax.{IsTextOf}
 use Rattle.omega_text.specs.declared.refusal.Refusal.{Refusal}
 use Rattle.omega_text.specs.declared.refusal.Refusal.TheVariants.{Task}
 use Rattle.omega_text.specs.declared.refusal.task.TaskFault.TheVariants.{BadSolution}
-use Rattle.omega_parity_game.specs.Game.{Node}
-use Rattle.omega_parity_game.specs.declared.player.Player.{Player}
+use Rattle.omega_game_values.specs.Game.{Node}
+use Rattle.omega_game_values.specs.declared.player.Player.{Player}
 use Rattle.omega_pg.specs.solution.Grammar.{RawSolution, solution_syntax}
 use Rattle.omega_pg.specs.solution.Winners.{IsReadWinnersRefusal, IsWinnersText, NamesNodes, NamesOthers, winners_of}
 use Rattle.omega_pg.specs.private.solution.winners.Lines.{KeepsWinners}

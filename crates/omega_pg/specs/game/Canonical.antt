@@ -2,10 +2,10 @@
 use Rattle.std.specs.Prelude.{ℕ, Option, Some, None, List, [], ◌∷◌, ◌++◌, map, codes, decimal}
 use Rattle.std.specs.List.{flat_map}
 use Rattle.omega_text.specs.pg.Forms.{quoted}
-use Rattle.omega_parity_game.specs.Building.{specified}
-use Rattle.omega_parity_game.specs.Game.{Node, greatest_identifier}
-use Rattle.omega_parity_game.specs.declared.node_spec.NodeSpec.{NodeSpec}
-use Rattle.omega_parity_game.specs.Player.{player_number}
+use Rattle.omega_game_values.specs.Building.{specified}
+use Rattle.omega_game_values.specs.Game.{Node, greatest_identifier}
+use Rattle.omega_game_values.specs.declared.node_spec.NodeSpec.{NodeSpec}
+use Rattle.omega_game_values.specs.Player.{player_number}
 
 -- `parity`, a space, the number, `;` and a line feed
 abbrev pub header_line : ℕ → List ℕ
@@ -27,8 +27,8 @@ name_part (Some bytes) = codes " " ++ quoted bytes
 
 -- identifier, priority, owner and successors with single spaces between them, then the name, `;` and a line feed
 abbrev pub node_line : NodeSpec → List ℕ
-node_line spec =
-    decimal spec.id ++ (codes " " ++ (decimal spec.priority ++ (codes " " ++ (decimal (player_number spec.owner)
+node_line spec = decimal spec.id
+    ++ (codes " " ++ (decimal spec.priority ++ (codes " " ++ (decimal (player_number spec.owner)
     ++ (codes " " ++ (successors_text spec.successors ++ (name_part spec.name ++ codes ";\n")))))))
 
 -- the canonical text of a game

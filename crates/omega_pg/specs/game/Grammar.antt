@@ -1,11 +1,11 @@
 -- The grammar of game texts, as a spelling: the symbols by which a header and specifications are written.
 use Rattle.std.specs.Prelude.{◌≡◌, ℕ, ◌<◌, Option, Some, None, List, [], ◌∷◌, ◌++◌, length, All}
 use Rattle.std.specs.List.{flat_map}
-use Rattle.omega_parity_game.specs.declared.node_spec.NodeSpec.{NodeSpec}
+use Rattle.omega_game_values.specs.declared.node_spec.NodeSpec.{NodeSpec}
 use Rattle.omega_text.specs.Syntax.{Syntax}
 use Rattle.omega_text.specs.declared.pg.kind.PgKind.{PgKind}
 use Rattle.omega_pg.specs.Symbols.{PgSymbol, pg_syntax, comma, name, number, parity, semicolon}
-use Rattle.omega_parity_game.specs.Player.{player_number}
+use Rattle.omega_game_values.specs.Player.{player_number}
 
 -- a game text as it is written: the number of its header or none, and its specifications in their order
 pub record RawGame : Type 0 where

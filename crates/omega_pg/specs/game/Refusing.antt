@@ -7,8 +7,8 @@ use Rattle.omega_text.specs.Limits.{most_text}
 use Rattle.omega_text.specs.declared.refusal.Refusal.{Refusal}
 use Rattle.omega_text.specs.declared.refusal.Refusal.TheVariants.{Memory}
 use Rattle.omega_text.specs.declared.refusal.game.GameFault.{GameFault}
-use Rattle.omega_parity_game.specs.Building.{fault_with}
-use Rattle.omega_parity_game.specs.declared.node_spec.NodeSpec.{NodeSpec}
+use Rattle.omega_game_values.specs.Building.{fault_with}
+use Rattle.omega_game_values.specs.declared.node_spec.NodeSpec.{NodeSpec}
 use Rattle.omega_text.specs.Syntax.{IsTextFault, IsTextOf}
 use Rattle.omega_pg.specs.game.Grammar.{RawGame, game_syntax}
 

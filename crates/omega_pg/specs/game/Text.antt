@@ -1,9 +1,9 @@
 -- The game that a text describes.
 use Rattle.std.specs.Prelude.{ℕ, ◌≤◌, Option, List, length, All, IfSome}
 use Rattle.omega_text.specs.Limits.{most_text}
-use Rattle.omega_parity_game.specs.Building.{IsGameOf}
-use Rattle.omega_parity_game.specs.Game.{Node, IsWithinLimits}
-use Rattle.omega_parity_game.specs.declared.node_spec.NodeSpec.{NodeSpec}
+use Rattle.omega_game_values.specs.Building.{IsGameOf}
+use Rattle.omega_game_values.specs.Game.{Node, IsWithinLimits}
+use Rattle.omega_game_values.specs.declared.node_spec.NodeSpec.{NodeSpec}
 use Rattle.omega_pg.specs.game.Grammar.{RawGame, game_syntax}
 use Rattle.omega_text.specs.Syntax.{IsTextOf}
 

@@ -1,7 +1,9 @@
 -- The reasons of the refusal `BadSolution`: why no solution of the game is written so.
-use Rattle.std.specs.Prelude.{◌≡◌, ◌≢◌, ℕ, ◌<◌, ◌⊎◌, Option, Some, None, List, length, map, All, slice_index_or}
-use Rattle.omega_parity_game.specs.Game.{Node, identifiers, owner_at, successors_at, greatest_identifier, identifier_at}
-use Rattle.omega_parity_game.specs.declared.player.Player.{Player}
+use Rattle.std.specs.Prelude.{◌≡◌, ◌≢◌, ℕ, ◌<◌, ◌⊎◌, Option, Some, None}
+use Rattle.std.specs.Prelude.{List, length, map, All, slice_index_or}
+use Rattle.omega_game_values.specs.Game.{Node, identifiers, owner_at, successors_at}
+use Rattle.omega_game_values.specs.Game.{greatest_identifier, identifier_at}
+use Rattle.omega_game_values.specs.declared.player.Player.{Player}
 use Rattle.omega_pg.specs.solution.Grammar.{SolutionLine, RawSolution, no_line}
 
 -- the header's number is not the game's greatest identifier
@@ -23,8 +25,10 @@ IsWrongSuccessor nodes v winner (Some id) =
 pub record HasWrongSuccessor (nodes : List Node) (lines : List SolutionLine) : Type 0 where
   pub place : ℕ
   pub inside : place < length lines
-  pub wrong : IsWrongSuccessor nodes place (slice_index_or lines place no_line).winner (slice_index_or lines place no_line).successor
+  pub wrong : IsWrongSuccessor nodes place (slice_index_or lines place no_line).winner
+      (slice_index_or lines place no_line).successor
 
 -- what is written is no solution of the game, for one of these reasons
 abbrev pub IsNoSolution : List Node → RawSolution → Type 0
-IsNoSolution nodes raw = HasOtherNumber nodes raw ⊎ (HasOtherIdentifiers nodes raw ⊎ HasWrongSuccessor nodes raw.lines)
+IsNoSolution nodes raw =
+    HasOtherNumber nodes raw ⊎ (HasOtherIdentifiers nodes raw ⊎ HasWrongSuccessor nodes raw.lines)

@@ -1,12 +1,12 @@
 -- The grammar of solution texts, as a spelling: the symbols by which a header and lines are written.
 use Rattle.std.specs.Prelude.{◌≡◌, ℕ, Option, Some, None, List, [], ◌∷◌, ◌++◌}
 use Rattle.std.specs.List.{flat_map}
-use Rattle.omega_parity_game.specs.declared.player.Player.{Player}
-use Rattle.omega_parity_game.specs.declared.player.Player.TheVariants.{Zero}
+use Rattle.omega_game_values.specs.declared.player.Player.{Player}
+use Rattle.omega_game_values.specs.declared.player.Player.TheVariants.{Zero}
 use Rattle.omega_text.specs.Syntax.{Syntax}
 use Rattle.omega_text.specs.declared.pg.kind.PgKind.{PgKind}
 use Rattle.omega_pg.specs.Symbols.{PgSymbol, pg_syntax, number, paritysol, semicolon}
-use Rattle.omega_parity_game.specs.Player.{player_number}
+use Rattle.omega_game_values.specs.Player.{player_number}
 
 -- what a text says of a node: its identifier, its winner, and the identifier of a successor or none
 pub record SolutionLine : Type 0 where
@@ -16,7 +16,11 @@ pub record SolutionLine : Type 0 where
 
 -- the line for a node with this identifier
 abbrev pub line_for : ℕ → Player → Option ℕ → SolutionLine
-line_for identifier winner successor = record { identifier = identifier; winner = winner; successor = successor }
+line_for identifier winner successor = record {
+  identifier = identifier;
+  winner = winner;
+  successor = successor;
+}
 
 -- the line past the end of all lines
 abbrev pub no_line : SolutionLine
@@ -34,12 +38,13 @@ choice_symbols (Some id) = number id ∷ []
 
 -- line: identifier winner successor? `;`
 abbrev pub line_symbols : SolutionLine → List PgSymbol
-line_symbols line =
-    number line.identifier ∷ number (player_number line.winner) ∷ (choice_symbols line.successor ++ semicolon ∷ [])
+line_symbols line = number line.identifier ∷ number (player_number line.winner)
+    ∷ (choice_symbols line.successor ++ semicolon ∷ [])
 
 -- solution: `paritysol` number `;` line*
 abbrev pub SpellsSolution : List PgSymbol → RawSolution → Type 0
-SpellsSolution symbols raw = symbols ≡ paritysol ∷ number raw.greatest ∷ semicolon ∷ flat_map line_symbols raw.lines
+SpellsSolution symbols raw =
+    symbols ≡ paritysol ∷ number raw.greatest ∷ semicolon ∷ flat_map line_symbols raw.lines
 
 -- the syntax of solution texts
 abbrev pub solution_syntax : Syntax PgKind PgSymbol RawSolution

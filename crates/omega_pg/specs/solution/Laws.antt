@@ -2,15 +2,15 @@
 use Rattle.std.specs.Prelude.{◌≡◌, ◌↔◌, ℕ, ◌≤◌, ◌⊎◌, List, length}
 use Rattle.omega_text.specs.Limits.{most_text}
 use Rattle.omega_text.specs.declared.refusal.Refusal.{Refusal}
-use Rattle.omega_parity_game.specs.Game.{IsGame, IsWithinLimits, Node}
+use Rattle.omega_game_values.specs.Game.{IsGame, IsWithinLimits, Node}
 use Rattle.omega_pg.specs.solution.BadSolution.{IsNoSolution}
 use Rattle.omega_pg.specs.solution.Grammar.{RawSolution}
-use Rattle.omega_parity_game.specs.Solution.{IsSolution}
+use Rattle.omega_game_values.specs.Solution.{IsSolution}
 use Rattle.omega_pg.specs.solution.Text.{raw_solution}
 use Rattle.omega_pg.specs.solution.Canonical.{solution_text}
 use Rattle.omega_pg.specs.solution.Refusing.{IsSolutionRefusal}
 use Rattle.omega_pg.specs.solution.Text.{IsSolutionText}
-use Rattle.omega_parity_game.specs.declared.solution.Solution.{Solution}
+use Rattle.omega_game_values.specs.declared.solution.Solution.{Solution}
 
 -- a text describes at most one solution of a game
 abbrev pub SolutionsOfTextsAreOne : Type 0
@@ -40,11 +40,11 @@ SolutionTextsAreReadOrRefused =
 -- the written form of a solution, within the limit of texts, describes that solution
 abbrev pub WrittenSolutionsAreRead : Type 0
 WrittenSolutionsAreRead =
-    (nodes : List Node) (solution : Solution) → IsGame nodes → IsWithinLimits nodes → IsSolution nodes solution
-    → length (solution_text nodes solution) ≤ most_text → IsSolutionText nodes (solution_text nodes solution) solution
+    (nodes : List Node) (solution : Solution) → IsGame nodes → IsWithinLimits nodes
+    → IsSolution nodes solution → length (solution_text nodes solution) ≤ most_text
+    → IsSolutionText nodes (solution_text nodes solution) solution
 
 -- there is a reason to refuse what is written exactly if no solution of the game is written so
 abbrev pub ReasonsAreExact : Type 0
-ReasonsAreExact =
-    (nodes : List Node) (raw : RawSolution)
-    → IsNoSolution nodes raw ↔ ((solution : Solution) → IsSolution nodes solution → raw ≡ raw_solution nodes solution → ⊥)
+ReasonsAreExact = (nodes : List Node) (raw : RawSolution) → IsNoSolution nodes raw
+    ↔ ((solution : Solution) → IsSolution nodes solution → raw ≡ raw_solution nodes solution → ⊥)

@@ -5,7 +5,7 @@ use Rattle.omega_text.specs.Limits.{most_text}
 use Rattle.omega_text.specs.declared.refusal.Refusal.{Refusal}
 use Rattle.omega_text.specs.declared.refusal.Refusal.TheVariants.{Memory}
 use Rattle.omega_text.specs.declared.refusal.task.TaskFault.TheVariants.{BadSolution}
-use Rattle.omega_parity_game.specs.Game.{Node}
+use Rattle.omega_game_values.specs.Game.{Node}
 use Rattle.omega_text.specs.Syntax.{IsTextFault, IsTextOf}
 use Rattle.omega_pg.specs.solution.BadSolution.{IsNoSolution}
 use Rattle.omega_pg.specs.solution.Grammar.{RawSolution, solution_syntax}
@@ -19,9 +19,10 @@ pub record IsBadSolution (nodes : List Node) (source : List ℕ) : Type 0 where
 
 -- the refusal of a solution text of the game
 abbrev pub IsSolutionRefusal : List Node → List ℕ → Refusal → Type 0
-IsSolutionRefusal nodes source =
-    or_text (IsTextFault solution_syntax source) (or_task (λ fault. (fault ≡ BadSolution) × IsBadSolution nodes source) never)
+IsSolutionRefusal nodes source = or_text (IsTextFault solution_syntax source)
+    (or_task (λ fault. (fault ≡ BadSolution) × IsBadSolution nodes source) never)
 
 -- what a call that reads may answer in place of a solution: memory, or the refusal of the text
 abbrev pub IsReadSolutionRefusal : List Node → List ℕ → Refusal → Type 0
-IsReadSolutionRefusal nodes source refusal = (refusal ≡ Memory) ⊎ IsSolutionRefusal nodes source refusal
+IsReadSolutionRefusal nodes source refusal =
+    (refusal ≡ Memory) ⊎ IsSolutionRefusal nodes source refusal

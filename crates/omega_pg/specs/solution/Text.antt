@@ -2,19 +2,20 @@
 use Rattle.std.specs.Prelude.{ℕ, ◌≤◌, List, length, map, option_map}
 use Rattle.std.specs.List.{range_with_len}
 use Rattle.omega_text.specs.Limits.{most_text}
-use Rattle.omega_parity_game.specs.Game.{Node, node_at, owner_at, greatest_identifier}
+use Rattle.omega_game_values.specs.Game.{Node, node_at, owner_at, greatest_identifier}
 use Rattle.omega_text.specs.Syntax.{IsTextOf}
 use Rattle.omega_pg.specs.solution.Grammar.{SolutionLine, RawSolution, solution_syntax}
-use Rattle.omega_parity_game.specs.Solution.{IsSolution, choices_of, winner_at}
-use Rattle.omega_parity_game.specs.Winning.{choice_at}
-use Rattle.omega_parity_game.specs.declared.solution.Solution.{Solution}
+use Rattle.omega_game_values.specs.Solution.{IsSolution, choices_of, winner_at}
+use Rattle.omega_game_values.specs.Winning.{choice_at}
+use Rattle.omega_game_values.specs.declared.solution.Solution.{Solution}
 
 -- the line of the node at a place, with the choice of its owner by its identifier
 abbrev pub line_at : List Node → Solution → ℕ → SolutionLine
 line_at nodes solution v = record {
   identifier = (node_at nodes v).identifier;
   winner = winner_at solution v;
-  successor = option_map (λ w. (node_at nodes w).identifier) (choice_at (choices_of solution (owner_at nodes v)) v);
+  successor = option_map (λ w. (node_at nodes w).identifier)
+      (choice_at (choices_of solution (owner_at nodes v)) v);
 }
 
 -- what is written of a solution: the greatest identifier, and a line for each node in rising order

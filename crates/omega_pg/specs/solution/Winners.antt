@@ -6,8 +6,8 @@ use Rattle.omega_text.specs.Syntax.{IsTextFault, IsTextOf}
 use Rattle.omega_text.specs.declared.refusal.Refusal.{Refusal}
 use Rattle.omega_text.specs.declared.refusal.Refusal.TheVariants.{Memory}
 use Rattle.omega_text.specs.declared.refusal.task.TaskFault.TheVariants.{BadSolution}
-use Rattle.omega_parity_game.specs.Game.{Node, greatest_identifier, identifiers}
-use Rattle.omega_parity_game.specs.declared.player.Player.{Player}
+use Rattle.omega_game_values.specs.Game.{Node, greatest_identifier, identifiers}
+use Rattle.omega_game_values.specs.declared.player.Player.{Player}
 use Rattle.omega_pg.specs.solution.BadSolution.{HasOtherIdentifiers, HasOtherNumber}
 use Rattle.omega_pg.specs.solution.Grammar.{RawSolution, SolutionLine, solution_syntax}
 
@@ -52,4 +52,5 @@ IsWinnersRefusal nodes source =
 
 -- what a call that reads may answer in place of winners: memory, or the refusal of the text
 abbrev pub IsReadWinnersRefusal : List Node → List ℕ → Refusal → Type 0
-IsReadWinnersRefusal nodes source refusal = (refusal ≡ Memory) ⊎ IsWinnersRefusal nodes source refusal
+IsReadWinnersRefusal nodes source refusal =
+    (refusal ≡ Memory) ⊎ IsWinnersRefusal nodes source refusal

@@ -1,11 +1,12 @@
 //! Laws of all texts of games, for the proofs of callers: each function does nothing and states one law.
 
 ghost use Rattle.omega_pg.specs.game.Grammar.{game_syntax};
-ghost use Rattle.omega_pg.specs.game.Laws.{CanonicalGamesAreRead, GamesAreNotRefused, GamesOfTextsAreOne, GameRefusalsAreOne, TextsAreReadOrRefused};
+ghost use Rattle.omega_pg.specs.game.Laws.{CanonicalGamesAreRead, GamesAreNotRefused, GamesOfTextsAreOne};
+ghost use Rattle.omega_pg.specs.game.Laws.{GameRefusalsAreOne, TextsAreReadOrRefused};
 ghost use Rattle.omega_text.specs.Syntax.{SyntaxFaultsAreFirst};
 
 use crate::game::syntax::GameSyntax;
-use omega_parity_game::{
+use omega_game_values::{
     games_exist, games_have_no_fault, games_keep_limits, specifications_have_one_game,
 };
 use omega_text::PgKind;

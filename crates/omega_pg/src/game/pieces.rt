@@ -1,12 +1,12 @@
 //! Pieces of a game text that can be read at once, several tokens each. `None` may come for an accepted text too.
 
 ghost use Rattle.std.specs.Prelude.{◌+◌, ◌<◌, ◌≤◌, [], ◌∷◌, length, IfSome, IsTrue};
-ghost use Rattle.omega_parity_game.specs.Player.{player_number};
+ghost use Rattle.omega_game_values.specs.Player.{player_number};
 ghost use Rattle.omega_pg.specs.Symbols.{comma, number, semicolon};
 ghost use Rattle.omega_pg.specs.private.game.reader.Pieces.{IsPiece};
 ghost use Rattle.omega_text.specs.Limits.{most_number};
 
-use omega_parity_game::Player;
+use omega_game_values::Player;
 use omega_text::next_pg_number;
 
 /// The numbers that begin a node, through its first successor.
@@ -32,8 +32,8 @@ pub(crate) struct Successor {
 #[inline(always)]
 pub(crate) fn next_head(source: &[u8], at: usize) -> Option<Head>
     requires { at ≤ length source.now }
-    ensures piece { IfSome result (λ head. IsPiece source.now at head.end
-        (number head.id ∷ number head.priority ∷ number (player_number head.owner) ∷ number head.first ∷ [])) }
+    ensures piece { IfSome result (λ head. IsPiece source.now at head.end (number head.id
+        ∷ number head.priority ∷ number (player_number head.owner) ∷ number head.first ∷ [])) }
     ensures id { IfSome result (λ head. head.id ≤ most_number) }
     ensures priority { IfSome result (λ head. head.priority ≤ most_number) }
     ensures first { IfSome result (λ head. head.first ≤ most_number) }

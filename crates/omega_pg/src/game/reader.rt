@@ -1,12 +1,12 @@
 ghost use Rattle.std.specs.Prelude.{◌≡◌, ◌≤◌, ◌↔◌, length, IfOk, OnOk, IsOkUnless, IsTrue, All};
 ghost use Rattle.omega_text.specs.pg.Forms.{IsQuoted};
 ghost use Rattle.omega_text.specs.Limits.{most_number};
-ghost use Rattle.omega_parity_game.specs.Game.{IsNameByte};
+ghost use Rattle.omega_game_values.specs.Game.{IsNameByte};
 ghost use Rattle.omega_text.specs.Forms.{between_quotes};
 ghost use Rattle.omega_pg.specs.private.game.reader.Automaton.{is_above};
 
 use crate::game::stage::Stage;
-use omega_parity_game::{GameBuilder, Player, Refusal};
+use omega_game_values::{GameBuilder, Player, Refusal};
 use omega_text::{PgKind, Token, TokenReader};
 use std::alloc::Global;
 use std::marker::Model;
@@ -34,9 +34,10 @@ impl Model for Reader {
 }
 
 impl Reader {
-    ghost use Rattle.omega_parity_game.specs.Game.{IsNameByte};
+    ghost use Rattle.omega_game_values.specs.Game.{IsNameByte};
     ghost use Rattle.omega_pg.specs.Symbols.{comma, name, number, parity, semicolon};
-    ghost use Rattle.omega_pg.specs.private.game.reader.Automaton.{IsReady, Takes, after_owner, begun, initial, step, with_node};
+    ghost use Rattle.omega_pg.specs.private.game.reader.Automaton.{IsReady, Takes, after_owner};
+    ghost use Rattle.omega_pg.specs.private.game.reader.Automaton.{begun, initial, step, with_node};
 
     /// Makes a reader before the first token.
     pub(crate) fn new(alloc: Global) -> Self

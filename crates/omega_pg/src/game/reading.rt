@@ -1,13 +1,13 @@
 ghost use Rattle.std.specs.Prelude.{◌≡◌, ◌<◌, List, length, true, None, IfOk, IfErr};
-ghost use Rattle.omega_parity_game.specs.Building.{IsBuildRefusal, IsGameOf, fault_with};
-ghost use Rattle.omega_parity_game.specs.declared.node_spec.NodeSpec.{NodeSpec};
-ghost use Rattle.omega_parity_game.specs.Game.{IsWithinLimits};
+ghost use Rattle.omega_game_values.specs.Building.{IsBuildRefusal, IsGameOf, fault_with};
+ghost use Rattle.omega_game_values.specs.declared.node_spec.NodeSpec.{NodeSpec};
+ghost use Rattle.omega_game_values.specs.Game.{IsWithinLimits};
 ghost use Rattle.omega_pg.specs.private.game.reader.Built.{IsBuiltRefusal};
 ghost use Rattle.omega_pg.specs.game.Refusing.{IsReadRefusal};
 ghost use Rattle.omega_pg.specs.game.Text.{IsGameText};
 
 use crate::game::reader::Reader;
-use omega_parity_game::{ForwardGame, Game, GameBuilder, GameFault, Refusal};
+use omega_game_values::{ForwardGame, Game, GameBuilder, GameFault, Refusal};
 use omega_text::{PgKind, read_text};
 use std::alloc::Global;
 
@@ -38,12 +38,12 @@ pub fn read_forward_game(alloc: Global, bytes: &[u8]) -> Result<ForwardGame, Ref
         header_too_small,
         ..
     } = reader;
-    built(specs, header_too_small)
+    game_of_specs(specs, header_too_small)
 }
 
 /// Builds the game of `specs`. If the number of the header is `too_small`, refused with [GameFault::HeaderTooSmall]
 /// unless another fault comes first.
-fn built(specs: GameBuilder, too_small: bool) -> Result<ForwardGame, Refusal>
+fn game_of_specs(specs: GameBuilder, too_small: bool) -> Result<ForwardGame, Refusal>
     requires { 0 < length specs }
     ensures game { IfOk result (IsGameOf specs) }
     ensures limits { IfOk result IsWithinLimits }
@@ -61,7 +61,8 @@ fn built(specs: GameBuilder, too_small: bool) -> Result<ForwardGame, Refusal>
 
 /// Returns whichever comes first: `refusal`, or [GameFault::HeaderTooSmall].
 fn first_of(refusal: Refusal) -> Refusal
-    ensures { (specs : List NodeSpec) → IsBuildRefusal specs refusal → IsBuiltRefusal true specs result }
+    ensures { (specs : List NodeSpec) → IsBuildRefusal specs refusal
+        → IsBuiltRefusal true specs result }
 {
     match refusal {
         Refusal::Game(GameFault::TooManyNodes | GameFault::TooManyEdges) => {

@@ -8,7 +8,7 @@ ghost use Rattle.omega_pg.specs.private.game.reader.Pieces.{BeginsNode, LeadsOn}
 use crate::game::pieces::{has_semicolon, next_head, next_successor};
 use crate::game::reader::Reader;
 use crate::game::stage::Stage;
-use omega_parity_game::Refusal;
+use omega_game_values::Refusal;
 
 impl Reader {
     /// Takes as many nodes from `from` on as can be taken at once, and returns the place after them. The last one may

@@ -1,4 +1,4 @@
-use omega_parity_game::Player;
+use omega_game_values::Player;
 
 /// A place between two tokens of a game text, by what was read last, with the parts of a node that has begun.
 #[derive(Clone, Copy)]

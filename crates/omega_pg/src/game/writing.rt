@@ -1,10 +1,12 @@
-ghost use Rattle.std.specs.Prelude.{◌≡◌, ◌<◌, ◌++◌, All, IfOk, IsOkUnless, OnOk, codes, decimal, length, map, option_map};
-ghost use Rattle.omega_parity_game.specs.Building.{specified};
-ghost use Rattle.omega_parity_game.specs.Game.{IsGame, node_at, identifier_at};
-ghost use Rattle.omega_pg.specs.game.Canonical.{canonical_game, header_line, name_part, node_line, successors_after, successors_text};
+ghost use Rattle.std.specs.Prelude.{◌≡◌, ◌<◌, ◌++◌, All, IfOk, IsOkUnless, OnOk};
+ghost use Rattle.std.specs.Prelude.{codes, decimal, length, map, option_map};
+ghost use Rattle.omega_game_values.specs.Building.{specified};
+ghost use Rattle.omega_game_values.specs.Game.{IsGame, node_at, identifier_at};
+ghost use Rattle.omega_pg.specs.game.Canonical.{canonical_game, header_line, name_part};
+ghost use Rattle.omega_pg.specs.game.Canonical.{node_line, successors_after, successors_text};
 ghost use Rattle.omega_pg.specs.game.Priorities.{with_priorities, with_priority};
 
-use omega_parity_game::{ForwardGame, Refusal};
+use omega_game_values::{ForwardGame, Refusal};
 use omega_text::write_number;
 use std::alloc::Global;
 
@@ -34,7 +36,8 @@ pub fn write_game_with_priorities(
     priorities: &[u32],
 ) -> Result<Vec<u8>, Refusal>
     requires { length priorities.now ≡ length game.now }
-    ensures text { IfOk result (λ text. text.items ≡ canonical_game (with_priorities game.now priorities.now)) }
+    ensures text { IfOk result
+        (λ text. text.items ≡ canonical_game (with_priorities game.now priorities.now)) }
     ensures memory { IsOkUnless result Refusal.Memory }
 {
     let nodes = game.len();

@@ -1,7 +1,9 @@
 //! Laws of all texts of solutions, for the proofs of callers: each function does nothing and states one law.
 
 ghost use Rattle.omega_pg.specs.solution.Grammar.{solution_syntax};
-ghost use Rattle.omega_pg.specs.solution.Laws.{ReasonsAreExact, SolutionRefusalsAreOne, SolutionTextsAreReadOrRefused, SolutionsAreNotRefused, SolutionsOfTextsAreOne, WrittenSolutionsAreRead};
+ghost use Rattle.omega_pg.specs.solution.Laws.{ReasonsAreExact, SolutionRefusalsAreOne};
+ghost use Rattle.omega_pg.specs.solution.Laws.{SolutionTextsAreReadOrRefused, SolutionsAreNotRefused};
+ghost use Rattle.omega_pg.specs.solution.Laws.{SolutionsOfTextsAreOne, WrittenSolutionsAreRead};
 ghost use Rattle.omega_text.specs.Syntax.{SyntaxFaultsAreFirst};
 
 use crate::solution::syntax::SolutionSyntax;

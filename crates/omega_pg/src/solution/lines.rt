@@ -1,10 +1,11 @@
-ghost use Rattle.std.specs.Prelude.{◌≡◌, ◌<◌, ◌^◌, ◌≢◌, ◌↔◌, ℕ, [], ◌∷◌, ◌++◌, true, All, Contains, IfNone, IfSome, IsOkUnless, OnOk, length};
-ghost use Rattle.omega_parity_game.specs.Game.{identifier_at};
+ghost use Rattle.std.specs.Prelude.{◌≡◌, ◌<◌, ◌^◌, ◌≢◌, ◌↔◌, ℕ, [], ◌∷◌, ◌++◌, true, All};
+ghost use Rattle.std.specs.Prelude.{Contains, IfNone, IfSome, IsOkUnless, OnOk, length};
+ghost use Rattle.omega_game_values.specs.Game.{identifier_at};
 ghost use Rattle.omega_pg.specs.solution.Grammar.{line_for};
 ghost use Rattle.omega_pg.specs.private.solution.reader.Lines.{IsWrongLine, Says};
 
 use crate::solution::solution_lines::SolutionLines;
-use omega_parity_game::{ForwardGame, Player, Refusal, Seq, Solution, Strategy, TaskFault};
+use omega_game_values::{ForwardGame, Player, Refusal, Seq, Solution, Strategy, TaskFault};
 use std::alloc::Global;
 
 /// The lines of a solution text: for each a winner and two choices, by place.
@@ -21,7 +22,7 @@ impl Lines {
     ghost use Rattle.std.specs.Prelude.{List};
     ghost use Rattle.omega_pg.specs.solution.Grammar.{SolutionLine};
     ghost use Rattle.omega_pg.specs.private.solution.reader.Lines.{IsOutcome, KeepsLines, entry_of};
-    ghost use Rattle.omega_parity_game.specs.declared.player.Player.TheVariants.{One, Zero};
+    ghost use Rattle.omega_game_values.specs.declared.player.Player.TheVariants.{One, Zero};
 
     /// Makes an empty list of lines.
     pub(crate) fn new(alloc: Global) -> Self
@@ -61,9 +62,12 @@ impl Lines {
 
     /// Keeps `winner` and the `choice` of `owner`.
     fn keep(&mut self, winner: Player, owner: Player, choice: Option<u32>) -> Result<(), Refusal>
-        ensures winners { OnOk result (self.new.winners.items ≡ self.old.winners.items ++ winner ∷ []) }
-        ensures zero { OnOk result (self.new.zero.items ≡ self.old.zero.items ++ entry_of Zero owner choice ∷ []) }
-        ensures one { OnOk result (self.new.one.items ≡ self.old.one.items ++ entry_of One owner choice ∷ []) }
+        ensures winners { OnOk result
+            (self.new.winners.items ≡ self.old.winners.items ++ winner ∷ []) }
+        ensures zero { OnOk result
+            (self.new.zero.items ≡ self.old.zero.items ++ entry_of Zero owner choice ∷ []) }
+        ensures one { OnOk result
+            (self.new.one.items ≡ self.old.one.items ++ entry_of One owner choice ∷ []) }
         ensures good { OnOk result (self.new.good ≡ self.old.good) }
         ensures memory { IsOkUnless result Refusal.Memory }
     {

@@ -3,7 +3,7 @@ ghost use Rattle.omega_pg.specs.private.solution.reader.Automaton.{stage_after_n
 
 use crate::solution::solution_lines::SolutionLines;
 use crate::solution::stage::Stage;
-use omega_parity_game::{ForwardGame, Player, Refusal};
+use omega_game_values::{ForwardGame, Player, Refusal};
 use omega_text::{PgKind, Token, TokenReader};
 
 /// A reader of texts of a game's solution, which keeps of their lines what `L` keeps.

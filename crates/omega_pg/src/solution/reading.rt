@@ -4,7 +4,7 @@ ghost use Rattle.omega_pg.specs.solution.Text.{IsSolutionText};
 
 use crate::solution::lines::Lines;
 use crate::solution::reader::Reader;
-use omega_parity_game::{ForwardGame, Refusal, Solution};
+use omega_game_values::{ForwardGame, Refusal, Solution};
 use omega_text::{PgKind, read_text};
 use std::alloc::Global;
 

@@ -1,9 +1,9 @@
-use omega_parity_game::{ForwardGame, Player, Refusal};
+use omega_game_values::{ForwardGame, Player, Refusal};
 
 /// What is kept of the lines of a solution text, one after the other.
 pub(crate) trait SolutionLines: Drop {
     ghost use Rattle.std.specs.Prelude.{List, [], ◌∷◌, ◌++◌, IsOkUnless, OnOk};
-    ghost use Rattle.omega_parity_game.specs.Game.{Node};
+    ghost use Rattle.omega_game_values.specs.Game.{Node};
     ghost use Rattle.omega_pg.specs.solution.Grammar.{SolutionLine, line_for};
 
     /// Of these lines of a text for a game this is kept.

@@ -1,4 +1,4 @@
-use omega_parity_game::Player;
+use omega_game_values::Player;
 
 /// A place between two tokens of a solution text, by what was read last, with the parts of a line that has begun.
 #[derive(Clone, Copy)]

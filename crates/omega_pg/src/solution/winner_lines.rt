@@ -2,7 +2,7 @@ ghost use Rattle.std.specs.Prelude.{◌≡◌, ◌↔◌, [], true, IfErr, IfOk,
 ghost use Rattle.omega_pg.specs.private.solution.winners.Lines.{IsNext};
 
 use crate::solution::solution_lines::SolutionLines;
-use omega_parity_game::{ForwardGame, Player, Refusal, TaskFault};
+use omega_game_values::{ForwardGame, Player, Refusal, TaskFault};
 use std::alloc::Global;
 
 /// The winners of the lines of a solution text, by place.

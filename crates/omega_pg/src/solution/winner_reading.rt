@@ -3,7 +3,7 @@ ghost use Rattle.omega_pg.specs.solution.Winners.{IsReadWinnersRefusal, IsWinner
 
 use crate::solution::reader::Reader;
 use crate::solution::winner_lines::WinnerLines;
-use omega_parity_game::{ForwardGame, Player, Refusal};
+use omega_game_values::{ForwardGame, Player, Refusal};
 use omega_text::{PgKind, read_text};
 use std::alloc::Global;
 

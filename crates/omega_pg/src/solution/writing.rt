@@ -1,11 +1,11 @@
 ghost use Rattle.std.specs.Prelude.{◌≡◌, ◌<◌, ◌++◌, IfOk, IfSome, IsOkUnless, OnOk, length, option_map};
-ghost use Rattle.omega_parity_game.specs.Game.{IsGame, identifier_at};
-ghost use Rattle.omega_parity_game.specs.Solution.{IsSolution};
+ghost use Rattle.omega_game_values.specs.Game.{IsGame, identifier_at};
+ghost use Rattle.omega_game_values.specs.Solution.{IsSolution};
 ghost use Rattle.omega_pg.specs.solution.Text.{line_at};
 ghost use Rattle.omega_pg.specs.solution.Canonical.{choice_part, solution_line, solution_text};
 
 use crate::game::writing::write_part;
-use omega_parity_game::{ForwardGame, Refusal, Solution};
+use omega_game_values::{ForwardGame, Refusal, Solution};
 use omega_text::write_number;
 use std::alloc::Global;
 
@@ -43,7 +43,8 @@ fn write_line(
     requires solution { IsSolution game.now solution.now }
     requires game { IsGame game.now }
     requires place { place < length game.now }
-    ensures ok { OnOk result (out.new.items ≡ out.old.items ++ solution_line (line_at game.now solution.now place)) }
+    ensures ok { OnOk result
+        (out.new.items ≡ out.old.items ++ solution_line (line_at game.now solution.now place)) }
     ensures memory { IsOkUnless result Refusal.Memory }
 {
     write_part(game.id(place), out)?;

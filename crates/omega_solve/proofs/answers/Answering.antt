@@ -4,13 +4,13 @@ use Rattle.std.specs.List.{slice_get}
 use Rattle.std.specs.Option.{IsSome, is_some}
 use Rattle.std.proofs.lemmas.Bool.{cases_eq, false≢true}
 use Rattle.std.proofs.lemmas.List.{get_or-map, length-map, take_more, take_more_set}
-use Rattle.omega_parity_game.specs.declared.player.Player.{Player}
-use Rattle.omega_parity_game.specs.Game.{Node, owner_at}
-use Rattle.omega_parity_game.specs.Winning.{Chooses}
+use Rattle.omega_game_values.specs.declared.player.Player.{Player}
+use Rattle.omega_game_values.specs.Game.{Node, owner_at}
+use Rattle.omega_game_values.specs.Winning.{Chooses}
 use Rattle.omega_lift_laws.specs.Measure.{Measure}
 use Rattle.omega_lift_laws.specs.Allowance.{measure_at}
 use Rattle.omega_lift_laws.specs.Answer.{AreChoices, IsFirstLeast, won_in}
-use Rattle.omega_schedules.proofs.Flags.{slice_get-set_other, slice_get-set_same}
+use Rattle.omega_lift_schedules.proofs.Flags.{slice_get-set_other, slice_get-set_same}
 use Rattle.omega_solve.specs.private.solving.Successor.{IsChoiceAt}
 
 -- a place is won if its measure is not top

@@ -4,9 +4,9 @@ use Rattle.std.specs.List.{slice_get}
 use Rattle.std.specs.Option.{IsSome, is_some}
 use Rattle.std.proofs.lemmas.List.{get_or-map, length-map}
 use Rattle.std.proofs.lemmas.Option.{get_or_from_slice_get, slice_get-get_or, slice_get_within}
-use Rattle.omega_parity_game.specs.declared.player.Player.{Player}
-use Rattle.omega_parity_game.specs.Game.{Node, IsGame, priorities}
-use Rattle.omega_parity_game.specs.Winning.{Chooses, InRegion}
+use Rattle.omega_game_values.specs.declared.player.Player.{Player}
+use Rattle.omega_game_values.specs.Game.{Node, IsGame, priorities}
+use Rattle.omega_game_values.specs.Winning.{Chooses, InRegion}
 use Rattle.omega_lift_laws.specs.Measure.{Measure}
 use Rattle.omega_lift_laws.specs.Allowance.{measure_at}
 use Rattle.omega_lift_laws.specs.Answer.{AreChoices, won_in}

@@ -2,15 +2,15 @@
 use Rattle.std.proofs.Common.{◌≡◌, ℕ, ◌<◌, ◌⊎◌, Bool, true, false, List, Some, length, refl, subst, sym, ap, ◌∙◌, inl, inr, arith}
 use Rattle.std.specs.Option.{IsSome, is_some}
 use Rattle.std.proofs.lemmas.Bool.{false≢true}
-use Rattle.omega_parity_game.specs.declared.player.Player.{Player}
-use Rattle.omega_parity_game.specs.declared.player.Player.TheVariants.{Zero, One}
-use Rattle.omega_parity_game.specs.Game.{Node, priorities}
+use Rattle.omega_game_values.specs.declared.player.Player.{Player}
+use Rattle.omega_game_values.specs.declared.player.Player.TheVariants.{Zero, One}
+use Rattle.omega_game_values.specs.Game.{Node, priorities}
 use Rattle.omega_lift_laws.specs.Measure.{Measure}
 use Rattle.omega_lift_laws.specs.Allowance.{measure_at}
 use Rattle.omega_lift_laws.specs.Answer.{won_in}
 use Rattle.omega_lift_laws.specs.Laws.{RegionsStayBelowTop, RunsKeepTables, WonPlacesAreInRegions, ZeroTablesAreTables}
 use Rattle.omega_lift_laws.specs.Run.{IsLiftingRun, IsStable, IsTable, zero_table}
-use Rattle.omega_region_laws.specs.Laws.{RegionsAreApart, RegionsCover}
+use Rattle.omega_game_region_laws.specs.Laws.{RegionsAreApart, RegionsCover}
 use Rattle.omega_solve.specs.Determinacy.{AnswersPartTheGame, IsInOne}
 use Rattle.omega_solve.specs.Solver.{SolverState, IsFinished, IsReached}
 use Rattle.omega_solve.proofs.answers.Exactness.{entries_are, reported_at}

@@ -7,10 +7,10 @@ use Rattle.std.proofs.lemmas.List.{length-replicate}
 use Rattle.std.proofs.lemmas.List.Concat.{length-flat_map}
 use Rattle.std.proofs.lemmas.List.Elements.{All-nil, All-cons, Contains-get_or}
 use Rattle.std.proofs.lemmas.List.Sums.{count_by-le-length, sum_by-cons, sum_by-le}
-use Rattle.omega_parity_game.specs.declared.player.Player.{Player}
-use Rattle.omega_parity_game.specs.Bound.{product_of}
-use Rattle.omega_parity_game.specs.Game.{Node, IsGame, successor_count, listed_times, no_node, priorities, successors_at}
-use Rattle.omega_parity_game.specs.Limits.{most_successors}
+use Rattle.omega_game_values.specs.declared.player.Player.{Player}
+use Rattle.omega_game_values.specs.Bound.{product_of}
+use Rattle.omega_game_values.specs.Game.{Node, IsGame, successor_count, listed_times, no_node, priorities, successors_at}
+use Rattle.omega_game_values.specs.Limits.{most_successors}
 use Rattle.omega_lift_laws.specs.Measure.{Measure}
 use Rattle.omega_lift_laws.specs.Run.{IsLiftingRun, zero_table}
 use Rattle.omega_lift_laws.specs.Laws.{PlacesAreLiftedBoundedly}

@@ -7,8 +7,8 @@ use Rattle.std.proofs.lemmas.List.Elements.{All-append, All-replicate, All-head,
 use Rattle.std.proofs.lemmas.List.FromFn.{get_or-range_with_len, length-range_with_len}
 use Rattle.std.proofs.lemmas.List.Sums.{get_or-le-sum_by}
 use Rattle.std.proofs.lemmas.Option.{slice_get_within, get_or_from_slice_get, slice_get-get_or}
-use Rattle.omega_schedules.proofs.Flags.{one_if}
-use Rattle.omega_parity_game.specs.Game.{Node, HasEdge, listed_times, no_node, node_at, predecessors_of, successors_at}
+use Rattle.omega_lift_schedules.proofs.Flags.{one_if}
+use Rattle.omega_game_values.specs.Game.{Node, HasEdge, listed_times, no_node, node_at, predecessors_of, successors_at}
 
 -- a successor at an index is a listed one
 pub edge_at : (nodes : List Node) (v k w : ℕ) → slice_get (successors_at nodes v) k ≡ Some w → HasEdge nodes v w

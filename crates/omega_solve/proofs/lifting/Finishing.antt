@@ -4,8 +4,8 @@ use Rattle.std.specs.Option.{MatchOption}
 use Rattle.std.proofs.lemmas.Bool.{false≢true}
 use Rattle.std.proofs.lemmas.Option.{same_Some}
 use Rattle.omega_lift_laws.specs.Laws.{PlacesAreLiftedBoundedly, RunsAreBounded}
-use Rattle.omega_schedules.specs.Schedule.{IsIdle, IsPending}
-use Rattle.omega_schedules.proofs.Flags.{pending_inside, waits_none}
+use Rattle.omega_lift_schedules.specs.Schedule.{IsIdle, IsPending}
+use Rattle.omega_lift_schedules.proofs.Flags.{pending_inside, waits_none}
 use Rattle.omega_solve.specs.Limits.{most_lifts}
 use Rattle.omega_solve.specs.Solver.{IsFinished, IsReached, SolverState, attempt_bound, lift_bound}
 use Rattle.omega_solve.specs.private.solving.Progress.{IsSolving}

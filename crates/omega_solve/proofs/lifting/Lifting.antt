@@ -7,16 +7,16 @@ use Rattle.std.proofs.lemmas.List.{get_or-set_other, get_or-set_same, get_or_def
 use Rattle.std.proofs.lemmas.List.Folds.{sum_by-replicate}
 use Rattle.std.proofs.lemmas.List.Sums.{count_by-le-length, sum_by-append, sum_by-cons}
 use Rattle.std.proofs.Math.Nat.{mul-le-mul_left}
-use Rattle.omega_parity_game.specs.declared.player.Player.{Player}
-use Rattle.omega_parity_game.specs.declared.player.Player.TheVariants.{One, Zero}
-use Rattle.omega_parity_game.specs.Game.{Node, HasEdge, owner_at, predecessors_of, priorities, priority_at, successors_at}
+use Rattle.omega_game_values.specs.declared.player.Player.{Player}
+use Rattle.omega_game_values.specs.declared.player.Player.TheVariants.{One, Zero}
+use Rattle.omega_game_values.specs.Game.{Node, HasEdge, owner_at, predecessors_of, priorities, priority_at, successors_at}
 use Rattle.omega_lift_laws.specs.Measure.{Measure, IsAbove}
 use Rattle.omega_lift_laws.specs.Allowance.{IsAllowance, IsAllowanceOf, IsLiftValue, measure_at}
 use Rattle.omega_lift_laws.specs.Run.{IsDue, IsLiftingRun, IsTable, Lifts}
 use Rattle.omega_lift_laws.specs.Laws.{AllowancesAreUnique, RunsKeepTables}
 use Rattle.omega_measure.specs.Table.{Content, Exceeds, Raises, with_measure}
-use Rattle.omega_schedules.specs.Schedule.{IsPending, Pending, with_taken, waits}
-use Rattle.omega_schedules.proofs.Flags.{pending_taken, waits_taken}
+use Rattle.omega_lift_schedules.specs.Schedule.{IsPending, Pending, with_taken, waits}
+use Rattle.omega_lift_schedules.proofs.Flags.{pending_taken, waits_taken}
 use Rattle.omega_solve.specs.Limits.{most_lifts}
 use Rattle.omega_solve.specs.Solver.{LiftsWithin, SolverState}
 use Rattle.omega_solve.specs.private.solving.Successor.{IsDueTowards, IsTableOf}

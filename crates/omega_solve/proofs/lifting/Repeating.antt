@@ -2,12 +2,12 @@
 use Rattle.std.proofs.Common.{inl, inr, ◌≡◌, ℕ, ◌+◌, List, arith, refl, ap, ◌∙◌, replicate, subst}
 use Rattle.std.proofs.lemmas.Bool.{cases_lt}
 use Rattle.std.proofs.lemmas.List.{replicate-append-replicate}
-use Rattle.omega_parity_game.specs.declared.player.Player.{Player}
-use Rattle.omega_parity_game.specs.Game.{Node, HasEdge}
+use Rattle.omega_game_values.specs.declared.player.Player.{Player}
+use Rattle.omega_game_values.specs.Game.{Node, HasEdge}
 use Rattle.omega_lift_laws.specs.Run.{IsLiftingRun}
 use Rattle.omega_lift_laws.specs.Laws.{AllowancesAreUnique, RunsKeepTables}
 use Rattle.omega_measure.specs.Table.{Content, Raises}
-use Rattle.omega_schedules.specs.Schedule.{Pending, with_taken_again}
+use Rattle.omega_lift_schedules.specs.Schedule.{Pending, with_taken_again}
 use Rattle.omega_solve.specs.private.solving.Repeating.{LiftsAgain}
 use Rattle.omega_solve.specs.private.solving.Successor.{IsDueTowards, IsTableOf}
 use Rattle.omega_solve.proofs.lifting.Lifting.{run_append, run_raised, table_raised}

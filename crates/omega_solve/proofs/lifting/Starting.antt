@@ -2,10 +2,10 @@
 use Rattle.std.proofs.Common.{◌≡◌, ℕ, Bool, true, false, List, [], Option, length, refl, sym, ◌∙◌, arith}
 use Rattle.std.proofs.lemmas.Bool.{false≢true}
 use Rattle.std.proofs.lemmas.List.{length-replicate}
-use Rattle.omega_parity_game.specs.declared.player.Player.{Player}
-use Rattle.omega_parity_game.specs.Game.{Node, IsGame, IsWithinLimits, priorities}
+use Rattle.omega_game_values.specs.declared.player.Player.{Player}
+use Rattle.omega_game_values.specs.Game.{Node, IsGame, IsWithinLimits, priorities}
 use Rattle.omega_lift_laws.specs.Laws.{ZeroTablesAreTables}
-use Rattle.omega_schedules.proofs.Flags.{pending_all, waits_all}
+use Rattle.omega_lift_schedules.proofs.Flags.{pending_all, waits_all}
 use Rattle.omega_solve.specs.Solver.{SolverState, start_of}
 use Rattle.omega_solve.specs.private.solving.Progress.{IsAnswered, IsSolving}
 use Rattle.omega_solve.proofs.lifting.Edges.{edge_leaves}

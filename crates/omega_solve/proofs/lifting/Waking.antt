@@ -4,8 +4,8 @@ use Rattle.std.proofs.lemmas.Bool.{cases_eq, false≢true}
 use Rattle.std.proofs.lemmas.List.{length-set}
 use Rattle.omega_lift_laws.specs.Measure.{Measure}
 use Rattle.omega_lift_laws.specs.Allowance.{measure_at}
-use Rattle.omega_schedules.specs.Schedule.{Pending, with_added}
-use Rattle.omega_schedules.proofs.Flags.{added_pending, pending_added, waits_added, waits_kept}
+use Rattle.omega_lift_schedules.specs.Schedule.{Pending, with_added}
+use Rattle.omega_lift_schedules.proofs.Flags.{added_pending, pending_added, waits_added, waits_kept}
 use Rattle.omega_solve.specs.private.solving.Wake.{Wakes}
 
 -- waking goes on by adding the next place

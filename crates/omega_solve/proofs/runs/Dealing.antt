@@ -4,9 +4,9 @@ use Rattle.std.proofs.lemmas.Bool.{cases_Bool, false≢true}
 use Rattle.std.proofs.lemmas.List.{length-append, length_push, length-map}
 use Rattle.std.proofs.lemmas.List.Sums.{sum_by-cons}
 use Rattle.std.proofs.Math.Nat.{mul-pos}
-use Rattle.omega_parity_game.specs.declared.player.Player.{Player}
-use Rattle.omega_parity_game.specs.Game.{Node, IsGame, priorities}
-use Rattle.omega_parity_game.specs.Bound.{occurrences, bound_of, losing_priorities, product}
+use Rattle.omega_game_values.specs.declared.player.Player.{Player}
+use Rattle.omega_game_values.specs.Game.{Node, IsGame, priorities}
+use Rattle.omega_game_values.specs.Bound.{occurrences, bound_of, losing_priorities, product}
 use Rattle.omega_lift_laws.specs.Measure.{Measure}
 use Rattle.omega_lift_laws.specs.Run.{IsDue, IsLiftingRun, zero_table}
 use Rattle.omega_lift_laws.specs.Laws.{RunsAreBounded}

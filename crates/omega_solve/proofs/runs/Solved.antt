@@ -1,8 +1,8 @@
 -- The headline, from the laws of lifting.
 use Rattle.std.proofs.Common.{◌≡◌, true, List, [], refl, subst, arith}
 use Rattle.std.proofs.lemmas.Bool.{false≢true}
-use Rattle.omega_parity_game.specs.declared.player.Player.{Player}
-use Rattle.omega_parity_game.specs.Game.{Node, priorities}
+use Rattle.omega_game_values.specs.declared.player.Player.{Player}
+use Rattle.omega_game_values.specs.Game.{Node, priorities}
 use Rattle.omega_lift_laws.specs.Laws.{ChoicesAreAStrategy, ChoicesWin, RegionsStayBelowTop, RunsAreBounded, RunsKeepTables, ZeroTablesAreTables}
 use Rattle.omega_lift_laws.specs.Run.{IsLiftingRun, IsStable, zero_table}
 use Rattle.omega_solve.specs.Solver.{IsReached, start_of}

@@ -2,9 +2,9 @@
 use Rattle.std.proofs.Common.{◌≡◌, ℕ, ◌<◌, inl, inr, List, [], ◌∷◌, Some, None, length, set, sym, ap, ◌∙◌, subst, arith, Less, Equal, Greater}
 use Rattle.std.proofs.lemmas.Bool.{cases_eq}
 use Rattle.std.proofs.lemmas.List.{ext_get_or, get_or-replicate, get_or-set_other, get_or-set_same, length-map}
-use Rattle.omega_parity_game.specs.declared.player.Player.{Player}
-use Rattle.omega_parity_game.specs.Bound.{losing_priorities}
-use Rattle.omega_parity_game.specs.Game.{Node, HasEdge, IsGame, owner_at, priority_at, priorities}
+use Rattle.omega_game_values.specs.declared.player.Player.{Player}
+use Rattle.omega_game_values.specs.Bound.{losing_priorities}
+use Rattle.omega_game_values.specs.Game.{Node, HasEdge, IsGame, owner_at, priority_at, priorities}
 use Rattle.omega_lift_laws.specs.Measure.{Measure, IsMeasure, IsAtMost, zero_measure}
 use Rattle.omega_lift_laws.specs.Allowance.{IsLiftValue, measure_at}
 use Rattle.omega_lift_laws.specs.Run.{IsLiftingRun, IsStable, IsTable, Lifts, zero_table}

@@ -5,8 +5,8 @@ use Rattle.std.proofs.lemmas.Bool.{false≢true}
 use Rattle.std.proofs.lemmas.List.{length-map}
 use Rattle.std.proofs.lemmas.List.FromFn.{length-map-range_with_len, get_or-map-range_with_len}
 use Rattle.std.proofs.lemmas.Option.{get_or_from_slice_get, slice_get-get_or, slice_get_within}
-use Rattle.omega_parity_game.specs.declared.player.Player.{Player}
-use Rattle.omega_parity_game.specs.Game.{Node, IsGame, owner_at, priorities}
+use Rattle.omega_game_values.specs.declared.player.Player.{Player}
+use Rattle.omega_game_values.specs.Game.{Node, IsGame, owner_at, priorities}
 use Rattle.omega_lift_laws.specs.Measure.{Measure, IsAbove, IsMeasure}
 use Rattle.omega_lift_laws.specs.Allowance.{IsAllowance, measure_at}
 use Rattle.omega_lift_laws.specs.Laws.{AllowancesExist, MeasuresAreOrdered, WonPlacesAreInRegions}

@@ -3,12 +3,12 @@ use Rattle.std.proofs.Common.{◌≡◌, ℕ, ◌+◌, ◌-◌, ◌<◌, ◌^◌
 use Rattle.std.proofs.lemmas.Bool.{cases_eq, false≢true}
 use Rattle.std.proofs.lemmas.List.{get_or-set_other, get_or-set_same, get_or_default, length-replicate, length-set}
 use Rattle.std.proofs.lemmas.Option.{same_Some}
-use Rattle.omega_parity_game.specs.declared.player.Player.{Player}
-use Rattle.omega_parity_game.specs.declared.player.Player.TheVariants.{One, Zero}
-use Rattle.omega_parity_game.specs.Game.{Node, IsGame, predecessors_of, priorities, successors_at}
-use Rattle.omega_parity_game.specs.Player.{opponent_of}
-use Rattle.omega_parity_game.specs.Winning.{InRegion}
-use Rattle.omega_region_laws.specs.Laws.{RegionsAreApart}
+use Rattle.omega_game_values.specs.declared.player.Player.{Player}
+use Rattle.omega_game_values.specs.declared.player.Player.TheVariants.{One, Zero}
+use Rattle.omega_game_values.specs.Game.{Node, IsGame, predecessors_of, priorities, successors_at}
+use Rattle.omega_game_values.specs.Player.{opponent_of}
+use Rattle.omega_game_values.specs.Winning.{InRegion}
+use Rattle.omega_game_region_laws.specs.Laws.{RegionsAreApart}
 use Rattle.omega_lift_laws.specs.Measure.{Measure, IsAtMost}
 use Rattle.omega_lift_laws.specs.Allowance.{measure_at}
 use Rattle.omega_lift_laws.specs.Answer.{AreChoices, won_in}
@@ -16,8 +16,8 @@ use Rattle.omega_lift_laws.specs.Laws.{AllowancesAreUnique, ChoicesAreAStrategy,
 use Rattle.omega_lift_laws.specs.Run.{IsDue, IsLiftingRun, IsStable, IsTable}
 use Rattle.omega_lift_laws.proofs.Choosing.{cases_top}
 use Rattle.omega_measure.specs.Table.{Content, Raises, with_measure, zero_content}
-use Rattle.omega_schedules.specs.Schedule.{IsPending, Pending, all_pending, with_taken}
-use Rattle.omega_schedules.proofs.Flags.{pending_all, pending_inside, pending_taken}
+use Rattle.omega_lift_schedules.specs.Schedule.{IsPending, Pending, all_pending, with_taken}
+use Rattle.omega_lift_schedules.proofs.Flags.{pending_all, pending_inside, pending_taken}
 use Rattle.omega_solve.specs.LeastTables.{IsLeastStable, RunsLeadToLeastTables}
 use Rattle.omega_solve.specs.Turns.{EndsRaised, IsAnswerOfRun}
 use Rattle.omega_solve.specs.private.solving.Repeating.{LiftsAgain}

@@ -4,9 +4,9 @@ use Rattle.std.specs.Cmp.Lexicographic.{slice_cmp}
 use Rattle.std.specs.Ordering.{nat_cmp}
 use Rattle.std.proofs.lemmas.Cmp.{nat_list_cmp_total}
 use Rattle.std.proofs.lemmas.List.{get_or-replicate, length-map}
-use Rattle.omega_parity_game.specs.declared.player.Player.{Player}
-use Rattle.omega_parity_game.specs.Game.{Node, IsGame, priorities, priority_at}
-use Rattle.omega_parity_game.specs.Player.{loses}
+use Rattle.omega_game_values.specs.declared.player.Player.{Player}
+use Rattle.omega_game_values.specs.Game.{Node, IsGame, priorities, priority_at}
+use Rattle.omega_game_values.specs.Player.{loses}
 use Rattle.omega_lift_laws.specs.Allowance.{measure_at, suffices}
 use Rattle.omega_lift_laws.specs.Measure.{Measure, IsAbove, IsMeasure, entries_from, zero_measure}
 use Rattle.omega_lift_laws.specs.Run.{IsDue, zero_table}

@@ -1,8 +1,8 @@
 -- Each place of a table has a lift value, so that it can be decided whether a lift is due.
 use Rattle.std.proofs.Common.{◌≡◌, ◌≢◌, ℕ, ◌<◌, ◌⊎◌, inl, inr, List, [], ◌∷◌, length, get_or, Contains, refl, sym, ap, ◌∙◌, subst, arith}
 use Rattle.std.proofs.lemmas.List.{get_or_default}
-use Rattle.omega_parity_game.specs.declared.player.Player.{Player}
-use Rattle.omega_parity_game.specs.Game.{Node, IsGame, owner_at, priority_at, priorities, successors_at}
+use Rattle.omega_game_values.specs.declared.player.Player.{Player}
+use Rattle.omega_game_values.specs.Game.{Node, IsGame, owner_at, priority_at, priorities, successors_at}
 use Rattle.omega_lift_laws.specs.Measure.{Measure, IsAtMost, compare}
 use Rattle.omega_lift_laws.specs.Allowance.{IsAllowanceOf, IsLiftValue, measure_at}
 use Rattle.omega_lift_laws.specs.Run.{IsDue, IsTable}

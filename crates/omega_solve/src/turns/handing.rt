@@ -1,17 +1,17 @@
 ghost use Rattle.std.specs.Prelude.{◌≡◌, ◌<◌, length, IsSome};
-ghost use Rattle.omega_parity_game.specs.Game.{IsGame};
-ghost use Rattle.omega_parity_game.specs.Player.{opponent_of};
-ghost use Rattle.omega_parity_game.specs.Winning.{InRegion};
+ghost use Rattle.omega_game_values.specs.Game.{IsGame};
+ghost use Rattle.omega_game_values.specs.Player.{opponent_of};
+ghost use Rattle.omega_game_values.specs.Winning.{InRegion};
 ghost use Rattle.omega_lift_laws.specs.Allowance.{measure_at};
 ghost use Rattle.omega_solve.specs.private.turning.Handing.{AreWon};
 ghost use Rattle.omega_solve.specs.private.turning.Side.{IsSide};
 
 use super::side::{Side, take_out};
 use crate::wake::wake_predecessors;
+use omega_game_region_laws::regions_are_apart;
 use omega_lift_laws::won_places_are_in_regions;
+use omega_lift_schedules::Schedule;
 use omega_measure::{Game, MeasureTable, Player};
-use omega_region_laws::regions_are_apart;
-use omega_schedules::Schedule;
 
 /// Whether some place that is not in `lost` is below top in `table`.
 pub(crate) fn has_news<T: MeasureTable>(game: &Game, table: &T, lost: &[bool]) -> bool
@@ -35,10 +35,12 @@ pub(crate) fn hand_on<T: MeasureTable, S: Schedule>(
     lost: &[bool],
 ) -> bool
     requires game { IsGame game.now }
-    requires side { IsSide game.now player (T.content side.old.table) (S.waiting side.old.schedule) side.old.raises }
+    requires side { IsSide game.now player (T.content side.old.table)
+        (S.waiting side.old.schedule) side.old.raises }
     requires entries { length lost.now ≡ length game.now }
     requires won { AreWon game.now (opponent_of player) lost.now }
-    ensures { IsSide game.now player (T.content side.new.table) (S.waiting side.new.schedule) side.new.raises }
+    ensures { IsSide game.now player (T.content side.new.table)
+        (S.waiting side.new.schedule) side.new.raises }
 {
     let mut some = false;
     for place in 0..game.len() {
@@ -59,10 +61,12 @@ fn give_up<T: MeasureTable, S: Schedule>(
     place: u32,
 )
     requires game { IsGame game.now }
-    requires side { IsSide game.now player (T.content side.old.table) (S.waiting side.old.schedule) side.old.raises }
+    requires side { IsSide game.now player (T.content side.old.table)
+        (S.waiting side.old.schedule) side.old.raises }
     requires lost { InRegion game.now (opponent_of player) place }
     requires below_top { IsSome (measure_at (T.content side.old.table).measures place) }
-    ensures { IsSide game.now player (T.content side.new.table) (S.waiting side.new.schedule) side.new.raises }
+    ensures { IsSide game.now player (T.content side.new.table)
+        (S.waiting side.new.schedule) side.new.raises }
 {
     won_places_are_in_regions();
     regions_are_apart();

@@ -1,14 +1,14 @@
 //! Places that a player has won before its run ends. They are looked for without a proof, and what was found is judged.
 ghost use Rattle.std.specs.Prelude.{◌≡◌, ◌<◌, ℕ, length, IsSome, IsTrue};
-ghost use Rattle.omega_parity_game.specs.Game.{HasEdge, IsGame};
+ghost use Rattle.omega_game_values.specs.Game.{HasEdge, IsGame};
 ghost use Rattle.omega_lift_laws.specs.Allowance.{measure_at};
 ghost use Rattle.omega_solve.specs.private.solving.Successor.{IsTableOf};
 ghost use Rattle.omega_solve.specs.private.turning.Handing.{AreWon, Rests, RestsOn, StandsAlone};
 
 use crate::successor::owns;
 use omega_lift_laws::{allowances_exist, measures_are_ordered, won_places_are_in_regions};
+use omega_lift_schedules::Schedule;
 use omega_measure::{Game, MeasureTable, Player};
-use omega_schedules::Schedule;
 
 /// Marks in `lost` the places whose measures may still rise to top: those at top, those at which a lift is due, and
 /// those that rest on such places. A lift is due at no place that is not pending, so that nothing is compared there at
@@ -159,7 +159,8 @@ fn rests_on_one<T: MeasureTable>(game: &Game, table: &T, lost: &[bool], place: u
     requires game { IsGame game.now }
     requires measures { length (T.content table.now).measures ≡ length game.now }
     requires entries { length lost.now ≡ length game.now }
-    ensures { IsTrue result → (w : ℕ) × HasEdge game.now place w × RestsOn (T.content table.now) lost.now place w }
+    ensures { IsTrue result
+        → (w : ℕ) × HasEdge game.now place w × RestsOn (T.content table.now) lost.now place w }
 {
     for successor in game.successors(place) {
         if !lost[*successor as usize] && !table.due(place, *successor) {
@@ -175,7 +176,8 @@ fn rests_on_all<T: MeasureTable>(game: &Game, table: &T, lost: &[bool], place: u
     requires game { IsGame game.now }
     requires measures { length (T.content table.now).measures ≡ length game.now }
     requires entries { length lost.now ≡ length game.now }
-    ensures { IsTrue result → (w : ℕ) → HasEdge game.now place w → RestsOn (T.content table.now) lost.now place w }
+    ensures { IsTrue result → (w : ℕ) → HasEdge game.now place w
+        → RestsOn (T.content table.now) lost.now place w }
 {
     for successor in game.successors(place) {
         if lost[*successor as usize] || table.due(place, *successor) {

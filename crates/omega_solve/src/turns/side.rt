@@ -1,7 +1,7 @@
 ghost use Rattle.std.specs.Prelude.{◌≡◌, ◌-◌, ◌^◌, ◌<◌, length, IsTrue};
 ghost use Rattle.omega_lift_laws.specs.Run.{IsDue};
-ghost use Rattle.omega_parity_game.specs.Game.{IsGame};
-ghost use Rattle.omega_schedules.specs.Schedule.{IsIdle, IsPending};
+ghost use Rattle.omega_game_values.specs.Game.{IsGame};
+ghost use Rattle.omega_lift_schedules.specs.Schedule.{IsIdle, IsPending};
 ghost use Rattle.omega_solve.specs.private.solving.Successor.{IsDueTowards};
 ghost use Rattle.omega_solve.specs.private.turning.Side.{IsSide};
 
@@ -10,8 +10,8 @@ use crate::repeating::lift_again;
 use crate::successor::due_towards;
 use crate::wake::wake_predecessors;
 use omega_lift_laws::{allowances_are_unique, runs_keep_tables};
+use omega_lift_schedules::Schedule;
 use omega_measure::{Game, MeasureTable, Player};
-use omega_schedules::Schedule;
 
 /// One player's side of solving in turns: the measures, and the places to be looked at.
 #[derive(Drop)]
@@ -41,8 +41,10 @@ pub(crate) fn lift_until<T: MeasureTable, S: Schedule>(
 )
     requires game { IsGame game.now }
     requires limit { limit < 2 ^ 64 - 1 }
-    requires side { IsSide game.now player (T.content side.old.table) (S.waiting side.old.schedule) side.old.raises }
-    ensures { IsSide game.now player (T.content side.new.table) (S.waiting side.new.schedule) side.new.raises }
+    requires side { IsSide game.now player (T.content side.old.table)
+        (S.waiting side.old.schedule) side.old.raises }
+    ensures { IsSide game.now player (T.content side.new.table)
+        (S.waiting side.new.schedule) side.new.raises }
 {
     while side.schedule.takes() < limit {
         match side.schedule.look() {
@@ -62,10 +64,12 @@ fn attempt<T: MeasureTable, S: Schedule>(
 )
     requires game { IsGame game.now }
     requires limit { limit < 2 ^ 64 - 1 }
-    requires side { IsSide game.now player (T.content side.old.table) (S.waiting side.old.schedule) side.old.raises }
+    requires side { IsSide game.now player (T.content side.old.table)
+        (S.waiting side.old.schedule) side.old.raises }
     requires pending { IsPending (S.waiting side.old.schedule) place }
     requires counted { (S.waiting side.old.schedule).taken < limit }
-    ensures side { IsSide game.now player (T.content side.new.table) (S.waiting side.new.schedule) side.new.raises }
+    ensures side { IsSide game.now player (T.content side.new.table)
+        (S.waiting side.new.schedule) side.new.raises }
     ensures taken { (S.waiting side.old.schedule).taken < (S.waiting side.new.schedule).taken }
 {
     match due_towards(game, player, &side.table, place) {
@@ -82,9 +86,11 @@ pub(crate) fn take_out<T: MeasureTable, S: Schedule>(
     place: u32,
 )
     requires inside { place < length _game.now }
-    requires side { IsSide _game.now _player (T.content side.old.table) (S.waiting side.old.schedule) side.old.raises }
+    requires side { IsSide _game.now _player (T.content side.old.table)
+        (S.waiting side.old.schedule) side.old.raises }
     requires settled { ¬ IsDue _game.now _player (T.content side.old.table).measures place }
-    ensures side { IsSide _game.now _player (T.content side.new.table) (S.waiting side.new.schedule) side.new.raises }
+    ensures side { IsSide _game.now _player (T.content side.new.table)
+        (S.waiting side.new.schedule) side.new.raises }
     ensures table { T.content side.new.table ≡ T.content side.old.table }
 {
     if !side.schedule.is_pending(place) || side.schedule.takes() >= MOST_TAKES {
@@ -105,11 +111,13 @@ fn lift<T: MeasureTable, S: Schedule>(
 )
     requires game { IsGame game.now }
     requires limit { limit < 2 ^ 64 - 1 }
-    requires side { IsSide game.now player (T.content side.old.table) (S.waiting side.old.schedule) side.old.raises }
+    requires side { IsSide game.now player (T.content side.old.table)
+        (S.waiting side.old.schedule) side.old.raises }
     requires pending { IsPending (S.waiting side.old.schedule) place }
     requires due { IsDueTowards game.now player (T.content side.old.table).measures place towards }
     requires counted { (S.waiting side.old.schedule).taken < limit }
-    ensures side { IsSide game.now player (T.content side.new.table) (S.waiting side.new.schedule) side.new.raises }
+    ensures side { IsSide game.now player (T.content side.new.table)
+        (S.waiting side.new.schedule) side.new.raises }
     ensures taken { (S.waiting side.old.schedule).taken < (S.waiting side.new.schedule).taken }
 {
     allowances_are_unique();

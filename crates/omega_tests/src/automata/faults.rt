@@ -1,10 +1,10 @@
 //! An automaton that is put together part by part, and that no text says.
 use crate::rows::assert_row;
 use omega_acc::RawAcc;
-use omega_automaton::{
+use omega_hoa_automaton::{
     Automaton, ByteString, Marks, Numbers, RawAutomaton, Refusal, Seq, automaton_of,
 };
-use omega_raw::{RawEdge, RawEdges, RawItem, RawState, StateName};
+use omega_hoa_syntax::{RawEdge, RawEdges, RawItem, RawState, StateName};
 use std::alloc::Global;
 
 // A start and the acceptance of all runs.
@@ -44,7 +44,11 @@ fn states_with(alloc: Global, targets: &[u32]) -> Result<Seq<RawState>, Refusal>
 }
 
 // An automaton of one state with an edge, in which the start and the edge list these states.
-fn written(alloc: Global, start: &[u32], targets: &[u32]) -> Result<RawAutomaton, Refusal> {
+fn raw_automaton_of(
+    alloc: Global,
+    start: &[u32],
+    targets: &[u32],
+) -> Result<RawAutomaton, Refusal> {
     let version = ByteString::from_slice(alloc, b"v1")?;
     let items = items_with(alloc, start)?;
     let states = states_with(alloc, targets)?;
@@ -64,7 +68,7 @@ fn number_of(answer: Result<Automaton, Refusal>) -> u32 {
 
 // The number of the refusal of that automaton, or 0.
 fn outcome_of_lists(alloc: Global, start: &[u32], targets: &[u32]) -> u32 {
-    match written(alloc, start, targets) {
+    match raw_automaton_of(alloc, start, targets) {
         Ok(raw) => number_of(automaton_of(alloc, raw)),
         Err(refusal) => refusal.number(),
     }

@@ -1,9 +1,9 @@
 //! Graphs by their edges, and small ones whose components, reached states and walks are known by hand.
 ghost use Rattle.std.specs.Prelude.{◌≡◌, ◌≤◌, IfOk, IsTrue};
-ghost use Rattle.omega_components.specs.Graph.{AreEdges, AreStates};
+ghost use Rattle.omega_graph.specs.Graph.{AreEdges, AreStates};
 
 use crate::rows::assert_row;
-use omega_components::{EdgeComponents, Graph, Refusal, Scratch, components, path, reached};
+use omega_graph::{EdgeComponents, Graph, Refusal, Scratch, components, path, reached_flags};
 use std::alloc::Global;
 use std::test::Fail;
 
@@ -162,7 +162,7 @@ fn reached_by(
     if !are_edges(graph, edges) || !are_states(graph, sources) {
         return Err(Refusal::Io);
     }
-    reached(alloc, graph, edges, sources)
+    reached_flags(alloc, graph, edges, sources)
 }
 
 /// Whether these states are reached.

@@ -1,5 +1,5 @@
 //! Automata as they are written.
-use omega_raw::{RawAutomaton, RawEdgeRef, RawItem, RawState, read_raw};
+use omega_hoa_syntax::{RawAutomaton, RawEdgeRef, RawItem, RawState, read_raw};
 use omega_text::{Cursor, Refusal, hoa_tokens};
 use std::alloc::Global;
 

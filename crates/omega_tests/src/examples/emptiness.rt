@@ -1,16 +1,17 @@
 //! Reads an automaton, and searches it for an accepting lasso.
 ghost use Rattle.std.specs.Prelude.{IfOk};
-ghost use Rattle.omega_automaton.specs.Automaton.{Description};
-ghost use Rattle.omega_runs.specs.Verdict.{IsVerdict};
+ghost use Rattle.omega_hoa_automaton.specs.Automaton.{Description};
+ghost use Rattle.omega_lang_runs.specs.Verdict.{IsVerdict};
 ghost use Rattle.omega_hoa.specs.Alone.{IsAutomatonText};
 
 use omega_hoa::{Refusal, read_one};
-use omega_lasso_search::{Verdict, lasso};
+use omega_lang_lasso_search::{Verdict, lasso};
 use std::alloc::Global;
 
 /// Whether the automaton of a text in the Hanoi format accepts nothing, or a lasso that it accepts.
 pub fn lasso_in(alloc: Global, text: &str) -> Result<Verdict, Refusal>
-    ensures verdict { IfOk result (λ verdict. (a : Description) × IsAutomatonText text.now a × IsVerdict a verdict) }
+    ensures verdict { IfOk result
+        (λ verdict. (a : Description) × IsAutomatonText text.now a × IsVerdict a verdict) }
 {
     let automaton = read_one(alloc, text.as_bytes())?;
     lasso(alloc, &automaton)

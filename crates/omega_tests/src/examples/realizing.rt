@@ -1,14 +1,14 @@
 //! Reads a specification, and asks for a controller.
 ghost use Rattle.std.specs.Prelude.{ℕ, List, IfOk};
-ghost use Rattle.omega_automaton.specs.Automaton.{Description};
-ghost use Rattle.omega_controllable.specs.Controllable.{IsControlled};
+ghost use Rattle.omega_hoa_automaton.specs.Automaton.{Description};
+ghost use Rattle.omega_synth_controllers.specs.Controllable.{IsControlled};
 ghost use Rattle.omega_hoa.specs.Alone.{IsAutomatonText};
-ghost use Rattle.omega_realize.specs.Realizing.{IsRealizability};
+ghost use Rattle.omega_synth_realize.specs.Realizing.{IsRealizability};
 
-use omega_automaton::Automaton;
-use omega_controllable::controlled_propositions;
 use omega_hoa::{Refusal, read_one};
-use omega_realize::{Realizability, realize};
+use omega_hoa_automaton::Automaton;
+use omega_synth_controllers::controlled_propositions;
+use omega_synth_realize::{Realizability, realize};
 use std::alloc::Global;
 
 /// Returns a controller for the automaton of a text in the Hanoi format, or a counter-strategy, where the system
@@ -22,8 +22,8 @@ pub fn realizability_in(alloc: Global, text: &str) -> Result<Realizability, Refu
 }
 
 fn realizability_of(alloc: Global, automaton: &Automaton) -> Result<Realizability, Refusal>
-    ensures realizability { IfOk result (λ answer. (controlled : List ℕ) × IsControlled automaton.now controlled
-        × IsRealizability automaton.now controlled answer) }
+    ensures realizability { IfOk result (λ answer. (controlled : List ℕ)
+        × IsControlled automaton.now controlled × IsRealizability automaton.now controlled answer) }
 {
     let controlled = controlled_propositions(alloc, automaton)?;
     realize(alloc, automaton, controlled.as_slice())

@@ -2,9 +2,9 @@
 ghost use Rattle.std.specs.Prelude.{◌<◌, length, IfOk, OnOk};
 ghost use Rattle.omega_solve.specs.Headline.{IsExact};
 
-use omega_budget::{Found, NoObserver, Reordered};
 use omega_game::{ForwardGame, GameBuilder, Player, Refusal};
 use omega_solve::MOST_LIFTS;
+use omega_solve::budget::{Found, NoObserver, Reordered};
 use std::alloc::Global;
 
 /// Returns the game of `examples/three_nodes.pg`: player 0 moves from node 0 to node 1 or 2, and player 1 back to node

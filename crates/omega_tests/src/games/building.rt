@@ -1,7 +1,7 @@
 //! A game whose nodes are handed over one by one.
 ghost use Rattle.std.specs.Prelude.{◌<◌, length, OnOk};
 
-use omega_parity_game::{Game, GameBuilder, Player, Refusal};
+use omega_game_values::{Game, GameBuilder, Player, Refusal};
 use std::alloc::Global;
 
 /// Gives the last node a name of one letter, or answers [Refusal::Io] if no node was added.

@@ -2,8 +2,8 @@
 ghost use Rattle.std.specs.Prelude.{◌≡◌, ◌<◌, length, IfOk};
 
 use crate::rows::assert_row;
+use omega_game_values::{Game, GameBuilder, Player, Refusal};
 use omega_measure::{MeasureTable, PackedTable, PlainTable};
-use omega_parity_game::{Game, GameBuilder, Player, Refusal};
 use std::alloc::Global;
 use std::cmp::Ordering;
 use std::cmp::Ordering::{Equal, Greater, Less};
@@ -67,7 +67,7 @@ fn follows<T: MeasureTable>(table: &mut T, places: u32, steps: &[Step]) -> bool
 }
 
 /// Returns a new table, and how many places it has.
-fn prepared<T: MeasureTable>(
+fn prepared_table<T: MeasureTable>(
     alloc: Global,
     game: &Game,
     player: Player,
@@ -84,7 +84,7 @@ fn follows_new<T: MeasureTable>(
     player: Player,
     steps: &[Step],
 ) -> bool {
-    match prepared::<T>(alloc, game, player) {
+    match prepared_table::<T>(alloc, game, player) {
         Ok((mut table, places)) => follows(&mut table, places, steps),
         Err(_) => false,
     }

@@ -244,12 +244,12 @@ fn is_reported(refusal: Refusal, number: u32, name: &str, at: Option<usize>) -> 
     refusal.number() == number && refusal.name() == name && refusal.at() == at
 }
 
-fn shown(alloc: Global, refusal: Refusal) -> Result<String, AllocError> {
+fn text_of_refusal(alloc: Global, refusal: Refusal) -> Result<String, AllocError> {
     format!(in alloc; "{refusal}")
 }
 
 fn is_shown(alloc: Global, refusal: Refusal, want: &str) -> bool {
-    match shown(alloc, refusal) {
+    match text_of_refusal(alloc, refusal) {
         Ok(text) => text.as_str() == want,
         Err(_) => false,
     }

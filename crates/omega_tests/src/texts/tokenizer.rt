@@ -73,7 +73,7 @@ fn count_after(count: usize, settled: &Settled) -> usize {
 }
 
 // What the end of a text settles; none if a byte does not settle as many tokens as its count says, where it has one.
-fn finished<T: ByteTokenizer + Drop>(text: &[u8], counts: &[usize]) -> Option<Settled> {
+fn last_settled<T: ByteTokenizer + Drop>(text: &[u8], counts: &[usize]) -> Option<Settled> {
     let mut tokenizer = T::new();
     let mut count = 0usize;
     for (place, byte) in text.iter().enumerate() {
@@ -89,7 +89,7 @@ fn finished<T: ByteTokenizer + Drop>(text: &[u8], counts: &[usize]) -> Option<Se
 #[test]
 fn each_token_is_settled_at_its_byte(rt: HostRuntime) {
     for (row, (text, counts)) in SETTLED.iter().enumerate() {
-        let is_read = finished::<HoaTokenizer>(text.as_bytes(), counts).is_some();
+        let is_read = last_settled::<HoaTokenizer>(text.as_bytes(), counts).is_some();
         assert_row(&rt, row, is_read && text.len() == counts.len());
     }
 }
@@ -148,7 +148,7 @@ fn number_and_place(fault: TextFault) -> (u32, usize) {
 
 // Whether the end of a text settles this token and this fault, and no other token.
 fn is_last(text: &[u8], part: Option<Part>, fault: Option<(u32, usize)>) -> bool {
-    match finished::<HoaTokenizer>(text, &[]) {
+    match last_settled::<HoaTokenizer>(text, &[]) {
         Some(settled) => {
             settled.first.map(part_of) == part
                 && settled.second.is_none()

@@ -6,7 +6,8 @@ use Rattle.omega_text.specs.hoa.Forms.{IsBlank, IsUnit, Spells}
 
 -- no unit is a longer front of the text and what follows it
 abbrev pub IsLongest : List ℕ → List ℕ → Type 0
-IsLongest text rest = (more following : List ℕ) (sort : Option HoaKind) → rest ≡ more ++ following → 0 < length more → IsUnit sort (text ++ more) → ⊥
+IsLongest text rest = (more following : List ℕ) (sort : Option HoaKind) → rest ≡ more ++ following
+    → 0 < length more → IsUnit sort (text ++ more) → ⊥
 
 -- white bytes and comments, in any number
 pub data IsGap : List ℕ → Type 0 where

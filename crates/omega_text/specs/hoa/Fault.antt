@@ -11,7 +11,8 @@ use Rattle.omega_text.specs.Forms.{IsDigits}
 -- there are bytes, and no front of them is a unit: neither a token's form nor a white byte nor a comment
 pub record BeginsNoUnit (bytes : List ℕ) : Type 0 where
   pub some : 0 < length bytes
-  pub none : (front following : List ℕ) (sort : Option HoaKind) → bytes ≡ front ++ following → IsUnit sort front → ⊥
+  pub none : (front following : List ℕ) (sort : Option HoaKind) → bytes ≡ front ++ following
+      → IsUnit sort front → ⊥
 
 -- the longest unit that the bytes begin with is digits that are no number
 pub record BeginsWrongDigits (bytes : List ℕ) : Type 0 where

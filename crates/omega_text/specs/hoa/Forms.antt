@@ -1,11 +1,16 @@
 -- The forms of a Hanoi text's tokens, and of what is between them.
-use Rattle.std.specs.Prelude.{◌≡◌, ◌≢◌, ℕ, suc, ◌<◌, ◌≤◌, true, ◌⊎◌, Option, Some, None, List, [], ◌∷◌, ◌++◌, length, slice_index, codes, decimal}
+use Rattle.std.specs.Prelude.{◌≡◌, ◌≢◌, ℕ, suc, ◌<◌, ◌≤◌, true, ◌⊎◌, Option, Some, None}
+use Rattle.std.specs.Prelude.{List, [], ◌∷◌, ◌++◌, length, slice_index, codes, decimal}
 use Rattle.std.specs.List.{AllPass}
 use Rattle.omega_text.specs.Limits.{most_number}
 use Rattle.omega_text.specs.Bytes.{is_white, is_word_byte}
 use Rattle.omega_text.specs.Forms.{IsDigits, IsWord}
 use Rattle.omega_text.specs.declared.hoa.kind.HoaKind.{HoaKind}
-use Rattle.omega_text.specs.declared.hoa.kind.HoaKind.TheVariants.{Identifier, HeaderName, AliasName, True, False, Int, String, Body, End, Abort, Not, And, Or, OpenParenthesis, CloseParenthesis, OpenBracket, CloseBracket, OpenBrace, CloseBrace}
+use Rattle.omega_text.specs.declared.hoa.kind.HoaKind.TheVariants.{Identifier, HeaderName, AliasName, True}
+use Rattle.omega_text.specs.declared.hoa.kind.HoaKind.TheVariants.{False, Int, String, Body, End, Abort, Not}
+use Rattle.omega_text.specs.declared.hoa.kind.HoaKind.TheVariants.{And, Or, OpenParenthesis, CloseParenthesis}
+use Rattle.omega_text.specs.declared.hoa.kind.HoaKind.TheVariants.{OpenBracket, CloseBracket, OpenBrace}
+use Rattle.omega_text.specs.declared.hoa.kind.HoaKind.TheVariants.{CloseBrace}
 
 -- a word and a colon
 abbrev pub IsHeader : List ℕ → Type 0
@@ -18,7 +23,8 @@ IsAlias text = (name : List ℕ) × (text ≡ 64 ∷ name) × (0 < length name) 
 -- what may be between two quotes: a backslash takes the next byte with it, and no other quote is there
 pub data IsQuotable : List ℕ → Type 0 where
   empty : IsQuotable []
-  plain : (byte : ℕ) (rest : List ℕ) → byte ≢ 34 → byte ≢ 92 → IsQuotable rest → IsQuotable (byte ∷ rest)
+  plain : (byte : ℕ) (rest : List ℕ) → byte ≢ 34 → byte ≢ 92 → IsQuotable rest
+      → IsQuotable (byte ∷ rest)
   escaped : (byte : ℕ) (rest : List ℕ) → IsQuotable rest → IsQuotable (92 ∷ byte ∷ rest)
 
 -- bytes between two quotes
@@ -62,8 +68,10 @@ pub record IsNoMark (byte next : ℕ) : Type 0 where
 pub data Closes : ℕ → List ℕ → Type 0 where
   closed : Closes 0 []
   close : (depth : ℕ) (rest : List ℕ) → Closes depth rest → Closes (suc depth) (42 ∷ 47 ∷ rest)
-  nest : (depth : ℕ) (rest : List ℕ) → Closes (suc (suc depth)) rest → Closes (suc depth) (47 ∷ 42 ∷ rest)
-  other : (depth byte : ℕ) (rest : List ℕ) → IsNoMark byte (slice_index rest 0) → Closes (suc depth) rest → Closes (suc depth) (byte ∷ rest)
+  nest : (depth : ℕ) (rest : List ℕ) → Closes (suc (suc depth)) rest
+      → Closes (suc depth) (47 ∷ 42 ∷ rest)
+  other : (depth byte : ℕ) (rest : List ℕ) → IsNoMark byte (slice_index rest 0)
+      → Closes (suc depth) rest → Closes (suc depth) (byte ∷ rest)
 
 -- a comment with the comments inside it
 abbrev pub IsComment : List ℕ → Type 0

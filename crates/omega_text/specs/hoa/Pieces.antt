@@ -1,5 +1,6 @@
 -- What is settled of a text that comes byte by byte: it stays so however the text goes on.
-use Rattle.std.specs.Prelude.{◌≡◌, ℕ, ◌+◌, ◌-◌, ◌<◌, ◌≤◌, ◌^◌, Bool, true, false, Option, Some, None, List, [], ◌∷◌, ◌++◌, length, take, drop}
+use Rattle.std.specs.Prelude.{◌≡◌, ℕ, ◌+◌, ◌-◌, ◌<◌, ◌≤◌, ◌^◌, Bool, true, false, Option}
+use Rattle.std.specs.Prelude.{Some, None, List, [], ◌∷◌, ◌++◌, length, take, drop}
 use Rattle.omega_text.specs.Cut.{Cuts, IsCut}
 use Rattle.omega_text.specs.Lexeme.{Lexeme}
 use Rattle.omega_text.specs.declared.hoa.kind.HoaKind.{HoaKind}
@@ -15,7 +16,12 @@ use Rattle.omega_text.specs.hoa.Laws.{is_closed}
 
 -- a placed token of a text, with its bytes
 abbrev pub lexeme_in : List ℕ → PlacedToken → Lexeme HoaKind
-lexeme_in source token = record { kind = token.kind; text = take (token.span.end - token.span.start) (drop token.span.start source); value = token.value; span = token.span }
+lexeme_in source token = record {
+  kind = token.kind;
+  text = take (token.span.end - token.span.start) (drop token.span.start source);
+  value = token.value;
+  span = token.span;
+}
 
 -- the tokens of a text that may have been settled
 abbrev pub lexemes_in : List ℕ → Option PlacedToken → List (Lexeme HoaKind)
@@ -54,7 +60,8 @@ pub record Settles (seen : List ℕ) (lexemes : List (Lexeme HoaKind)) : Type 0 
   pub goes_on : GoesOn pending
 
 -- the text has this fault after these tokens however it goes on
-pub record SettlesFault (seen : List ℕ) (lexemes : List (Lexeme HoaKind)) (fault : TextFault) : Type 0 where
+pub record SettlesFault (seen : List ℕ) (lexemes : List (Lexeme HoaKind))
+    (fault : TextFault) : Type 0 where
   pub end : ℕ
   pub cuts : (rest : List ℕ) → Cuts hoa_format (seen ++ rest) 0 lexemes end
   pub faults : (rest : List ℕ) → HasFaultFrom (seen ++ rest) end fault
@@ -65,7 +72,8 @@ IsSettled None seen lexemes = Settles seen lexemes
 IsSettled (Some fault) seen lexemes = SettlesFault seen lexemes fault
 
 -- the text has this fault after these tokens
-pub record FaultsAfter (source : List ℕ) (lexemes : List (Lexeme HoaKind)) (fault : TextFault) : Type 0 where
+pub record FaultsAfter (source : List ℕ) (lexemes : List (Lexeme HoaKind))
+    (fault : TextFault) : Type 0 where
   pub end : ℕ
   pub cuts : Cuts hoa_format source 0 lexemes end
   pub faults : HasFaultFrom source end fault
@@ -100,7 +108,8 @@ pub record IsPlain (settled : Settled) : Type 0 where
 
 -- after these tokens, a mark or a fault is settled by the next byte
 abbrev pub StopsBefore : List ℕ → List (Lexeme HoaKind) → ℕ → Type 0
-StopsBefore seen lexemes byte = (settled : Settled) × IsSettled settled.fault (seen ++ byte ∷ []) (lexemes ++ settled_lexemes (seen ++ byte ∷ []) settled) × (IsPlain settled → ⊥)
+StopsBefore seen lexemes byte = (settled : Settled) × IsSettled settled.fault (seen ++ byte ∷ [])
+    (lexemes ++ settled_lexemes (seen ++ byte ∷ []) settled) × (IsPlain settled → ⊥)
 
 -- what is so of bytes that a tokenizer may have read and tokens that it may have settled of them
 abbrev pub Reading : Type 1
@@ -108,16 +117,19 @@ Reading = List ℕ → List (Lexeme HoaKind) → Type 0
 
 -- some bytes were read, and after them places can be counted further by this number
 abbrev pub HasRoom : Reading → ℕ → Type 0
-HasRoom IsRead count = (seen : List ℕ) × (lexemes : List (Lexeme HoaKind)) × IsRead seen lexemes × (length seen + count < 2 ^ 64)
+HasRoom IsRead count = (seen : List ℕ) × (lexemes : List (Lexeme HoaKind)) × IsRead seen lexemes
+    × (length seen + count < 2 ^ 64)
 
 -- these bytes more were read, and the tokens that they settled are no marks
-pub record HasPassed (IsRead : Reading) (seen : List ℕ) (lexemes : List (Lexeme HoaKind)) (bytes : List ℕ) : Type 0 where
+pub record HasPassed (IsRead : Reading) (seen : List ℕ) (lexemes : List (Lexeme HoaKind))
+    (bytes : List ℕ) : Type 0 where
   pub passed : List (Lexeme HoaKind)
   pub read : IsRead (seen ++ bytes) (lexemes ++ passed)
   pub plain : NoneMarks passed
 
 -- the text `other` differs from `one` only before a place, where whole tokens of each end however both go on
-pub record DiffersBefore (place : ℕ) (one : List ℕ) (front : List (Lexeme HoaKind)) (other : List ℕ) (another : List (Lexeme HoaKind)) : Type 0 where
+pub record DiffersBefore (place : ℕ) (one : List ℕ) (front : List (Lexeme HoaKind)) (other : List ℕ)
+    (another : List (Lexeme HoaKind)) : Type 0 where
   pub within : place ≤ length one
   pub long : length other ≡ length one
   pub same : drop place one ≡ drop place other

@@ -7,4 +7,8 @@ use Rattle.omega_text.specs.declared.pg.kind.PgKind.{PgKind}
 
 -- tokens, white space to the end, and faults
 abbrev pub pg_format : TextFormat PgKind
-pg_format = record { follows = Follows; ends = λ source from. IsGap source from (length source); faults = HasFaultFrom }
+pg_format = record {
+  follows = Follows;
+  ends = λ source from. IsGap source from (length source);
+  faults = HasFaultFrom;
+}

@@ -1,11 +1,13 @@
 -- The forms of a game text's tokens, and which of them are tokens.
-use Rattle.std.specs.Prelude.{◌≡◌, ℕ, ◌<◌, ◌≤◌, Bool, not, ◌&&◌, ◌==◌, ◌⊎◌, List, [], ◌∷◌, ◌++◌, length, take, codes, decimal}
+use Rattle.std.specs.Prelude.{◌≡◌, ℕ, ◌<◌, ◌≤◌, Bool, not, ◌&&◌, ◌==◌, ◌⊎◌}
+use Rattle.std.specs.Prelude.{List, [], ◌∷◌, ◌++◌, length, take, codes, decimal}
 use Rattle.std.specs.Int.{is_in_range}
 use Rattle.std.specs.List.{AllPass}
 use Rattle.omega_text.specs.Forms.{IsDigits, IsWord}
 use Rattle.omega_text.specs.Limits.{most_number}
 use Rattle.omega_text.specs.declared.pg.kind.PgKind.{PgKind}
-use Rattle.omega_text.specs.declared.pg.kind.PgKind.TheVariants.{Comma, Name, Number, Parity, ParitySol, Semicolon}
+use Rattle.omega_text.specs.declared.pg.kind.PgKind.TheVariants.{Comma, Name, Number, Parity}
+use Rattle.omega_text.specs.declared.pg.kind.PgKind.TheVariants.{ParitySol, Semicolon}
 
 -- a semicolon or a comma
 abbrev pub IsSign : List ℕ → Type 0

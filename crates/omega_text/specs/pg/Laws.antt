@@ -1,5 +1,6 @@
 -- Laws of every game text and its cut, and how written tokens are cut.
-use Rattle.std.specs.Prelude.{◌≡◌, ℕ, ◌+◌, ◌<◌, ◌≤◌, false, ◌↔◌, List, ◌++◌, length, drop, slice_index, decimal}
+use Rattle.std.specs.Prelude.{◌≡◌, ℕ, ◌+◌, ◌<◌, ◌≤◌, false, ◌↔◌, List}
+use Rattle.std.specs.Prelude.{◌++◌, length, drop, slice_index, decimal}
 use Rattle.std.specs.List.{AllPass}
 use Rattle.std.specs.Str.Parse.{digits_value}
 use Rattle.omega_text.specs.Bytes.{is_digit, is_white, is_word_byte}
@@ -13,13 +14,14 @@ use Rattle.omega_text.specs.declared.pg.kind.PgKind.TheVariants.{Number}
 
 -- a text is a token of at most one kind and value, and no value is above the greatest number
 abbrev pub SpellingsAreOne : Type 0
-SpellingsAreOne = (text : List ℕ) (one other : PgKind) (value another : ℕ)
-    → Spells one value text → Spells other another text → (one ≡ other) × (value ≡ another) × (value ≤ most_number)
+SpellingsAreOne = (text : List ℕ) (one other : PgKind) (value another : ℕ) → Spells one value text
+    → Spells other another text → (one ≡ other) × (value ≡ another) × (value ≤ most_number)
 
 -- digits are a number exactly if they are `0` or begin with 1 to 9, and their value is at most the greatest number
 abbrev pub NumbersArePlain : Type 0
 NumbersArePlain = (text : List ℕ) (value : ℕ) → Spells Number value text
-    ↔ (IsDigits text × (slice_index text 0 ≡ 48 → length text ≡ 1) × (digits_value 10 text ≡ value) × (value ≤ most_number))
+    ↔ (IsDigits text × (slice_index text 0 ≡ 48 → length text ≡ 1) × (digits_value 10 text ≡ value)
+    × (value ≤ most_number))
 
 -- a numeral is the longest form before what is no digit
 abbrev pub NumbersAreLongest : Type 0
@@ -48,4 +50,5 @@ TokensFollow = (source gap text rest : List ℕ) (from : ℕ) (kind : PgKind) (v
 
 -- white space to the end of the text is a gap
 abbrev pub EndsAreGaps : Type 0
-EndsAreGaps = (source : List ℕ) (from : ℕ) → from ≤ length source → AllPass is_white (drop from source) → IsGap source from (length source)
+EndsAreGaps = (source : List ℕ) (from : ℕ) → from ≤ length source
+    → AllPass is_white (drop from source) → IsGap source from (length source)

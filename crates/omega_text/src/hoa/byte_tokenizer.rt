@@ -1,6 +1,8 @@
-ghost use Rattle.std.specs.Prelude.{◌≡◌, ◌<◌, ◌-◌, ◌≤◌, [], ◌∷◌, ◌++◌, false, IfSome, None, drop, length, slice_index, take};
+ghost use Rattle.std.specs.Prelude.{◌≡◌, ◌<◌, ◌-◌, ◌≤◌, [], ◌∷◌, ◌++◌, false};
+ghost use Rattle.std.specs.Prelude.{IfSome, None, drop, length, slice_index, take};
 ghost use Rattle.omega_text.specs.hoa.Laws.{is_closed};
-ghost use Rattle.omega_text.specs.hoa.Pieces.{DiffersBefore, EndsClosed, HasPassed, HasRoom, IsCutUpToFault, IsSettled, StopsBefore, settled_lexemes};
+ghost use Rattle.omega_text.specs.hoa.Pieces.{DiffersBefore, EndsClosed, HasPassed, HasRoom, IsCutUpToFault};
+ghost use Rattle.omega_text.specs.hoa.Pieces.{IsSettled, StopsBefore, settled_lexemes};
 
 use super::placed::Settled;
 
@@ -41,10 +43,12 @@ pub trait ByteTokenizer {
     /// Reads `byte`, and returns what it settles.
     fn step(&mut self, byte: u8) -> Settled
         requires room { HasRoom (read self.old) 1 }
-        ensures reads { (seen : List ℕ) (lexemes : List (Lexeme HoaKind)) → read self.old seen lexemes
-            → read self.new (seen ++ byte ∷ []) (lexemes ++ settled_lexemes (seen ++ byte ∷ []) result) }
-        ensures settles { (seen : List ℕ) (lexemes : List (Lexeme HoaKind)) → read self.old seen lexemes
-            → IsSettled result.fault (seen ++ byte ∷ []) (lexemes ++ settled_lexemes (seen ++ byte ∷ []) result) }
+        ensures reads { (seen : List ℕ) (lexemes : List (Lexeme HoaKind))
+            → read self.old seen lexemes → read self.new (seen ++ byte ∷ [])
+            (lexemes ++ settled_lexemes (seen ++ byte ∷ []) result) }
+        ensures settles { (seen : List ℕ) (lexemes : List (Lexeme HoaKind))
+            → read self.old seen lexemes → IsSettled result.fault (seen ++ byte ∷ [])
+            (lexemes ++ settled_lexemes (seen ++ byte ∷ []) result) }
         ensures fault { result.fault ≡ fault self.new };
 
     /// Reads bytes from `from` on, up to one that settles a mark or a fault. Returns the place of that byte, or the
@@ -65,10 +69,12 @@ pub trait ByteTokenizer {
 
     /// Returns what is settled if the text ends here: at most one token, and none that its own last byte settles.
     fn finish(&self) -> Settled
-        ensures finishes { (seen : List ℕ) (lexemes : List (Lexeme HoaKind)) → read self.now seen lexemes
+        ensures finishes { (seen : List ℕ) (lexemes : List (Lexeme HoaKind))
+            → read self.now seen lexemes
             → IsCutUpToFault result.fault seen (lexemes ++ settled_lexemes seen result) }
         ensures second { result.second ≡ None }
-        ensures unclosed { (seen : List ℕ) (lexemes : List (Lexeme HoaKind)) → read self.now seen lexemes
+        ensures unclosed { (seen : List ℕ) (lexemes : List (Lexeme HoaKind))
+            → read self.now seen lexemes
             → IfSome result.first (λ token. is_closed token.kind ≡ false) };
 
     /// States that what was settled so far is settled however the text goes on. An implementation proves this law.
@@ -79,7 +85,8 @@ pub trait ByteTokenizer {
     /// States that tokens are forgotten once they are whole: if one text was read, so was each that differs from it
     /// only before a place where whole tokens of both end. An implementation proves this law.
     fn read_forgets_whole_tokens(&self)
-        ensures { fault self.now ≡ None → (place : ℕ) (one other : List ℕ) (front another rest : List (Lexeme HoaKind))
+        ensures { fault self.now ≡ None
+            → (place : ℕ) (one other : List ℕ) (front another rest : List (Lexeme HoaKind))
             → DiffersBefore place one front other another
             → read self.now one (front ++ rest) → read self.now other (another ++ rest) };
 }

@@ -1,6 +1,8 @@
 //! Laws of every Hanoi text and its cut, for callers' proofs. Each function does nothing and states one law.
 
-ghost use Rattle.omega_text.specs.hoa.Laws.{AliasNamesAreLongest, ClosedAreLongest, NumbersAreLongest, NumbersArePlain, SpellingsAreOne, TokensFollow, WhiteIsGap, WordsAreLongest};
+ghost use Rattle.omega_text.specs.hoa.Laws.{AliasNamesAreLongest, ClosedAreLongest};
+ghost use Rattle.omega_text.specs.hoa.Laws.{NumbersAreLongest, NumbersArePlain, SpellingsAreOne};
+ghost use Rattle.omega_text.specs.hoa.Laws.{TokensFollow, WhiteIsGap, WordsAreLongest};
 
 /// States that a text is a token of at most one kind and value, and that the value is at most `MOST_NUMBER`.
 pub fn spellings_are_one()

@@ -1,6 +1,11 @@
 ghost use Rattle.std.specs.Prelude.{◌≡◌, ◌^◌, ◌-◌, ◌<◌, length};
 ghost use Rattle.omega_text.specs.hoa.Forms.{spelling};
-ghost use Rattle.omega_text.specs.private.hoa.scanning.Modes.{alias_mode, bracket_kind, closed_mode, comment_mode, dash_mode, dashes_mode, digits_mode, first_mode, letter_kind, mark_mode, mode_in_mark, next_mode, quoted_mode, sign_kind, slash_mode, slashed_mode, star_mode, whole, word_mode};
+ghost use Rattle.omega_text.specs.private.hoa.scanning.Modes.{alias_mode, bracket_kind, closed_mode};
+ghost use Rattle.omega_text.specs.private.hoa.scanning.Modes.{comment_mode, dash_mode, dashes_mode};
+ghost use Rattle.omega_text.specs.private.hoa.scanning.Modes.{digits_mode, first_mode, letter_kind};
+ghost use Rattle.omega_text.specs.private.hoa.scanning.Modes.{mark_mode, mode_in_mark, next_mode};
+ghost use Rattle.omega_text.specs.private.hoa.scanning.Modes.{quoted_mode, sign_kind, slash_mode};
+ghost use Rattle.omega_text.specs.private.hoa.scanning.Modes.{slashed_mode, star_mode, whole, word_mode};
 
 use super::kept_mode::KeptMode;
 use super::kind::{HoaKind, spelling};
@@ -302,14 +307,14 @@ pub(super) fn mark_byte_mode(kind: HoaKind, count: usize, byte: u8) -> Option<Ke
 {
     let text = spelling(kind);
     if byte == text[count] {
-        Some(marked(kind, count + 1))
+        Some(mode_in_mark_of(kind, count + 1))
     } else {
         None
     }
 }
 
 /// Returns the mode after the first `count` bytes of the mark `kind`.
-fn marked(kind: HoaKind, count: usize) -> KeptMode
+fn mode_in_mark_of(kind: HoaKind, count: usize) -> KeptMode
     ensures { result ≡ mode_in_mark kind count }
 {
     if count == spelling(kind).len() {

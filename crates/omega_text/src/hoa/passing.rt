@@ -1,9 +1,11 @@
 //! Reads bytes that settle neither a mark nor a fault all at once.
 
-ghost use Rattle.std.specs.Prelude.{◌≡◌, ◌+◌, ◌-◌, ◌<◌, ◌≤◌, ◌^◌, ◌∷◌, ◌↔◌, [], length, slice_index, take, true, IfNone, IfSome, IsTrue};
+ghost use Rattle.std.specs.Prelude.{◌≡◌, ◌+◌, ◌-◌, ◌<◌, ◌≤◌, ◌^◌, ◌∷◌, ◌↔◌, [], length};
+ghost use Rattle.std.specs.Prelude.{slice_index, take, true, IfNone, IfSome, IsTrue};
 ghost use Rattle.omega_text.specs.Bytes.{is_digit, is_letter};
 ghost use Rattle.omega_text.specs.hoa.Pieces.{IsNoneMark, IsPlain};
-ghost use Rattle.omega_text.specs.private.hoa.scanning.Passing.{EndsWord, IsCourse, IsOnWayFor, IsSimple, IsSingle, IsStop, Passes, PassesAs};
+ghost use Rattle.omega_text.specs.private.hoa.scanning.Passing.{EndsWord, IsCourse, IsOnWayFor, IsSimple};
+ghost use Rattle.omega_text.specs.private.hoa.scanning.Passing.{IsSingle, IsStop, Passes, PassesAs};
 ghost use Rattle.omega_text.specs.private.hoa.scanning.Reading.{IsOnWay};
 ghost use Rattle.omega_text.specs.private.hoa.scanning.Unfinished.{fresh};
 ghost use Rattle.omega_text.specs.declared.hoa.passing.Simple.TheVariants.{Begun};

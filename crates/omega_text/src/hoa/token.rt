@@ -22,11 +22,13 @@ use crate::token::{Span, Token};
 #[inline(always)]
 pub fn next_hoa_token(source: &[u8], at: usize) -> Result<Option<Token<'_, HoaKind>>, TextFault>
     requires { at ≤ length source.now }
-    ensures token { IfOk result (λ found. IfSome found (λ token. Follows source.now at (lexeme_of token))) }
+    ensures token { IfOk result
+        (λ found. IfSome found (λ token. Follows source.now at (lexeme_of token))) }
     ensures end { IfOk result (λ found. IfNone found (Ends source.now at)) }
     ensures fault { IfErr result (HasFaultFrom source.now at) }
     ensures lexical { IfErr result IsLexical }
-    ensures progress { IfOk result (λ found. IfSome found (λ token. IsPartAfter source.now at token.span)) }
+    ensures progress { IfOk result
+        (λ found. IfSome found (λ token. IsPartAfter source.now at token.span)) }
 {
     match plain_hoa_token(source, at) {
         Some(token) => Ok(Some(token)),
@@ -61,11 +63,13 @@ pub(super) fn plain_hoa_token(source: &[u8], at: usize) -> Option<Token<'_, HoaK
 #[inline(always)]
 fn next_later(source: &[u8], at: usize) -> Result<Option<Token<'_, HoaKind>>, TextFault>
     requires { at ≤ length source.now }
-    ensures token { IfOk result (λ found. IfSome found (λ token. Follows source.now at (lexeme_of token))) }
+    ensures token { IfOk result
+        (λ found. IfSome found (λ token. Follows source.now at (lexeme_of token))) }
     ensures end { IfOk result (λ found. IfNone found (Ends source.now at)) }
     ensures fault { IfErr result (HasFaultFrom source.now at) }
     ensures lexical { IfErr result IsLexical }
-    ensures progress { IfOk result (λ found. IfSome found (λ token. IsPartAfter source.now at token.span)) }
+    ensures progress { IfOk result
+        (λ found. IfSome found (λ token. IsPartAfter source.now at token.span)) }
 {
     match next_after(source, at) {
         Ok(found) => Ok(found),
@@ -77,11 +81,13 @@ fn next_later(source: &[u8], at: usize) -> Result<Option<Token<'_, HoaKind>>, Te
 #[inline(never)]
 fn next_after(source: &[u8], at: usize) -> Result<Option<Token<'_, HoaKind>>, TextFault>
     requires { at ≤ length source.now }
-    ensures token { IfOk result (λ found. IfSome found (λ token. Follows source.now at (lexeme_of token))) }
+    ensures token { IfOk result
+        (λ found. IfSome found (λ token. Follows source.now at (lexeme_of token))) }
     ensures end { IfOk result (λ found. IfNone found (Ends source.now at)) }
     ensures fault { IfErr result (HasFaultFrom source.now at) }
     ensures lexical { IfErr result IsLexical }
-    ensures progress { IfOk result (λ found. IfSome found (λ token. IsPartAfter source.now at token.span)) }
+    ensures progress { IfOk result
+        (λ found. IfSome found (λ token. IsPartAfter source.now at token.span)) }
 {
     let mut start = at;
     while start < source.len() {

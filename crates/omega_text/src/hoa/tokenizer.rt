@@ -50,7 +50,7 @@ impl ByteTokenizer for HoaTokenizer {
         let place = self.place;
         self.place = place + 1;
         match self.fault {
-            Some(fault) => settled(None, None, Some(fault)),
+            Some(fault) => settled_tokens(None, None, Some(fault)),
             None => {
                 let (pending, settled) = read_byte(self.pending, place, byte);
                 self.pending = pending;
@@ -74,7 +74,7 @@ impl ByteTokenizer for HoaTokenizer {
 
     fn finish(&self) -> Settled {
         match self.fault {
-            Some(fault) => settled(None, None, Some(fault)),
+            Some(fault) => settled_tokens(None, None, Some(fault)),
             None => end_of_text(self.pending, self.place),
         }
     }
@@ -85,7 +85,7 @@ impl ByteTokenizer for HoaTokenizer {
 }
 
 #[inline(always)]
-fn settled(
+fn settled_tokens(
     first: Option<PlacedToken>,
     second: Option<PlacedToken>,
     fault: Option<TextFault>,
@@ -105,13 +105,14 @@ fn settled(
 #[inline(always)]
 pub(super) fn read_byte(pending: Pending, place: usize, byte: u8) -> (Pending, Settled)
     requires { IsOnWay pending place }
-    ensures { (seen : List ℕ) (lexemes : List (Lexeme HoaKind)) → place ≡ length seen → IsAt Any seen lexemes pending
-        → IsKept result.1.fault (seen ++ byte ∷ []) (lexemes ++ settled_lexemes (seen ++ byte ∷ []) result.1) result.0 }
+    ensures { (seen : List ℕ) (lexemes : List (Lexeme HoaKind)) → place ≡ length seen
+        → IsAt Any seen lexemes pending → IsKept result.1.fault (seen ++ byte ∷ [])
+        (lexemes ++ settled_lexemes (seen ++ byte ∷ []) result.1) result.0 }
 {
     match pending.mode.next(byte) {
         Some(next) => {
             let (after, token) = pending.grow(next, byte, place + 1);
-            (after, settled(None, token, None))
+            (after, settled_tokens(None, token, None))
         }
         None => end_unit(pending, place, byte),
     }
@@ -122,20 +123,20 @@ pub(super) fn read_byte(pending: Pending, place: usize, byte: u8) -> (Pending, S
 fn end_unit(pending: Pending, place: usize, byte: u8) -> (Pending, Settled)
     requires { place < 2 ^ 64 - 1 }
     ensures { (seen : List ℕ) (lexemes : List (Lexeme HoaKind)) → place ≡ length seen
-        → IsAt Any seen lexemes pending → next_mode pending.mode byte ≡ None
-        → IsKept result.1.fault (seen ++ byte ∷ []) (lexemes ++ settled_lexemes (seen ++ byte ∷ []) result.1) result.0 }
+        → IsAt Any seen lexemes pending → next_mode pending.mode byte ≡ None → IsKept result.1.fault
+        (seen ++ byte ∷ []) (lexemes ++ settled_lexemes (seen ++ byte ∷ []) result.1) result.0 }
 {
     let fresh = Pending::new(place);
     match pending.judge(place) {
-        Err(fault) => (fresh, settled(None, None, Some(fault))),
+        Err(fault) => (fresh, settled_tokens(None, None, Some(fault))),
         Ok(token) => match first_mode(byte) {
             None => {
                 let fault = TextFault::Lex { at: place };
-                (fresh, settled(Some(token), None, Some(fault)))
+                (fresh, settled_tokens(Some(token), None, Some(fault)))
             }
             Some(next) => {
                 let (after, second) = fresh.grow(next, byte, place + 1);
-                (after, settled(Some(token), second, None))
+                (after, settled_tokens(Some(token), second, None))
             }
         },
     }
@@ -144,16 +145,18 @@ fn end_unit(pending: Pending, place: usize, byte: u8) -> (Pending, Settled)
 /// Returns what is settled if the text ends at `place`.
 fn end_of_text(pending: Pending, place: usize) -> Settled
     ensures finishes { (seen : List ℕ) (lexemes : List (Lexeme HoaKind)) → place ≡ length seen
-        → IsAt Any seen lexemes pending → IsCutUpToFault result.fault seen (lexemes ++ settled_lexemes seen result) }
+        → IsAt Any seen lexemes pending
+        → IsCutUpToFault result.fault seen (lexemes ++ settled_lexemes seen result) }
     ensures second { result.second ≡ None }
-    ensures unclosed { (seen : List ℕ) (lexemes : List (Lexeme HoaKind)) → IsAt Any seen lexemes pending
+    ensures unclosed { (seen : List ℕ) (lexemes : List (Lexeme HoaKind))
+        → IsAt Any seen lexemes pending
         → IfSome result.first (λ token. is_closed token.kind ≡ false) }
 {
     match pending.mode.get() {
-        Mode::Start => settled(None, None, None),
+        Mode::Start => settled_tokens(None, None, None),
         _ => match pending.judge(place) {
-            Ok(token) => settled(Some(token), None, None),
-            Err(fault) => settled(None, None, Some(fault)),
+            Ok(token) => settled_tokens(Some(token), None, None),
+            Err(fault) => settled_tokens(None, None, Some(fault)),
         },
     }
 }

@@ -1,4 +1,5 @@
-ghost use Rattle.std.specs.Prelude.{◌≡◌, ◌<◌, ◌≤◌, ◌^◌, length, slice_index, true, false, Some, IfErr, IfOk, IfSome};
+ghost use Rattle.std.specs.Prelude.{◌≡◌, ◌<◌, ◌≤◌, ◌^◌, length, slice_index};
+ghost use Rattle.std.specs.Prelude.{true, false, Some, IfErr, IfOk, IfSome};
 ghost use Rattle.omega_text.specs.hoa.Fault.{IsFaultOf};
 ghost use Rattle.omega_text.specs.private.hoa.scanning.Modes.{IsFirstUnit, IsScanned};
 ghost use Rattle.omega_text.specs.hoa.Forms.{spelling};

@@ -1,6 +1,7 @@
 //! Laws of every game text and its cut, for callers' proofs. Each function does nothing and states one law.
 
-ghost use Rattle.omega_text.specs.pg.Laws.{EndsAreGaps, NamesAreLongest, NumbersAreLongest, NumbersArePlain, SignsAreLongest, SpellingsAreOne, TokensFollow, WordsAreLongest};
+ghost use Rattle.omega_text.specs.pg.Laws.{EndsAreGaps, NamesAreLongest, NumbersAreLongest, NumbersArePlain};
+ghost use Rattle.omega_text.specs.pg.Laws.{SignsAreLongest, SpellingsAreOne, TokensFollow, WordsAreLongest};
 
 /// States that a text is a token of at most one kind and value, and that the value is at most `MOST_NUMBER`.
 pub fn spellings_are_one()

@@ -1,4 +1,5 @@
-ghost use Rattle.std.specs.Prelude.{◌≡◌, ◌+◌, ◌^◌, ◌≤◌, ◌<◌, ℕ, true, false, take, drop, length, decimal, MatchBool, IfOk, IfErr, IfSome, IfNone, slice_index};
+ghost use Rattle.std.specs.Prelude.{◌≡◌, ◌+◌, ◌^◌, ◌≤◌, ◌<◌, ℕ, true, false, take, drop, length};
+ghost use Rattle.std.specs.Prelude.{decimal, MatchBool, IfOk, IfErr, IfSome, IfNone, slice_index};
 ghost use Rattle.std.specs.List.{AllPass, prefix_len};
 ghost use Rattle.std.specs.Str.Parse.{digits_value};
 ghost use Rattle.omega_text.specs.Bytes.{is_digit, is_letter, is_white};
@@ -30,10 +31,12 @@ use crate::token::{Span, Token};
 #[inline(always)]
 pub fn next_pg_token(source: &[u8], at: usize) -> Result<Option<Token<'_, PgKind>>, TextFault>
     requires { at ≤ length source.now }
-    ensures token { IfOk result (λ found. IfSome found (λ token. Follows source.now at (lexeme_of token))) }
+    ensures token { IfOk result
+        (λ found. IfSome found (λ token. Follows source.now at (lexeme_of token))) }
     ensures end { IfOk result (λ found. IfNone found (IsGap source.now at (length source.now))) }
     ensures fault { IfErr result (HasFaultFrom source.now at) }
-    ensures progress { IfOk result (λ found. IfSome found (λ token. IsPartAfter source.now at token.span)) }
+    ensures progress { IfOk result
+        (λ found. IfSome found (λ token. IsPartAfter source.now at token.span)) }
 {
     let start = gap_end(source, at);
     if start == source.len() {

@@ -6,9 +6,9 @@ use Rattle.omega.proofs.bounding.omega_bound.Goals as goal
 
 pub returns-in-Ok : goal.returns-in-Ok
 returns-in-Ok c =
-    subst (λ (a : GameArrays). IsBoundOutcome a c.given.result c.args.bounds.now c.in-Ok.made) c.arrays.ensures
+    subst (λ (a : GameArrays). IsBoundOutcome a c.success.result c.args.bounds.now c.in-Ok.made) c.arrays.ensures
     (inl (
-      c.given.ensures,
+      c.success.ensures,
       record {
         shape = c.in-Ok.ensures.faultless refl;
         sized = c.in-Ok.ensures.sized refl;

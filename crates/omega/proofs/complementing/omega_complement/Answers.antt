@@ -1,6 +1,6 @@
 -- `omega_complement`: the text of the call that it hands on, or its refusal.
 use Rattle.std.proofs.Common.{inr, refl}
-use Rattle.omega_language_answers.specs.Complement.{IsComplementAnswer, IsComplementRefusal}
+use Rattle.omega_answers_automaton.specs.Complement.{IsComplementAnswer, IsComplementRefusal}
 use Rattle.omega.specs.Giving.{IsOneRefused}
 use Rattle.omega.specs.TextOutcome.{about_input}
 use Rattle.omega.proofs.Given.{one_refused, text_given}

@@ -1,6 +1,6 @@
 -- `containment_of`: what is answered of copies is answered of the texts.
 use Rattle.std.proofs.Common.{IfErr, IfOk, List, ℕ, subst}
-use Rattle.omega_containment_answers.specs.Contained.{IsContainedAnswer}
+use Rattle.omega_answers_inclusion.specs.Contained.{IsContainedAnswer}
 use Rattle.omega.specs.Languages.{IsContainedRefused}
 use Rattle.omega.proofs.containing.containment_of.Goals as goal
 

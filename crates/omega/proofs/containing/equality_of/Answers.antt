@@ -1,6 +1,6 @@
 -- `equality_of`: what is answered of copies is answered of the texts.
 use Rattle.std.proofs.Common.{IfErr, IfOk, List, ℕ, subst}
-use Rattle.omega_containment_answers.specs.Equal.{IsEqualAnswer}
+use Rattle.omega_answers_inclusion.specs.Equal.{IsEqualAnswer}
 use Rattle.omega.specs.Languages.{IsEqualRefused}
 use Rattle.omega.proofs.containing.equality_of.Goals as goal
 

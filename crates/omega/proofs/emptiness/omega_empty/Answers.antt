@@ -1,6 +1,6 @@
 -- `omega_empty`: the text of the call that it hands on, or its refusal.
 use Rattle.std.proofs.Common.{Bool, false, inr, refl, subst}
-use Rattle.omega_empty_answers.specs.empty.Answer.{IsEmptySearchAnswer, IsEmptySearchRefusal}
+use Rattle.omega_answers_empty.specs.empty.Answer.{IsEmptySearchAnswer, IsEmptySearchRefusal}
 use Rattle.omega.specs.Giving.{IsOneRefused}
 use Rattle.omega.specs.Solving.{asks}
 use Rattle.omega.specs.TextOutcome.{about_input}

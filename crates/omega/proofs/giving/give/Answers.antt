@@ -5,7 +5,7 @@ use Rattle.omega_io.specs.Refused.{about_none}
 use Rattle.omega.proofs.giving.give.Goals as goal
 
 pub returns-in-Ok : goal.returns-in-Ok
-returns-in-Ok c = inl (record { outcome_is = c.given.ensures; output = c.args.output.items; is_right = refl; held = c.in-Ok.ensures })
+returns-in-Ok c = inl (record { outcome_is = c.success.ensures; output = c.args.output.items; is_right = refl; held = c.in-Ok.ensures })
 
 pub returns-in-Err : goal.returns-in-Err
 returns-in-Err c = inr (record { refused = about_none Memory; refuses_so = refl; outcome_is = c.of_one.ensures; kept = refl })

@@ -9,7 +9,7 @@ returns-in-Ok c =
     inl (record {
       exit = c.args.exit;
       verdict = c.verdict_number.ensures;
-      text = record { outcome_is = c.given.ensures; output = c.args.output.items; is_right = (refl, refl); held = c.in-Ok.ensures };
+      text = record { outcome_is = c.success.ensures; output = c.args.output.items; is_right = (refl, refl); held = c.in-Ok.ensures };
     })
 
 pub returns-in-Err : goal.returns-in-Err

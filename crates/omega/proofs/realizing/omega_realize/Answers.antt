@@ -1,7 +1,7 @@
 -- `omega_realize`: the verdict and the text of the call that it hands on, or its refusal.
 use Rattle.std.proofs.Common.{inr, refl}
-use Rattle.omega_realize_answers.specs.Refusing.{IsRealizeRefusal}
-use Rattle.omega_realize_answers.specs.Winner.{IsWinnerAnswer}
+use Rattle.omega_answers_synth.specs.Refusing.{IsRealizeRefusal}
+use Rattle.omega_answers_synth.specs.Winner.{IsWinnerAnswer}
 use Rattle.omega_solve.specs.Limits.{most_lifts}
 use Rattle.omega.specs.Giving.{IsOneRefused}
 use Rattle.omega.specs.TextOutcome.{about_input}

@@ -11,6 +11,6 @@ returns c =
       run = c.left_by-left.ensures;
       output_length = search rules;
       errors_length = search rules;
-      output_laid = c.copied.ensures ∙ ap (λ (xs : List ℕ). laid_over xs c.args.output.now) c.as_slice.ensures.value;
-      errors_laid = c.copied-2.ensures ∙ ap (λ (xs : List ℕ). laid_over xs c.args.errors.now) c.as_slice-2.ensures.value;
+      output_laid = c.copy_into.ensures ∙ ap (λ (xs : List ℕ). laid_over xs c.args.output.now) c.as_slice.ensures.value;
+      errors_laid = c.copy_into-2.ensures ∙ ap (λ (xs : List ℕ). laid_over xs c.args.errors.now) c.as_slice-2.ensures.value;
     }

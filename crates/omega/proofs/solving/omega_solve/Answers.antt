@@ -7,10 +7,10 @@ use Rattle.omega.proofs.solving.omega_solve.Goals as goal
 
 pub returns-in-Ok : goal.returns-in-Ok
 returns-in-Ok c =
-    subst (λ (a : GameArrays). IsSolveOutcome a c.args.by_search c.args.budget c.given.result c.args.winners.now c.solve_arrays.new.winners
+    subst (λ (a : GameArrays). IsSolveOutcome a c.args.by_search c.args.budget c.success.result c.args.winners.now c.solve_arrays.new.winners
     c.args.choices.now c.solve_arrays.new.choices c.args.lifts.now c.in-Ok.made) c.arrays.ensures
     (inl (
-      c.given.ensures,
+      c.success.ensures,
       record {
         shape = c.in-Ok.ensures.faultless refl;
         sized = c.in-Ok.ensures.sized refl;

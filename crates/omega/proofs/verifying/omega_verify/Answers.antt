@@ -6,10 +6,10 @@ use Rattle.omega.proofs.verifying.omega_verify.Goals as goal
 
 pub returns-in-Ok : goal.returns-in-Ok
 returns-in-Ok c =
-    subst (λ (a : GameArrays). IsVerifyOutcome a c.args.winners.now c.args.choices.now c.given.result c.args.verdict.now c.in-Ok.made
+    subst (λ (a : GameArrays). IsVerifyOutcome a c.args.winners.now c.args.choices.now c.success.result c.args.verdict.now c.in-Ok.made
     c.args.stem.now c.verify_arrays.new.stem c.args.cycle.now c.verify_arrays.new.cycle) c.arrays.ensures
     (inl (
-      c.given.ensures,
+      c.success.ensures,
       record {
         shape = c.in-Ok.ensures.faultless refl;
         sized = c.in-Ok.ensures.sized refl;

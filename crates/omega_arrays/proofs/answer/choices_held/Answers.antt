@@ -3,7 +3,7 @@ use Rattle.std.proofs.Common.{ℕ, ◌∷◌, ◌++◌, [], Option, map, get_or,
 use Rattle.std.specs.List.{range_with_len}
 use Rattle.std.proofs.lemmas.List.FromFn.{map-range_with_len_more}
 use Rattle.std.proofs.lemmas.Slice.{pushed}
-use Rattle.omega_parity_game.specs.declared.player.Player.{Player}
+use Rattle.omega_game_values.specs.declared.player.Player.{Player}
 use Rattle.omega_arrays.specs.Answer.{choice_for}
 use Rattle.omega_arrays.specs.Arrays.{player_of}
 use Rattle.omega_arrays.proofs.answer.choices_held.Goals as goal

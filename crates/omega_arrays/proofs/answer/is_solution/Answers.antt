@@ -1,6 +1,6 @@
 -- `is_solution`: strategies that choose exactly where the owner wins are a solution.
-use Rattle.omega_parity_game.specs.declared.player.Player.TheVariants.{One, Zero}
-use Rattle.omega_parity_game.specs.Winning.{IsStrategy}
+use Rattle.omega_game_values.specs.declared.player.Player.TheVariants.{One, Zero}
+use Rattle.omega_game_values.specs.Winning.{IsStrategy}
 use Rattle.omega_arrays.proofs.Answering.{held_iff}
 use Rattle.omega_arrays.proofs.answer.is_solution.Goals as goal
 

@@ -1,7 +1,7 @@
 -- `add_node`: the successors lie within the array, and are added one by one.
 use Rattle.std.proofs.Common.{ℕ, ◌+◌, ◌<◌, ◌≤◌, ◌++◌, ◌∷◌, [], List, length, get_or, ap, ◌∙◌, arith}
 use Rattle.std.specs.Prelude.{slice_range}
-use Rattle.omega_parity_game.specs.Building.{with_last, with_successor}
+use Rattle.omega_game_values.specs.Building.{with_last, with_successor}
 use Rattle.omega_arrays.specs.Arrays.{player_of}
 use Rattle.omega_arrays.specs.private.Specified.{spec_with}
 use Rattle.omega_arrays.proofs.Built.{begun, ends_within, one_more}

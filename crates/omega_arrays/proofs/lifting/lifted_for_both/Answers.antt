@@ -1,11 +1,11 @@
 -- `lifted_for_both`: what was found for both players is a right solution, and what was refused is a fault of the game.
 use Rattle.std.proofs.Common.{None, ap, ◌∙◌, rules}
-use Rattle.omega_parity_game.specs.declared.player.Player.TheVariants.{One, Zero}
-use Rattle.omega_game_answers.specs.declared.solve.asked.Asked.TheVariants.{Both}
-use Rattle.omega_game_answers.specs.solve.Refusing.{IsSolveGameRefusal}
-use Rattle.omega_game_answers.specs.solve.Winners.{winners_of}
-use Rattle.omega_game_answers.proofs.Solving.{found_for, refused-solving, solving_for}
-use Rattle.omega_game_answers.proofs.Solutions.{right_solution}
+use Rattle.omega_game_values.specs.declared.player.Player.TheVariants.{One, Zero}
+use Rattle.omega_answers_game.specs.declared.solve.asked.Asked.TheVariants.{Both}
+use Rattle.omega_answers_game.specs.solve.Refusing.{IsSolveGameRefusal}
+use Rattle.omega_answers_game.specs.solve.Winners.{winners_of}
+use Rattle.omega_answers_game.proofs.Solving.{found_for, refused-solving, solving_for}
+use Rattle.omega_answers_game.proofs.Solutions.{right_solution}
 use Rattle.omega_arrays.proofs.lifting.lifted_for_both.Goals as goal
 
 pub returns-in_err-zero-clause-refused : goal.returns-in_err-zero-clause-refused

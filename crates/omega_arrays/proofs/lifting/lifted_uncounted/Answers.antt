@@ -12,4 +12,4 @@ returns-in_err-turned-clause-refused c =
     search rules
 
 pub returns-clause-lifts : goal.returns-clause-lifts
-returns-clause-lifts c = IfOk-weaker c.lifted.result _ _ (λ found ended. inr ended) c.lifted.ensures.lifts
+returns-clause-lifts c = IfOk-weaker c.solution_by_lifting.result _ _ (λ found ended. inr ended) c.solution_by_lifting.ensures.lifts

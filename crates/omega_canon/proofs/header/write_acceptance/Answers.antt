@@ -1,6 +1,6 @@
 -- `write_acceptance`: its parts are the line.
 use Rattle.std.proofs.Common.{◌++◌, ap, codes, decimal, ◌∙◌}
-use Rattle.omega_formula.specs.Writing.{acc_text}
+use Rattle.omega_hoa_acceptance.specs.Writing.{acc_text}
 use Rattle.omega_canon.specs.Parts.{spaced}
 use Rattle.omega_canon.proofs.Lines.{following}
 use Rattle.omega_canon.proofs.header.write_acceptance.Goals as goal

@@ -7,7 +7,7 @@ use Rattle.omega_text.specs.declared.refusal.Refusal.TheVariants.{Memory}
 use Rattle.omega_empty.specs.Observing.{LiftsAutomaton}
 use Rattle.omega_empty.specs.private.layout.Solving.{LiftsGame}
 use Rattle.omega_empty.proofs.walking.Observing.{automaton_lifted, automaton_refused}
-use Rattle.omega_budget.proofs.Observed.{none_observed, spares, observed_alike, observed_as, observed_after}
+use Rattle.omega_solve.proofs.within_budget.Observed.{none_observed, spares, observed_alike, observed_as, observed_after}
 use Rattle.omega_empty.proofs.deciding.emptiness_observed.Goals as goal
 
 pub returns-clause-given : goal.returns-clause-given

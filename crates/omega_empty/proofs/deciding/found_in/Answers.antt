@@ -1,10 +1,10 @@
 -- `found_in`: what is said of the game that was given to be reordered is said of this game.
 use Rattle.std.proofs.Common.{◌≡◌, subst}
 use Rattle.std.proofs.lemmas.Result.{IfErr-weaker}
-use Rattle.omega_parity_game.specs.declared.player.Player.TheVariants.{Zero}
+use Rattle.omega_game_values.specs.declared.player.Player.TheVariants.{Zero}
 use Rattle.omega_text.specs.declared.refusal.Refusal.TheVariants.{Memory}
-use Rattle.omega_budget.specs.Within.{IsSolvingRefusal}
-use Rattle.omega_budget.proofs.Observed.{none_observed, one_made, one_solved, spares, observed_alike}
+use Rattle.omega_solve.specs.budget.Within.{IsSolvingRefusal}
+use Rattle.omega_solve.proofs.within_budget.Observed.{none_observed, one_made, one_solved, spares, observed_alike}
 use Rattle.omega_empty.proofs.walking.Refused.{found_solved}
 use Rattle.omega_empty.proofs.deciding.found_in.Goals as goal
 

@@ -1,7 +1,7 @@
 -- the range of one state more, whose number no state before it has
 use Rattle.std.proofs.Common.{◌≡◌, ℕ, ◌+◌, ◌<◌, List, length, get_or, take, set, sym, ap, ◌∙◌, subst, arith}
 use Rattle.std.proofs.lemmas.List.{length-set}
-use Rattle.omega_automaton.specs.declared.state.State.{State}
+use Rattle.omega_hoa_automaton.specs.declared.state.State.{State}
 use Rattle.omega_empty.proofs.making.Ranges.{AreSoFar, length_more, length_within, ranges_more}
 use Rattle.omega_empty.proofs.edge_ranges.edge_ranges.Goals as goal
 

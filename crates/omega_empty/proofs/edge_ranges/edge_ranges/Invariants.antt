@@ -1,6 +1,6 @@
 use Rattle.std.proofs.Common.{◌≡◌, length, take}
 use Rattle.std.specs.List.{flat_map}
-use Rattle.omega_automaton.specs.Automaton.{edges_from}
+use Rattle.omega_hoa_automaton.specs.Automaton.{edges_from}
 use Rattle.omega_empty.proofs.making.Ranges.{AreSoFar}
 use Rattle.omega_empty.proofs.edge_ranges.edge_ranges.Given as goal
 

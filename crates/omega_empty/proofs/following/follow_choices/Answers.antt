@@ -1,8 +1,8 @@
 -- the choices are followed, and once a place comes again the loop begins there
 use Rattle.std.proofs.Common.{◌≡◌, ◌+◌, ◌%◌, ◌-◌, ℕ, Option, Some, length, refl, ◌∙◌, arith, rules}
 use Rattle.std.specs.Option.{IsSome}
-use Rattle.omega_parity_game.specs.Game.{identifier_at}
-use Rattle.omega_parity_game.specs.Winning.{Chooses}
+use Rattle.omega_game_values.specs.Game.{identifier_at}
+use Rattle.omega_game_values.specs.Winning.{Chooses}
 use Rattle.omega_empty.specs.EmptinessGame.{span}
 use Rattle.omega_empty.specs.GameLaws.{within_counter}
 use Rattle.omega_empty.proofs.walking.Choices.{begun, after_states, between_below, first_chosen, first_read, followed_next, looped_at, none_cloned, second_chosen, second_read}

@@ -1,6 +1,6 @@
 -- all that was judged is ready
 use Rattle.std.proofs.Common.{◌≡◌, false}
-use Rattle.omega_automaton.specs.Branching.{has_universal_branching}
+use Rattle.omega_hoa_automaton.specs.Branching.{has_universal_branching}
 use Rattle.omega_empty.proofs.making.Plain.{few_identifiers, small_kind}
 use Rattle.omega_empty.proofs.games.game_of.Goals as goal
 

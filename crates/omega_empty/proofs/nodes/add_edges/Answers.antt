@@ -1,7 +1,7 @@
 -- the edges of one state more
 use Rattle.std.proofs.Common.{◌≡◌, ℕ, ◌+◌, ◌++◌, ◌<◌, List, length, get_or, ap, ◌∙◌, arith}
-use Rattle.omega_automaton.specs.Automaton.{edges_from}
-use Rattle.omega_automaton.specs.declared.state.State.{State}
+use Rattle.omega_hoa_automaton.specs.Automaton.{edges_from}
+use Rattle.omega_hoa_automaton.specs.declared.state.State.{State}
 use Rattle.omega_empty.specs.EmptinessGame.{edge_nodes}
 use Rattle.omega_empty.proofs.making.Plain.{plain_state}
 use Rattle.omega_empty.proofs.making.Ranges.{length_more, length_within}

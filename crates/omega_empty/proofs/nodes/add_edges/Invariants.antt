@@ -1,6 +1,6 @@
 use Rattle.std.proofs.Common.{◌≡◌, ◌++◌, length, take}
 use Rattle.std.specs.List.{flat_map}
-use Rattle.omega_automaton.specs.Automaton.{edges_from}
+use Rattle.omega_hoa_automaton.specs.Automaton.{edges_from}
 use Rattle.omega_empty.specs.EmptinessGame.{edge_nodes}
 use Rattle.omega_empty.proofs.nodes.add_edges.Given as goal
 

@@ -1,5 +1,5 @@
 use Rattle.std.proofs.Common.{◌≡◌, ◌+◌, ◌++◌, take}
-use Rattle.omega_automaton.specs.Automaton.{edges_from}
+use Rattle.omega_hoa_automaton.specs.Automaton.{edges_from}
 use Rattle.omega_empty.specs.EmptinessGame.{edge_nodes}
 use Rattle.omega_empty.proofs.nodes.add_edges_of.Given as goal
 

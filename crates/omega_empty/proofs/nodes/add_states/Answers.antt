@@ -2,7 +2,7 @@
 use Rattle.std.proofs.Common.{ℕ, ◌++◌, [], ◌∷◌, map, sym, ap, ◌∙◌, append_assoc, arith}
 use Rattle.std.specs.List.{range_with_len}
 use Rattle.std.proofs.lemmas.List.FromFn.{map-range_with_len_more}
-use Rattle.omega_parity_game.specs.declared.node_spec.NodeSpec.{NodeSpec}
+use Rattle.omega_game_values.specs.declared.node_spec.NodeSpec.{NodeSpec}
 use Rattle.omega_empty.specs.EmptinessGame.{state_node}
 use Rattle.omega_empty.proofs.nodes.add_states.Goals as goal
 

@@ -3,12 +3,12 @@ use Rattle.std.proofs.Common.{◌≡◌, ℕ, ◌++◌, ◌<◌, Bool, List, [],
 use borrow.Author.Count.{below_more}
 use Rattle.std.proofs.lemmas.Result.{err_from_is_err_and}
 use Rattle.std.proofs.lemmas.List.Elements.{at_read}
-use Rattle.omega_automaton.specs.Automaton.{BodyEdge, edges_from}
-use Rattle.omega_automaton.specs.declared.edge.Edge.{Edge}
-use Rattle.omega_runs.specs.Judging.{AreJudged, IsNarrow}
-use Rattle.omega_runs.proofs.Flat.{wide_edge_refused}
-use Rattle.omega_runs.proofs.Judged.{judged_on, judged_one}
-use Rattle.omega_runs.proofs.Edges.{edges_take}
+use Rattle.omega_hoa_automaton.specs.Automaton.{BodyEdge, edges_from}
+use Rattle.omega_hoa_automaton.specs.declared.edge.Edge.{Edge}
+use Rattle.omega_lang_runs.specs.Judging.{AreJudged, IsNarrow}
+use Rattle.omega_lang_runs.proofs.Flat.{wide_edge_refused}
+use Rattle.omega_lang_runs.proofs.Judged.{judged_on, judged_one}
+use Rattle.omega_lang_runs.proofs.Edges.{edges_take}
 use Rattle.omega_empty.proofs.usable.judge_edges.Goals as goal
 
 pub returns-in_err-judged-clause-refused : goal.returns-in_err-judged-clause-refused

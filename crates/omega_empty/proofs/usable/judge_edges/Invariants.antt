@@ -1,7 +1,7 @@
 use Rattle.std.proofs.Common.{◌≡◌, ◌++◌, ℕ, ◌<◌, List, Bool, take, get_or}
-use Rattle.omega_automaton.specs.Automaton.{edges_from}
-use Rattle.omega_automaton.specs.declared.edge.Edge.{Edge}
-use Rattle.omega_runs.specs.Judging.{AreJudged, IsNarrow}
+use Rattle.omega_hoa_automaton.specs.Automaton.{edges_from}
+use Rattle.omega_hoa_automaton.specs.declared.edge.Edge.{Edge}
+use Rattle.omega_lang_runs.specs.Judging.{AreJudged, IsNarrow}
 use Rattle.omega_empty.proofs.usable.judge_edges.Given as goal
 
 abbrev pub invariant-loop-at : goal.invariant-loop-at

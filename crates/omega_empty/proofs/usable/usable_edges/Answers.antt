@@ -5,13 +5,13 @@ use Rattle.std.specs.List.{flat_map}
 use Rattle.std.proofs.lemmas.List.{take_all}
 use Rattle.std.proofs.lemmas.Result.{err_from_is_err_and}
 use Rattle.std.proofs.lemmas.List.Elements.{at_read}
-use Rattle.omega_automaton.specs.Automaton.{BodyEdge, edges_from}
-use Rattle.omega_automaton.specs.declared.state.State.{State}
-use Rattle.omega_runs.specs.Judging.{HasWideLabel}
-use Rattle.omega_runs.specs.Judging.{AreJudged, HasNarrow, HasWide}
-use Rattle.omega_runs.proofs.Flat.{narrow_labels, wide_label, wide_refused}
-use Rattle.omega_runs.proofs.Judged.{judged_on, judged_usable}
-use Rattle.omega_runs.proofs.Edges.{flat_more}
+use Rattle.omega_hoa_automaton.specs.Automaton.{BodyEdge, edges_from}
+use Rattle.omega_hoa_automaton.specs.declared.state.State.{State}
+use Rattle.omega_lang_runs.specs.Judging.{HasWideLabel}
+use Rattle.omega_lang_runs.specs.Judging.{AreJudged, HasNarrow, HasWide}
+use Rattle.omega_lang_runs.proofs.Flat.{narrow_labels, wide_label, wide_refused}
+use Rattle.omega_lang_runs.proofs.Judged.{judged_on, judged_usable}
+use Rattle.omega_lang_runs.proofs.Edges.{flat_more}
 use Rattle.omega_empty.proofs.usable.usable_edges.Goals as goal
 
 pub returns-in_err-judge_edges-clause-refused : goal.returns-in_err-judge_edges-clause-refused

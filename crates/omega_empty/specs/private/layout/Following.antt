@@ -1,10 +1,10 @@
 -- Following the choices of player 0 from the node of a start that it wins.
 use Rattle.std.specs.Prelude.{◌≡◌, ◌<◌, ◌≤◌, Bool, true, List, ℕ, Some, drop, length, slice_get, take}
-use Rattle.omega_automaton.specs.Automaton.{Description}
-use Rattle.omega_parity_game.specs.Game.{Node, identifier_at}
-use Rattle.omega_runs.specs.Lasso.{IsAcceptingLasso, IsStart}
-use Rattle.omega_runs.specs.declared.verdict.Verdict.{Verdict}
-use Rattle.omega_runs.specs.declared.verdict.Verdict.TheVariants.{Lasso}
+use Rattle.omega_hoa_automaton.specs.Automaton.{Description}
+use Rattle.omega_game_values.specs.Game.{Node, identifier_at}
+use Rattle.omega_lang_runs.specs.Lasso.{IsAcceptingLasso, IsStart}
+use Rattle.omega_lang_runs.specs.declared.verdict.Verdict.{Verdict}
+use Rattle.omega_lang_runs.specs.declared.verdict.Verdict.TheVariants.{Lasso}
 
 -- the node with the identifier is at the place, which is among those won
 pub record IsWonAt (game : List Node) (won : List Bool) (identifier v : ℕ) : Type 0 where

@@ -3,13 +3,14 @@ use Rattle.std.specs.Prelude.{◌≡◌, ◌++◌, Bool, List}
 use Rattle.omega_text.specs.Cases.{never, or_memory, or_task}
 use Rattle.omega_text.specs.declared.refusal.Refusal.{Refusal}
 use Rattle.omega_text.specs.declared.refusal.task.TaskFault.TheVariants.{TooManyPropositions}
-use Rattle.omega_automaton.specs.Automaton.{edges_from}
-use Rattle.omega_automaton.specs.declared.state.State.{State}
-use Rattle.omega_runs.specs.Judging.{AreJudged}
+use Rattle.omega_hoa_automaton.specs.Automaton.{edges_from}
+use Rattle.omega_hoa_automaton.specs.declared.state.State.{State}
+use Rattle.omega_lang_runs.specs.Judging.{AreJudged}
 
 -- whether each edge of a state is usable is put after a list
 abbrev pub AppendsJudged : State → (old new : List Bool) → Type 0
-AppendsJudged state old new = (own : List Bool) × (new ≡ old ++ own) × AreJudged (edges_from state) own
+AppendsJudged state old new =
+    (own : List Bool) × (new ≡ old ++ own) × AreJudged (edges_from state) own
 
 -- a label mentions too many propositions, in the sense given
 abbrev pub IsWideFault : Type 0 → Refusal → Type 0

@@ -1,8 +1,8 @@
 -- Marks of a kind: those of a parity kind are below its count, which is small.
 use Rattle.std.specs.Prelude.{ℕ, ◌<◌, ◌≤◌, All, List}
-use Rattle.omega_expression.specs.Limits.{most_depth}
-use Rattle.omega_formula.specs.declared.kind.AccKind.{AccKind}
-use Rattle.omega_formula.specs.declared.kind.AccKind.TheVariants.{Parity, GenBuchi}
+use Rattle.omega_hoa_expression.specs.Limits.{most_depth}
+use Rattle.omega_hoa_acceptance.specs.declared.kind.AccKind.{AccKind}
+use Rattle.omega_hoa_acceptance.specs.declared.kind.AccKind.TheVariants.{Parity, GenBuchi}
 
 -- the kind has a priority for each of the marks
 abbrev pub AreMarksBelow : AccKind → List ℕ → Type 0

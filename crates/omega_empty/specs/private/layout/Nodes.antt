@@ -1,11 +1,11 @@
 -- The nodes of a judged automaton's game, and the node of a state while its successors are added.
 use Rattle.std.specs.Prelude.{ℕ, Bool, true, false, List, [], ◌∷◌, ◌++◌, map}
 use Rattle.std.specs.List.{range_with_len}
-use Rattle.omega_automaton.specs.Automaton.{BodyEdge, edges_of}
-use Rattle.omega_automaton.specs.declared.edge.Edge.{Edge}
-use Rattle.omega_automaton.specs.declared.state.State.{State}
-use Rattle.omega_parity_game.specs.Building.{with_last, with_successor}
-use Rattle.omega_parity_game.specs.declared.node_spec.NodeSpec.{NodeSpec}
+use Rattle.omega_hoa_automaton.specs.Automaton.{BodyEdge, edges_of}
+use Rattle.omega_hoa_automaton.specs.declared.edge.Edge.{Edge}
+use Rattle.omega_hoa_automaton.specs.declared.state.State.{State}
+use Rattle.omega_game_values.specs.Building.{with_last, with_successor}
+use Rattle.omega_game_values.specs.declared.node_spec.NodeSpec.{NodeSpec}
 use Rattle.omega_empty.specs.EmptinessGame.{edge_node, edge_nodes, nodes_at, plain_node, state_node, table}
 use Rattle.omega_empty.specs.private.layout.Ready.{JudgedAutomaton}
 
@@ -27,7 +27,8 @@ edge_at judged counter number edge = edge_node judged.kind judged.automaton coun
 
 -- the nodes of the usable ones among edges at a counter, numbered from a number on
 abbrev pub edges_at : JudgedAutomaton → ℕ → ℕ → List BodyEdge → List NodeSpec
-edges_at judged counter number edges = edge_nodes judged.kind judged.automaton judged.usable counter number edges
+edges_at judged counter number edges =
+    edge_nodes judged.kind judged.automaton judged.usable counter number edges
 
 -- the nodes of all usable edges at a counter
 abbrev pub all_edges_at : JudgedAutomaton → ℕ → List NodeSpec

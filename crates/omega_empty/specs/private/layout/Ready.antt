@@ -1,14 +1,14 @@
 -- What holds of an automaton once it is judged, before the nodes of its game are made.
 use Rattle.std.specs.Prelude.{◌≡◌, ◌+◌, ◌*◌, ◌<◌, ◌≤◌, Bool, false, List, All, length, slice_index}
-use Rattle.omega_formula.specs.declared.kind.AccKind.{AccKind}
-use Rattle.omega_automaton.specs.Automaton.{Description, IsAutomaton}
-use Rattle.omega_automaton.specs.declared.edge.Edge.{Edge}
-use Rattle.omega_automaton.specs.declared.state.State.{State}
-use Rattle.omega_parity_game.specs.Limits.{most_nodes}
+use Rattle.omega_hoa_acceptance.specs.declared.kind.AccKind.{AccKind}
+use Rattle.omega_hoa_automaton.specs.Automaton.{Description, IsAutomaton}
+use Rattle.omega_hoa_automaton.specs.declared.edge.Edge.{Edge}
+use Rattle.omega_hoa_automaton.specs.declared.state.State.{State}
+use Rattle.omega_game_values.specs.Limits.{most_nodes}
 use Rattle.omega_empty.specs.Counters.{counters}
-use Rattle.omega_automaton.specs.AcceptanceKind.{HasKind}
-use Rattle.omega_automaton.specs.Branching.{has_universal_branching}
-use Rattle.omega_runs.specs.Judging.{AreUsable}
+use Rattle.omega_hoa_automaton.specs.AcceptanceKind.{HasKind}
+use Rattle.omega_hoa_automaton.specs.Branching.{has_universal_branching}
+use Rattle.omega_lang_runs.specs.Judging.{AreUsable}
 use Rattle.omega_empty.specs.EmptinessGame.{span}
 use Rattle.omega_empty.specs.declared.edge_ranges.EdgeRange.{EdgeRange}
 use Rattle.omega_empty.specs.private.layout.Marks.{AreMarksBelow, IsSmall}
@@ -23,7 +23,12 @@ pub record JudgedAutomaton : Type 0 where
 
 -- an automaton, its kind, its usable edges and its ranges, as they were judged
 abbrev pub judged_automaton : Description → AccKind → List Bool → List EdgeRange → JudgedAutomaton
-judged_automaton a kind usable ranges = record { automaton = a; kind = kind; usable = usable; ranges = ranges }
+judged_automaton a kind usable ranges = record {
+  automaton = a;
+  kind = kind;
+  usable = usable;
+  ranges = ranges;
+}
 
 -- the automaton has the kind and no universal branching, its game fits, and these are its usable edges and the ranges
 -- of its states

@@ -1,8 +1,8 @@
 -- `shows_wins`: where an order shows that no losing place that is reached recurs,
 -- the choices win from each of the places.
 use Rattle.std.proofs.Common.{List, Bool, sym, subst, arith}
-use Rattle.omega_reaching.specs.Reaching.{AreReached}
-use Rattle.omega_reaching.proofs.Marking.{priorities_low}
+use Rattle.omega_game_reaching.specs.Reaching.{AreReached}
+use Rattle.omega_game_reaching.proofs.Marking.{priorities_low}
 use Rattle.omega_game.proofs.walks.Closing.{reached_closed}
 use Rattle.omega_game.proofs.walks.Recurrence.{choices_of_strategy, wins_if_none}
 use Rattle.omega_game.proofs.checking.shows_wins.Goals as goal

@@ -2,8 +2,8 @@
 -- where the fast search is confirmed.
 use Rattle.std.proofs.Common.{List, Bool, Option, sym, ◌∙◌, subst, arith}
 use Rattle.std.specs.Prelude.{IfSome}
-use Rattle.omega_reaching.specs.Reaching.{AreReached}
-use Rattle.omega_reaching.proofs.Marking.{priorities_low}
+use Rattle.omega_game_reaching.specs.Reaching.{AreReached}
+use Rattle.omega_game_reaching.proofs.Marking.{priorities_low}
 use Rattle.omega_game.specs.declared.checking.decision.Decision.{Decision}
 use Rattle.omega_game.specs.private.checking.Decision.{IsRightDecision}
 use Rattle.omega_game.proofs.walks.Closing.{reached_closed}

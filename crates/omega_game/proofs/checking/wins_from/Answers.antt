@@ -1,7 +1,7 @@
 -- `wins_from`: whether choices that are a strategy of the player win from each of the places.
 use Rattle.std.proofs.Common.{List, Bool, sym, ◌∙◌, subst, arith}
-use Rattle.omega_reaching.specs.Reaching.{AreReached}
-use Rattle.omega_reaching.proofs.Marking.{priorities_low}
+use Rattle.omega_game_reaching.specs.Reaching.{AreReached}
+use Rattle.omega_game_reaching.proofs.Marking.{priorities_low}
 use Rattle.omega_game.proofs.walks.Closing.{reached_closed}
 use Rattle.omega_game.proofs.walks.Recurrence.{choices_of_strategy, wins_if_none, none_if_wins}
 use Rattle.omega_game.proofs.walks.Deciding.{none_where_won, won_where_none}

@@ -1,7 +1,7 @@
 -- `are_closed`: whether what is marked leads to what is marked.
 use Rattle.std.proofs.Common.{arith, below_more}
 use Rattle.std.proofs.lemmas.Grind.{common_steps}
-use Rattle.omega_reaching.proofs.Marking.{marked_below}
+use Rattle.omega_game_reaching.proofs.Marking.{marked_below}
 use Rattle.omega_game.proofs.following.are_closed.Goals as goal
 use Rattle.omega_game.proofs.following.are_closed.Goals.{else-marks-place-via-then-marks-place+else-not-leads_to_marked, else-marks-place-via-else-marks-place}
 

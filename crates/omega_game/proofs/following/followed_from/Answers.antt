@@ -1,6 +1,6 @@
 -- `followed_from`: marks the places that are reached from the given ones.
 use Rattle.std.proofs.Common.{List, Bool, subst, arith}
-use Rattle.omega_reaching.proofs.Marking.{priorities_low}
+use Rattle.omega_game_reaching.proofs.Marking.{priorities_low}
 use Rattle.omega_game.specs.private.checking.Following.{AreClosed}
 use Rattle.omega_game.proofs.walks.Closing.{closed_reached}
 use Rattle.omega_game.proofs.following.followed_from.Goals as goal

@@ -1,6 +1,6 @@
 -- What holds in the loop of `leads_to_marked`: the edges before the one looked at lead to marked places.
 use Rattle.std.proofs.Common.{ℕ, ◌<◌, IsTrue, get_or}
-use Rattle.omega_reaching.specs.Reaching.{mark_at}
+use Rattle.omega_game_reaching.specs.Reaching.{mark_at}
 use Rattle.omega_game.proofs.following.leads_to_marked.Given as goal
 
 abbrev pub invariant-loop-next : goal.invariant-loop-next

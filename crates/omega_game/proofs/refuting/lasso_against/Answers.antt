@@ -1,7 +1,7 @@
 -- `lasso_against`: a lasso that shows why choices that are a strategy of the player do not win, none where they do.
 use Rattle.std.proofs.Common.{List, Bool, ℕ, refl, sym, subst, arith}
-use Rattle.omega_reaching.specs.Reaching.{AreReached}
-use Rattle.omega_reaching.proofs.Marking.{priorities_low}
+use Rattle.omega_game_reaching.specs.Reaching.{AreReached}
+use Rattle.omega_game_reaching.proofs.Marking.{priorities_low}
 use Rattle.omega_game.specs.declared.checking.decision.Decision.{Decision}
 use Rattle.omega_game.specs.private.checking.Decision.{IsLosingPlace, IsRightDecision}
 use Rattle.omega_game.specs.private.refuting.Ways.{IsCycle, LeadsTo}

@@ -1,7 +1,8 @@
 -- A search in breadth for the places that are reached, and the ways on which it met them.
-use Rattle.std.specs.Prelude.{◌≡◌, ◌⊎◌, ℕ, ◌+◌, ◌<◌, ◌≤◌, Bool, not, IsTrue, Option, Some, None, List, [], ◌∷◌, ◌++◌, length, Contains, count_by, slice_index, slice_index_or}
-use Rattle.omega_parity_game.specs.Game.{Node, priority_at}
-use Rattle.omega_reaching.specs.Reaching.{left_at, mark_at, IsReachedFrom}
+use Rattle.std.specs.Prelude.{◌≡◌, ◌⊎◌, ℕ, ◌+◌, ◌<◌, ◌≤◌, Bool, not, IsTrue, Option, Some, None, List, []}
+use Rattle.std.specs.Prelude.{◌∷◌, ◌++◌, length, Contains, count_by, slice_index, slice_index_or}
+use Rattle.omega_game_values.specs.Game.{Node, priority_at}
+use Rattle.omega_game_reaching.specs.Reaching.{left_at, mark_at, IsReachedFrom}
 
 -- the index of the place from which the one at an index was met, or none
 abbrev pub origin_at : List (Option ℕ) → ℕ → Option ℕ
@@ -9,8 +10,8 @@ origin_at origins i = slice_index_or origins i None
 
 -- the place at an index is of priority at most the most, and listed or met along an edge left
 -- possible from one before it
-pub record IsMetInTree (nodes : List Node) (choices : List (Option ℕ)) (most : ℕ) (places met : List ℕ)
-    (origins : List (Option ℕ)) (i : ℕ) : Type 0 where
+pub record IsMetInTree (nodes : List Node) (choices : List (Option ℕ)) (most : ℕ)
+    (places met : List ℕ) (origins : List (Option ℕ)) (i : ℕ) : Type 0 where
   pub low : priority_at nodes (slice_index met i) ≤ most
   pub root : origin_at origins i ≡ None → Contains places (slice_index met i)
   pub before : (b : ℕ) → origin_at origins i ≡ Some b → b < i
@@ -25,7 +26,8 @@ pub record IsTree (nodes : List Node) (choices : List (Option ℕ)) (most : ℕ)
 
 -- each place that is reached is met
 abbrev pub MeetsAll : List Node → List (Option ℕ) → ℕ → List ℕ → List ℕ → Type 0
-MeetsAll nodes choices most places met = (v : ℕ) → IsReachedFrom nodes choices most places v → Contains met v
+MeetsAll nodes choices most places met =
+    (v : ℕ) → IsReachedFrom nodes choices most places v → Contains met v
 
 -- the places of priority at most the most that were not marked are marked and met from the origin
 pub record AreMet (nodes : List Node) (most : ℕ) (places : List ℕ) (origin : Option ℕ)
@@ -40,7 +42,8 @@ pub record AreMet (nodes : List Node) (most : ℕ) (places : List ℕ) (origin :
   pub same : (i : ℕ) → i < length met → slice_index met' i ≡ slice_index met i
   pub same_origin : (i : ℕ) → i < length met → origin_at origins' i ≡ origin_at origins i
   pub listed : (i : ℕ) → length met ≤ i → i < length met' → Contains places (slice_index met' i)
-  pub low : (i : ℕ) → length met ≤ i → i < length met' → priority_at nodes (slice_index met' i) ≤ most
+  pub low : (i : ℕ) → length met ≤ i → i < length met'
+      → priority_at nodes (slice_index met' i) ≤ most
   pub from : (i : ℕ) → length met ≤ i → i < length met' → origin_at origins' i ≡ origin
   pub left : count_by not marks' + length met' ≡ count_by not marks + length met
 
@@ -61,7 +64,8 @@ pub record LeadsTo (nodes : List Node) (choices : List (Option ℕ)) (most : ℕ
   pub whole : before ++ v ∷ [] ≡ reached.start ∷ reached.after
 
 -- v, and the places before it on a low path from it to itself
-pub record IsCycle (nodes : List Node) (choices : List (Option ℕ)) (v : ℕ) (cycle : List ℕ) : Type 0 where
+pub record IsCycle (nodes : List Node) (choices : List (Option ℕ)) (v : ℕ)
+    (cycle : List ℕ) : Type 0 where
   pub onward : List ℕ
   pub whole : cycle ≡ v ∷ onward
   pub way : LeadsTo nodes choices (priority_at nodes v) (left_at nodes choices v) v onward

@@ -14,7 +14,8 @@ use Rattle.omega_hoa.specs.declared.item.Item.{Item}
 
 -- the tokens so far are divided, and with those that are settled at the end they are the text's,
 -- up to its fault if it has one
-pub record IsAtEnd (settled : Settled) (inside : Bool) (seen : List ℕ) (lexemes : List (Lexeme HoaKind)) (items : List Item) (begins : ℕ) : Type 0 where
+pub record IsAtEnd (settled : Settled) (inside : Bool) (seen : List ℕ)
+    (lexemes : List (Lexeme HoaKind)) (items : List Item) (begins : ℕ) : Type 0 where
   pub divided : IsDivided seen lexemes items begins inside
   pub finished : IsCutUpToFault settled.fault seen (lexemes ++ settled_lexemes seen settled)
 
@@ -45,4 +46,5 @@ EndsRefused settled inside refusal =
 abbrev pub EndsOpen : Settled → ℕ → Refusal → Type 0
 EndsOpen settled count refusal =
     (seen : List ℕ) (lexemes : List (Lexeme HoaKind)) (items : List Item) (begins : ℕ)
-    → count ≡ length seen → IsAtEnd settled true seen lexemes items begins → IsStreamFault seen items refusal
+    → count ≡ length seen → IsAtEnd settled true seen lexemes items begins
+    → IsStreamFault seen items refusal

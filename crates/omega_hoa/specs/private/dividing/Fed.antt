@@ -22,15 +22,22 @@ pub record HasReadTaken (kept : Kept) (tokenizer : HoaTokenizer) : Type 0 where
 
 -- what the fields of a stream keep
 abbrev pub kept_in : Inside → Kept
-kept_in stream = record { bytes = stream.bytes.items; begins = stream.begins; inside = stream.inside; refused = stream.refused }
+kept_in stream = record {
+  bytes = stream.bytes.items;
+  begins = stream.begins;
+  inside = stream.inside;
+  refused = stream.refused;
+}
 
 -- some bytes are refused
 abbrev pub IsRefusedSome : Kept → Refusal → Type 0
-IsRefusedSome kept refusal = (seen : List ℕ) × (items : List Item) × IsRefusedSoFar seen items kept refusal
+IsRefusedSome kept refusal =
+    (seen : List ℕ) × (items : List Item) × IsRefusedSoFar seen items kept refusal
 
 -- some bytes were fed to a stream
 abbrev pub IsFedSome : Kept → HoaTokenizer → Type 0
-IsFedSome kept tokenizer = MatchOption kept.refused (HasReadTaken kept tokenizer) (IsRefusedSome kept)
+IsFedSome kept tokenizer =
+    MatchOption kept.refused (HasReadTaken kept tokenizer) (IsRefusedSome kept)
 
 -- the items of a piece were appended, whatever was fed before
 abbrev pub AppendsItems : Kept → List ℕ → (old new : List Item) → Kept → Type 0

@@ -7,7 +7,8 @@ use Rattle.omega_text.specs.declared.hoa.kind.HoaKind.{HoaKind}
 use Rattle.omega_text.specs.declared.hoa.kind.HoaKind.TheVariants.{End, Abort}
 use Rattle.omega_hoa.specs.Stream.{IsOpen, Opens}
 use Rattle.omega_hoa.specs.declared.outline.TextOutline.{TextOutline}
-use Rattle.omega_hoa.specs.declared.outline.TextOutline.TheVariants.{Empty, Stray, Open, Aborted, Whole, Followed}
+use Rattle.omega_hoa.specs.declared.outline.TextOutline.TheVariants.{Empty, Stray, Open}
+use Rattle.omega_hoa.specs.declared.outline.TextOutline.TheVariants.{Aborted, Whole, Followed}
 
 -- a token at a place that opens no segment, and others
 pub record BeginsStray (lexemes : List (Lexeme HoaKind)) (at : ℕ) : Type 0 where
@@ -56,8 +57,8 @@ IsOutline lexemes (Followed end next) = IsFollowed lexemes end next
 
 -- whatever tokens the first outline is of, the second is of those and one more
 abbrev pub GoesOnWith : TextOutline → Lexeme HoaKind → TextOutline → Type 0
-GoesOnWith old lexeme new =
-    (lexemes : List (Lexeme HoaKind)) → IsOutline lexemes old → IsOutline (lexemes ++ lexeme ∷ []) new
+GoesOnWith old lexeme new = (lexemes : List (Lexeme HoaKind)) → IsOutline lexemes old
+    → IsOutline (lexemes ++ lexeme ∷ []) new
 
 -- the tokens of a text, and what they are
 pub record HasOutline (source : List ℕ) (outline : TextOutline) : Type 0 where

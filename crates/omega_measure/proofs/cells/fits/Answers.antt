@@ -2,9 +2,9 @@
 use Rattle.std.proofs.Common.{◌≡◌, ℕ, ◌*◌, length, sym, ap, ◌∙◌}
 use Rattle.std.specs.Prelude.{count_by, nat_lt, not}
 use Rattle.std.proofs.lemmas.List.{length-map}
-use Rattle.omega_parity_game.specs.Bound.{losing_priorities}
-use Rattle.omega_parity_game.specs.Game.{priorities}
-use Rattle.omega_parity_game.specs.Player.{loses}
+use Rattle.omega_game_values.specs.Bound.{losing_priorities}
+use Rattle.omega_game_values.specs.Game.{priorities}
+use Rattle.omega_game_values.specs.Player.{loses}
 use Rattle.omega_measure.specs.Limits.{most_cells}
 use Rattle.omega_measure.proofs.Listed.{losing-counted}
 use Rattle.omega_measure.proofs.cells.fits.Goals as goal

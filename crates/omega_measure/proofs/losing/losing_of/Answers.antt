@@ -1,8 +1,8 @@
 -- A count that loses is listed, and all counts are seen at the end.
 use Rattle.std.proofs.Common.{sym, subst, ap, arith, ◌∙◌}
-use Rattle.omega_parity_game.specs.Game.{priorities}
-use Rattle.omega_parity_game.specs.Bound.{IsStrictlyFalling}
-use Rattle.omega_parity_game.specs.Player.{loses}
+use Rattle.omega_game_values.specs.Game.{priorities}
+use Rattle.omega_game_values.specs.Bound.{IsStrictlyFalling}
+use Rattle.omega_game_values.specs.Player.{loses}
 use Rattle.omega_measure.proofs.Listed.{limits_is, listed_more, listed_same, losing-falls, losing_is}
 use Rattle.omega_measure.proofs.losing.losing_of.Goals as goal
 use Rattle.omega_measure.proofs.losing.losing_of.Goals.{then-loses+in_ok-push+in_ok-push-2, else-loses}

@@ -1,7 +1,7 @@
 -- So far the losing priorities and their limits are listed.
 use Rattle.std.proofs.Common.{◌≡◌, take}
 use Rattle.std.specs.Prelude.{map}
-use Rattle.omega_parity_game.specs.Player.{loses}
+use Rattle.omega_game_values.specs.Player.{loses}
 use Rattle.omega_measure.proofs.Listed.{counted}
 use Rattle.omega_measure.proofs.losing.losing_of.Given as goal
 

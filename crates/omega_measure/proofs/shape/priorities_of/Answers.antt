@@ -1,6 +1,6 @@
 -- One priority more.
 use Rattle.std.proofs.Common.{[], ◌∷◌, ◌++◌, sym, ap, ◌∙◌, arith}
-use Rattle.omega_parity_game.specs.Game.{priority_at}
+use Rattle.omega_game_values.specs.Game.{priority_at}
 use Rattle.omega_measure.proofs.Shapes.{priority_more}
 use Rattle.omega_measure.proofs.shape.priorities_of.Goals as goal
 

@@ -1,7 +1,7 @@
 -- Only the row of the place is written.
 use Rattle.std.proofs.Common.{◌+◌, ◌-◌, ◌*◌, drop, arith}
 use Rattle.std.proofs.lemmas.List.{length-take, length-drop}
-use Rattle.omega_measure_rows.proofs.RowWrites.{WritesRow-put}
+use Rattle.omega_lift_rows.proofs.RowWrites.{WritesRow-put}
 use Rattle.omega_measure.proofs.words.allow_at.Goals as goal
 
 pub returns-clause-others : goal.returns-clause-others

@@ -1,5 +1,6 @@
 -- Fields of bits in a row of words, and the measure that a row holds in them.
-use Rattle.std.specs.Prelude.{◌≡◌, ◌≢◌, ℕ, zero, suc, ◌+◌, ◌-◌, ◌*◌, ◌/◌, ◌%◌, ◌^◌, ◌<◌, ◌≤◌, Some, None, List, [], ◌∷◌, length, map, take, drop, slice_index}
+use Rattle.std.specs.Prelude.{◌≡◌, ◌≢◌, ℕ, zero, suc, ◌+◌, ◌-◌, ◌*◌, ◌/◌, ◌%◌, ◌^◌, ◌<◌, ◌≤◌}
+use Rattle.std.specs.Prelude.{Some, None, List, [], ◌∷◌, length, map, take, drop, slice_index}
 use Rattle.std.specs.declared.cmp.Ordering.{Ordering}
 use Rattle.std.specs.Ordering.{nat_cmp, ordering_then}
 use Rattle.std.specs.Cmp.Lexicographic.{slice_cmp}
@@ -26,7 +27,8 @@ abbrev pub AreChained : Field → List ℕ → List Field → Type 0
 AreChained before [] [] = Unit {0}
 AreChained before [] (field ∷ fields) = ⊥
 AreChained before (limit ∷ limits) [] = ⊥
-AreChained before (limit ∷ limits) (field ∷ fields) = FollowsField before limit field × AreChained field limits fields
+AreChained before (limit ∷ limits) (field ∷ fields) =
+    FollowsField before limit field × AreChained field limits fields
 
 -- the fields of a row: the flag for top, and then the entries up to these limits
 abbrev pub ArePacked : List ℕ → List Field → Type 0
@@ -113,6 +115,8 @@ AreAtMost (limit ∷ limits) (x ∷ xs) = (x ≤ limit) × AreAtMost limits xs
 -- for top is set
 pub record IsPackedRow (fields : List Field) (row : List ℕ) : Type 0 where
   pub small : (j : ℕ) → j < length row → slice_index row j < 2 ^ 64
-  pub whole : value (word_places (length row)) row ≡ value (field_places (length row) fields) (digits_in fields row)
+  pub whole : value (word_places (length row)) row
+      ≡ value (field_places (length row) fields) (digits_in fields row)
   pub limits : AreAtMost (limits_in fields) (digits_in fields row)
-  pub top : slice_index (digits_in fields row) 0 ≢ 0 → (k : ℕ) → 0 < k → slice_index (digits_in fields row) k ≡ 0
+  pub top : slice_index (digits_in fields row) 0 ≢ 0 → (k : ℕ) → 0 < k
+      → slice_index (digits_in fields row) k ≡ 0

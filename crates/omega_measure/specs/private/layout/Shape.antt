@@ -1,11 +1,11 @@
 -- The shape of the measures of a player over a game.
 use Rattle.std.specs.Prelude.{◌≡◌, ℕ, ◌*◌, ◌≤◌, List, length, map}
-use Rattle.omega_parity_game.specs.declared.player.Player.{Player}
-use Rattle.omega_parity_game.specs.Bound.{losing_priorities}
+use Rattle.omega_game_values.specs.declared.player.Player.{Player}
+use Rattle.omega_game_values.specs.Bound.{losing_priorities}
 use Rattle.omega_lift_laws.specs.Least.{limits_of}
-use Rattle.omega_parity_game.specs.Bound.{IsStrictlyFalling}
+use Rattle.omega_game_values.specs.Bound.{IsStrictlyFalling}
 use Rattle.omega_measure.specs.private.layout.Falling.{count_from}
-use Rattle.omega_parity_game.specs.Limits.{most_nodes}
+use Rattle.omega_game_values.specs.Limits.{most_nodes}
 use Rattle.omega_measure.specs.Limits.{most_cells}
 
 -- the player and the nodes' priorities, which determine the measures

@@ -5,4 +5,5 @@ use Rattle.std.specs.Prelude.{Option, Some, List, [], ◌∷◌, option_and_then
 abbrev pub run_by : {State Symbol : Type 0} → (State → Symbol → Option State) → State → List Symbol
     → Option State
 run_by step state [] = Some state
-run_by step state (symbol ∷ symbols) = option_and_then (λ next. run_by step next symbols) (step state symbol)
+run_by step state (symbol ∷ symbols) =
+    option_and_then (λ next. run_by step next symbols) (step state symbol)

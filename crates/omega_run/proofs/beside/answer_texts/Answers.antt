@@ -1,6 +1,6 @@
 -- `answer_texts`: what one text is refused for, or both.
 use Rattle.omega_run.proofs.TwoTexts.{refused_alone}
-use Rattle.omega_command.specs.declared.beside.Beside.TheVariants as beside
+use Rattle.omega_cli_command.specs.declared.beside.Beside.TheVariants as beside
 use Rattle.omega_run.proofs.beside.answer_texts.Goals as goal
 
 pub returns-in-VerifyLasso-clause-refused : goal.returns-in-VerifyLasso-clause-refused

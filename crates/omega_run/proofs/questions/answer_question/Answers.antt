@@ -1,6 +1,6 @@
 -- `answer_question`: what lifts reports its runs, and nothing else reports any.
 use Rattle.std.proofs.Common.{refl}
-use Rattle.omega_budget.proofs.Observed.{observed_as}
+use Rattle.omega_solve.proofs.within_budget.Observed.{observed_as}
 use Rattle.omega_run.proofs.Lifted.{nothing_lifted}
 use Rattle.omega_run.proofs.questions.answer_question.Goals as goal
 

@@ -1,6 +1,6 @@
 -- `answer`: if nothing is lifted nothing is reported, and else what the answer to the text that was read reports.
 use Rattle.omega_io.specs.Failures.{IsTransferRefusal}
-use Rattle.omega_budget.proofs.Observed.{none_observed, spares, observed_alike}
+use Rattle.omega_solve.proofs.within_budget.Observed.{none_observed, spares, observed_alike}
 use Rattle.omega_run.proofs.Counted.{of_all, each_counted, question_counted, stream_counted, text_counted}
 use Rattle.omega_run.proofs.Lifted.{each_observed, question_observed, stream_observed, text_observed}
 use Rattle.omega_run.proofs.respond.answer.Goals as goal

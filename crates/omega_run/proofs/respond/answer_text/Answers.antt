@@ -2,7 +2,7 @@
 -- `solve` answers for one player counts the lifts of its run.
 use Rattle.std.proofs.Common.{refl}
 use Rattle.std.proofs.lemmas.Result.{IfOk-weaker}
-use Rattle.omega_budget.proofs.Observed.{observed_as}
+use Rattle.omega_solve.proofs.within_budget.Observed.{observed_as}
 use Rattle.omega_run.proofs.Counted.{of_all}
 use Rattle.omega_run.proofs.Lifted.{nothing_lifted}
 use Rattle.omega_run.proofs.respond.answer_text.Goals as goal

@@ -1,7 +1,7 @@
 -- `run_command`: nothing is written before the answer is there, and what is reported is reported while it is made.
 use Rattle.std.proofs.Common.{◌≡◌, rules}
 use Rattle.omega_text.specs.declared.refusal.Refusal.TheVariants.{Io}
-use Rattle.omega_budget.proofs.Observed.{spares, observed_alike, observed_refused}
+use Rattle.omega_solve.proofs.within_budget.Observed.{spares, observed_alike, observed_refused}
 use Rattle.omega_run.proofs.Lifted.{input_refused}
 use Rattle.omega_run.proofs.run.run_command.Goals as goal
 

@@ -1,7 +1,7 @@
 -- The kind of a command: it reads a stream, or one text, and may ask a question about each automaton, or the text.
-use Rattle.omega_command.specs.declared.command.Command.{Command}
-use Rattle.omega_command.specs.declared.command.Command.TheVariants as command
-use Rattle.omega_command.specs.declared.command.Format.TheVariants.{Hoa, Pg}
+use Rattle.omega_cli_command.specs.declared.command.Command.{Command}
+use Rattle.omega_cli_command.specs.declared.command.Command.TheVariants as command
+use Rattle.omega_cli_command.specs.declared.command.Format.TheVariants.{Hoa, Pg}
 use Rattle.omega_run.specs.declared.kinds.Kind.{Kind}
 use Rattle.omega_run.specs.declared.kinds.Kind.TheVariants as kind
 use Rattle.omega_run.specs.declared.kinds.OfQuestion.{OfQuestion}

@@ -1,6 +1,6 @@
 -- A successor that is the place itself is listed.
 use Rattle.std.proofs.Common.{subst, ℕ}
-use Rattle.omega_parity_game.specs.Game.{HasEdge}
+use Rattle.omega_game_values.specs.Game.{HasEdge}
 use Rattle.omega_solve.proofs.lifting.Edges.{edge_index}
 use Rattle.omega_solve.proofs.repeating.leads_to_itself.Goals as goal
 

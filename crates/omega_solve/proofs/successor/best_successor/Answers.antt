@@ -2,7 +2,7 @@
 use Rattle.std.proofs.Common.{◌≡◌, arith, ap, subst, sym, ◌∙◌, ℕ, List, slice_index, Some}
 use Rattle.std.specs.List.{slice_get}
 use Rattle.std.proofs.lemmas.Option.{slice_get-get_or}
-use Rattle.omega_parity_game.specs.Game.{priority_at}
+use Rattle.omega_game_values.specs.Game.{priority_at}
 use Rattle.std.specs.Ordering.{ordering_index}
 use Rattle.std.proofs.lemmas.Bool.{eqb-true, eqb-false}
 use Rattle.omega_solve.specs.private.solving.Successor.{order_from}

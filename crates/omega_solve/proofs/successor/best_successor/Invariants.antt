@@ -1,5 +1,5 @@
 -- The first best of the successors looked at so far.
-use Rattle.omega_parity_game.specs.Game.{priority_at}
+use Rattle.omega_game_values.specs.Game.{priority_at}
 use Rattle.omega_solve.specs.private.solving.Successor.{IsFirstBest, order_from}
 use Rattle.omega_solve.proofs.successor.best_successor.Given as goal
 

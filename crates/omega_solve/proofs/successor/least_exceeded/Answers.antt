@@ -5,7 +5,7 @@ use Rattle.std.specs.declared.cmp.Ordering.TheVariants.{Less}
 use Rattle.std.proofs.lemmas.Option.{slice_get-get_or}
 use Rattle.std.specs.Ordering.{ordering_index}
 use Rattle.std.proofs.lemmas.Bool.{eqb-true, eqb-false, false≢true}
-use Rattle.omega_parity_game.specs.Game.{priority_at}
+use Rattle.omega_game_values.specs.Game.{priority_at}
 use Rattle.omega_solve.specs.private.solving.Successor.{IsFirstBest, order_from}
 use Rattle.omega_solve.proofs.lifting.Due.{order_total, priority_in}
 use Rattle.omega_solve.proofs.lifting.Order.{less_is_not_equal, same_from_index}

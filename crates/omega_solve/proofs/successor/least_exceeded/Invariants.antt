@@ -1,6 +1,6 @@
 -- The first successor of least measure among those so far, and the allowance towards it exceeds the measure.
 use Rattle.std.specs.declared.cmp.Ordering.TheVariants.{Less}
-use Rattle.omega_parity_game.specs.Game.{priority_at}
+use Rattle.omega_game_values.specs.Game.{priority_at}
 use Rattle.omega_measure.specs.Table.{Exceeds}
 use Rattle.omega_solve.specs.private.solving.Successor.{IsFirstBest, order_from}
 use Rattle.omega_solve.proofs.successor.least_exceeded.Given as goal

@@ -1,8 +1,8 @@
 -- A side at its start.
 use Rattle.std.proofs.Common.{◌≡◌, ◌∙◌, length, ap, sym, subst}
-use Rattle.omega_parity_game.specs.Game.{priorities}
+use Rattle.omega_game_values.specs.Game.{priorities}
 use Rattle.omega_measure.specs.Table.{Content, zero_content}
-use Rattle.omega_schedules.specs.Schedule.{Pending, all_pending}
+use Rattle.omega_lift_schedules.specs.Schedule.{Pending, all_pending}
 use Rattle.omega_solve.specs.private.turning.Side.{IsSide}
 use Rattle.omega_solve.proofs.turning.Sides.{side_start}
 use Rattle.omega_solve.proofs.turns.new_side.Goals as goal

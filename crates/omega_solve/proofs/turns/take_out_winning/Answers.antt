@@ -2,7 +2,7 @@
 use Rattle.std.proofs.Common.{◌∙◌, ap, arith, subst, sym}
 use Rattle.omega_lift_laws.specs.Run.{IsDue}
 use Rattle.omega_measure.specs.Table.{Content}
-use Rattle.omega_parity_game.specs.Player.{loses}
+use Rattle.omega_game_values.specs.Player.{loses}
 use Rattle.omega_solve.proofs.turning.Starting.{zero_settled}
 use Rattle.omega_solve.proofs.turns.take_out_winning.Goals as goal
 use Rattle.omega_solve.proofs.turns.take_out_winning.Goals.{then-not-loses, else-not-loses}

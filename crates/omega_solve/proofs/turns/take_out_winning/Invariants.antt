@@ -1,6 +1,6 @@
 -- The side is kept, and every measure is 0.
 use Rattle.std.proofs.Common.{◌≡◌}
-use Rattle.omega_parity_game.specs.Game.{priorities}
+use Rattle.omega_game_values.specs.Game.{priorities}
 use Rattle.omega_measure.specs.Table.{zero_content}
 use Rattle.omega_solve.specs.private.turning.Side.{IsSide}
 use Rattle.omega_solve.proofs.turns.take_out_winning.Given as goal

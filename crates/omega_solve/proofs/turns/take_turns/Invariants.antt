@@ -1,6 +1,6 @@
 -- Both sides are kept.
 use Rattle.std.proofs.Common.{◌≡◌, length}
-use Rattle.omega_parity_game.specs.declared.player.Player.TheVariants.{One, Zero}
+use Rattle.omega_game_values.specs.declared.player.Player.TheVariants.{One, Zero}
 use Rattle.omega_solve.specs.private.turning.Side.{IsSide}
 use Rattle.omega_solve.proofs.turns.take_turns.Given as goal
 

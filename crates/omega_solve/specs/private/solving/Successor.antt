@@ -2,8 +2,8 @@
 use Rattle.std.specs.Prelude.{◌≡◌, ◌≢◌, ℕ, ◌<◌, Option, Some, None, IsSome, List, length, slice_get}
 use Rattle.std.specs.declared.cmp.Ordering.{Ordering}
 use Rattle.std.specs.declared.cmp.Ordering.TheVariants.{Less}
-use Rattle.omega_parity_game.specs.declared.player.Player.{Player}
-use Rattle.omega_parity_game.specs.Game.{Node, HasEdge, owner_at, priorities, priority_at, successors_at}
+use Rattle.omega_game_values.specs.declared.player.Player.{Player}
+use Rattle.omega_game_values.specs.Game.{Node, HasEdge, owner_at, priorities, priority_at, successors_at}
 use Rattle.omega_lift_laws.specs.Measure.{Measure, compare_from}
 use Rattle.omega_lift_laws.specs.Allowance.{IsAllowanceOf, measure_at}
 use Rattle.omega_lift_laws.specs.Answer.{IsFirstLeast}
@@ -18,12 +18,13 @@ pub record IsTableOf (nodes : List Node) (player : Player) (content : Content) :
 
 -- the order of places by their measures, on the entries for priorities at least p
 abbrev pub order_from : Content → ℕ → ℕ → ℕ → Ordering
-order_from content p v w =
-    compare_from content.player content.priorities p (measure_at content.measures v) (measure_at content.measures w)
+order_from content p v w = compare_from content.player content.priorities p
+    (measure_at content.measures v) (measure_at content.measures w)
 
 -- x is the first best of the first `count` elements: no element compares to it as wanted, and it compares so to each
 -- before it
-pub record IsFirstBest (order : ℕ → ℕ → Ordering) (wanted : Ordering) (xs : List ℕ) (count : ℕ) (x : ℕ) : Type 0 where
+pub record IsFirstBest (order : ℕ → ℕ → Ordering) (wanted : Ordering) (xs : List ℕ) (count : ℕ)
+    (x : ℕ) : Type 0 where
   pub index : ℕ
   pub inside : index < count
   pub listed : slice_get xs index ≡ Some x
@@ -37,10 +38,12 @@ KeepsToSome nodes content v = (w : ℕ) × HasEdge nodes v w × ¬ Exceeds conte
 -- w is the first successor of v of least measure, and the allowance towards it exceeds the measure of v
 pub record IsLeastExceeded (nodes : List Node) (content : Content) (v w : ℕ) : Type 0 where
   pub exceeds : Exceeds content v w
-  pub least : IsFirstBest (order_from content (priority_at nodes v)) Less (successors_at nodes v) (length (successors_at nodes v)) w
+  pub least : IsFirstBest (order_from content (priority_at nodes v)) Less (successors_at nodes v)
+      (length (successors_at nodes v)) w
 
 -- a lift is due at v, and its lift value is the allowance towards w
-pub record IsDueTowards (nodes : List Node) (player : Player) (table : List Measure) (v w : ℕ) : Type 0 where
+pub record IsDueTowards (nodes : List Node) (player : Player) (table : List Measure)
+    (v w : ℕ) : Type 0 where
   pub value : Measure
   pub listed : HasEdge nodes v w
   pub allowance : IsAllowanceOf nodes player table v w value

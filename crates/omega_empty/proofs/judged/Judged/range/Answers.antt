@@ -1,6 +1,6 @@
 -- the range that is read is that of the state
 use Rattle.std.proofs.Common.{◌<◌, subst, sym}
-use Rattle.omega_automaton.specs.Automaton.{edges_of}
+use Rattle.omega_hoa_automaton.specs.Automaton.{edges_of}
 use Rattle.omega_empty.specs.private.layout.Ranges.{IsRangeOf}
 use Rattle.omega_empty.specs.private.layout.Ready.{JudgedAutomaton}
 use Rattle.omega_empty.proofs.making.Rows.{range_read}

@@ -1,6 +1,6 @@
 -- `stands_as_given`: the choices of the winner at a place lead to nodes.
 use Rattle.std.proofs.Common.{slice_index_or}
-use Rattle.omega_parity_game.specs.declared.player.Player.TheVariants.{Zero}
+use Rattle.omega_game_values.specs.declared.player.Player.TheVariants.{Zero}
 use Rattle.omega_game.proofs.walks.Recurrence.{choices_of_strategy}
 use Rattle.omega_game.proofs.checking.given.stands_as_given.Goals as goal
 

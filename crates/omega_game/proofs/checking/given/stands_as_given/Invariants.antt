@@ -1,7 +1,7 @@
 -- What holds in the loop of `stands_as_given`: the edges before the one looked at are in order for the winner, and lead
 -- to places of the same winner.
 use Rattle.std.proofs.Common.{◌≡◌, ℕ, ◌<◌, get_or}
-use Rattle.omega_parity_game.specs.Solution.{winner_at}
+use Rattle.omega_game_values.specs.Solution.{winner_at}
 use Rattle.omega_game.specs.private.checking.Ordering.{IsInOrder}
 use Rattle.omega_game.proofs.checking.given.stands_as_given.Given as goal
 

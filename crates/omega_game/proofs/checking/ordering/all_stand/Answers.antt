@@ -1,7 +1,7 @@
 -- `all_stand`: whether each marked place stands in the order.
 use Rattle.std.proofs.Common.{arith, below_more}
 use Rattle.std.proofs.lemmas.Grind.{common_steps}
-use Rattle.omega_reaching.proofs.Marking.{marked_below}
+use Rattle.omega_game_reaching.proofs.Marking.{marked_below}
 use Rattle.omega_game.proofs.walks.Standing.{none_in_order}
 use Rattle.omega_game.proofs.checking.ordering.all_stand.Goals as goal
 use Rattle.omega_game.proofs.checking.ordering.all_stand.Goals.{else-marks-place-via-then-marks-place+else-not-stands, else-marks-place-via-else-marks-place}

@@ -1,6 +1,6 @@
 -- What holds in the loop of `all_stand`: whether each marked place stands in the order.
 use Rattle.std.proofs.Common.{ℕ, ◌<◌, IsTrue}
-use Rattle.omega_reaching.specs.Reaching.{mark_at}
+use Rattle.omega_game_reaching.specs.Reaching.{mark_at}
 use Rattle.omega_game.specs.private.checking.Ordering.{StandsInOrder}
 use Rattle.omega_game.proofs.checking.ordering.all_stand.Given as goal
 

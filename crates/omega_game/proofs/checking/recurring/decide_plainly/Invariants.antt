@@ -1,9 +1,9 @@
 -- What holds in the loop of `decide_plainly`: decides whether no marked place of a priority that
 -- loses for the player recurs.
 use Rattle.std.proofs.Common.{ℕ, ◌<◌, IsTrue}
-use Rattle.omega_parity_game.specs.Game.{priority_at}
-use Rattle.omega_parity_game.specs.Player.{loses}
-use Rattle.omega_reaching.specs.Reaching.{mark_at}
+use Rattle.omega_game_values.specs.Game.{priority_at}
+use Rattle.omega_game_values.specs.Player.{loses}
+use Rattle.omega_game_reaching.specs.Reaching.{mark_at}
 use Rattle.omega_game.specs.private.checking.Recurring.{Recurs}
 use Rattle.omega_game.proofs.checking.recurring.decide_plainly.Given as goal
 

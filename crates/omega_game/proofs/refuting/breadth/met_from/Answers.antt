@@ -1,7 +1,7 @@
 -- `met_from`: meets the places that are reached from the given ones through priorities at most `most`.
 use Rattle.std.proofs.Common.{◌≡◌, ◌<◌, ◌≤◌, ℕ, Some, List, length, get_or, sym, subst, arith}
 use Rattle.std.proofs.lemmas.List.{get_or_read}
-use Rattle.omega_reaching.specs.Reaching.{left_at}
+use Rattle.omega_game_reaching.specs.Reaching.{left_at}
 use Rattle.omega_game.specs.private.refuting.Ways.{AreMet}
 use Rattle.omega_game.proofs.walks.Meeting.{breadth_goes_on, breadth_ends, met_below}
 use Rattle.omega_game.proofs.refuting.breadth.met_from.Goals as goal

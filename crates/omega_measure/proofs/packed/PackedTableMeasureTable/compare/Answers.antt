@@ -1,7 +1,7 @@
 -- The order of the front of the words is that of the measures.
 use Rattle.std.proofs.Common.{length, ap, sym, subst, ◌∙◌, arith}
 use Rattle.omega_measure.specs.private.layout.Field.{IsInside, front_order}
-use Rattle.omega_measure_rows.specs.Rows.{row_of}
+use Rattle.omega_lift_rows.specs.Rows.{row_of}
 use Rattle.omega_measure.proofs.PackedCalls.{in_packed, inside_by, kept_within, packed_compare_is, packed_fits}
 use Rattle.omega_measure.proofs.packed.PackedTableMeasureTable.compare.Goals as goal
 

@@ -6,8 +6,8 @@ use Rattle.omega_measure.specs.Table.{Raises}
 use Rattle.omega_measure.proofs.PackedCalls.{ArePackedRows-raised, Raises-packed, in_packed, packed_fits}
 use Rattle.omega_measure.proofs.packed.PackedTableMeasureTable.raise.Goals as goal
 
-pub kept-kept-requires : goal.kept-kept-requires
-kept-kept-requires c =
+pub entries_kept-kept-requires : goal.entries_kept-kept-requires
+entries_kept-kept-requires c =
     let s = c.self.inside in
     in_packed s.shape s.fields.items s.size s.words.items c.self.invariant c.args.self.now c.self.view_is c.args.v c.requires.lifted
 
@@ -42,8 +42,8 @@ invariant_of-self c =
     let others = rw c.deref_mut.ensures.value at c.raise_at.ensures.others in
     let allowance = rw (c.deref.ensures.value, c.deref_mut.ensures.value) at c.raise_at.ensures.allowance in
     rw (with_items_is s.words c.raise_at.new.words (omega (arith, others.count, s.words.ok.0)))
-    (ArePackedRows-raised c.allowances_are_least_sufficient.ensures s.shape s.fields.items s.size s.words.items c.raise_at.new.words c.kept-kept.result c.args.v c.args.w c.is_strict-strict.result
-    c.self.invariant v_in w_in c.kept-kept.ensures c.is_strict-strict.ensures others allowance.packed allowance.allowance)
+    (ArePackedRows-raised c.allowances_are_least_sufficient.ensures s.shape s.fields.items s.size s.words.items c.raise_at.new.words c.entries_kept-kept.result c.args.v c.args.w c.is_strict-strict.result
+    c.self.invariant v_in w_in c.entries_kept-kept.ensures c.is_strict-strict.ensures others allowance.packed allowance.allowance)
 
 pub returns : goal.returns
 returns c =
@@ -54,5 +54,5 @@ returns c =
     let allowance = rw (c.deref.ensures.value, c.deref_mut.ensures.value) at c.raise_at.ensures.allowance in
     rw (with_items_is s.words c.raise_at.new.words (omega (arith, others.count, s.words.ok.0)))
     (subst (λ old. Raises old c.args.v c.args.w (packed_content s.shape s.fields.items s.size c.raise_at.new.words)) c.self.view_is
-    (Raises-packed c.allowances_are_least_sufficient.ensures s.shape s.fields.items s.size s.words.items c.raise_at.new.words c.kept-kept.result c.args.v c.args.w c.is_strict-strict.result
-    c.self.invariant v_in w_in c.kept-kept.ensures c.is_strict-strict.ensures others allowance.packed allowance.allowance))
+    (Raises-packed c.allowances_are_least_sufficient.ensures s.shape s.fields.items s.size s.words.items c.raise_at.new.words c.entries_kept-kept.result c.args.v c.args.w c.is_strict-strict.result
+    c.self.invariant v_in w_in c.entries_kept-kept.ensures c.is_strict-strict.ensures others allowance.packed allowance.allowance))

@@ -7,8 +7,8 @@ use Rattle.omega_measure.proofs.Contents.{AreRows-raised, Raises-raised}
 use Rattle.omega_measure.proofs.PlainCalls.{below_top, in_table}
 use Rattle.omega_measure.proofs.plain.PlainTableMeasureTable.raise.Goals as goal
 
-pub kept-kept-requires : goal.kept-kept-requires
-kept-kept-requires c =
+pub entries_kept-kept-requires : goal.entries_kept-kept-requires
+entries_kept-kept-requires c =
     let s = c.self.inside in
     in_table s.shape s.tops.items s.entries.items c.args.self.now c.self.view_is c.args.v c.requires.lifted
 
@@ -40,8 +40,8 @@ invariant_of-self c =
     let v_in = in_table s.shape s.tops.items s.entries.items c.args.self.now c.self.view_is c.args.v c.requires.lifted in
     let w_in = in_table s.shape s.tops.items s.entries.items c.args.self.now c.self.view_is c.args.w c.requires.towards in
     rw (with_items_is s.tops c.raise_at.new.tops (omega (arith, writes.flags, s.tops.ok.0)), with_items_is s.entries c.raise_at.new.entries (omega (arith, writes.cells, s.entries.ok.0)))
-    (AreRows-raised c.allowances_are_least_sufficient.ensures s.shape s.tops.items c.raise_at.new.tops s.entries.items c.raise_at.new.entries c.limits-limits.result.now c.kept-kept.result c.args.v c.args.w c.is_strict-strict.result
-    c.self.invariant v_in w_in c.limits-limits.ensures.limits c.kept-kept.ensures c.is_strict-strict.ensures writes)
+    (AreRows-raised c.allowances_are_least_sufficient.ensures s.shape s.tops.items c.raise_at.new.tops s.entries.items c.raise_at.new.entries c.limits-limits.result.now c.entries_kept-kept.result c.args.v c.args.w c.is_strict-strict.result
+    c.self.invariant v_in w_in c.limits-limits.ensures.limits c.entries_kept-kept.ensures c.is_strict-strict.ensures writes)
 
 pub returns : goal.returns
 returns c =
@@ -51,5 +51,5 @@ returns c =
     let w_in = in_table s.shape s.tops.items s.entries.items c.args.self.now c.self.view_is c.args.w c.requires.towards in
     rw (with_items_is s.tops c.raise_at.new.tops (omega (arith, writes.flags, s.tops.ok.0)), with_items_is s.entries c.raise_at.new.entries (omega (arith, writes.cells, s.entries.ok.0)))
     (subst (λ old. Raises old c.args.v c.args.w (content_of s.shape c.raise_at.new.tops c.raise_at.new.entries)) c.self.view_is
-    (Raises-raised c.allowances_are_least_sufficient.ensures s.shape s.tops.items c.raise_at.new.tops s.entries.items c.raise_at.new.entries c.limits-limits.result.now c.kept-kept.result c.args.v c.args.w c.is_strict-strict.result
-    c.self.invariant v_in w_in c.limits-limits.ensures.limits c.kept-kept.ensures c.is_strict-strict.ensures writes))
+    (Raises-raised c.allowances_are_least_sufficient.ensures s.shape s.tops.items c.raise_at.new.tops s.entries.items c.raise_at.new.entries c.limits-limits.result.now c.entries_kept-kept.result c.args.v c.args.w c.is_strict-strict.result
+    c.self.invariant v_in w_in c.limits-limits.ensures.limits c.entries_kept-kept.ensures c.is_strict-strict.ensures writes))

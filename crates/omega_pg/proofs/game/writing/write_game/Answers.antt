@@ -1,6 +1,6 @@
 -- `write_game`: a line for each place, after the header.
 use Rattle.std.proofs.Common.{arith}
-use Rattle.omega_parity_game.specs.Game.{greatest_identifier}
+use Rattle.omega_game_values.specs.Game.{greatest_identifier}
 use Rattle.omega_pg.specs.game.Canonical.{header_line}
 use Rattle.omega_pg.proofs.games.Lines.{all_lines, lines_more}
 use Rattle.omega_pg.proofs.game.writing.write_game.Goals as goal

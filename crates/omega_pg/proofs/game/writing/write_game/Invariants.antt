@@ -1,9 +1,9 @@
 -- `write_game`: the header and the lines of the places before this one are written.
 use Rattle.std.proofs.Common.{◌≡◌, ◌++◌, map, take}
 use Rattle.std.specs.List.{flat_map}
-use Rattle.omega_parity_game.specs.Building.{specified}
+use Rattle.omega_game_values.specs.Building.{specified}
 use Rattle.omega_pg.specs.game.Canonical.{header_line, node_line}
-use Rattle.omega_parity_game.specs.Game.{greatest_identifier}
+use Rattle.omega_game_values.specs.Game.{greatest_identifier}
 use Rattle.omega_pg.proofs.game.writing.write_game.Given as goal
 
 abbrev pub invariant-loop-place : goal.invariant-loop-place

@@ -1,6 +1,6 @@
 -- `write_game_with_priorities`: a line for each place, after the header.
 use Rattle.std.proofs.Common.{arith}
-use Rattle.omega_parity_game.specs.Game.{greatest_identifier}
+use Rattle.omega_game_values.specs.Game.{greatest_identifier}
 use Rattle.omega_pg.specs.game.Canonical.{header_line}
 use Rattle.omega_pg.proofs.games.Prioritized.{all_written, nodes_more, prioritized}
 use Rattle.omega_pg.proofs.game.writing.write_game_with_priorities.Goals as goal

@@ -1,7 +1,7 @@
 -- `write_game_with_priorities`: the header and the lines of the places before this one are written.
 use Rattle.std.proofs.Common.{◌≡◌, ◌++◌, map}
 use Rattle.std.specs.List.{flat_map, range_with_len}
-use Rattle.omega_parity_game.specs.Game.{greatest_identifier}
+use Rattle.omega_game_values.specs.Game.{greatest_identifier}
 use Rattle.omega_pg.specs.game.Canonical.{header_line, node_line}
 use Rattle.omega_pg.proofs.games.Prioritized.{prioritized}
 use Rattle.omega_pg.proofs.game.writing.write_game_with_priorities.Given as goal

@@ -1,7 +1,7 @@
 -- `place_with`: no place before this one has the identifier.
 use Rattle.std.proofs.Common.{◌≡◌}
 use Rattle.std.specs.List.{AllWithin}
-use Rattle.omega_parity_game.specs.Game.{identifier_at}
+use Rattle.omega_game_values.specs.Game.{identifier_at}
 use Rattle.omega_pg.proofs.solution.lines.place_with.Given as goal
 
 abbrev pub invariant-loop-place : goal.invariant-loop-place

@@ -1,7 +1,7 @@
 -- `said_choice`: the choice that a line says, or why it is wrong.
 use Rattle.std.proofs.Common.{inr, ◌<◌, ◌≢◌, length, sym}
 use Rattle.std.proofs.lemmas.List.Elements.{All-same}
-use Rattle.omega_parity_game.specs.Game.{identifier_at}
+use Rattle.omega_game_values.specs.Game.{identifier_at}
 use Rattle.omega_pg.proofs.solutions.Judging.{none_mapped}
 use Rattle.omega_pg.proofs.games.Listed.{successors_are_places}
 use Rattle.omega_pg.proofs.solution.lines.said_choice.Goals as goal

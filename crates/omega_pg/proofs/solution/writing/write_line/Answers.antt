@@ -1,6 +1,6 @@
 -- `write_line`: its parts are the line of the node.
-use Rattle.omega_parity_game.specs.Game.{owner_at}
-use Rattle.omega_parity_game.specs.Solution.{choices_of}
+use Rattle.omega_game_values.specs.Game.{owner_at}
+use Rattle.omega_game_values.specs.Solution.{choices_of}
 use Rattle.omega_pg.proofs.solutions.Choices.{chosen_inside}
 use Rattle.omega_pg.proofs.solution.writing.write_line.Goals as goal
 

@@ -1,14 +1,16 @@
 -- The grammar of game texts as an automaton over symbols, whose states keep what was read.
-use Rattle.std.specs.Prelude.{◌≡◌, ℕ, ◌<◌, ◌≤◌, ◌==◌, ◌||◌, Bool, true, false, Option, Some, None, List, [], ◌∷◌, ◌++◌, length, nat_lt, option_map, if◌then◌else◌}
-use Rattle.omega_parity_game.specs.Building.{with_last, with_name, with_successor}
+use Rattle.std.specs.Prelude.{◌≡◌, ℕ, ◌<◌, ◌≤◌, ◌==◌, ◌||◌, Bool, true, false, Option, Some, None}
+use Rattle.std.specs.Prelude.{List, [], ◌∷◌, ◌++◌, length, nat_lt, option_map, if◌then◌else◌}
+use Rattle.omega_game_values.specs.Building.{with_last, with_name, with_successor}
 use Rattle.omega_text.specs.Limits.{most_number}
-use Rattle.omega_parity_game.specs.declared.node_spec.NodeSpec.{NodeSpec}
-use Rattle.omega_parity_game.specs.declared.player.Player.{Player}
-use Rattle.omega_parity_game.specs.declared.player.Player.TheVariants.{One, Zero}
+use Rattle.omega_game_values.specs.declared.node_spec.NodeSpec.{NodeSpec}
+use Rattle.omega_game_values.specs.declared.player.Player.{Player}
+use Rattle.omega_game_values.specs.declared.player.Player.TheVariants.{One, Zero}
 use Rattle.omega_pg.specs.private.reader.Run.{run_by}
 use Rattle.omega_pg.specs.Symbols.{PgSymbol, comma, name, number, parity, paritysol, semicolon}
 use Rattle.omega_pg.specs.declared.game.stage.Stage.{Stage}
-use Rattle.omega_pg.specs.declared.game.stage.Stage.TheVariants.{Comma, Ended, Headed, Identifier, Listed, Named, Number, Owner, Priority, Start, Word}
+use Rattle.omega_pg.specs.declared.game.stage.Stage.TheVariants.{Comma, Ended, Headed, Identifier, Listed}
+use Rattle.omega_pg.specs.declared.game.stage.Stage.TheVariants.{Named, Number, Owner, Priority, Start, Word}
 
 -- what was read so far: the stage, the header's number, the specifications, and whether an identifier is above that
 -- number
@@ -37,7 +39,13 @@ is_above (Some n) id = nat_lt n id
 
 -- a specification that has begun, with its first successor
 abbrev pub begun : ℕ → ℕ → Player → ℕ → NodeSpec
-begun id priority owner first = record { id = id; priority = priority; owner = owner; successors = first ∷ []; name = None }
+begun id priority owner first = record {
+  id = id;
+  priority = priority;
+  owner = owner;
+  successors = first ∷ [];
+  name = None;
+}
 
 -- the state with one specification more
 abbrev pub with_node : NodeSpec → GameReaderState → GameReaderState
@@ -54,7 +62,8 @@ with_change stage change state = record state { stage = stage; specs = with_last
 
 -- the state after the number of an owner, if a player has it
 abbrev pub after_owner : GameReaderState → ℕ → ℕ → ℕ → Option GameReaderState
-after_owner state id priority n = option_map (λ owner. to_stage (Owner id priority owner) state) (player_of n)
+after_owner state id priority n =
+    option_map (λ owner. to_stage (Owner id priority owner) state) (player_of n)
 
 -- the state after a number
 abbrev pub after_number : Stage → GameReaderState → ℕ → Option GameReaderState

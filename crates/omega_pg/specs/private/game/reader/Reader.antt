@@ -4,4 +4,9 @@ use Rattle.omega_pg.specs.declared.game.reader.Reader.TheInside.{Inside}
 
 -- the state that a reader keeps
 abbrev pub game_reader_state : Inside → GameReaderState
-game_reader_state reader = record { stage = reader.stage; header = reader.header; specs = reader.specs; header_too_small = reader.header_too_small }
+game_reader_state reader = record {
+  stage = reader.stage;
+  header = reader.header;
+  specs = reader.specs;
+  header_too_small = reader.header_too_small;
+}

@@ -1,12 +1,13 @@
 -- The grammar of solution texts as an automaton over symbols, whose states keep what was read.
 use Rattle.std.specs.Prelude.{ℕ, Option, Some, None, List, [], ◌∷◌, ◌++◌, option_map}
-use Rattle.omega_parity_game.specs.declared.player.Player.{Player}
+use Rattle.omega_game_values.specs.declared.player.Player.{Player}
 use Rattle.omega_pg.specs.private.game.reader.Automaton.{player_of}
 use Rattle.omega_pg.specs.solution.Grammar.{SolutionLine, line_for}
 use Rattle.omega_pg.specs.private.reader.Run.{run_by}
 use Rattle.omega_pg.specs.Symbols.{PgSymbol, comma, name, number, parity, paritysol, semicolon}
 use Rattle.omega_pg.specs.declared.solution.stage.Stage.{Stage}
-use Rattle.omega_pg.specs.declared.solution.stage.Stage.TheVariants.{Chosen, Ended, Identifier, Number, Start, Winner, Word}
+use Rattle.omega_pg.specs.declared.solution.stage.Stage.TheVariants.{Chosen, Ended, Identifier}
+use Rattle.omega_pg.specs.declared.solution.stage.Stage.TheVariants.{Number, Start, Winner, Word}
 
 -- what was read so far: the stage, the header's number and the lines
 pub record SolutionReaderState : Type 0 where
@@ -55,9 +56,11 @@ after_word stage state = option_map (λ next. to_stage next state) (stage_after_
 
 -- the state after a semicolon
 abbrev pub after_semicolon : Stage → SolutionReaderState → Option SolutionReaderState
-after_semicolon (Number greatest) state = Some (record { stage = Ended; greatest = greatest; lines = state.lines })
+after_semicolon (Number greatest) state =
+    Some (record { stage = Ended; greatest = greatest; lines = state.lines })
 after_semicolon (Winner id winner) state = Some (with_line id winner None state)
-after_semicolon (Chosen id winner successor) state = Some (with_line id winner (Some successor) state)
+after_semicolon (Chosen id winner successor) state =
+    Some (with_line id winner (Some successor) state)
 after_semicolon _ state = None
 
 -- the state after a symbol, or none if no text of the grammar goes on with it

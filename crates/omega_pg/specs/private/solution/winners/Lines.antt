@@ -1,7 +1,7 @@
 -- How the lines of a solution text are kept by their winners.
 use Rattle.std.specs.Prelude.{◌≡◌, ℕ, ◌<◌, Bool, true, false, List, ◌++◌, length}
-use Rattle.omega_parity_game.specs.Game.{Node, identifier_at, identifiers}
-use Rattle.omega_parity_game.specs.declared.player.Player.{Player}
+use Rattle.omega_game_values.specs.Game.{Node, identifier_at, identifiers}
+use Rattle.omega_game_values.specs.declared.player.Player.{Player}
 use Rattle.omega_pg.specs.solution.Grammar.{SolutionLine}
 use Rattle.omega_pg.specs.solution.Winners.{identifiers_of, winners_of}
 use Rattle.omega_pg.specs.declared.solution.winner_lines.WinnerLines.{WinnerLines}

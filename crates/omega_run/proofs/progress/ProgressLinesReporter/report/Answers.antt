@@ -1,6 +1,6 @@
 -- `report`: the parts of the line, written one after another, are the line.
 use Rattle.std.proofs.Common.{◌≡◌, ◌++◌, ℕ, List, codes, decimal, rules, subst}
-use Rattle.omega_parity_game.specs.Player.{player_number}
+use Rattle.omega_game_values.specs.Player.{player_number}
 use Rattle.omega_run.specs.private.steps.Telling.{TellsOn}
 use Rattle.omega_run.proofs.ProgressLines.{on_and_on}
 use Rattle.omega_run.proofs.progress.ProgressLinesReporter.report.Goals as goal

@@ -1,6 +1,6 @@
 -- A lift is one towards the successor given, and keeps what a solver keeps.
 use Rattle.std.proofs.Common.{◌+◌, ◌≤◌, ◌∙◌, ap, arith, subst, sym}
-use Rattle.omega_schedules.specs.Schedule.{IsPending, Pending}
+use Rattle.omega_lift_schedules.specs.Schedule.{IsPending, Pending}
 use Rattle.omega_solve.specs.Solver.{SolverState, solver_state}
 use Rattle.omega_solve.specs.private.solving.Progress.{IsLifted}
 use Rattle.omega_solve.specs.Limits.{most_lifts}

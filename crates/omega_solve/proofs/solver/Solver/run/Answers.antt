@@ -1,6 +1,6 @@
 -- A run goes on lift by lift, and ends with none due or with its budget used up.
 use Rattle.std.proofs.Common.{◌≡◌, ◌-◌, ◌∙◌, ap, arith, refl, subst, sym, true}
-use Rattle.omega_schedules.proofs.Flags.{waits_taken}
+use Rattle.omega_lift_schedules.proofs.Flags.{waits_taken}
 use Rattle.omega_solve.specs.Solver.{SolverState}
 use Rattle.omega_solve.specs.private.solving.Progress.{IsSolver}
 use Rattle.omega_solve.proofs.lifting.Finishing.{finished_idle, reached_bounded, solving_reached}

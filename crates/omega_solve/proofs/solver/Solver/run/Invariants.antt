@@ -1,6 +1,6 @@
 -- The lifts of the run so far, which the budget and the pending places bring to an end.
 use Rattle.std.proofs.Common.{◌≡◌, ◌+◌, ◌-◌, ◌*◌, ◌≤◌, length, false}
-use Rattle.omega_schedules.specs.Schedule.{waits}
+use Rattle.omega_lift_schedules.specs.Schedule.{waits}
 use Rattle.omega_solve.specs.Solver.{LiftsWithin}
 use Rattle.omega_solve.proofs.solver.Solver.run.Given as goal
 

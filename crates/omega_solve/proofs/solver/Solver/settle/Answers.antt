@@ -1,6 +1,6 @@
 -- A take of a place at which no lift is due keeps what a solver keeps.
 use Rattle.std.proofs.Common.{◌∙◌, ap, subst, sym}
-use Rattle.omega_schedules.specs.Schedule.{IsPending}
+use Rattle.omega_lift_schedules.specs.Schedule.{IsPending}
 use Rattle.omega_solve.specs.Solver.{SolverState}
 use Rattle.omega_lift_laws.specs.Run.{IsDue}
 use Rattle.omega_solve.proofs.lifting.Finishing.{takes_fit}

@@ -1,6 +1,6 @@
 -- A place that the opponent wins is given up.
 use Rattle.std.proofs.Common.{arith, length, sym, subst}
-use Rattle.omega_parity_game.specs.Game.{predecessors_of}
+use Rattle.omega_game_values.specs.Game.{predecessors_of}
 use Rattle.omega_lift_laws.specs.Run.{IsDue}
 use Rattle.omega_measure.specs.Table.{Content}
 use Rattle.omega_solve.specs.private.solving.Wake.{Wakes}

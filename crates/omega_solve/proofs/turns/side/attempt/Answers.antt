@@ -1,6 +1,6 @@
 -- A take of a place at which no lift is due keeps a side.
 use Rattle.std.proofs.Common.{sym, subst}
-use Rattle.omega_schedules.specs.Schedule.{Pending}
+use Rattle.omega_lift_schedules.specs.Schedule.{Pending}
 use Rattle.omega_solve.specs.private.turning.Side.{IsSide}
 use Rattle.omega_solve.proofs.turning.Sides.{side_settled}
 use Rattle.omega_solve.proofs.turns.side.attempt.Goals as goal

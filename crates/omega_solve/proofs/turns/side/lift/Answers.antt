@@ -1,6 +1,6 @@
 -- A lift keeps a side.
 use Rattle.std.proofs.Common.{subst, arith}
-use Rattle.omega_schedules.specs.Schedule.{Pending}
+use Rattle.omega_lift_schedules.specs.Schedule.{Pending}
 use Rattle.omega_solve.specs.private.solving.Repeating.{LiftsAgain}
 use Rattle.omega_solve.proofs.lifting.Due.{table_entries}
 use Rattle.omega_solve.proofs.lifting.Lifting.{due_exceeds, table_raised}

@@ -1,6 +1,6 @@
 -- A place at which no lift is due may be taken out.
 use Rattle.std.proofs.Common.{sym, subst, arith}
-use Rattle.omega_schedules.specs.Schedule.{Pending}
+use Rattle.omega_lift_schedules.specs.Schedule.{Pending}
 use Rattle.omega_solve.specs.private.turning.Side.{IsSide}
 use Rattle.omega_solve.proofs.turning.Sides.{side_settled}
 use Rattle.omega_solve.proofs.turns.side.take_out.Goals as goal

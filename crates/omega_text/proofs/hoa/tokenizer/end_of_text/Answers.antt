@@ -11,21 +11,21 @@ use Rattle.omega_text.proofs.hoa.tokenizer.end_of_text.Goals as goal
 
 pub returns-in-Start-clause-finishes : goal.returns-in-Start-clause-finishes
 returns-in-Start-clause-finishes c = λ seen lexemes place at.
-    settled_as (λ fault. IsCutUpToFault fault seen) seen lexemes c.settled.result None None None c.settled.ensures.first c.settled.ensures.second c.settled.ensures.fault
+    settled_as (λ fault. IsCutUpToFault fault seen) seen lexemes c.settled_tokens.result None None None c.settled_tokens.ensures.first c.settled_tokens.ensures.second c.settled_tokens.ensures.fault
     (subst (IsCut hoa_format seen) (sym (append-nil lexemes)) (ends_in_gap seen lexemes c.args.pending at (sym c.get.ensures ∙ c.in-Start.is)))
 
 pub returns-in-Ok-clause-finishes : goal.returns-in-Ok-clause-finishes
 returns-in-Ok-clause-finishes c = λ seen lexemes place at.
-    settled_as (λ fault. IsCutUpToFault fault seen) seen lexemes c.settled-in-Ok.result (Some c.in-Ok.token) None None c.settled-in-Ok.ensures.first c.settled-in-Ok.ensures.second c.settled-in-Ok.ensures.fault
+    settled_as (λ fault. IsCutUpToFault fault seen) seen lexemes c.settled_tokens-in-Ok.result (Some c.in-Ok.token) None None c.settled_tokens-in-Ok.ensures.first c.settled_tokens-in-Ok.ensures.second c.settled_tokens-in-Ok.ensures.fault
     (ends_in_token seen lexemes c.args.pending at c.in-Ok.token
     (subst (λ n. IsTokenIn c.args.pending.mode c.args.pending.value c.args.pending.start n c.in-Ok.token) place c.in-Ok.ensures.token))
 
 pub returns-in-Err-clause-finishes : goal.returns-in-Err-clause-finishes
 returns-in-Err-clause-finishes c = λ seen lexemes place at.
-    settled_as (λ fault. IsCutUpToFault fault seen) seen lexemes c.settled-in-Err.result None None (Some c.in-Err.fault) c.settled-in-Err.ensures.first c.settled-in-Err.ensures.second c.settled-in-Err.ensures.fault
+    settled_as (λ fault. IsCutUpToFault fault seen) seen lexemes c.settled_tokens-in-Err.result None None (Some c.in-Err.fault) c.settled_tokens-in-Err.ensures.first c.settled_tokens-in-Err.ensures.second c.settled_tokens-in-Err.ensures.fault
     (subst (λ ls. FaultsAfter seen ls c.in-Err.fault) (sym (append-nil lexemes)) (ends_in_fault seen lexemes c.args.pending at c.in-Err.fault (λ start. c.in_default.not-Start (c.get.ensures ∙ start)) c.in-Err.ensures.fault))
 
 pub returns-in-Ok-clause-unclosed : goal.returns-in-Ok-clause-unclosed
 returns-in-Ok-clause-unclosed c = λ seen lexemes at.
-    subst (λ first. IfSome first (λ token. is_closed token.kind ≡ false)) (sym c.settled-in-Ok.ensures.first)
+    subst (λ first. IfSome first (λ token. is_closed token.kind ≡ false)) (sym c.settled_tokens-in-Ok.ensures.first)
     (last_unclosed c.args.pending.mode c.args.pending.value c.args.pending.start c.args.place c.in-Ok.token at.begun at.reached c.in-Ok.ensures.token)

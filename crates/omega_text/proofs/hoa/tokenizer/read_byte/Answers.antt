@@ -19,7 +19,7 @@ grow-token-requires c =
 pub returns-in-Some : goal.returns-in-Some
 returns-in-Some c = λ seen lexemes place at.
     let source = seen ++ c.args.byte ∷ [] in
-    settled_as (λ fault ls. IsKept fault source ls c.grow-token.result.0) source lexemes c.settled.result None c.grow-token.result.1 None
-    c.settled.ensures.first c.settled.ensures.second c.settled.ensures.fault
+    settled_as (λ fault ls. IsKept fault source ls c.grow-token.result.0) source lexemes c.settled_tokens.result None c.grow-token.result.1 None
+    c.settled_tokens.ensures.first c.settled_tokens.ensures.second c.settled_tokens.ensures.fault
     (grown seen lexemes c.args.pending c.args.byte (at_with seen lexemes c.args.pending c.args.byte at) c.in-Some.next c.grow-token.result.0 c.grow-token.result.1 (sym c.in-Some.ensures)
     (subst (λ n. IsGrown c.args.pending c.args.byte (n + 1) c.in-Some.next c.grow-token.result.0 c.grow-token.result.1) place c.grow-token.ensures))

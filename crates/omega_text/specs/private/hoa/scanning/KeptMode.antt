@@ -6,7 +6,9 @@ use Rattle.omega_text.specs.declared.hoa.kept_mode.Stage.TheVariants as stage
 use Rattle.omega_text.specs.declared.hoa.kind.HoaKind.{HoaKind}
 use Rattle.omega_text.specs.declared.hoa.kind.HoaKind.TheVariants.{Identifier}
 use Rattle.omega_text.specs.declared.hoa.mode.Mode.{Mode}
-use Rattle.omega_text.specs.declared.hoa.mode.Mode.TheVariants.{Start, Word, At, Alias, Digits, Quoted, Escaped, Slash, Comment, Star, Slashed, Dash, Dashes, Mark, Whole, Blank}
+use Rattle.omega_text.specs.declared.hoa.mode.Mode.TheVariants.{Start, Word, At, Alias, Digits, Quoted}
+use Rattle.omega_text.specs.declared.hoa.mode.Mode.TheVariants.{Escaped, Slash, Comment, Star, Slashed, Dash}
+use Rattle.omega_text.specs.declared.hoa.mode.Mode.TheVariants.{Dashes, Mark, Whole, Blank}
 
 -- the mode at a stage, of this kind and count if it has them
 abbrev pub mode_at : Stage → HoaKind → ℕ → Mode

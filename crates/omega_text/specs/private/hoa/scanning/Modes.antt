@@ -1,9 +1,16 @@
 -- How units are read byte by byte.
-use Rattle.std.specs.Prelude.{◌≡◌, ◌<◌, ◌≤◌, take, drop, ℕ, zero, suc, ◌+◌, Option, Some, None, List, [], ◌∷◌, length, slice_index, if◌then◌else◌, ◌==◌}
+use Rattle.std.specs.Prelude.{◌≡◌, ◌<◌, ◌≤◌, take, drop, ℕ, zero, suc, ◌+◌, Option, Some}
+use Rattle.std.specs.Prelude.{None, List, [], ◌∷◌, length, slice_index, if◌then◌else◌, ◌==◌}
 use Rattle.omega_text.specs.declared.hoa.kind.HoaKind.{HoaKind}
-use Rattle.omega_text.specs.declared.hoa.kind.HoaKind.TheVariants.{Identifier, HeaderName, AliasName, True, False, Int, String, Body, End, Abort, Not, And, Or, OpenParenthesis, CloseParenthesis, OpenBracket, CloseBracket, OpenBrace, CloseBrace}
+use Rattle.omega_text.specs.declared.hoa.kind.HoaKind.TheVariants.{Identifier, HeaderName, AliasName, True}
+use Rattle.omega_text.specs.declared.hoa.kind.HoaKind.TheVariants.{False, Int, String, Body, End, Abort, Not}
+use Rattle.omega_text.specs.declared.hoa.kind.HoaKind.TheVariants.{And, Or, OpenParenthesis, CloseParenthesis}
+use Rattle.omega_text.specs.declared.hoa.kind.HoaKind.TheVariants.{OpenBracket, CloseBracket, OpenBrace}
+use Rattle.omega_text.specs.declared.hoa.kind.HoaKind.TheVariants.{CloseBrace}
 use Rattle.omega_text.specs.declared.hoa.mode.Mode.{Mode}
-use Rattle.omega_text.specs.declared.hoa.mode.Mode.TheVariants.{Start, Word, At, Alias, Digits, Quoted, Escaped, Slash, Comment, Star, Slashed, Dash, Dashes, Mark, Whole, Blank}
+use Rattle.omega_text.specs.declared.hoa.mode.Mode.TheVariants.{Start, Word, At, Alias, Digits, Quoted}
+use Rattle.omega_text.specs.declared.hoa.mode.Mode.TheVariants.{Escaped, Slash, Comment, Star, Slashed, Dash}
+use Rattle.omega_text.specs.declared.hoa.mode.Mode.TheVariants.{Dashes, Mark, Whole, Blank}
 use Rattle.omega_text.specs.hoa.Cut.{IsLongest}
 use Rattle.omega_text.specs.hoa.Forms.{IsBlank, Spells, spelling}
 use Rattle.omega_text.specs.Bytes.{is_digit, is_letter, is_white, is_word_byte}
@@ -62,7 +69,8 @@ closed_mode (suc around) = Comment around
 
 -- after the beginning of a word
 abbrev pub word_mode : ℕ → Option Mode
-word_mode byte = if is_word_byte byte then Some (Word Identifier) else (if byte == 58 then Some (Whole HeaderName) else None)
+word_mode byte = if is_word_byte byte then Some (Word Identifier)
+    else (if byte == 58 then Some (Whole HeaderName) else None)
 
 -- after `@`, and after the beginning of a name that follows it
 abbrev pub alias_mode : ℕ → Option Mode
@@ -82,15 +90,18 @@ slash_mode byte = if byte == 42 then Some (Comment 0) else None
 
 -- in a comment inside this number of others
 abbrev pub comment_mode : ℕ → ℕ → Mode
-comment_mode around byte = if byte == 42 then Star around else (if byte == 47 then Slashed around else Comment around)
+comment_mode around byte =
+    if byte == 42 then Star around else (if byte == 47 then Slashed around else Comment around)
 
 -- in a comment, after `*`
 abbrev pub star_mode : ℕ → ℕ → Mode
-star_mode around byte = if byte == 47 then closed_mode around else (if byte == 42 then Star around else Comment around)
+star_mode around byte =
+    if byte == 47 then closed_mode around else (if byte == 42 then Star around else Comment around)
 
 -- in a comment, after `/`
 abbrev pub slashed_mode : ℕ → ℕ → Mode
-slashed_mode around byte = if byte == 42 then Comment (suc around) else (if byte == 47 then Slashed around else Comment around)
+slashed_mode around byte = if byte == 42 then Comment (suc around)
+    else (if byte == 47 then Slashed around else Comment around)
 
 -- after `-`
 abbrev pub dash_mode : ℕ → Option Mode
@@ -111,7 +122,8 @@ next_mode (Star around) byte = Some (star_mode around byte)
 next_mode (Slashed around) byte = Some (slashed_mode around byte)
 next_mode Dash byte = dash_mode byte
 next_mode Dashes byte = dashes_mode byte
-next_mode (Mark kind count) byte = if byte == slice_index (spelling kind) count then Some (mode_in_mark kind (count + 1)) else None
+next_mode (Mark kind count) byte =
+    if byte == slice_index (spelling kind) count then Some (mode_in_mark kind (count + 1)) else None
 next_mode (Whole kind) byte = None
 next_mode Blank byte = None
 

@@ -1,5 +1,6 @@
 -- What a tokenizer has read.
-use Rattle.std.specs.Prelude.{◌≡◌, ℕ, ◌+◌, ◌-◌, ◌<◌, ◌≤◌, ◌^◌, Option, Some, None, List, [], ◌∷◌, ◌++◌, length, drop}
+use Rattle.std.specs.Prelude.{◌≡◌, ℕ, ◌+◌, ◌-◌, ◌<◌, ◌≤◌, ◌^◌, Option, Some}
+use Rattle.std.specs.Prelude.{None, List, [], ◌∷◌, ◌++◌, length, drop}
 use Rattle.omega_text.specs.Cut.{Cuts}
 use Rattle.omega_text.specs.Lexeme.{Lexeme}
 use Rattle.omega_text.specs.declared.hoa.kind.HoaKind.{HoaKind}
@@ -30,7 +31,8 @@ IsUnfinishedUnit Digits value begun = IsValueOf value begun
 IsUnfinishedUnit mode value begun = Unit {0}
 
 -- after these tokens comes a gap and then a unit that has been read so far, if the text goes on as it may
-pub record IsAt (may : List ℕ → Type 0) (seen : List ℕ) (lexemes : List (Lexeme HoaKind)) (pending : Pending) : Type 0 where
+pub record IsAt (may : List ℕ → Type 0) (seen : List ℕ) (lexemes : List (Lexeme HoaKind))
+    (pending : Pending) : Type 0 where
   pub end : ℕ
   pub gap : List ℕ
   pub begun : List ℕ
@@ -56,10 +58,12 @@ IsKept None seen lexemes pending = IsAt Any seen lexemes pending
 IsKept (Some fault) seen lexemes pending = SettlesFault seen lexemes fault
 
 -- a tokenizer has read these bytes and settled these tokens
-pub record HasRead (seen : List ℕ) (lexemes : List (Lexeme HoaKind)) (tokenizer : HoaTokenizer) : Type 0 where
+pub record HasRead (seen : List ℕ) (lexemes : List (Lexeme HoaKind))
+    (tokenizer : HoaTokenizer) : Type 0 where
   pub place : tokenizer.place ≡ length seen
   pub kept : IsKept tokenizer.fault seen lexemes tokenizer.pending
 
 -- a unit is being read at a place, and places can be counted further
 abbrev pub IsOnWay : Pending → ℕ → Type 0
-IsOnWay pending place = (seen : List ℕ) × (lexemes : List (Lexeme HoaKind)) × (place ≡ length seen) × IsAt Any seen lexemes pending × (place < 2 ^ 64 - 1)
+IsOnWay pending place = (seen : List ℕ) × (lexemes : List (Lexeme HoaKind)) × (place ≡ length seen)
+    × IsAt Any seen lexemes pending × (place < 2 ^ 64 - 1)

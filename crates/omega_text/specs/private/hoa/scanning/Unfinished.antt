@@ -27,19 +27,23 @@ pub record IsPlaced (token : PlacedToken) (kind : HoaKind) (value start end : �
 -- digits with one more, which ends at a place, have their value
 pub record ValueGrows (before : Pending) (byte end value : ℕ) : Type 0 where
   pub first : end ≡ before.start + 1 → is_digit byte ≡ true → IsValueOf value (byte ∷ [])
-  pub later : end ≢ before.start + 1 → (text : List ℕ) → IsDigits text → is_digit byte ≡ true → IsValueOf before.value text → IsValueOf value (text ++ byte ∷ [])
+  pub later : end ≢ before.start + 1 → (text : List ℕ) → IsDigits text → is_digit byte ≡ true
+      → IsValueOf before.value text → IsValueOf value (text ++ byte ∷ [])
 
 -- the same unit, read further
-pub record Continues (before : Pending) (next : Mode) (after : Pending) (token : Option PlacedToken) : Type 0 where
+pub record Continues (before : Pending) (next : Mode) (after : Pending)
+    (token : Option PlacedToken) : Type 0 where
   pub mode : after.mode ≡ next
   pub start : after.start ≡ before.start
   pub none : token ≡ None
 
 -- a unit with one byte more: whole, as a token or as a part of a gap, or read further
 abbrev pub IsGrown : Pending → ℕ → ℕ → Mode → Pending → Option PlacedToken → Type 0
-IsGrown before byte end (Whole kind) after token = (after ≡ fresh end) × ((placed : PlacedToken) × (token ≡ Some placed) × IsPlaced placed kind 0 before.start end)
+IsGrown before byte end (Whole kind) after token = (after ≡ fresh end)
+    × ((placed : PlacedToken) × (token ≡ Some placed) × IsPlaced placed kind 0 before.start end)
 IsGrown before byte end Blank after token = (after ≡ fresh end) × (token ≡ None)
-IsGrown before byte end Digits after token = Continues before Digits after token × ValueGrows before byte end after.value
+IsGrown before byte end Digits after token =
+    Continues before Digits after token × ValueGrows before byte end after.value
 IsGrown before byte end next after token = Continues before next after token
 
 -- the token that a unit is if it ends here

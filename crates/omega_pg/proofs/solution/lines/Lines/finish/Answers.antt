@@ -1,6 +1,6 @@
 -- `Lines::finish`: judged lines come to a solution or to a reason for `BadSolution`.
 use Rattle.std.proofs.Common.{◌-◌, ap, refl, sym, ◌∙◌}
-use Rattle.omega_parity_game.specs.Game.{identifier_at}
+use Rattle.omega_game_values.specs.Game.{identifier_at}
 use Rattle.omega_pg.proofs.solutions.Outcomes.{other_count, other_number, outcome_kept, wrong_line}
 use Rattle.omega_pg.proofs.solution.lines.Lines.finish.Goals as goal
 use Rattle.omega_pg.proofs.solution.lines.Lines.finish.Goals.{then-not-self-via-then-not-self, then-not-self-via-else-not-self+then-len-nodes, then-not-self-via-else-not-self+else-len-nodes+then-id-greatest}

@@ -11,17 +11,17 @@ returns-in-Some-clause-reads c = λ seen lexemes read.
     let kept = subst (λ fault. IsKept fault seen lexemes c.args.self.now.pending) c.in-Some.is read.kept in
     record {
       place = omega (arith, read.place, length-append seen (c.args.byte ∷ []));
-      kept = subst (λ fault. IsKept fault source (lexemes ++ settled_lexemes source c.settled.result) c.args.self.now.pending) (c.settled.ensures.fault ∙ sym c.in-Some.is)
-          (settled_as (λ fault ls. IsKept fault source ls c.args.self.now.pending) source lexemes c.settled.result None None (Some c.in-Some.fault)
-          c.settled.ensures.first c.settled.ensures.second c.settled.ensures.fault
+      kept = subst (λ fault. IsKept fault source (lexemes ++ settled_lexemes source c.settled_tokens.result) c.args.self.now.pending) (c.settled_tokens.ensures.fault ∙ sym c.in-Some.is)
+          (settled_as (λ fault ls. IsKept fault source ls c.args.self.now.pending) source lexemes c.settled_tokens.result None None (Some c.in-Some.fault)
+          c.settled_tokens.ensures.first c.settled_tokens.ensures.second c.settled_tokens.ensures.fault
           (subst (λ ls. SettlesFault source ls c.in-Some.fault) (sym (append-nil lexemes)) (fault_stays seen lexemes c.args.byte c.in-Some.fault kept)));
     }
 
 pub returns-in-Some-clause-settles : goal.returns-in-Some-clause-settles
 returns-in-Some-clause-settles c = λ seen lexemes read.
     let kept = subst (λ fault. IsKept fault seen lexemes c.args.self.now.pending) c.in-Some.is read.kept in
-    settled_as (λ fault ls. IsSettled fault (seen ++ c.args.byte ∷ []) ls) (seen ++ c.args.byte ∷ []) lexemes c.settled.result None None (Some c.in-Some.fault)
-    c.settled.ensures.first c.settled.ensures.second c.settled.ensures.fault
+    settled_as (λ fault ls. IsSettled fault (seen ++ c.args.byte ∷ []) ls) (seen ++ c.args.byte ∷ []) lexemes c.settled_tokens.result None None (Some c.in-Some.fault)
+    c.settled_tokens.ensures.first c.settled_tokens.ensures.second c.settled_tokens.ensures.fault
     (subst (λ ls. SettlesFault (seen ++ c.args.byte ∷ []) ls c.in-Some.fault) (sym (append-nil lexemes)) (fault_stays seen lexemes c.args.byte c.in-Some.fault kept))
 
 pub returns-in-None-clause-settles : goal.returns-in-None-clause-settles

@@ -1,8 +1,0 @@
--- no state so far is open
-use Rattle.omega_automaton.specs.declared.state.State.{State}
-use Rattle.omega_accepts.specs.Opening.{CanBeBoth, first_label}
-use Rattle.omega_accepts.proofs.Below.{NoneBelow}
-use Rattle.omega_accepts.proofs.open_letters.has_open_state.Given as goal
-
-abbrev pub invariant-loop-state : goal.invariant-loop-state
-invariant-loop-state l = NoneBelow (λ (state : State). CanBeBoth l.held l.unheld (first_label state.edges)) l.states l.state-index

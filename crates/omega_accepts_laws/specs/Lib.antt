@@ -1,2 +1,0 @@
--- The law of the words that `empty --word` writes.
-pub mod WrittenWords

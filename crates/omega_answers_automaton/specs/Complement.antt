@@ -1,0 +1,35 @@
+-- The answer of `complement` for the text of one automaton: the canonical text of its complement; and its refusals.
+use Rattle.std.specs.Prelude.{◌≡◌, ◌⊎◌, List, ℕ}
+use Rattle.omega_text.specs.declared.refusal.Refusal.{Refusal}
+use Rattle.omega_hoa_automaton.specs.Automaton.{Description}
+use Rattle.omega_canon.specs.Canonical.{canonical_automaton}
+use Rattle.omega_lang_complement.specs.Complement.{HasComplement, IsComplement}
+use Rattle.omega_lang_complement.specs.Refusing.{IsUncomplemented}
+use Rattle.omega_hoa.specs.Alone.{IsAutomatonRefusal, IsAutomatonText}
+
+-- the canonical text of the complement of a deterministic automaton
+pub record IsComplementText (a : Description) (output : List ℕ) : Type 0 where
+  pub given : HasComplement a
+  pub complement : Description
+  pub right : IsComplement a complement
+  pub written : output ≡ canonical_automaton complement
+
+-- the answer of `complement`: the text is that of a deterministic automaton, and the canonical text of its complement
+-- is written
+pub record IsComplementAnswer (text output : List ℕ) : Type 0 where
+  pub automaton : Description
+  pub read : IsAutomatonText text automaton
+  pub given : HasComplement automaton
+  pub complement : Description
+  pub right : IsComplement automaton complement
+  pub written : output ≡ canonical_automaton complement
+
+-- the text is that of an automaton whose complement is refused
+pub record RefusesComplement (text : List ℕ) (refusal : Refusal) : Type 0 where
+  pub automaton : Description
+  pub read : IsAutomatonText text automaton
+  pub refused : IsUncomplemented automaton refusal
+
+-- the refusal of `complement`: that of the text, or else that of its automaton
+abbrev pub IsComplementRefusal : List ℕ → Refusal → Type 0
+IsComplementRefusal text refusal = IsAutomatonRefusal text refusal ⊎ RefusesComplement text refusal

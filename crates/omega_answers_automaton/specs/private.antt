@@ -1,0 +1,4 @@
+-- What private contracts alone cite.
+pub mod Met
+pub mod TrimmedMet
+pub mod Joined

@@ -1,0 +1,17 @@
+-- `search_automaton`: what is written is the verdict on the automaton.
+use Rattle.std.proofs.lemmas.Result.{IfErr-weaker, IfOk-weaker}
+use Rattle.omega_answers_empty.proofs.empty.search_automaton.Goals as goal
+
+pub returns-clause-decision : goal.returns-clause-decision
+returns-clause-decision c =
+    IfOk-weaker c.emptiness_text.result _ _
+    (λ output written. record {
+      given = c.in_ok-verdict.ensures.given;
+      verdict = c.in_ok-verdict.verdict;
+      right = c.in_ok-verdict.ensures.verdict;
+      written = written;
+    })
+    c.emptiness_text.ensures.text
+
+pub returns-clause-refused : goal.returns-clause-refused
+returns-clause-refused c = IfErr-weaker c.emptiness_text.result _ _ (λ refusal e. rw e tt) c.emptiness_text.ensures.memory

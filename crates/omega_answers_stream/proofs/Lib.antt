@@ -1,0 +1,8 @@
+-- Lemmas by theme.
+-- Lemmas by theme.
+pub mod Reported
+pub mod Flat
+pub mod Follows
+pub mod InTurn
+pub mod Pieces
+pub mod Texts

@@ -1,0 +1,17 @@
+-- Lemmas by theme.
+-- Ranges of numbers, what items say of one name, letters, which text a refusal is about, what an item lists, and which
+-- answers are `yes`.
+mod Stated
+mod Refused
+mod Observed
+mod Winning
+pub mod Ranges
+pub mod Alike
+pub mod Literals
+pub mod Reported
+pub mod ControllerStated
+pub mod Exact
+pub mod GivenLetters
+pub mod Rows
+pub mod Numbers
+pub mod Parts

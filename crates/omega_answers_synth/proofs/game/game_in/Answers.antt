@@ -1,0 +1,30 @@
+-- the game is that of the automaton that was read, and so is what refuses it
+use Rattle.std.proofs.lemmas.Result.{IfErr-weaker, IfOk-weaker, err_from_is_err_and}
+use Rattle.omega_answers_synth.proofs.Stated.{stated_as}
+use Rattle.omega_answers_synth.proofs.Refused.{question_ungamed, unasked_ungamed}
+use Rattle.omega_answers_synth.proofs.game.game_in.Goals as goal
+
+pub returns-clause-game : goal.returns-clause-game
+returns-clause-game c =
+    let asked = c.in_ok-question.ensures.question in
+    let stated = stated_as _ _ _ asked c.as_slice.ensures in
+    IfOk-weaker c.realizability_game.result _ _
+    (λ game is. record {
+      automaton = c.in_ok-question.question.automaton;
+      read = asked.read;
+      game = record { controlled = c.as_slice.result.now; stated = stated; game = is };
+    })
+    c.realizability_game.ensures.game
+
+pub returns-in_err-question-clause-refused : goal.returns-in_err-question-clause-refused
+returns-in_err-question-clause-refused c =
+    let p = err_from_is_err_and c.from_residual.result c.from_residual.ensures.1 in
+    rw (p.1, p.2) (unasked_ungamed c.args.text.items _ c.in_err-question.ensures.refused)
+
+pub returns-clause-refused : goal.returns-clause-refused
+returns-clause-refused c =
+    let asked = c.in_ok-question.ensures.question in
+    let stated = stated_as _ _ _ asked c.as_slice.ensures in
+    IfErr-weaker c.realizability_game.result _ _
+    (λ refusal refused. question_ungamed c.args.text.items _ _ refusal asked.read stated refused)
+    c.realizability_game.ensures.refused

@@ -1,0 +1,38 @@
+-- The answer of `realize` for the text of one automaton: whether it is realizable.
+use Rattle.std.specs.Prelude.{◌≡◌, Bool, List, ℕ, codes}
+use Rattle.omega_hoa_automaton.specs.Automaton.{Description}
+use Rattle.omega_synth_controllers.specs.Controllable.{IsControlled}
+use Rattle.omega_synth_controllers.specs.Controllers.{IsController, IsCounterStrategy}
+use Rattle.omega_hoa.specs.Alone.{IsAutomatonText}
+use Rattle.omega_io.specs.declared.exit.Exit.{Exit}
+use Rattle.omega_io.specs.declared.exit.Exit.TheVariants.{Done, No}
+use Rattle.omega_synth_realize.specs.Refusing.{IsJudgeable}
+
+-- an automaton has a controller, where the system controls these propositions
+abbrev pub HasController : Description → List ℕ → Type 0
+HasController a controlled = (kept : List ℕ) × IsController a controlled kept
+
+-- an automaton has a counter-strategy, where the system controls these propositions
+abbrev pub HasCounterStrategy : Description → List ℕ → Type 0
+HasCounterStrategy a controlled =
+    (kept : List ℕ) × ((letters : ℕ → ℕ → Bool) × IsCounterStrategy a controlled kept letters)
+
+-- `realizable` if there is a controller, and `unrealizable`, with an exit of its own, if there is a counter-strategy
+abbrev pub IsVerdict : Description → List ℕ → Exit → List ℕ → Type 0
+IsVerdict a controlled Done output = HasController a controlled × (output ≡ codes "realizable\n")
+IsVerdict a controlled No output =
+    HasCounterStrategy a controlled × (output ≡ codes "unrealizable\n")
+
+-- the verdict on a deterministic parity automaton, where the system controls the propositions that its item
+-- `controllable-AP:` lists
+pub record IsDecision (a : Description) (exit : Exit) (output : List ℕ) : Type 0 where
+  pub controlled : List ℕ
+  pub stated : IsControlled a controlled
+  pub judgeable : IsJudgeable a
+  pub verdict : IsVerdict a controlled exit output
+
+-- the answer of `realize`: the verdict on the automaton of the text
+pub record IsDecisionAnswer (text : List ℕ) (exit : Exit) (output : List ℕ) : Type 0 where
+  pub automaton : Description
+  pub read : IsAutomatonText text automaton
+  pub decision : IsDecision automaton exit output

@@ -1,0 +1,44 @@
+-- The answer of `realize --game` for the text of one automaton: the game in which it is decided whether the automaton
+-- is realizable, or a refusal.
+use Rattle.std.specs.Prelude.{◌≡◌, ◌⊎◌, List, ℕ}
+use Rattle.omega_text.specs.declared.refusal.Refusal.{Refusal}
+use Rattle.omega_hoa_automaton.specs.Automaton.{Description}
+use Rattle.omega_synth_controllers.specs.Controllable.{HasControlled, IsControlled, IsMisstated}
+use Rattle.omega_hoa.specs.Alone.{IsAutomatonRefusal, IsAutomatonText}
+use Rattle.omega_game_values.specs.Game.{Node}
+use Rattle.omega_pg.specs.game.Canonical.{canonical_game}
+use Rattle.omega_synth_realize.specs.Gaming.{IsRealizabilityGame, IsUngamed}
+
+-- the game of an automaton, where the system controls the propositions that its item `controllable-AP:` lists
+pub record IsStatedGame (a : Description) (nodes : List Node) : Type 0 where
+  pub controlled : List ℕ
+  pub stated : IsControlled a controlled
+  pub game : IsRealizabilityGame a controlled nodes
+
+-- the answer of `realize --game`: the canonical text of the game of the automaton of the text
+pub record IsGameAnswer (text output : List ℕ) : Type 0 where
+  pub automaton : Description
+  pub read : IsAutomatonText text automaton
+  pub nodes : List Node
+  pub game : IsStatedGame automaton nodes
+  pub written : output ≡ canonical_game nodes
+
+-- the item lists propositions, and the game is refused
+pub record RefusesGame (a : Description) (refusal : Refusal) : Type 0 where
+  pub controlled : List ℕ
+  pub stated : IsControlled a controlled
+  pub refused : IsUngamed a controlled refusal
+
+-- the refusal of an automaton: that of its item, or else that of the game
+abbrev pub IsUngamedAutomaton : Description → Refusal → Type 0
+IsUngamedAutomaton a refusal = IsMisstated (HasControlled a) refusal ⊎ RefusesGame a refusal
+
+-- the text is that of an automaton whose game is refused
+pub record RefusesGameOfText (text : List ℕ) (refusal : Refusal) : Type 0 where
+  pub automaton : Description
+  pub read : IsAutomatonText text automaton
+  pub refused : IsUngamedAutomaton automaton refusal
+
+-- the refusal of `realize --game`: that of the text, or else that of its automaton
+abbrev pub IsGameRefusal : List ℕ → Refusal → Type 0
+IsGameRefusal text refusal = IsAutomatonRefusal text refusal ⊎ RefusesGameOfText text refusal

@@ -1,0 +1,56 @@
+-- Laws of the answers of `verify --specification`: which texts they call a controller, and what a letter says.
+use Rattle.std.specs.Prelude.{◌≡◌, ◌↔◌, ℕ, ◌<◌, Bool, true, List, Contains, None, codes, length}
+use Rattle.omega_hoa_automaton.specs.Automaton.{Description, IsAutomaton}
+use Rattle.omega_synth_controllers.specs.Controllable.{IsControlled}
+use Rattle.omega_synth_check.specs.Judging.{IsControllerFor}
+use Rattle.omega_synth_check.specs.Laws.{IsKeptPart}
+use Rattle.omega_hoa.specs.Alone.{IsAutomatonText}
+use Rattle.omega_io.specs.declared.exit.Exit.{Exit}
+use Rattle.omega_io.specs.declared.exit.Exit.TheVariants.{Done}
+use Rattle.omega_lang_lasso_word.specs.Formulas.{HasTruth, formula}
+use Rattle.omega_lang_lasso_word.specs.Laws.{HasStrings, by_number}
+use Rattle.omega_synth_game.specs.RoundsOf.{holds_in}
+use Rattle.omega_synth_text.specs.Reaching.{TellsReached}
+use Rattle.omega_synth_text.specs.Winner.{winner}
+use Rattle.omega_lang_word_laws.specs.Complements.{RecursOrCeases}
+use Rattle.omega_answers_synth.specs.Letter.{letter_text}
+use Rattle.omega_answers_synth.specs.Verify.{IsControllerAnswer}
+
+-- `yes` is written
+pub record IsYes (exit : Exit) (output : List ℕ) : Type 0 where
+  pub done : exit ≡ Done
+  pub written : output ≡ codes "yes\n"
+
+-- if each test recurs or ceases, as it does by the excluded middle, `yes` is written exactly if the one text is that of
+-- a controller for the specification of the other
+abbrev pub ControllerAnswersAreExact : Type 0
+ControllerAnswersAreExact = ((test : ℕ → Bool) → RecursOrCeases test) → (file input output : List ℕ)
+    (explain : Bool) (exit : Exit) (specification controller : Description)
+    → (controlled : List ℕ)
+    → IsControllerAnswer file input explain exit output → IsAutomatonText file specification
+    → IsAutomatonText input controller → IsControlled controller controlled
+    → IsYes exit output ↔ IsControllerFor specification controller controlled
+
+-- the environment gives a letter: its propositions hold as the letter says
+abbrev pub GivesLetter : Description → (controlled letter : List ℕ) → (ℕ → Bool) → Type 0
+GivesLetter a controlled letter held =
+    (p : ℕ) → p < length a.propositions → ¬ Contains controlled p → held p ≡ holds_in letter p
+
+-- a letter as it is written is a formula over names, if these are strings, and it is true exactly where the environment
+-- gives the letter
+abbrev pub LettersAreTrueWhereGiven : Type 0
+LettersAreTrueWhereGiven =
+    (a : Description) (controlled letter : List ℕ) (held : List ℕ → Bool) → HasStrings a
+    → (value : Bool) × HasTruth held formula (letter_text a controlled letter) value
+    × ((value ≡ true) ↔ GivesLetter a controlled letter (by_number a held))
+
+-- the automaton of kept edges, without letters: what `realize --controller` writes as a controller
+abbrev pub controller_of : Description → (controlled kept : List ℕ)
+    → (reached : ℕ → Bool) → Description
+controller_of a controlled kept reached = winner a controlled kept reached (λ state. None)
+
+-- it is a part of its automaton: its states and edges stand for states that are reached and for kept edges
+abbrev pub WrittenControllersAreParts : Type 0
+WrittenControllersAreParts =
+    (a : Description) (controlled kept : List ℕ) (reached : ℕ → Bool) → IsAutomaton a
+    → TellsReached a kept reached → IsKeptPart a kept (controller_of a controlled kept reached)

@@ -1,0 +1,30 @@
+-- The refusal of `realize`: that of the text, or else that of the item `controllable-AP:`, or else that of the question
+-- whether the automaton is realizable.
+use Rattle.std.specs.Prelude.{◌⊎◌, List, ℕ}
+use Rattle.omega_text.specs.declared.refusal.Refusal.{Refusal}
+use Rattle.omega_hoa_automaton.specs.Automaton.{Description}
+use Rattle.omega_synth_controllers.specs.Controllable.{HasControlled, IsControlled, IsMisstated}
+use Rattle.omega_hoa.specs.Alone.{IsAutomatonRefusal, IsAutomatonText}
+use Rattle.omega_synth_realize.specs.Refusing.{IsUnrealized}
+
+-- the item lists propositions, and the question about them is refused, with this budget of lifts
+pub record RefusesRealizing (a : Description) (budget : ℕ) (refusal : Refusal) : Type 0 where
+  pub controlled : List ℕ
+  pub stated : IsControlled a controlled
+  pub refused : IsUnrealized a controlled budget refusal
+
+-- the refusal of an automaton: that of its item, or else that of the question
+abbrev pub IsUndecided : Description → ℕ → Refusal → Type 0
+IsUndecided a budget refusal =
+    IsMisstated (HasControlled a) refusal ⊎ RefusesRealizing a budget refusal
+
+-- the text is that of an automaton that is refused
+pub record RefusesAutomaton (text : List ℕ) (budget : ℕ) (refusal : Refusal) : Type 0 where
+  pub automaton : Description
+  pub read : IsAutomatonText text automaton
+  pub refused : IsUndecided automaton budget refusal
+
+-- the refusal of `realize`
+abbrev pub IsRealizeRefusal : List ℕ → ℕ → Refusal → Type 0
+IsRealizeRefusal text budget refusal =
+    IsAutomatonRefusal text refusal ⊎ RefusesAutomaton text budget refusal

@@ -1,0 +1,43 @@
+-- The answer of `realize --controller` for the text of one automaton: the winner's automaton.
+use Rattle.std.specs.Prelude.{List, ℕ}
+use Rattle.omega_hoa_automaton.specs.Automaton.{Description}
+use Rattle.omega_synth_controllers.specs.Controllable.{IsControlled}
+use Rattle.omega_synth_controllers.specs.Controllers.{IsController, IsCounterStrategy}
+use Rattle.omega_hoa.specs.Alone.{IsAutomatonText}
+use Rattle.omega_io.specs.declared.exit.Exit.{Exit}
+use Rattle.omega_io.specs.declared.exit.Exit.TheVariants.{Done, No}
+use Rattle.omega_synth_game.specs.RoundsOf.{letters_by_state}
+use Rattle.omega_synth_realize.specs.Refusing.{IsJudgeable}
+use Rattle.omega_synth_text.specs.Winner.{IsControllerText, IsCounterStrategyText}
+
+-- the text is that of a controller, where the system controls these propositions
+pub record IsControllerWritten (a : Description) (controlled text : List ℕ) : Type 0 where
+  pub kept : List ℕ
+  pub controller : IsController a controlled kept
+  pub written : IsControllerText a controlled kept text
+
+-- the text is that of a counter-strategy
+pub record IsCounterStrategyWritten (a : Description) (controlled text : List ℕ) : Type 0 where
+  pub kept : List ℕ
+  pub letters : List (List ℕ)
+  pub counter_strategy : IsCounterStrategy a controlled kept (letters_by_state letters)
+  pub written : IsCounterStrategyText a controlled kept letters text
+
+-- a controller, or, with an exit of its own, a counter-strategy
+abbrev pub IsWinner : Description → List ℕ → Exit → List ℕ → Type 0
+IsWinner a controlled Done output = IsControllerWritten a controlled output
+IsWinner a controlled No output = IsCounterStrategyWritten a controlled output
+
+-- the winner's automaton for a deterministic parity automaton, where the system controls the propositions that its item
+-- `controllable-AP:` lists
+pub record IsWinning (a : Description) (exit : Exit) (output : List ℕ) : Type 0 where
+  pub controlled : List ℕ
+  pub stated : IsControlled a controlled
+  pub judgeable : IsJudgeable a
+  pub winner : IsWinner a controlled exit output
+
+-- the answer of `realize --controller`: the winner's automaton for the automaton of the text
+pub record IsWinnerAnswer (text : List ℕ) (exit : Exit) (output : List ℕ) : Type 0 where
+  pub automaton : Description
+  pub read : IsAutomatonText text automaton
+  pub winning : IsWinning automaton exit output

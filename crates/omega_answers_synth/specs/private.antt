@@ -1,0 +1,7 @@
+-- What private contracts alone cite.
+pub mod Decided
+pub mod Game
+pub mod Question
+pub mod Alike
+pub mod Literals
+pub mod Reported

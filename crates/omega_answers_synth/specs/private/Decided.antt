@@ -1,0 +1,19 @@
+-- What was decided of the question whether an automaton is realizable.
+use Rattle.std.specs.Prelude.{List, ℕ}
+use Rattle.omega_synth_controllers.specs.Controllable.{IsControlled}
+use Rattle.omega_hoa.specs.Alone.{IsAutomatonText}
+use Rattle.omega_synth_realize.specs.Realizing.{IsRealizability}
+use Rattle.omega_synth_realize.specs.Refusing.{IsJudgeable}
+use Rattle.omega_answers_synth.specs.declared.decided.Decided.{Decided}
+
+-- the answer is right, where the system controls the propositions that the automaton's item lists
+pub record IsDecided (decided : Decided) : Type 0 where
+  pub stated : IsControlled decided.question.automaton decided.question.controlled
+  pub judgeable : IsJudgeable decided.question.automaton
+  pub realizability : IsRealizability decided.question.automaton
+      decided.question.controlled decided.realizability
+
+-- the automaton is that of the text
+pub record IsDecidedText (text : List ℕ) (found : Decided) : Type 0 where
+  pub read : IsAutomatonText text found.question.automaton
+  pub decided : IsDecided found

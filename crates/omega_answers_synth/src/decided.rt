@@ -1,0 +1,63 @@
+//! The question whether an automaton is realizable, and what was decided.
+
+ghost use Rattle.std.specs.Prelude.{◌≤◌, IfErr, IfOk};
+ghost use Rattle.omega_solve.specs.budget.Observing.{IsObserved, refusal_in};
+ghost use Rattle.omega_solve.specs.Limits.{most_lifts};
+ghost use Rattle.omega_text.specs.Cases.{or_memory};
+ghost use Rattle.omega_answers_synth.specs.Observing.{LiftsText};
+ghost use Rattle.omega_answers_synth.specs.Refusing.{IsRealizeRefusal};
+ghost use Rattle.omega_answers_synth.specs.private.Decided.{IsDecidedText};
+
+use crate::question::{Question, question_in};
+use omega_hoa_automaton::Refusal;
+use omega_solve::budget::Reporter;
+use omega_synth_realize::{Realizability, realize, realize_by_lifting};
+use std::alloc::Global;
+
+/// A question, and whether its automaton is realizable where the system controls its propositions.
+#[derive(Drop)]
+pub(crate) struct Decided {
+    pub(crate) question: Question,
+    pub(crate) realizability: Realizability,
+}
+
+/// Decides the question of `text`. Fails as `decide_realizability` does.
+pub(crate) fn decided_in(alloc: Global, text: Vec<u8>) -> Result<Decided, Refusal>
+    ensures decided { IfOk result (IsDecidedText text.items) }
+    ensures refused { IfErr result (or_memory (IsRealizeRefusal text.items most_lifts)) }
+{
+    let question = question_in(alloc, text)?;
+    let controlled = question.controlled.as_slice();
+    let realizability = realize(alloc, &question.automaton, controlled)?;
+    Ok(Decided {
+        question,
+        realizability,
+    })
+}
+
+/// Decides the question of `text` by lifting within `budget`. The runs are reported to `observer`. Fails as
+/// `decide_realizability_by_lifting` does.
+pub(crate) fn decided_by_lifting<L, W: Reporter<L>>(
+    alloc: Global,
+    text: Vec<u8>,
+    budget: u64,
+    reporter: &W,
+    observer: &mut L,
+) -> Result<Decided, Refusal>
+    requires { budget ≤ most_lifts }
+    ensures decided { IfOk result (IsDecidedText text.items) }
+    ensures refused { IfErr result (or_memory (IsRealizeRefusal text.items budget)) }
+    ensures reported { IsObserved (LiftsText text.items) (refusal_in result)
+        (W.tells reporter.now) (W.pace reporter.now) budget observer.old observer.new }
+{
+    let question = question_in(alloc, text)?;
+    let automaton = &question.automaton;
+    let controlled = question.controlled.as_slice();
+    let realizability = realize_by_lifting(
+        alloc, automaton, controlled, budget, reporter, observer,
+    )?;
+    Ok(Decided {
+        question,
+        realizability,
+    })
+}

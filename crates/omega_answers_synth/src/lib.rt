@@ -1,0 +1,30 @@
+//! What `realize` answers to the text of one automaton.
+//!
+//! docs/formats.md says when each refusal comes.
+//!
+//! What `verify --specification` answers to the text of a specification and to that of a controller.
+//!
+//! docs/formats.md says when each refusal comes.
+#![tactic(auto)]
+
+mod about;
+mod decide;
+mod decided;
+mod game;
+mod laws;
+mod letter;
+mod parting;
+mod question;
+mod reading;
+mod reason;
+mod verify;
+mod winner;
+
+pub use decide::{decide_realizability, decide_realizability_by_lifting};
+pub use game::write_realizability_game;
+pub use laws::{
+    controller_answers_are_exact, letters_are_true_where_given, written_controllers_are_parts,
+};
+pub use omega_io::Exit;
+pub use verify::verify_controller;
+pub use winner::{write_winner, write_winner_by_lifting};

@@ -1,0 +1,38 @@
+ghost use Rattle.std.specs.Prelude.{IfErr, IfOk};
+ghost use Rattle.omega_hoa.specs.Alone.{IsAutomatonRefusal, IsAutomatonText};
+ghost use Rattle.omega_text.specs.Cases.{or_memory};
+ghost use Rattle.omega_answers_synth.specs.private.Question.{IsQuestion, IsUnasked};
+
+use omega_hoa::read_one;
+use omega_hoa_automaton::{Automaton, Refusal};
+use omega_synth_controllers::controlled_propositions;
+use omega_text::Numbers;
+use std::alloc::Global;
+
+/// An automaton, and the numbers of the propositions that its item `controllable-AP:` lists.
+#[derive(Drop)]
+pub(crate) struct Question {
+    pub(crate) automaton: Automaton,
+    pub(crate) controlled: Numbers,
+}
+
+/// Reads the automaton of `text`, and then its item.
+pub(crate) fn question_in(alloc: Global, text: Vec<u8>) -> Result<Question, Refusal>
+    ensures question { IfOk result (IsQuestion text.items) }
+    ensures refused { IfErr result (or_memory (IsUnasked text.items)) }
+{
+    let automaton = automaton_in(alloc, text)?;
+    let controlled = controlled_propositions(alloc, &automaton)?;
+    Ok(Question {
+        automaton,
+        controlled,
+    })
+}
+
+/// Reads the automaton of `text`. The text is dropped, so that it takes no memory while the automaton is used.
+fn automaton_in(alloc: Global, text: Vec<u8>) -> Result<Automaton, Refusal>
+    ensures automaton { IfOk result (IsAutomatonText text.items) }
+    ensures refused { IfErr result (or_memory (IsAutomatonRefusal text.items)) }
+{
+    read_one(alloc, text.as_slice())
+}

@@ -1,0 +1,119 @@
+ghost use Rattle.std.specs.Prelude.{List, ℕ, IfErr, IfOk};
+ghost use Rattle.omega_answers_synth.specs.Parting.{IsParted};
+ghost use Rattle.omega_answers_synth.specs.Verify.{IsControllerAnswer, IsControllerVerdict};
+ghost use Rattle.omega_answers_synth.specs.Verify.{IsFileRefusal, IsInputRefusal, IsOfNoText};
+ghost use Rattle.omega_answers_synth.specs.private.Reported.{IsPairReported};
+ghost use Rattle.omega_synth_check.specs.Refusing.{IsJudgeRefusal};
+ghost use Rattle.omega_hoa.specs.Alone.{IsAutomatonText};
+ghost use Rattle.omega_io.specs.Refused.{IsAbout};
+
+use crate::about::judge_reported;
+use crate::parting::controlled_numbers;
+use crate::reading::automaton_in;
+use crate::reason::{exit_of, judgement_text};
+use omega_hoa_automaton::{Automaton, Refusal};
+use omega_io::{Exit, Refused, Which};
+use omega_synth_check::judge;
+use std::alloc::Global;
+
+/// Decides whether the automaton of `text` is a controller for that of `specification`, which is to be deterministic:
+/// it has a start, each state that it reaches has for each letter of the environment an edge that answers it, and the
+/// specification accepts each word that it accepts. Returns `yes` with [Exit::Done], else `no` with [Exit::No].
+///
+/// The system controls the propositions that the controller's item `controllable-AP:` (extended HOA) lists, and the
+/// environment all others. Propositions that have one name are the same in both automata, and either may have some that
+/// the other does not have. If the specification has the item too, it has to say the same of the names that both have.
+/// Without it the controller's item alone counts.
+///
+/// If `explain` is set, lines follow `no`. Without a start there is one, `no start`. For a letter without an answer
+/// they are `state` with the number of the state, `letter` with what holds of each proposition of the environment, as
+/// in the words of `empty`, and `stem` with the edges that lead there from a start. For a word that the specification
+/// does not accept they are the lines of `contained_texts`: an accepting lasso of the controller, and its word. Both
+/// texts are dropped once read.
+///
+/// Fails with the [Refusal::Text] or [Refusal::Automaton] of `specification`, or else with that of `text`. Or else
+/// fails with [TaskFault::Controllable] about `specification` if its item is refused, or else so about `text` if its
+/// item is, or if the two items differ. Or else fails as `judge` of `omega_synth_check` does:
+/// [TaskFault::NotParity] is about `text`, and [TaskFault::NotDeterministic] about `specification`.
+/// [TaskFault::UniversalBranch] is about `text` if its automaton has some, else about `specification`.
+/// [TaskFault::TooLarge] and [TaskFault::TooManyPropositions] are about neither text.
+pub fn verify_controller(
+    alloc: Global,
+    specification: Vec<u8>,
+    text: Vec<u8>,
+    explain: bool,
+) -> Result<(Exit, Vec<u8>), Refused>
+    ensures answer { IfOk result
+        (λ made. IsControllerAnswer specification.items text.items explain made.0 made.1.items) }
+    ensures refused { IfErr result (λ refused. IsAbout (IsOfNoText specification.items text.items)
+        (IsFileRefusal specification.items text.items)
+        (IsInputRefusal specification.items text.items) refused.text refused.refusal) }
+{
+    match automaton_in(alloc, specification) {
+        Ok(specified) => verified_with(alloc, &specified, text, explain),
+        Err(refusal) => Err(Refused::of(Which::File, refusal)),
+    }
+}
+
+/// Returns what [verify_controller] does for each text of a specification that is the text of `specified`.
+fn verified_with(
+    alloc: Global,
+    specified: &Automaton,
+    text: Vec<u8>,
+    explain: bool,
+) -> Result<(Exit, Vec<u8>), Refused>
+    ensures answer { (specification : List ℕ) → IsAutomatonText specification specified.now
+        → IfOk result (λ made. IsControllerAnswer specification text.items explain made.0 made.1.items) }
+    ensures refused { (specification : List ℕ) → IsAutomatonText specification specified.now
+        → IfErr result (λ refused. IsAbout (IsOfNoText specification text.items)
+        (IsFileRefusal specification text.items) (IsInputRefusal specification text.items)
+        refused.text refused.refusal) }
+{
+    match automaton_in(alloc, text) {
+        Ok(controller) => verdict_on(alloc, specified, &controller, explain),
+        Err(refusal) => Err(Refused::of(Which::Input, refusal)),
+    }
+}
+
+/// Returns the exit and the text for two automata. Fails as `verify_controller` does after both texts are read.
+fn verdict_on(
+    alloc: Global,
+    specification: &Automaton,
+    controller: &Automaton,
+    explain: bool,
+) -> Result<(Exit, Vec<u8>), Refused>
+    ensures verdict { IfOk result
+        (λ made. IsControllerVerdict specification.now controller.now explain made.0 made.1.items) }
+    ensures refused { IfErr result (IsPairReported specification.now controller.now) }
+{
+    let controlled = controlled_numbers(alloc, specification, controller)?;
+    match controller_answer(
+        alloc,
+        specification,
+        controller,
+        controlled.as_slice(),
+        explain,
+    ) {
+        Ok(made) => Ok(made),
+        Err(refusal) => Err(judge_reported(controller, refusal)),
+    }
+}
+
+/// Returns the exit and the text for two automata. The system controls the propositions of `controller` with the
+/// numbers `controlled`. Fails as `judge` does.
+fn controller_answer(
+    alloc: Global,
+    specification: &Automaton,
+    controller: &Automaton,
+    controlled: &[u32],
+    explain: bool,
+) -> Result<(Exit, Vec<u8>), Refusal>
+    requires { IsParted specification.now controller.now controlled.now }
+    ensures verdict { IfOk result
+        (λ made. IsControllerVerdict specification.now controller.now explain made.0 made.1.items) }
+    ensures refused { IfErr result (IsJudgeRefusal specification.now controller.now controlled.now) }
+{
+    let judgement = judge(alloc, specification, controller, controlled)?;
+    let text = judgement_text(alloc, controller, controlled, &judgement, explain)?;
+    Ok((exit_of(&judgement), text))
+}

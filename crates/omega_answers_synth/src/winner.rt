@@ -1,0 +1,70 @@
+//! The winner's automaton: a controller or a counter-strategy.
+
+ghost use Rattle.std.specs.Prelude.{◌≤◌, IfErr, IfOk, IsOkUnless};
+ghost use Rattle.omega_solve.specs.budget.Observing.{IsObserved, refusal_in};
+ghost use Rattle.omega_solve.specs.Limits.{most_lifts};
+ghost use Rattle.omega_text.specs.Cases.{or_memory};
+ghost use Rattle.omega_answers_synth.specs.Observing.{LiftsText};
+ghost use Rattle.omega_answers_synth.specs.Refusing.{IsRealizeRefusal};
+ghost use Rattle.omega_answers_synth.specs.Winner.{IsWinnerAnswer, IsWinning};
+ghost use Rattle.omega_answers_synth.specs.private.Decided.{IsDecided};
+
+use crate::decided::{Decided, decided_by_lifting, decided_in};
+use omega_hoa_automaton::Refusal;
+use omega_io::Exit;
+use omega_solve::budget::Reporter;
+use omega_synth_realize::Realizability;
+use omega_synth_text::{controller_text, counter_strategy_text};
+use std::alloc::Global;
+
+/// Decides as `decide_realizability` does, and returns the canonical text of the winner's automaton: a controller with
+/// [Exit::Done], or a counter-strategy with [Exit::No]. Fails as `decide_realizability` does.
+pub fn write_winner(alloc: Global, text: Vec<u8>) -> Result<(Exit, Vec<u8>), Refusal>
+    ensures answer { IfOk result (λ made. IsWinnerAnswer text.items made.0 made.1.items) }
+    ensures refused { IfErr result (or_memory (IsRealizeRefusal text.items most_lifts)) }
+{
+    let decided = decided_in(alloc, text)?;
+    winner_of(alloc, &decided)
+}
+
+/// Returns the winner's automaton as [write_winner] does, by lifting within `budget`. The runs are reported to
+/// `observer`. Fails as `decide_realizability_by_lifting` does.
+pub fn write_winner_by_lifting<L, W: Reporter<L>>(
+    alloc: Global,
+    text: Vec<u8>,
+    budget: u64,
+    reporter: &W,
+    observer: &mut L,
+) -> Result<(Exit, Vec<u8>), Refusal>
+    requires { budget ≤ most_lifts }
+    ensures answer { IfOk result (λ made. IsWinnerAnswer text.items made.0 made.1.items) }
+    ensures refused { IfErr result (or_memory (IsRealizeRefusal text.items budget)) }
+    ensures reported { IsObserved (LiftsText text.items) (refusal_in result)
+        (W.tells reporter.now) (W.pace reporter.now) budget observer.old observer.new }
+{
+    let decided = decided_by_lifting(alloc, text, budget, reporter, observer)?;
+    winner_of(alloc, &decided)
+}
+
+/// Returns the automaton of the winner of what was `decided`.
+fn winner_of(alloc: Global, decided: &Decided) -> Result<(Exit, Vec<u8>), Refusal>
+    requires { IsDecided decided.now }
+    ensures winning { IfOk result
+        (λ made. IsWinning decided.now.question.automaton made.0 made.1.items) }
+    ensures memory { IsOkUnless result Refusal.Memory }
+{
+    let automaton = &decided.question.automaton;
+    let controlled = decided.question.controlled.as_slice();
+    match &decided.realizability {
+        Realizability::Realizable { kept } => {
+            let text = controller_text(alloc, automaton, controlled, kept.as_slice())?;
+            Ok((Exit::Done, text))
+        }
+        Realizability::Unrealizable { kept, letters } => {
+            let kept = kept.as_slice();
+            let letters = letters.as_slice();
+            let text = counter_strategy_text(alloc, automaton, controlled, kept, letters)?;
+            Ok((Exit::No, text))
+        }
+    }
+}

@@ -1,8 +1,0 @@
--- `first_start_beyond`: the first state is in an item that is left.
-use Rattle.std.proofs.Common.{◌≡◌, drop}
-use Rattle.omega_automaton_causes.specs.Finding.{first_found}
-use Rattle.omega_automaton_causes.specs.States.{start_beyond}
-use Rattle.omega_automaton_causes.proofs.states.first_start_beyond.Given as goal
-
-abbrev pub invariant-loop-item : goal.invariant-loop-item
-invariant-loop-item l = first_found (start_beyond l.count) (drop l.item-index l.items) ≡ first_found (start_beyond l.count) l.items

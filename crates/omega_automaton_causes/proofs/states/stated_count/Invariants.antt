@@ -1,7 +1,0 @@
--- `stated_count`: no item so far is a `States:`.
-use Rattle.std.proofs.Common.{◌≡◌, drop}
-use Rattle.omega_automaton.specs.Items.{first_said, states_in}
-use Rattle.omega_automaton_causes.proofs.states.stated_count.Given as goal
-
-abbrev pub invariant-loop-item : goal.invariant-loop-item
-invariant-loop-item l = first_said states_in (drop l.item-index l.items) ≡ first_said states_in l.items

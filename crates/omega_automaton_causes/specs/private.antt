@@ -1,3 +1,0 @@
--- What only private contracts cite.
-pub mod AliasReading
-pub mod Refused

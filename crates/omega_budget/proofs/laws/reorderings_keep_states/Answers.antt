@@ -1,7 +1,0 @@
--- Runs are carried over place by place.
-use Rattle.omega_budget.proofs.Lifting.{follows}
-use Rattle.omega_budget.proofs.Exactness.{exact_here, won_here}
-use Rattle.omega_budget.proofs.laws.reorderings_keep_states.Goals as goal
-
-pub returns : goal.returns
-returns c = (let z = exact_here in let y = won_here in follows)

@@ -1,6 +1,0 @@
--- A run of the budget's entries has one entry more, and is bounded.
-use Rattle.omega_budget.proofs.Dealing.{below_bound}
-use Rattle.omega_budget.proofs.laws.spent_budgets_are_below_the_bound.Goals as goal
-
-pub returns : goal.returns
-returns c nodes player budget game goes_on = below_bound c.runs_are_bounded.ensures nodes player budget goes_on

@@ -1,6 +1,0 @@
--- `causes_are_of_faults`: by the cases of the line.
-use Rattle.omega_causes.proofs.games.Faults.{cause_for}
-use Rattle.omega_causes.proofs.laws.causes_are_of_faults.Goals as goal
-
-pub returns : goal.returns
-returns c = cause_for

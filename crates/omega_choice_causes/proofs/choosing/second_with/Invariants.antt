@@ -1,6 +1,0 @@
--- `second_with`: the edges so far are passed over.
-use Rattle.omega_choice_causes.proofs.Passing.{ArePassedTo}
-use Rattle.omega_choice_causes.proofs.choosing.second_with.Given as goal
-
-abbrev pub invariant-loop-second : goal.invariant-loop-second
-invariant-loop-second l = ArePassedTo l.labels l.first l.second

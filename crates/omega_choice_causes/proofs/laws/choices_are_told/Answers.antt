@@ -1,6 +1,0 @@
--- `choices_are_told`: there is one first state of which two edges can be taken together.
-use Rattle.omega_choice_causes.proofs.Told.{choices_told}
-use Rattle.omega_choice_causes.proofs.laws.choices_are_told.Goals as goal
-
-pub returns : goal.returns
-returns c = choices_told

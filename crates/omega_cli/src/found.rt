@@ -1,0 +1,50 @@
+ghost use Rattle.std.specs.Prelude.{◌≡◌};
+ghost use Rattle.clap.specs.Words.{first_of, found_of, rows_of};
+ghost use Rattle.omega_cli.specs.Found.{id_of};
+ghost use Rattle.omega_cli_command.specs.declared.options.OptionName.{OptionName};
+ghost use Rattle.omega_cli_command.specs.CommandLine.{text_of};
+
+use clap::ArgMatches;
+use omega_cli_command::Options;
+
+/// Returns the texts of the options and of the operand that `clap` found after a subcommand.
+pub fn options_in<'a>(found: &ArgMatches<'a>) -> Options<'a>
+    ensures { (name : OptionName)
+        → text_of name result ≡ first_of (id_of name) (rows_of (found_of found.now)) }
+{
+    Options {
+        format: found.get_str("format"),
+        player: found.get_str("player"),
+        from: found.get_str("from"),
+        budget: found.get_str("budget"),
+        search: found.get_str("search"),
+        game: found.get_str("game"),
+        automaton: found.get_str("automaton"),
+        specification: found.get_str("specification"),
+        explain: found.get_str("explain"),
+        names: found.get_str("names"),
+        word: found.get_str("word"),
+        word_text: found.get_str("word-text"),
+        status: found.get_str("status"),
+        with: found.get_str("with"),
+        trim: found.get_str("trim"),
+        within: found.get_str("in"),
+        to: found.get_str("to"),
+        controller: found.get_str("controller"),
+        as_game: found.get_str("as-game"),
+        lift: found.get_str("lift"),
+        solution: found.get_str("solution"),
+        walk: found.get_str("walk"),
+        legend: found.get_str("legend"),
+        lasso: found.get_str("lasso"),
+        depth: found.get_str("depth"),
+        progress: found.get_str("progress"),
+        stream: found.get_str("stream"),
+        winners: found.get_str("winners"),
+        min: found.get_str("min"),
+        json: found.get_str("json"),
+        lenient: found.get_str("lenient"),
+        verbose: found.get_str("verbose"),
+        file: found.get_str("file"),
+    }
+}

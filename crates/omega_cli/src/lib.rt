@@ -1,0 +1,34 @@
+//! The command line: what its words ask the program for.
+//!
+//! The command line as `clap` knows it: subcommands, options and the texts of help.
+#![tactic(auto)]
+
+mod accepts;
+mod canon;
+mod check;
+mod complement;
+mod contained;
+mod draw;
+mod empty;
+mod equal;
+mod found;
+mod game;
+mod join;
+mod meet;
+mod options;
+mod program;
+mod realize;
+mod show;
+mod solve;
+mod subcommand;
+mod trim;
+mod verify;
+mod version;
+mod words;
+
+pub use omega_cli_command::{
+    Beside, Command, Format, Line, Mistake, OfEach, OfEither, OptionName, Options, Player, Reason,
+    Refusal, Source, Subcommand, Task, line_for,
+};
+pub use program::{fault_text, matches_of};
+pub use words::read_words;

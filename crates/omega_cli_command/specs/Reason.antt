@@ -1,0 +1,79 @@
+-- Why a text is no value of an option.
+use Rattle.std.specs.Prelude.{◌≡◌, ◌⊎◌, ◌^◌, ◌<◌, ◌≤◌, ℕ, List, [], length, slice_index}
+use Rattle.std.specs.Str.Parse.{IsNumeral, digits_value}
+use Rattle.omega_cli_command.specs.Limits.{most_budget}
+use Rattle.omega_text.specs.Limits.{most_number}
+use Rattle.omega_cli_command.specs.declared.mistake.Reason.{Reason}
+use Rattle.omega_cli_command.specs.declared.mistake.Reason.TheVariants as reason
+use Rattle.omega_cli_command.specs.declared.options.OptionName.{OptionName}
+use Rattle.omega_cli_command.specs.declared.options.OptionName.TheVariants as name
+
+-- the bytes of the signs
+abbrev pub plus : ℕ
+plus = 43
+
+abbrev pub minus : ℕ
+minus = 45
+
+-- the text begins with a sign
+abbrev pub BeginsWithSign : List ℕ → Type 0
+BeginsWithSign text = (slice_index text 0 ≡ plus) ⊎ (slice_index text 0 ≡ minus)
+
+-- the text is not empty, and begins with no sign
+pub record IsUnsigned (text : List ℕ) : Type 0 where
+  pub nonempty : 0 < length text
+  pub unsigned : BeginsWithSign text → ⊥
+
+-- the number of the digits is above the greatest, and the reason has both
+pub record IsAboveLimit (most : ℕ) (text : List ℕ) (number limit : ℕ) : Type 0 where
+  pub digits : IsNumeral 10 text
+  pub value : digits_value 10 text ≡ number
+  pub above : most < number
+  pub limit_is : limit ≡ most
+
+-- why a text is no number up to the greatest: it is empty, begins with a sign, or has a byte that is no digit; or its
+-- number has more than 64 bits, or is above the greatest
+abbrev pub IsNumberReason : ℕ → List ℕ → Reason → Type 0
+IsNumberReason most text reason.Empty = text ≡ []
+IsNumberReason most text reason.Sign = BeginsWithSign text
+IsNumberReason most text reason.NotDigits = IsUnsigned text × (IsNumeral 10 text → ⊥)
+IsNumberReason most text reason.TooLarge = IsNumeral 10 text × (2 ^ 64 ≤ digits_value 10 text)
+IsNumberReason most text (reason.Above number limit) = IsAboveLimit most text number limit
+IsNumberReason most text reason.NoFormat = ⊥
+IsNumberReason most text reason.NoTruth = ⊥
+
+-- why a text is no value of an option; every text names a file, and may be that of a word
+abbrev pub IsReason : OptionName → List ℕ → Reason → Type 0
+IsReason name.Format text why = why ≡ reason.NoFormat
+IsReason name.Player text why = IsNumberReason 1 text why
+IsReason name.From text why = IsNumberReason most_number text why
+IsReason name.Budget text why = IsNumberReason most_budget text why
+IsReason name.Search text why = why ≡ reason.NoTruth
+IsReason name.Game text why = ⊥
+IsReason name.Automaton text why = ⊥
+IsReason name.Specification text why = ⊥
+IsReason name.Explain text why = why ≡ reason.NoTruth
+IsReason name.Names text why = why ≡ reason.NoTruth
+IsReason name.Word text why = why ≡ reason.NoTruth
+IsReason name.WordText text why = ⊥
+IsReason name.Status text why = why ≡ reason.NoTruth
+IsReason name.With text why = ⊥
+IsReason name.Trim text why = why ≡ reason.NoTruth
+IsReason name.In text why = ⊥
+IsReason name.To text why = ⊥
+IsReason name.Controller text why = why ≡ reason.NoTruth
+IsReason name.AsGame text why = why ≡ reason.NoTruth
+IsReason name.Lift text why = why ≡ reason.NoTruth
+IsReason name.Solution text why = ⊥
+IsReason name.Walk text why = ⊥
+IsReason name.Legend text why = why ≡ reason.NoTruth
+IsReason name.Lasso text why = why ≡ reason.NoTruth
+IsReason name.Depth text why = IsNumberReason most_number text why
+IsReason name.Progress text why = why ≡ reason.NoTruth
+IsReason name.Stream text why = why ≡ reason.NoTruth
+IsReason name.Winners text why = why ≡ reason.NoTruth
+IsReason name.Min text why = why ≡ reason.NoTruth
+IsReason name.Json text why = why ≡ reason.NoTruth
+IsReason name.Lenient text why = why ≡ reason.NoTruth
+IsReason name.Verbose text why = why ≡ reason.NoTruth
+IsReason name.File text why = ⊥

@@ -1,0 +1,90 @@
+//! The option `--lenient`, by which games are read as other tools write them.
+ghost use Rattle.std.specs.Prelude.{◌≡◌, IfErr, IfOk, OnOk, false, true};
+ghost use Rattle.omega_cli_command.specs.CommandLine.{GivesLeniency, HasGames, HasOption};
+ghost use Rattle.omega_cli_command.specs.CommandLine.{IsForGames, IsWrong, MeansForGames};
+ghost use Rattle.omega_cli_command.specs.declared.options.OptionName.TheVariants as name;
+ghost use Rattle.omega_cli_command.specs.declared.subcommand.Subcommand.TheVariants as sub;
+
+use crate::command::Format;
+use crate::mistake::Mistake;
+use crate::options::{OptionName, Options};
+use crate::subcommand::Subcommand;
+use crate::values::{format_in, is_set};
+
+/// Whether games are read leniently: `subcommand` takes `--lenient`, and it is given.
+pub fn leniency_in<'a>(subcommand: Subcommand, options: &Options<'a>) -> Result<bool, Mistake<'a>>
+    ensures given { IfOk result (GivesLeniency subcommand options.now) }
+    ensures mistaken { IfErr result (IsWrong subcommand options.now) }
+{
+    if has_games(subcommand) {
+        is_set(OptionName::Lenient, options.lenient)
+    } else {
+        Ok(false)
+    }
+}
+
+/// Whether `subcommand` reads games, or may read one.
+fn has_games(subcommand: Subcommand) -> bool
+    ensures games { result ≡ true → HasGames subcommand }
+    ensures no_games { result ≡ false → HasGames subcommand → ⊥ }
+{
+    match subcommand {
+        Subcommand::Show | Subcommand::Check | Subcommand::Canon | Subcommand::Draw => true,
+        Subcommand::Solve | Subcommand::Verify => true,
+        _ => false,
+    }
+}
+
+/// Refuses `options` that ask for something else than games.
+pub fn demand_games<'a>(subcommand: Subcommand, options: &Options<'a>) -> Result<(), Mistake<'a>>
+    requires { GivesLeniency subcommand options.now true }
+    ensures games { OnOk result (IsForGames subcommand options.now) }
+    ensures mistaken { IfErr result (IsWrong subcommand options.now) }
+{
+    match subcommand {
+        Subcommand::Solve => Ok(()),
+        Subcommand::Verify => demand_game(options),
+        _ => demand_game_format(subcommand, options),
+    }
+}
+
+/// Refuses `options` by which `verify` judges what is not of a game.
+fn demand_game<'a>(options: &Options<'a>) -> Result<(), Mistake<'a>>
+    requires { GivesLeniency sub.Verify options.now true }
+    ensures games { OnOk result (IsForGames sub.Verify options.now) }
+    ensures mistaken { IfErr result (IsWrong sub.Verify options.now) }
+{
+    if options.automaton.is_some() {
+        return Err(Mistake::Conflict(OptionName::Automaton, OptionName::Lenient));
+    }
+    if options.specification.is_some() {
+        return Err(Mistake::Conflict(OptionName::Specification, OptionName::Lenient));
+    }
+    Ok(())
+}
+
+/// Refuses another format than that of games.
+fn demand_game_format<'a>(subcommand: Subcommand, options: &Options<'a>) -> Result<(), Mistake<'a>>
+    requires lenient { GivesLeniency subcommand options.now true }
+    requires format { HasOption subcommand name.Format }
+    ensures games { OnOk result (IsForGames subcommand options.now) }
+    ensures mistaken { IfErr result (IsWrong subcommand options.now) }
+{
+    if options.format.is_none() {
+        return Ok(());
+    }
+    match format_in(options)? {
+        Format::Pg => Ok(()),
+        Format::Hoa => Err(Mistake::OnlyWith(OptionName::Lenient, Format::Pg)),
+    }
+}
+
+/// Returns what `options` mean with `--lenient`: the format is that of games.
+pub fn meant_for_games<'a>(options: &Options<'a>) -> Options<'a>
+    ensures { MeansForGames options.now result }
+{
+    Options {
+        format: Some("pg"),
+        ..*options
+    }
+}

@@ -1,0 +1,141 @@
+//! The tasks that `verify` requests.
+ghost use Rattle.std.specs.Prelude.{◌≡◌, IfErr, IfOk, None, Some};
+ghost use Rattle.omega_cli_command.specs.CommandLine.{AsksFor, GivesFlag, IsMistake, text_of};
+ghost use Rattle.omega_cli_command.specs.declared.options.OptionName.TheVariants as name;
+ghost use Rattle.omega_cli_command.specs.declared.subcommand.Subcommand.TheVariants as sub;
+ghost use Rattle.omega_cli_command.specs.private.Judging.{judging_for};
+
+use crate::beside::Beside;
+use crate::line::Task;
+use crate::mistake::Mistake;
+use crate::options::{OptionName, Options};
+use crate::tasks::task_beside;
+use crate::values::{identifier_in, is_set};
+use std::alloc::Global;
+
+/// Returns the task that `verify` requests with `options`, or what is wrong with them.
+pub fn verifying_for<'a>(alloc: Global, options: &Options<'a>) -> Result<Task, Mistake<'a>>
+    ensures asked { IfOk result (AsksFor sub.Verify options.now) }
+    ensures mistaken { IfErr result (IsMistake sub.Verify options.now) }
+{
+    let explain = is_set(OptionName::Explain, options.explain)?;
+    let winners = is_set(OptionName::Winners, options.winners)?;
+    let names = is_set(OptionName::Names, options.names)?;
+    if let Some(specification) = options.specification {
+        return controller_verifying_for(alloc, options, specification, explain, winners, names);
+    }
+    if let Some(automaton) = options.automaton {
+        return lasso_verifying_for(alloc, options, automaton, explain, winners, names);
+    }
+    solution_verifying_for(alloc, options, explain, winners, names)
+}
+
+/// Returns the task that `verify` requests with `options` that name neither an automaton nor a specification, or what
+/// is wrong with them.
+fn solution_verifying_for<'a>(
+    alloc: Global,
+    options: &Options<'a>,
+    explain: bool,
+    winners: bool,
+    names: bool,
+) -> Result<Task, Mistake<'a>>
+    requires unspecified { text_of name.Specification options.now ≡ None }
+    requires no_automaton { text_of name.Automaton options.now ≡ None }
+    requires explain { GivesFlag (text_of name.Explain options.now) explain }
+    requires winners { GivesFlag (text_of name.Winners options.now) winners }
+    requires names { GivesFlag (text_of name.Names options.now) names }
+    ensures asked { IfOk result (AsksFor sub.Verify options.now) }
+    ensures mistaken { IfErr result (IsMistake sub.Verify options.now) }
+{
+    let Some(name) = options.game else {
+        return Err(Mistake::Missing(OptionName::Game));
+    };
+    let from = identifier_in(options)?;
+    if names && winners {
+        return Err(Mistake::Conflict(OptionName::Winners, OptionName::Names));
+    }
+    if names && !explain {
+        return Err(Mistake::Missing(OptionName::Explain));
+    }
+    task_beside(alloc, name, judging_for(from, explain, winners, names))
+}
+
+/// Returns what is asked of a solution. With names of nodes, its choices are judged and a `no` is explained.
+fn judging_for(from: Option<u32>, explain: bool, winners: bool, names: bool) -> Beside
+    ensures { result ≡ judging_for from explain winners names }
+{
+    if names {
+        Beside::VerifyNamed { from }
+    } else if winners {
+        Beside::VerifyWinners { from, explain }
+    } else {
+        Beside::Verify { from, explain }
+    }
+}
+
+/// Returns the task that `verify` requests with `options` that name an automaton and no specification, or what is wrong
+/// with them.
+fn lasso_verifying_for<'a>(
+    alloc: Global,
+    options: &Options<'a>,
+    automaton: &'a str,
+    explain: bool,
+    winners: bool,
+    names: bool,
+) -> Result<Task, Mistake<'a>>
+    requires unspecified { text_of name.Specification options.now ≡ None }
+    requires automaton { text_of name.Automaton options.now ≡ Some automaton.now }
+    requires explain { GivesFlag (text_of name.Explain options.now) explain }
+    requires winners { GivesFlag (text_of name.Winners options.now) winners }
+    requires names { GivesFlag (text_of name.Names options.now) names }
+    ensures asked { IfOk result (AsksFor sub.Verify options.now) }
+    ensures mistaken { IfErr result (IsMistake sub.Verify options.now) }
+{
+    if options.game.is_some() {
+        return Err(Mistake::Conflict(OptionName::Automaton, OptionName::Game));
+    }
+    if options.from.is_some() {
+        return Err(Mistake::Conflict(OptionName::Automaton, OptionName::From));
+    }
+    if winners {
+        return Err(Mistake::Conflict(OptionName::Automaton, OptionName::Winners));
+    }
+    if names {
+        return Err(Mistake::Conflict(OptionName::Automaton, OptionName::Names));
+    }
+    task_beside(alloc, automaton, Beside::VerifyLasso { explain })
+}
+
+/// Returns the task that `verify` requests with `options` that name a specification, or what is wrong with them.
+fn controller_verifying_for<'a>(
+    alloc: Global,
+    options: &Options<'a>,
+    specification: &'a str,
+    explain: bool,
+    winners: bool,
+    names: bool,
+) -> Result<Task, Mistake<'a>>
+    requires specification { text_of name.Specification options.now ≡ Some specification.now }
+    requires explain { GivesFlag (text_of name.Explain options.now) explain }
+    requires winners { GivesFlag (text_of name.Winners options.now) winners }
+    requires names { GivesFlag (text_of name.Names options.now) names }
+    ensures asked { IfOk result (AsksFor sub.Verify options.now) }
+    ensures mistaken { IfErr result (IsMistake sub.Verify options.now) }
+{
+    if options.automaton.is_some() {
+        return Err(Mistake::Conflict(OptionName::Specification, OptionName::Automaton));
+    }
+    if options.game.is_some() {
+        return Err(Mistake::Conflict(OptionName::Specification, OptionName::Game));
+    }
+    if options.from.is_some() {
+        return Err(Mistake::Conflict(OptionName::Specification, OptionName::From));
+    }
+    if winners {
+        return Err(Mistake::Conflict(OptionName::Specification, OptionName::Winners));
+    }
+    if names {
+        return Err(Mistake::Conflict(OptionName::Specification, OptionName::Names));
+    }
+    task_beside(alloc, specification, Beside::VerifyController { explain })
+}

@@ -1,8 +1,0 @@
--- `EdgeComponents::new`: no component, which takes no memory.
-use Rattle.std.proofs.Common.{refl}
-use Rattle.omega_components.specs.private.Lists.{lists_of}
-use Rattle.omega_components.proofs.edge_components.EdgeComponents.new.Goals as goal
-
-pub returns : goal.returns
-unfolding lists_of
-returns c = rw c.new.ensures.items refl

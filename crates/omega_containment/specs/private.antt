@@ -1,4 +1,0 @@
--- What private contracts alone cite.
-pub mod Letters
-pub mod Named
-pub mod Telling

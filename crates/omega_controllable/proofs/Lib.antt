@@ -1,4 +1,0 @@
--- Lemmas by theme.
-mod Only
-mod Numbers
-mod Stated

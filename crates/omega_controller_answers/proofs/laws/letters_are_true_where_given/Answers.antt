@@ -1,5 +1,0 @@
-use Rattle.omega_controller_answers.proofs.GivenLetters.{letters_are_true_where_given}
-use Rattle.omega_controller_answers.proofs.laws.letters_are_true_where_given.Goals as goal
-
-pub returns : goal.returns
-returns c = letters_are_true_where_given

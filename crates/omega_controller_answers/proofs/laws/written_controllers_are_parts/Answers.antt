@@ -1,5 +1,0 @@
-use Rattle.omega_controller_answers.proofs.Parts.{written_part}
-use Rattle.omega_controller_answers.proofs.laws.written_controllers_are_parts.Goals as goal
-
-pub returns : goal.returns
-returns c a controlled kept reached automaton tells = written_part a automaton controlled kept reached tells

@@ -1,5 +1,0 @@
-use Rattle.omega_controller_judge.proofs.Judgements.{judgements_are_exact}
-use Rattle.omega_controller_judge.proofs.laws.judgements_are_exact.Goals as goal
-
-pub returns : goal.returns
-returns c = judgements_are_exact

@@ -1,5 +1,0 @@
-use Rattle.omega_controller_judge.proofs.KeptParts.{kept_parts_control}
-use Rattle.omega_controller_judge.proofs.laws.kept_parts_control.Goals as goal
-
-pub returns : goal.returns
-returns c = kept_parts_control

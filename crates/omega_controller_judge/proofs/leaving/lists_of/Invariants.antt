@@ -1,7 +1,0 @@
--- the edges so far
-use Rattle.std.proofs.Common.{length}
-use Rattle.omega_controller_judge.specs.private.Leaving.{AreListed}
-use Rattle.omega_controller_judge.proofs.leaving.lists_of.Given as goal
-
-abbrev pub invariant-loop-number : goal.invariant-loop-number
-invariant-loop-number l = AreListed l.places (length l.automaton.defined) l.number l.lists.items

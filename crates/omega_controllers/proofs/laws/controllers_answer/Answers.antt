@@ -1,5 +1,0 @@
-use Rattle.omega_controllers.proofs.Realizing.{controllers_answer}
-use Rattle.omega_controllers.proofs.laws.controllers_answer.Goals as goal
-
-pub returns : goal.returns
-returns c = controllers_answer

@@ -1,5 +1,0 @@
-use Rattle.omega_controllers.proofs.Refuting.{counter_strategies_refute}
-use Rattle.omega_controllers.proofs.laws.counter_strategies_refute.Goals as goal
-
-pub returns : goal.returns
-returns c = counter_strategies_refute

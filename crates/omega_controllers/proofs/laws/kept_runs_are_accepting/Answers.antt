@@ -1,5 +1,0 @@
-use Rattle.omega_controllers.proofs.Accepting.{kept_runs_are_accepting}
-use Rattle.omega_controllers.proofs.laws.kept_runs_are_accepting.Goals as goal
-
-pub returns : goal.returns
-returns c = kept_runs_are_accepting

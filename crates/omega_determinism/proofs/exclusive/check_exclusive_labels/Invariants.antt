@@ -1,6 +1,0 @@
--- the labels so far are apart
-use Rattle.omega_determinism.specs.private.Apart.{AreApartTo}
-use Rattle.omega_determinism.proofs.exclusive.check_exclusive_labels.Given as goal
-
-abbrev pub invariant-loop-second : goal.invariant-loop-second
-invariant-loop-second l = AreApartTo l.state.labels.now l.second

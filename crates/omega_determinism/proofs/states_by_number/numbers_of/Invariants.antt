@@ -1,7 +1,0 @@
--- the numbers so far
-use Rattle.std.proofs.Common.{◌≡◌, map, take}
-use Rattle.omega_automaton.specs.declared.state.State.{State}
-use Rattle.omega_determinism.proofs.states_by_number.numbers_of.Given as goal
-
-abbrev pub invariant-loop-state : goal.invariant-loop-state
-invariant-loop-state l = l.numbers.keys ≡ map (λ (state : State). state.number) (take l.state-index l.automaton.defined)

@@ -1,3 +1,0 @@
--- What private contracts alone cite.
-pub mod Apart
-pub mod Refused

@@ -1,3 +1,0 @@
--- Lemmas of labels and of rows.
-pub mod Chunks
-pub mod Rows

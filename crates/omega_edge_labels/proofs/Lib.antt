@@ -1,6 +1,0 @@
-pub mod Bits
-pub mod Depths
-pub mod FullStates
-pub mod NewNumbers
-pub mod Refusals
-pub mod Valuations

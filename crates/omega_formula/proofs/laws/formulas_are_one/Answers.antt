@@ -1,6 +1,0 @@
--- At most one formula is read.
-use Rattle.omega_formula.proofs.ReadingUniqueness.{formulas-one}
-use Rattle.omega_formula.proofs.laws.formulas_are_one.Goals as goal
-
-pub returns : goal.returns
-returns c = formulas-one

@@ -1,7 +1,0 @@
--- They are those of the tree.
-use Rattle.std.proofs.Common.{◌∙◌}
-use Rattle.omega_formula.proofs.RawLemmas.{AreOfAcc-seen}
-use Rattle.omega_formula.proofs.raw.RawAcc.names.Goals as goal
-
-pub returns : goal.returns
-returns c = c.as_slice.ensures ∙ (AreOfAcc-seen _ _ _ _ c.self.invariant c.self.view_is).named

@@ -1,8 +1,0 @@
--- A tree has a depth, so that below the limit there is no room for it.
-use Rattle.std.proofs.Common.{arith, refl}
-use Rattle.omega_formula.specs.Shape.{acc_tree_of_shape}
-use Rattle.omega_formula.proofs.AccLemmas.{acc_depth-positive}
-use Rattle.omega_formula.proofs.shape.+put_nodes.Goals as goal
-
-pub returns-then-above-eq-MOST_DEPTH-clause-err : goal.returns-then-above-eq-MOST_DEPTH-clause-err
-returns-then-above-eq-MOST_DEPTH-clause-err t c = (refl, omega (arith, acc_depth-positive (acc_tree_of_shape c.args.shape.now)))

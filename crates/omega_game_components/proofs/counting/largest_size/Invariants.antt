@@ -1,6 +1,0 @@
--- `largest_size`: the largest component of the places before this one, and of the first.
-use Rattle.omega_game_components.proofs.Counted.{IsLargestTo}
-use Rattle.omega_game_components.proofs.counting.largest_size.Given as goal
-
-abbrev pub invariant-loop-leader : goal.invariant-loop-leader
-invariant-loop-leader l = IsLargestTo l.leaders l.leader-index l.largest

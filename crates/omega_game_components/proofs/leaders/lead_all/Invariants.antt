@@ -1,6 +1,0 @@
--- `lead_all`: the groups before this one have their leaders.
-use Rattle.omega_game_components.specs.private.Groups.{AreLed}
-use Rattle.omega_game_components.proofs.leaders.lead_all.Given as goal
-
-abbrev pub invariant-loop-index : goal.invariant-loop-index
-invariant-loop-index l = AreLed l.graph l.groups l.index l.leaders.items

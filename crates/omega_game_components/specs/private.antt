@@ -1,4 +1,0 @@
--- What only private contracts cite.
-pub mod Table
-pub mod Groups
-pub mod Sizes

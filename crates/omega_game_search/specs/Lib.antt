@@ -1,0 +1,5 @@
+-- What contracts of the search cite.
+pub use Rattle.omega_game_values.specs.Game
+pub use Rattle.omega_game_values.specs.Solution
+pub use Rattle.omega_game_values.specs.Winning
+pub mod private

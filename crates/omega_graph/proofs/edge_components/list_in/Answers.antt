@@ -1,0 +1,31 @@
+-- `list_in`: the list at an index of those that lie one after the other.
+use Rattle.std.proofs.Common.{◌≡◌, ◌+◌, ◌≤◌, length, get_or, rules, arith, refl}
+use Rattle.std.proofs.lemmas.List.{get_or_default}
+use Rattle.omega_graph.specs.private.Lists.{list_at}
+use Rattle.omega_graph.proofs.JoinedLists.{start_within}
+use Rattle.omega_graph.proofs.edge_components.list_in.Goals as goal
+
+-- the start of the list, by either default
+start_is : (c : goal.After-end_in-end) → get_or c.args.starts.now c.args.index 0 ≡ get_or c.args.starts.now c.args.index (length c.args.items.now)
+start_is c = get_or_default c.args.starts.now c.args.index 0 (length c.args.items.now) c.requires.within
+
+-- it starts at or before its end
+in_order : (c : goal.After-end_in-end) → get_or c.args.starts.now c.args.index 0 ≤ c.end_in-end.result
+in_order c = omega (arith, start_is c, c.end_in-end.ensures, c.requires.starts.rising c.args.index (c.args.index + 1) (omega arith))
+
+-- it ends within the vector
+within : (c : goal.After-end_in-end) → c.end_in-end.result ≤ length c.args.items.now
+within c = omega (arith, c.end_in-end.ensures, start_within c.args.starts.now (length c.args.items.now) (c.args.index + 1) c.requires.starts)
+
+pub offset_bounds-items-start : goal.offset_bounds-items-start
+offset_bounds-items-start c = omega (arith, in_order c, within c)
+
+pub slice_bounds-result-count : goal.slice_bounds-result-count
+slice_bounds-result-count c = in_order c
+
+pub slice_bounds-result-end : goal.slice_bounds-result-end
+slice_bounds-result-end c = let a : get_or c.args.starts.now c.args.index 0 ≤ c.end_in-end.result = in_order c in let b : c.end_in-end.result ≤ length c.args.items.now = within c in search rules
+
+pub returns : goal.returns
+unfolding list_at
+returns c = rw (get_or_default c.args.starts.now c.args.index 0 (length c.args.items.now) c.requires.within, c.end_in-end.ensures) refl

@@ -1,0 +1,32 @@
+-- The line for a text that is that of one automaton, and for one that is refused.
+use Rattle.std.proofs.Common.{◌≡◌, List, ℕ, [], refl, subst}
+use Rattle.omega_text.specs.Cases.{or_memory}
+use Rattle.omega_text.specs.declared.refusal.Refusal.{Refusal}
+use Rattle.omega_text.specs.declared.refusal.Refusal.TheVariants.{Automaton, Game, Io, Memory, Task, Text}
+use Rattle.omega_hoa_automaton.specs.Automaton.{Description}
+use Rattle.omega_hoa.specs.Alone.{IsAutomatonRefusal, IsAutomatonText}
+use Rattle.omega_hoa.specs.Laws.{AutomataAreOne, AutomataAreUnrefused}
+use Rattle.omega_hoa_diagnostics.specs.ChoiceCauses.{IsChoiceCause, IsChoiceLine}
+
+-- the line for the one automaton of a text
+pub read_told : (text line : List ℕ) (a : Description) → AutomataAreOne → IsAutomatonText text a → IsChoiceLine a line → IsChoiceCause text line
+read_told text line a one is told = record {
+  automaton = λ other there. subst (λ (d : Description). IsChoiceLine d line) (one text a other is there) told;
+  none = λ no. absurd (no a is);
+}
+
+refused_by : (text : List ℕ) (refusal : Refusal) → or_memory (IsAutomatonRefusal text) refusal → (refusal ≡ Memory → ⊥) → IsAutomatonRefusal text refusal
+refused_by text (Text fault) is not_memory = is
+refused_by text (Game fault) is not_memory = is
+refused_by text (Automaton fault) is not_memory = is
+refused_by text (Task fault) is not_memory = is
+refused_by text Memory is not_memory = absurd (not_memory refl)
+refused_by text Io is not_memory = is
+
+-- no line for a text that is refused
+pub unread_told : (text line : List ℕ) (refusal : Refusal) → AutomataAreUnrefused → or_memory (IsAutomatonRefusal text) refusal → (refusal ≡ Memory → ⊥)
+    → line ≡ [] → IsChoiceCause text line
+unread_told text line refusal unrefused is not_memory empty = record {
+  automaton = λ a there. absurd (unrefused text a refusal there (refused_by text refusal is not_memory));
+  none = λ no. empty;
+}

@@ -1,0 +1,28 @@
+-- The nodes are those of the label over the other propositions, which is as deep.
+use Rattle.std.proofs.Common.{◌≡◌, List, map, ap, arith, ◌∙◌, ℕ}
+use Rattle.omega_hoa_label.specs.Label.{LabelTree}
+use Rattle.omega_hoa_label.specs.Postfix.{postfix}
+use Rattle.omega_hoa_label.specs.Renumbering.{relabelled}
+use Rattle.omega_hoa_label.specs.declared.label.LabelNode.{LabelNode}
+use Rattle.omega_hoa_label.specs.private.layout.Label.{tree_of}
+use Rattle.omega_hoa_label.specs.private.layout.Moving.{moved_node}
+use Rattle.omega_hoa_label.proofs.MovingLemmas.{depth-moved, moved-postfix}
+use Rattle.omega_hoa_label.proofs.ShapeLemmas.{IsLabel-of, label_tree-is, value_then}
+use Rattle.omega_hoa_label.proofs.label.Label.over_propositions.Goals as goal
+
+-- nodes that are moved
+moved-flat : (places : List ℕ) (tree : LabelTree) (all moved lent : List LabelNode) → all ≡ postfix tree
+    → moved ≡ map (moved_node places) all → lent ≡ moved → lent ≡ postfix (relabelled places tree)
+moved-flat places tree all moved lent flat are is = is ∙ (are ∙ (ap (map (moved_node places)) flat ∙ moved-postfix places tree))
+
+pub of_slice-requires : goal.of_slice-requires
+of_slice-requires c =
+    IsLabel-of (relabelled c.args.places.now c.args.self.now) _
+    (moved-flat c.args.places.now c.args.self.now _ _ _ c.nodes.ensures.nodes c.in_ok-nodes.ensures.ok c.as_slice.ensures)
+    (omega (arith, depth-moved c.args.places.now c.args.self.now, c.nodes.ensures.shallow))
+
+pub returns-clause-ok : goal.returns-clause-ok
+returns-clause-ok c =
+    value_then c.of_slice.result (λ label. label ≡ tree_of c.as_slice.result.now) _ c.of_slice.ensures.ok
+    (λ label is. is ∙ label_tree-is (relabelled c.args.places.now c.args.self.now) _
+    (moved-flat c.args.places.now c.args.self.now _ _ _ c.nodes.ensures.nodes c.in_ok-nodes.ensures.ok c.as_slice.ensures))

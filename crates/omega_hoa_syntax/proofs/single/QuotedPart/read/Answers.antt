@@ -1,0 +1,10 @@
+-- The token is read, whatever follows it.
+use Rattle.omega_hoa_syntax.proofs.StepLemmas.{finds_any}
+use Rattle.omega_hoa_syntax.specs.First.{FirstIs}
+use Rattle.omega_hoa_syntax.specs.Grammar.{string_row}
+use Rattle.omega_hoa_syntax.specs.private.steps.Reading.{IsKind}
+use Rattle.omega_hoa_syntax.proofs.single.QuotedPart.read.Goals as goal
+
+pub returns-clause-finds : goal.returns-clause-finds
+returns-clause-finds g c =
+    finds_any c.take_string.result string_row (g.S.TokenSource.left c.args.source.now) (g.S.TokenSource.left c.take_string.new.source) (g.S.TokenSource.length c.args.source.now) (FirstIs IsKind) c.take_string.ensures.finds

@@ -1,7 +1,0 @@
--- The nodes so far are over the other propositions.
-use Rattle.std.proofs.Common.{◌≡◌, map, take}
-use Rattle.omega_label.specs.private.layout.Moving.{moved_node}
-use Rattle.omega_label.proofs.making.moved.Given as goal
-
-abbrev pub invariant-loop-node : goal.invariant-loop-node
-invariant-loop-node l = l.moved ≡ map (moved_node l.places) (take l.node-index l.nodes)

@@ -1,6 +1,0 @@
--- At most one label is read.
-use Rattle.omega_label_reading.proofs.ReadingUniqueness.{reads-one}
-use Rattle.omega_label_reading.proofs.laws.labels_are_one.Goals as goal
-
-pub returns : goal.returns
-returns c = reads-one

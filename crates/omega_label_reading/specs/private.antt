@@ -1,2 +1,0 @@
--- How a label is built from its tokens.
-pub mod Building

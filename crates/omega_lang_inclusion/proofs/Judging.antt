@@ -1,0 +1,36 @@
+-- What containment of the automaton of a word says of the words that are admitted.
+use Rattle.std.proofs.Common.{subst, sym}
+use Rattle.std.specs.List.{AllByRecursion}
+use Rattle.omega_hoa_automaton.specs.Automaton.{Description}
+use Rattle.omega_lang_inclusion.specs.Containing.{IsContainment, IsOutside}
+use Rattle.omega_lang_inclusion.specs.declared.containment.Containment.TheVariants.{Contained, NotContained}
+use Rattle.omega_lang_inclusion.specs.declared.containment.Counterexample.{Counterexample}
+use Rattle.omega_lang_lasso_word.specs.declared.symbolic_word.SymbolicWord.{SymbolicWord}
+use Rattle.omega_text.specs.hoa.Forms.{IsQuotable}
+use Rattle.omega_lang_word_laws.specs.NamedWords.{NamedWord}
+use Rattle.omega_lang_lasso_word.specs.Laws.{HasStrings}
+use Rattle.omega_lang_inclusion.specs.Membership.{HasStringNames, IsMembership, IsRejected}
+use Rattle.omega_lang_inclusion.specs.Written.{IsWordAutomaton}
+use Rattle.omega_lang_inclusion.specs.declared.membership.Membership.TheVariants.{Accepted, Rejected}
+use Rattle.omega_lang_inclusion.proofs.Running.{accepted_admits, admitted_accepts}
+
+module _ (word : SymbolicWord) (one a : Description) (means : IsWordAutomaton word one) where
+  pub contained_accepts : IsContainment one a Contained → IsMembership word a Accepted
+  contained_accepts is middle named admitted = is middle named (admitted_accepts word one means named admitted)
+
+  outside_rejected : (named : NamedWord) → IsOutside one a named → IsRejected word a named
+  outside_rejected named outside = record {
+    admitted = accepted_admits word one means named outside.accepted;
+    not_accepted = outside.not_accepted;
+  }
+
+  strings : HasStringNames word → HasStrings one
+  strings names = subst (AllByRecursion IsQuotable) (sym means.propositions) names
+
+  pub counterexample_rejects : (example : Counterexample) → IsContainment one a (NotContained example) → IsMembership word a (Rejected example.word)
+  counterexample_rejects example is = record {
+    named = is.word;
+    rejected = outside_rejected is.word is.outside;
+    fits = λ names others. is.fits (strings names) others;
+    all_rejected = λ names others other fits. outside_rejected other (is.all_outside (strings names) others other fits);
+  }

@@ -1,0 +1,67 @@
+-- Refusals of membership: for a choice or not, and never for a failed read or write.
+use Rattle.std.proofs.Common.{◌≡◌, inl, inr, ℕ, true, false, List, Option, Some, None, sym, ap, ◌∙◌}
+use Rattle.omega_hoa_automaton.specs.Automaton.{Description}
+use Rattle.omega_lang_inclusion.specs.Refusing.{IsContainmentRefusal, no_memory, not_complemented, not_met}
+use Rattle.omega_hoa_label.specs.Label.{LabelTree}
+use Rattle.omega_lang_lasso_word.specs.declared.symbolic_word.SymbolicWord.{SymbolicWord}
+use Rattle.omega_text.specs.declared.refusal.Refusal.{Refusal}
+use Rattle.omega_text.specs.declared.refusal.Refusal.TheVariants.{Io, Task}
+use Rattle.omega_text.specs.declared.refusal.task.TaskFault.TheVariants.{NotDeterministic}
+use Rattle.omega_lang_inclusion.specs.Opening.{HasUnjudgedName, IsUnjudgedWith, first_label, literal_of, number_among}
+use Rattle.omega_lang_inclusion.specs.WordRefusing as refusing
+use Rattle.omega_lang_inclusion.specs.WordRefusing.{HasChoice, IsMembershipRefusal, IsNoChoice, IsOneWordRefusal}
+use Rattle.omega_lang_inclusion.specs.private.Choosing.{choice_in}
+
+-- a refusal that names the state of a choice is one for a choice
+pub choice_is : (refusal : Refusal) (state : ℕ) → choice_in refusal ≡ Some state → refusal ≡ Task (NotDeterministic state)
+choice_is (Task (NotDeterministic other)) state is = ap (λ (n : ℕ). Task (NotDeterministic n)) (same is)
+  where
+    same : Some other ≡ Some state → other ≡ state
+    same e = cc
+choice_is refusal state is = absurd (none is)
+  where
+    none : ◌≡◌ {A = Option ℕ} None (Some state) → ⊥
+    none e = cc
+
+-- and one that names none is not
+pub no_choice : (refusal : Refusal) → choice_in refusal ≡ None → IsNoChoice refusal
+no_choice refusal is state same = none (sym is ∙ ap choice_in same)
+  where
+    none : ◌≡◌ {A = Option ℕ} None (Some state) → ⊥
+    none e = cc
+
+-- the refusal of containment for a choice is that of the automaton's complement
+pub has_choice : (one a : Description) (state : ℕ) → IsContainmentRefusal one a (Task (NotDeterministic state)) → HasChoice a state
+has_choice one a state (not_complemented refused) = refused
+has_choice one a state (not_met complement given is refused) = absurd refused
+has_choice one a state (no_memory given refused) = absurd refused
+
+-- no containment is refused for a failed read or write
+contained_io : (one a : Description) → IsContainmentRefusal one a Io → ⊥
+contained_io one a (not_complemented refused) = refused
+contained_io one a (not_met complement given is refused) = refused
+contained_io one a (no_memory given refused) = refused
+
+unjudged_io : (held unheld : LabelTree) (label : Option LabelTree) → IsUnjudgedWith held unheld label Io → ⊥
+unjudged_io held unheld None is = is
+unjudged_io held unheld (Some label) (inl is) = is
+unjudged_io held unheld (Some label) (inr is) = is
+
+names_io : (one : Description) (names : List (List ℕ)) → HasUnjudgedName one names Io → ⊥
+names_io one names (name, has, inl e) = cc
+names_io one names (name, has, inr (state, there, is)) =
+    let number : ℕ = number_among one.propositions name in
+    unjudged_io (literal_of number true) (literal_of number false) (first_label state.edges) is
+
+one_io : (one a : Description) → IsOneWordRefusal one a Io → ⊥
+one_io one a (refusing.not_met refused) = refused
+one_io one a (refusing.not_searched both is refused) = refused
+one_io one a (refusing.not_found refused) = refused
+
+-- nor is membership
+pub membership_io : (word : SymbolicWord) (a : Description) → IsMembershipRefusal word a Io → ⊥
+membership_io word a (refusing.oversized large) = large
+membership_io word a (refusing.not_contained one is refused other) = contained_io one a refused
+membership_io word a (refusing.not_judged one state is choice refused) = names_io one a.propositions refused
+membership_io word a (refusing.has_open_letter state choice open' e) = cc
+membership_io word a (refusing.not_one one state is choice single refused) = one_io one a refused

@@ -1,0 +1,17 @@
+-- an empty product
+use Rattle.std.proofs.Common.{subst}
+use Rattle.omega_lang_runs.specs.Verdict.{IsVerdict}
+use Rattle.omega_lang_runs.specs.declared.verdict.Verdict.{Verdict}
+use Rattle.omega_lang_word_laws.proofs.meeting.Graphs.{graphs_of_products}
+use Rattle.omega_lang_inclusion.proofs.Answering.{are_usable, contained_right, is_tabled}
+use Rattle.omega_lang_inclusion.proofs.containing.containment_of_verdict.Goals as goal
+
+pub returns-in-Empty-clause-right : goal.returns-in-Empty-clause-right
+returns-in-Empty-clause-right c = λ other k.
+    (let one = c.args.one.now in
+    let rest = c.args.rest.now in
+    let graph = c.args.graph.now in
+    let product = graphs_of_products one rest graph k.graph_is in
+    contained_right one other rest graph k product.0 product.1
+    (subst (λ (v : Verdict). IsVerdict product.0 v) c.in-Empty.is
+    (c.requires.verdict product.0 (record { tabled = is_tabled one other rest graph k product.0 product.1; usable = are_usable one other rest graph k product.0 product.1 }))))

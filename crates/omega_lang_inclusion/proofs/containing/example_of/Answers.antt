@@ -1,0 +1,34 @@
+-- the lasso is one of the product, whose word is written, and whose edges take edges of the one automaton
+use Rattle.std.proofs.Common.{◌≡◌, ℕ, List, map, get_or, sym, ap, subst, ◌∙◌}
+use Rattle.omega_lang_lasso_word.specs.WordText.{word_text}
+use Rattle.omega_lang_word_laws.proofs.meeting.Graphs.{graphs_of_products}
+use Rattle.omega_lang_inclusion.specs.Containing.{IsCounterexample}
+use Rattle.omega_lang_inclusion.specs.declared.containment.Counterexample.{Counterexample}
+use Rattle.omega_lang_inclusion.proofs.Answering.{are_usable, example_right, is_tabled}
+use Rattle.omega_lang_inclusion.proofs.Lettering.{word_alike}
+use Rattle.omega_lang_inclusion.proofs.containing.example_of.Goals as goal
+
+pub returns-clause-example : goal.returns-clause-example
+returns-clause-example c = λ other k.
+    (let one = c.args.one.now in
+    let rest = c.args.rest.now in
+    let graph = c.args.graph.now in
+    let stem : List ℕ = c.args.stem.now in
+    let cycle : List ℕ = c.args.cycle.now in
+    let product = graphs_of_products one rest graph k.graph_is in
+    let lasso = c.requires.lasso product.0 (record { tabled = is_tabled one other rest graph k product.0 product.1; usable = are_usable one other rest graph k product.0 product.1 }) in
+    let right = example_right one other rest graph k product.0 product.1 stem cycle lasso in
+    let firsts : c.as_slice-firsts.result.now ≡ graph.edges.firsts.items = c.as_slice-firsts.ensures.value in
+    let word : c.from_vec.result ≡ word_text product.0 stem cycle =
+    c.from_vec.ensures ∙ c.in_ok-word.ensures.text ∙ word_alike one rest graph k.graph_is product.0 product.1 stem cycle lasso in
+    let before : c.from_vec-2.result ≡ map (λ number. get_or graph.edges.firsts.items number 0) stem =
+    c.from_vec-2.ensures ∙ c.in_ok-before.ensures.numbers ∙ ap (λ (fs : List ℕ). map (λ number. get_or fs number 0) stem) firsts in
+    let around : c.from_vec-3.result ≡ map (λ number. get_or graph.edges.firsts.items number 0) cycle =
+    c.from_vec-3.ensures ∙ c.in_ok-around.ensures.numbers ∙ ap (λ (fs : List ℕ). map (λ number. get_or fs number 0) cycle) firsts in
+    let is : record { word = c.from_vec.result; stem = c.from_vec-2.result; cycle = c.from_vec-3.result }
+    ≡ record {
+      word = word_text product.0 stem cycle;
+      stem = map (λ number. get_or graph.edges.firsts.items number 0) stem;
+      cycle = map (λ number. get_or graph.edges.firsts.items number 0) cycle;
+    } = cc (word, before, around) in
+    subst (λ (example : Counterexample). IsCounterexample one other example) (sym is) right)

@@ -1,0 +1,46 @@
+-- Whether an automaton accepts each word that a symbolic word admits, and if not, words that show it.
+use Rattle.std.specs.Prelude.{◌⊎◌, ℕ, Bool, List}
+use Rattle.std.specs.List.{AllByRecursion}
+use Rattle.omega_hoa_automaton.specs.Automaton.{Description}
+use Rattle.omega_hoa_edges.specs.Determinism.{IsDeterministic}
+use Rattle.omega_lang_lasso_word.specs.Fitting.{Fits}
+use Rattle.omega_lang_lasso_word.specs.Laws.{HasStrings}
+use Rattle.omega_lang_lasso_word.specs.Admitted.{Admits}
+use Rattle.omega_lang_lasso_word.specs.declared.symbolic_word.SymbolicWord.{SymbolicWord}
+use Rattle.omega_text.specs.hoa.Forms.{IsQuotable}
+use Rattle.omega_lang_word_laws.specs.Complements.{RecursOrCeases}
+use Rattle.omega_lang_word_laws.specs.NamedWords.{AcceptsNamed, NamedWord}
+use Rattle.omega_lang_inclusion.specs.OneWord.{IsOneWordFor}
+use Rattle.omega_lang_inclusion.specs.declared.membership.Membership.{Membership}
+use Rattle.omega_lang_inclusion.specs.declared.membership.Membership.TheVariants.{Accepted, Rejected}
+
+-- an automaton accepts each word that a symbolic word admits
+abbrev pub AcceptsAdmitted : SymbolicWord → Description → Type 0
+AcceptsAdmitted word a = (named : NamedWord) → Admits word named → AcceptsNamed a named
+
+-- a word is admitted, and an automaton does not accept it
+pub record IsRejected (word : SymbolicWord) (a : Description) (named : NamedWord) : Type 0 where
+  pub admitted : Admits word named
+  pub not_accepted : ¬ AcceptsNamed a named
+
+-- the names of a symbolic word are strings
+abbrev pub HasStringNames : SymbolicWord → Type 0
+HasStringNames word = AllByRecursion IsQuotable word.names
+
+-- some admitted word is not accepted and fits a text, as does no word but such. Names are strings, as in each text
+pub record IsRejection (word : SymbolicWord) (a : Description) (text : List ℕ) : Type 0 where
+  pub named : NamedWord
+  pub rejected : IsRejected word a named
+  pub fits : HasStringNames word → HasStrings a → Fits text named
+  pub all_rejected : HasStringNames word → HasStrings a → (other : NamedWord) → Fits text other
+      → IsRejected word a other
+
+-- an answer is right: `Accepted` only if the automaton accepts each admitted word, where each test of numbers recurs or
+-- ceases, as it does by the excluded middle; any other answer is a text of words that show that it does not
+abbrev pub IsMembership : SymbolicWord → Description → Membership → Type 0
+IsMembership word a Accepted = ((test : ℕ → Bool) → RecursOrCeases test) → AcceptsAdmitted word a
+IsMembership word a (Rejected text) = IsRejection word a text
+
+-- membership is decided of a deterministic automaton, and of any automaton if it sees one word at most
+abbrev pub IsDecided : SymbolicWord → Description → Type 0
+IsDecided word a = IsDeterministic a ⊎ IsOneWordFor word a

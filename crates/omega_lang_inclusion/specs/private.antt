@@ -1,0 +1,6 @@
+-- What private contracts alone cite.
+pub mod Letters
+pub mod Named
+pub mod Telling
+pub mod Choosing
+pub mod Writing

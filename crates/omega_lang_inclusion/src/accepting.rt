@@ -1,0 +1,92 @@
+//! Membership by containment of the automaton of a word, or else as one word.
+
+ghost use Rattle.std.specs.Prelude.{◌≡◌, IfErr, IfOk, OnOk};
+ghost use Rattle.omega_hoa_automaton.specs.Automaton.{Description};
+ghost use Rattle.omega_lang_inclusion.specs.Containing.{IsContainment};
+ghost use Rattle.omega_lang_lasso_word.specs.declared.symbolic_word.SymbolicWord.{SymbolicWord};
+ghost use Rattle.omega_lang_inclusion.specs.Membership.{IsDecided, IsMembership};
+ghost use Rattle.omega_lang_inclusion.specs.WordRefusing.{IsMembershipRefusal};
+ghost use Rattle.omega_lang_inclusion.specs.Written.{IsWordAutomaton};
+ghost use Rattle.omega_lang_inclusion.specs.private.Choosing.{choice_in};
+
+use crate::making::word_automaton;
+use crate::membership::Membership;
+use crate::one_word::membership_of_one;
+use crate::{Containment, decide_containment};
+use omega_hoa_automaton::{Automaton, Refusal};
+use omega_lang_lasso_word::SymbolicWord;
+use omega_text::TaskFault;
+use std::alloc::Global;
+
+/// Returns whether `automaton` accepts each word that `word` admits. If not, returns the text of words that `word`
+/// admits and `automaton` does not accept. Propositions that have one name are the same, whatever their numbers are
+/// (HOA v1, AP).
+///
+/// `automaton` is to be deterministic, or each letter of `word` is to fix each of its propositions, so that it sees one
+/// word at most. If no word is admitted, as by the letter `a & !a`, the answer is [Membership::Accepted].
+///
+/// Fails with [TaskFault::TooLarge] as [word_automaton] does. Or else fails as `contained` of `omega_lang_inclusion`
+/// does for the automaton of `word` in `automaton`. In place of [TaskFault::NotDeterministic], with which this fails
+/// for a state of `automaton`, the letters of `word` are judged:
+///
+/// - Fails with [TaskFault::TooLarge] or [TaskFault::TooManyPropositions] if a letter is not judged together with a
+///   proposition of `automaton`, as `can_hold_together` of `omega_hoa_edges` does.
+/// - Fails with the same [TaskFault::NotDeterministic] if a letter leaves a proposition of `automaton` open.
+/// - Or else fails as `product` does for the two automata, or as `lasso` does for this product or for the word.
+///
+/// Takes the time of these calls, and to judge the letters two calls of `can_hold_together` for each letter and each
+/// proposition of `automaton`.
+pub fn accepts(
+    alloc: Global,
+    word: SymbolicWord,
+    automaton: &Automaton,
+) -> Result<Membership, Refusal>
+    ensures right { IfOk result (IsMembership word automaton.now) }
+    ensures decided { OnOk result (IsDecided word automaton.now) }
+    ensures refused { IfErr result (IsMembershipRefusal word automaton.now) }
+{
+    match word_automaton(alloc, word) {
+        Ok(one) => membership(alloc, &one, automaton),
+        Err(refusal) => Err(refusal),
+    }
+}
+
+/// Returns whether `automaton` accepts each word that `one` does, the automaton of a symbolic word. Fails as [accepts]
+/// does.
+fn membership(alloc: Global, one: &Automaton, automaton: &Automaton) -> Result<Membership, Refusal>
+    ensures right { IfOk result (λ answer. (word : SymbolicWord) →
+        IsWordAutomaton word one.now → IsMembership word automaton.now answer) }
+    ensures decided { OnOk result
+        ((word : SymbolicWord) → IsWordAutomaton word one.now → IsDecided word automaton.now) }
+    ensures refused { IfErr result (λ refusal. (word : SymbolicWord) →
+        IsWordAutomaton word one.now → IsMembershipRefusal word automaton.now refusal) }
+{
+    match decide_containment(alloc, one, automaton) {
+        Ok(answer) => Ok(membership_of(answer)),
+        Err(refusal) => match choice_in(&refusal) {
+            None => Err(refusal),
+            Some(state) => membership_of_one(alloc, one, automaton, state),
+        },
+    }
+}
+
+/// Returns the state that a refusal for a choice names.
+fn choice_in(refusal: &Refusal) -> Option<usize>
+    ensures { result ≡ choice_in refusal.now }
+{
+    match refusal {
+        Refusal::Task(TaskFault::NotDeterministic(state)) => Some(*state),
+        _ => None,
+    }
+}
+
+/// Returns what containment of the automaton of a symbolic word in another automaton says of the two.
+fn membership_of(answer: Containment) -> Membership
+    ensures { (word : SymbolicWord) (one automaton : Description) → IsWordAutomaton word one
+        → IsContainment one automaton answer → IsMembership word automaton result }
+{
+    match answer {
+        Containment::Contained => Membership::Accepted,
+        Containment::NotContained(example) => Membership::Rejected(example.word),
+    }
+}

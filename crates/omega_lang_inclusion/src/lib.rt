@@ -1,0 +1,33 @@
+//! Whether one automaton accepts only words that another accepts, and if not, words that show it.
+//!
+//! A counterexample is a lasso of the product with a complement, of which only the graph is made. Each edge of the
+//! graph has the numbers of the two edges that it takes together. By these the word is written (`letters`).
+//!
+//! docs/formats.md says when each refusal comes.
+//!
+//! Whether an automaton accepts each word that a symbolic word admits, and if not, words that show it.
+//!
+//! docs/formats.md says when each refusal comes.
+#![tactic(auto)]
+
+mod accepting;
+mod containing;
+mod containment;
+mod equality;
+mod joints;
+pub mod laws;
+mod letters;
+mod making;
+mod membership;
+mod one_word;
+mod open_letters;
+mod states;
+
+pub use accepting::accepts;
+pub use containing::decide_containment;
+pub use containment::{Containment, Counterexample};
+pub use equality::{Equality, decide_equality, equality_of};
+pub use making::word_automaton;
+pub use membership::Membership;
+pub use omega_hoa_automaton::{Automaton, Refusal};
+pub use omega_lang_lasso_word::SymbolicWord;

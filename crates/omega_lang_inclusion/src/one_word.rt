@@ -1,0 +1,151 @@
+//! Membership of one word in an automaton with choices: whether the product with the automaton of the word accepts a
+//! word.
+
+ghost use Rattle.std.specs.Prelude.{◌≡◌, ◌↔◌, IfErr, IfOk, IsOkUnless, IsTrue, OnOk};
+ghost use Rattle.omega_hoa_automaton.specs.Automaton.{Description, IsAutomaton};
+ghost use Rattle.omega_lang_lasso_search.specs.Searching.{IsSearchRefusal, IsSearchable};
+ghost use Rattle.omega_lang_runs.specs.Lasso.{IsAcceptingLasso};
+ghost use Rattle.omega_lang_runs.specs.Verdict.{IsVerdict};
+ghost use Rattle.omega_lang_lasso_word.specs.declared.symbolic_word.SymbolicWord.{SymbolicWord};
+ghost use Rattle.omega_lang_inclusion.specs.Membership.{IsDecided, IsMembership};
+ghost use Rattle.omega_lang_inclusion.specs.OneWord.{IsOneWordFor};
+ghost use Rattle.omega_lang_inclusion.specs.WordRefusing.{HasChoice, IsMembershipRefusal, IsOneWordRefusal};
+ghost use Rattle.omega_lang_inclusion.specs.Written.{IsWordAutomaton};
+ghost use Rattle.omega_lang_inclusion.specs.private.Choosing.{AcceptCommon, AcceptsSome, is_lasso};
+
+use crate::membership::Membership;
+use crate::open_letters::has_open_name;
+use omega_hoa_automaton::{Automaton, Refusal};
+use omega_lang_lasso_search::lasso;
+use omega_lang_lasso_word::word_of;
+use omega_lang_product::product;
+use omega_lang_runs::Verdict;
+use omega_text::{Seq, TaskFault};
+use std::alloc::Global;
+
+/// Returns whether `automaton`, which has a choice at `state`, accepts each word that `one` does, the automaton of a
+/// symbolic word. Fails as `accepts` does for such an automaton.
+pub(crate) fn membership_of_one(
+    alloc: Global,
+    one: &Automaton,
+    automaton: &Automaton,
+    state: usize,
+) -> Result<Membership, Refusal>
+    requires { HasChoice automaton.now state }
+    ensures right { IfOk result (λ answer. (word : SymbolicWord) →
+        IsWordAutomaton word one.now → IsMembership word automaton.now answer) }
+    ensures decided { OnOk result
+        ((word : SymbolicWord) → IsWordAutomaton word one.now → IsDecided word automaton.now) }
+    ensures refused { IfErr result (λ refusal. (word : SymbolicWord) →
+        IsWordAutomaton word one.now → IsMembershipRefusal word automaton.now refusal) }
+{
+    one.keeps_limits();
+    automaton.keeps_limits();
+    if has_open_name(alloc, one, automaton.propositions())? {
+        return Err(Refusal::Task(TaskFault::NotDeterministic(state)));
+    }
+    membership_of_word(alloc, one, automaton)
+}
+
+/// Returns whether `automaton` accepts each word that `one` does, the automaton of a symbolic word of which it sees one
+/// word at most. Fails as `product` does for both, or else as `lasso` does for this product or for `one`.
+fn membership_of_word(
+    alloc: Global,
+    one: &Automaton,
+    automaton: &Automaton,
+) -> Result<Membership, Refusal>
+    ensures right { IfOk result (λ answer. (word : SymbolicWord) → IsWordAutomaton word one.now
+        → IsOneWordFor word automaton.now → IsMembership word automaton.now answer) }
+    ensures refused { IfErr result (IsOneWordRefusal one.now automaton.now) }
+{
+    automaton.keeps_limits();
+    if meets(alloc, one, automaton)? {
+        Ok(Membership::Accepted)
+    } else {
+        membership_of_rejected(alloc, one)
+    }
+}
+
+/// Whether some word is accepted by both automata. Fails as `product` does, or else as `lasso` does for the product.
+fn meets(alloc: Global, one: &Automaton, automaton: &Automaton) -> Result<bool, Refusal>
+    ensures right { IfOk result (λ found. IsTrue found ↔ AcceptCommon one.now automaton.now) }
+    ensures refused { IfErr result (IsOneWordRefusal one.now automaton.now) }
+{
+    one.keeps_limits();
+    automaton.keeps_limits();
+    match product(alloc, one, automaton) {
+        Ok(both) => accepts_some(alloc, &both),
+        Err(refusal) => Err(refusal),
+    }
+}
+
+/// Whether `automaton` accepts a word. Fails as `lasso` does.
+fn accepts_some(alloc: Global, automaton: &Automaton) -> Result<bool, Refusal>
+    ensures right { IfOk result (λ some. IsTrue some ↔ AcceptsSome automaton.now) }
+    ensures refused { IfErr result (IsSearchRefusal automaton.now) }
+{
+    automaton.keeps_limits();
+    let verdict = lasso(alloc, automaton)?;
+    Ok(is_lasso(&verdict))
+}
+
+/// Whether a verdict is a lasso.
+fn is_lasso(verdict: &Verdict) -> bool
+    ensures { result ≡ is_lasso verdict.now }
+{
+    match verdict {
+        Verdict::Empty => false,
+        Verdict::Lasso { .. } => true,
+    }
+}
+
+/// Returns the answer for `one`, the automaton of a symbolic word, of which another automaton accepts no word: words
+/// that it accepts, if there are some. Fails as `lasso` does for `one`.
+fn membership_of_rejected(alloc: Global, one: &Automaton) -> Result<Membership, Refusal>
+    ensures right { IfOk result (λ answer. (word : SymbolicWord) (a : Description) →
+        IsWordAutomaton word one.now → ¬ AcceptCommon one.now a → IsMembership word a answer) }
+    ensures refused { IfErr result (IsSearchRefusal one.now) }
+{
+    one.keeps_limits();
+    let verdict = lasso(alloc, one)?;
+    membership_of_verdict(alloc, one, &verdict)
+}
+
+/// Returns the answer that a verdict on `one` gives, as [membership_of_rejected] does.
+fn membership_of_verdict(
+    alloc: Global,
+    one: &Automaton,
+    verdict: &Verdict,
+) -> Result<Membership, Refusal>
+    requires automaton { IsAutomaton one.now }
+    requires searchable { IsSearchable one.now }
+    requires verdict { IsVerdict one.now verdict.now }
+    ensures right { IfOk result (λ answer. (word : SymbolicWord) (a : Description) →
+        IsWordAutomaton word one.now → ¬ AcceptCommon one.now a → IsMembership word a answer) }
+    ensures memory { IsOkUnless result Refusal.Memory }
+{
+    match verdict {
+        Verdict::Empty => Ok(Membership::Accepted),
+        Verdict::Lasso { stem, cycle } => {
+            rejected_along(alloc, one, stem.as_slice(), cycle.as_slice())
+        }
+    }
+}
+
+/// Returns the words along an accepting lasso of `one` as the answer.
+fn rejected_along(
+    alloc: Global,
+    one: &Automaton,
+    stem: &[u32],
+    cycle: &[u32],
+) -> Result<Membership, Refusal>
+    requires automaton { IsAutomaton one.now }
+    requires searchable { IsSearchable one.now }
+    requires lasso { IsAcceptingLasso one.now stem.now cycle.now }
+    ensures right { IfOk result (λ answer. (word : SymbolicWord) (a : Description) →
+        IsWordAutomaton word one.now → ¬ AcceptCommon one.now a → IsMembership word a answer) }
+    ensures memory { IsOkUnless result Refusal.Memory }
+{
+    let words = word_of(alloc, one, stem, cycle)?;
+    Ok(Membership::Rejected(Seq::from_vec(words)))
+}

@@ -1,0 +1,13 @@
+-- the words are the same without parts
+use Rattle.std.proofs.Common.{◌≡◌, ◌++◌, [], ℕ, List, length}
+use Rattle.omega_lang_lasso_word.specs.Infix.{signs_words, words_before}
+use Rattle.omega_lang_lasso_word.proofs.signs.Infix.finish.Given as goal
+
+abbrev pub invariant-loop-waiting : goal.invariant-loop-waiting
+invariant-loop-waiting l =
+    (names : List (List ℕ))
+    → words_before names l.self.waiting [] ++ signs_words names l.self.signs
+    ≡ words_before names l.fn.self.waiting [] ++ signs_words names l.fn.self.signs
+
+abbrev pub decreases-loop-waiting : goal.decreases-loop-waiting
+decreases-loop-waiting l = length l.self.waiting

@@ -1,0 +1,79 @@
+-- Edges that are not judged are a reason to refuse the product.
+use Rattle.std.proofs.Common.{◌≡◌, ℕ, ◌<◌, ◌⊎◌, inl, inr, List, length, Contains, get_or, sym, subst}
+use Rattle.omega_text.specs.Cases.{never, or_memory, or_task}
+use Rattle.omega_text.specs.declared.refusal.Refusal.{Refusal}
+use Rattle.omega_text.specs.declared.refusal.task.TaskFault.{TaskFault}
+use Rattle.omega_text.specs.declared.refusal.task.TaskFault.TheVariants.{BadSolution, Budget, Controllable, NotDeterministic, NotParity, TooLarge, TooManyPropositions, TooWide, UniversalBranch, UnknownNode}
+use Rattle.omega_hoa_label.specs.Label.{LabelTree, conjunction}
+use Rattle.omega_hoa_label.specs.Shape.{FitsALabel}
+use Rattle.omega_hoa_satisfiable.specs.Undecided.{IsHardLabel}
+use Rattle.omega_hoa_automaton.specs.Automaton.{Description}
+use Rattle.omega_hoa_edges.specs.Fitting.{IsUnjudged}
+use Rattle.omega_lang_product.specs.Pairs.{AreFound, Pair, first_leaving, first_view, second_leaving, second_view}
+use Rattle.omega_lang_product.specs.Refusing.{AreMet, IsJoinFault, IsProductTooLarge, unfit_first, unfit_meeting, unfit_second}
+use Rattle.omega_lang_product.specs.private.Meeting.{HasUnmet, HasUnmetPartner, IsUnmet}
+use Rattle.omega_lang_product.specs.private.Operands.{HasUnfitAt}
+use Rattle.omega_lang_product.specs.declared.transition.Transition.{Transition}
+use Rattle.omega_hoa_edges.proofs.Refusals.{task_weaker}
+use Rattle.omega_lang_product.proofs.Made.{unfit_listed}
+
+-- an element of a list by its index
+pub listed_at : {X : Type 0} (xs : List X) (i : ℕ) (x : X) → i < length xs → x ≡ get_or xs i x → Contains xs x
+listed_at xs i x below here = (i, below, sym here)
+
+-- an edge of the second
+pub partner_unmet : (transition : Transition) (others : List Transition) (other : Transition) → Contains others other → (refusal : Refusal)
+    → or_task (IsUnmet transition other) (or_memory never) refusal → or_task (HasUnmetPartner transition others) (or_memory never) refusal
+partner_unmet transition others other listed refusal h =
+    task_weaker (IsUnmet transition other) (HasUnmetPartner transition others) (λ fault unmet. record { other = other; listed = listed; unmet = unmet }) refusal h
+
+-- an edge of the first
+pub edge_unmet : (transitions others : List Transition) (transition : Transition) → Contains transitions transition → (refusal : Refusal)
+    → or_task (HasUnmetPartner transition others) (or_memory never) refusal → or_task (HasUnmet transitions others) (or_memory never) refusal
+edge_unmet transitions others transition listed refusal h =
+    task_weaker (HasUnmetPartner transition others) (HasUnmet transitions others)
+    (λ fault partner. record { transition = transition; listed = listed; partner = partner }) refusal h
+
+-- edges that leave a pair which is reached
+module _ (one other : Description) (pairs : List Pair) (done : ℕ) (found : AreFound one other done pairs) (pair : Pair) (reached : Contains pairs pair) where
+  met : (fault : TaskFault) (unmet : HasUnmet (first_leaving one other pair) (second_leaving one other pair) fault)
+      → AreMet one other unmet.transition unmet.partner.other
+  met fault unmet =
+      record { pairs = pairs; done = done; found = found; pair = pair; reached = reached; first = unmet.listed; second = unmet.partner.listed }
+
+  join_fault : (fault : TaskFault) → HasUnmet (first_leaving one other pair) (second_leaving one other pair) fault → IsJoinFault one other fault
+  join_fault NotParity unmet = unmet.partner.unmet
+  join_fault UniversalBranch unmet = unmet.partner.unmet
+  join_fault TooManyPropositions unmet =
+      record { transition = unmet.transition; partner = unmet.partner.other; met = met TooManyPropositions unmet; hard = unmet.partner.unmet }
+  join_fault TooWide unmet = unmet.partner.unmet
+  join_fault Budget unmet = unmet.partner.unmet
+  join_fault BadSolution unmet = unmet.partner.unmet
+  join_fault UnknownNode unmet = unmet.partner.unmet
+  join_fault Controllable unmet = unmet.partner.unmet
+  join_fault TooLarge unmet =
+      unfit_meeting (record { transition = unmet.transition; partner = unmet.partner.other; met = met TooLarge unmet; unfit = unmet.partner.unmet })
+  join_fault (NotDeterministic state) unmet = unmet.partner.unmet
+
+  pub join_refused : (refusal : Refusal) → or_task (HasUnmet (first_leaving one other pair) (second_leaving one other pair)) (or_memory never) refusal
+      → or_task (IsJoinFault one other) (or_memory never) refusal
+  join_refused refusal h =
+      task_weaker (HasUnmet (first_leaving one other pair) (second_leaving one other pair)) (IsJoinFault one other) join_fault refusal h
+
+-- an edge that leaves a state of a pair and has a label that is too deep or too large
+pub unfit_pair : (one other : Description) (pair : Pair) → HasUnfitAt one other pair → IsProductTooLarge one other
+unfit_pair one other pair (inl first) = unfit_first (unfit_listed (first_view one other) one.defined pair.0 first)
+unfit_pair one other pair (inr second) = unfit_second (unfit_listed (second_view one other) other.defined pair.1 second)
+
+-- two edges whose labels together are not judged
+pub unjudged_unmet : (transition other : Transition) (label : LabelTree) → label ≡ conjunction transition.label other.label → (refusal : Refusal)
+    → IsUnjudged label refusal → or_task (IsUnmet transition other) (or_memory never) refusal
+unjudged_unmet transition other label is refusal h =
+    task_weaker (λ fault. ((fault ≡ TooLarge) × (FitsALabel label → ⊥)) ⊎ ((fault ≡ TooManyPropositions) × IsHardLabel label))
+    (IsUnmet transition other) go refusal h
+  where
+    go : (fault : TaskFault) → ((fault ≡ TooLarge) × (FitsALabel label → ⊥)) ⊎ ((fault ≡ TooManyPropositions) × IsHardLabel label)
+        → IsUnmet transition other fault
+    go fault (inl large) =
+        subst (IsUnmet transition other) (sym large.0) (subst (λ (l : LabelTree). FitsALabel l → ⊥) is large.1)
+    go fault (inr hard) = subst (IsUnmet transition other) (sym hard.0) (subst IsHardLabel is hard.1)

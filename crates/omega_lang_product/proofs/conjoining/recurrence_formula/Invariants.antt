@@ -1,0 +1,7 @@
+-- the formula of the sets so far
+use Rattle.std.proofs.Common.{◌≡◌}
+use Rattle.omega_hoa_acceptance.specs.Kind.{buchi_formula}
+use Rattle.omega_lang_product.proofs.conjoining.recurrence_formula.Given as goal
+
+abbrev pub invariant-loop-set : goal.invariant-loop-set
+invariant-loop-set l = l.formula ≡ buchi_formula l.set

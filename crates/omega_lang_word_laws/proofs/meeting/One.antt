@@ -1,0 +1,173 @@
+-- Two automata have one product, since the pairs that are reached are one list.
+use Rattle.std.proofs.Common.{◌≡◌, ◌⊎◌, ℕ, zero, suc, ◌<◌, ◌≤◌, inl, inr, Bool, true, false, if◌then◌else◌, List, [], ◌∷◌, ◌++◌, length, map, take, drop, Option, refl, sym, ap, subst, ◌∙◌, arith, add-one, append_assoc}
+use Rattle.std.specs.Prelude.{slice_index_or}
+use Rattle.std.specs.List.{AllZip, flat_map, list_any}
+use Rattle.std.proofs.lemmas.Bool.{cases_lt}
+use Rattle.std.proofs.lemmas.Grind.{flat_map-append}
+use Rattle.std.proofs.lemmas.List.{get_or_append_left, length-append, take-append-drop, take_all, take_more_same}
+use Rattle.indexmap.specs.IndexSet.{insert_all, insert_key}
+use Rattle.omega_hoa_acceptance.specs.Acceptance.{AccTree}
+use Rattle.omega_hoa_acceptance.specs.declared.name.AccName.{AccName}
+use Rattle.omega_hoa_label.specs.Label.{LabelTree}
+use Rattle.omega_hoa_automaton.specs.Automaton.{Description}
+use Rattle.omega_hoa_automaton.specs.Meaning.{AreMarksOf}
+use Rattle.omega_hoa_automaton.specs.declared.edge.Edge.{Edge}
+use Rattle.omega_hoa_automaton.specs.declared.header.Header.{Header}
+use Rattle.omega_hoa_automaton.specs.declared.state.State.{State}
+use Rattle.omega_hoa_automaton.specs.declared.tool.Tool.{Tool}
+use Rattle.omega_hoa_automaton.proofs.MarkLemmas.{rising_is_one}
+use Rattle.omega_lang_product.specs.Acceptance.{IsJointAcceptance}
+use Rattle.omega_lang_product.specs.Pairs.{AreReached, Pair, found_after, pair_number, same_pair, start_pairs, targets_of}
+use Rattle.omega_lang_product.specs.Product.{IsJointEdge, IsPairState, joint_edges_of}
+use Rattle.omega_lang_product.specs.declared.transition.Transition.{Transition}
+use Rattle.omega_lang_product.proofs.Reaching.{insert_both}
+use Rattle.omega_lang_word_laws.specs.Products.{ProductsAreOne}
+
+-- what is there stays where it is when more is inserted
+record Stays (ks more : List Pair) (k : ℕ) : Type 0 where
+  pub below : k < length more
+  pub same : slice_index_or more k (0, 0) ≡ slice_index_or ks k (0, 0)
+
+key_stays : (ks : List Pair) (x : Pair) (k : ℕ) → k < length ks → Stays ks (insert_key same_pair ks x) k
+key_stays ks x k below = go (list_any (same_pair x) ks)
+  where
+    go : (b : Bool) → Stays ks (if b then ks else ks ++ x ∷ []) k
+    go true = record { below = below; same = refl }
+    go false = record { below = omega (arith, below, length-append ks (x ∷ [])); same = get_or_append_left ks (x ∷ []) (0, 0) k below }
+
+all_stay : (xs ks : List Pair) (k : ℕ) → k < length ks → Stays ks (insert_all same_pair ks xs) k
+all_stay [] ks k below = record { below = below; same = refl }
+all_stay (x ∷ xs) ks k below =
+    let first = key_stays ks x k below in
+    let rest = all_stay xs (insert_key same_pair ks x) k first.below in
+    record { below = rest.below; same = rest.same ∙ first.same }
+
+module _ (one other : Description) where
+  -- each pair is found by those before it
+  found_by : (pairs : List Pair) → AreReached one other pairs → (k : ℕ) → k < length pairs
+      → slice_index_or pairs k (0, 0) ≡ slice_index_or (found_after one other (take k pairs)) k (0, 0)
+  found_by pairs reached k below =
+      let targets : List Pair → List Pair = flat_map (targets_of one other) in
+      let starts : List Pair = start_pairs one other in
+      let parts : found_after one other pairs ≡ insert_all same_pair (found_after one other (take k pairs)) (targets (drop k pairs)) =
+      ap (λ (ps : List Pair). insert_all same_pair [] (starts ++ targets ps)) (sym (take-append-drop k pairs))
+      ∙ ap (λ (ts : List Pair). insert_all same_pair [] (starts ++ ts)) (flat_map-append (targets_of one other) (take k pairs) (drop k pairs))
+      ∙ ap (insert_all same_pair []) (sym (append_assoc starts (targets (take k pairs)) (targets (drop k pairs))))
+      ∙ insert_both [] (starts ++ targets (take k pairs)) (targets (drop k pairs)) in
+      ap (λ (ps : List Pair). slice_index_or ps k (0, 0)) (reached.all ∙ parts)
+      ∙ (all_stay (targets (drop k pairs)) (found_after one other (take k pairs)) k (reached.found k below)).same
+
+  same_to : (pairs others : List Pair) → AreReached one other pairs → AreReached one other others → (k : ℕ) → k ≤ length pairs → k ≤ length others
+      → take k pairs ≡ take k others
+  same_to pairs others first second zero below below' = refl
+  same_to pairs others first second (suc k) below below' =
+      let before : take k pairs ≡ take k others = same_to pairs others first second k (omega arith) (omega arith) in
+      let here : slice_index_or pairs k (0, 0) ≡ slice_index_or others k (0, 0) =
+      found_by pairs first k (omega arith)
+      ∙ ap (λ (done : List Pair). slice_index_or (found_after one other done) k (0, 0)) before
+      ∙ sym (found_by others second k (omega arith)) in
+      ap (λ n. take n pairs) (sym (add-one k)) ∙ take_more_same pairs others k (0, 0) (omega arith) (omega arith) before here ∙ ap (λ n. take n others) (add-one k)
+
+  no_more : (pairs others : List Pair) → AreReached one other pairs → AreReached one other others → length pairs < length others → ⊥
+  no_more pairs others first second less =
+      let e : take (length pairs) others ≡ pairs =
+      sym (same_to pairs others first second (length pairs) (omega arith) (omega arith)) ∙ take_all (length pairs) pairs (omega arith) in
+      let whole : length (found_after one other (take (length pairs) others)) ≡ length pairs =
+      ap (λ (done : List Pair). length (found_after one other done)) e ∙ ap length (sym first.all) in
+      let more = second.found (length pairs) less in
+      omega (arith, whole, more)
+
+  pairs_one : (pairs others : List Pair) → AreReached one other pairs → AreReached one other others → pairs ≡ others
+  pairs_one pairs others first second = go (cases_lt (length pairs) (length others)) (cases_lt (length others) (length pairs))
+    where
+      go : (length pairs < length others) ⊎ (length others ≤ length pairs) → (length others < length pairs) ⊎ (length pairs ≤ length others) → pairs ≡ others
+      go (inl less) order = absurd (no_more pairs others first second less)
+      go (inr least) (inl less) = absurd (no_more others pairs second first less)
+      go (inr least) (inr most) =
+          sym (take_all (length pairs) pairs (omega arith))
+          ∙ same_to pairs others first second (length pairs) (omega arith) most
+          ∙ take_all (length pairs) others least
+
+  -- so is the acceptance
+  joint_one : (name name' : Option AccName) (formula formula' : AccTree) → IsJointAcceptance one other name formula → IsJointAcceptance one other name' formula'
+      → (name ≡ name') × (formula ≡ formula')
+  joint_one name name' formula formula' (inl buchi) (inl buchi') =
+      (buchi.name_is ∙ sym buchi'.name_is, buchi.formula_is ∙ sym buchi'.formula_is)
+  joint_one name name' formula formula' (inl buchi) (inr conjoined) = absurd (conjoined.others buchi.both)
+  joint_one name name' formula formula' (inr conjoined) (inl buchi) = absurd (conjoined.others buchi.both)
+  joint_one name name' formula formula' (inr conjoined) (inr conjoined') =
+      (conjoined.name_is ∙ sym conjoined'.name_is, conjoined.formula_is ∙ sym conjoined'.formula_is)
+
+-- what is related one by one is one, if each item is
+zip_one : {A B : Type 0} (R : A → B → Type 0) → ((x : A) (y z : B) → R x y → R x z → y ≡ z) → (xs : List A) (ys zs : List B) → AllZip R xs ys → AllZip R xs zs → ys ≡ zs
+zip_one R each [] [] [] first second = refl
+zip_one R each [] [] (z ∷ zs) first second = absurd second
+zip_one R each [] (y ∷ ys) zs first second = absurd first
+zip_one R each (x ∷ xs) [] zs first second = absurd first
+zip_one R each (x ∷ xs) (y ∷ ys) [] first second = absurd second
+zip_one R each (x ∷ xs) (y ∷ ys) (z ∷ zs) first second =
+    ap (λ v. v ∷ ys) (each x y z first.0 second.0) ∙ ap (λ vs. z ∷ vs) (zip_one R each xs ys zs first.1 second.1)
+
+-- edges, states and the whole
+marks_one : (written marks others : List ℕ) → AreMarksOf written marks → AreMarksOf written others → marks ≡ others
+marks_one written marks others first second =
+    rising_is_one marks others first.rising second.rising
+    (λ m h. (second.same m).1 ((first.same m).0 h)) (λ m h. (first.same m).1 ((second.same m).0 h))
+
+abbrev edge_with : Option LabelTree → List ℕ → List ℕ → Edge
+edge_with label targets marks = record { label = label; targets = targets; marks = marks }
+
+edge_one : (t : Transition) (a b : Edge) → IsJointEdge t a → IsJointEdge t b → a ≡ b
+edge_one t a b first second =
+    ap (λ x. edge_with x a.targets a.marks) (first.label ∙ sym second.label)
+    ∙ ap (λ x. edge_with b.label x a.marks) (first.targets ∙ sym second.targets)
+    ∙ ap (λ x. edge_with b.label b.targets x) (marks_one t.marks a.marks b.marks first.marks second.marks)
+
+abbrev state_with : Option LabelTree → ℕ → Option (List ℕ) → List ℕ → List Edge → State
+state_with label number name marks edges = record { label = label; number = number; name = name; marks = marks; edges = edges }
+
+state_one : (one other : Description) (pairs : List Pair) (pair : Pair) (a b : State) → IsPairState one other pairs pair a → IsPairState one other pairs pair b → a ≡ b
+state_one one other pairs pair a b first second =
+    ap (λ x. state_with x a.number a.name a.marks a.edges) (first.label ∙ sym second.label)
+    ∙ ap (λ x. state_with b.label x a.name a.marks a.edges) (first.number ∙ sym second.number)
+    ∙ ap (λ x. state_with b.label b.number x a.marks a.edges) (first.name ∙ sym second.name)
+    ∙ ap (λ x. state_with b.label b.number b.name x a.edges) (first.marks ∙ sym second.marks)
+    ∙ ap (λ x. state_with b.label b.number b.name b.marks x)
+    (zip_one IsJointEdge edge_one (joint_edges_of one other pairs pair) a.edges b.edges first.edges second.edges)
+
+abbrev automaton_with : Option Tool → Option (List ℕ) → ℕ → List (List ℕ) → List (List ℕ) → Option AccName → ℕ → AccTree → List (List ℕ) → List Header → List State → Description
+automaton_with tool name states starts propositions acc_name sets acceptance properties unknown defined = record {
+  tool = tool;
+  name = name;
+  states = states;
+  starts = starts;
+  propositions = propositions;
+  acc_name = acc_name;
+  sets = sets;
+  acceptance = acceptance;
+  properties = properties;
+  unknown = unknown;
+  defined = defined;
+}
+
+pub products_one : ProductsAreOne
+products_one one other a b is is' =
+    let same : is.pairs ≡ is'.pairs = pairs_one one other is.pairs is'.pairs is.reached is'.reached in
+    let joint = joint_one one other a.acc_name b.acc_name a.acceptance b.acceptance is.accepted is'.accepted in
+    let starts : a.starts ≡ b.starts =
+    is.starts ∙ ap (λ (pairs : List Pair). map (λ pair. pair_number pairs pair ∷ []) (start_pairs one other)) same ∙ sym is'.starts in
+    let P : List Pair → Type 0 = λ pairs. AllZip (IsPairState one other pairs) pairs b.defined in
+    let defined : a.defined ≡ b.defined =
+    zip_one (IsPairState one other is.pairs) (state_one one other is.pairs) is.pairs a.defined b.defined is.defined (subst P (sym same) is'.defined) in
+    ap (λ x. automaton_with x a.name a.states a.starts a.propositions a.acc_name a.sets a.acceptance a.properties a.unknown a.defined) (is.tool ∙ sym is'.tool)
+    ∙ ap (λ x. automaton_with b.tool x a.states a.starts a.propositions a.acc_name a.sets a.acceptance a.properties a.unknown a.defined) (is.name ∙ sym is'.name)
+    ∙ ap (λ x. automaton_with b.tool b.name x a.starts a.propositions a.acc_name a.sets a.acceptance a.properties a.unknown a.defined)
+    (is.states ∙ ap length same ∙ sym is'.states)
+    ∙ ap (λ x. automaton_with b.tool b.name b.states x a.propositions a.acc_name a.sets a.acceptance a.properties a.unknown a.defined) starts
+    ∙ ap (λ x. automaton_with b.tool b.name b.states b.starts x a.acc_name a.sets a.acceptance a.properties a.unknown a.defined) (is.propositions ∙ sym is'.propositions)
+    ∙ ap (λ x. automaton_with b.tool b.name b.states b.starts b.propositions x a.sets a.acceptance a.properties a.unknown a.defined) joint.0
+    ∙ ap (λ x. automaton_with b.tool b.name b.states b.starts b.propositions b.acc_name x a.acceptance a.properties a.unknown a.defined) (is.sets ∙ sym is'.sets)
+    ∙ ap (λ x. automaton_with b.tool b.name b.states b.starts b.propositions b.acc_name b.sets x a.properties a.unknown a.defined) joint.1
+    ∙ ap (λ x. automaton_with b.tool b.name b.states b.starts b.propositions b.acc_name b.sets b.acceptance x a.unknown a.defined) (is.properties ∙ sym is'.properties)
+    ∙ ap (λ x. automaton_with b.tool b.name b.states b.starts b.propositions b.acc_name b.sets b.acceptance b.properties x a.defined) (is.unknown ∙ sym is'.unknown)
+    ∙ ap (λ x. automaton_with b.tool b.name b.states b.starts b.propositions b.acc_name b.sets b.acceptance b.properties b.unknown x) defined

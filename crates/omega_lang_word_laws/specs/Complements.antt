@@ -1,0 +1,41 @@
+-- A deterministic automaton and its complement partition the words: each word is accepted by exactly one of them (HOA
+-- v1, acceptance).
+use Rattle.std.specs.Prelude.{◌≡◌, ◌⊎◌, ℕ, ◌≤◌, Bool, false, IsTrue, Some}
+use Rattle.omega_text.specs.declared.refusal.automaton.AutomatonFault.{AutomatonFault}
+use Rattle.omega_text.specs.declared.refusal.automaton.AutomatonFault.TheVariants.{Expansion, TooDeep}
+use Rattle.omega_hoa_automaton.specs.Automaton.{Description, IsAutomaton}
+use Rattle.omega_hoa_automaton.specs.Faults.{automaton_fault_of}
+use Rattle.omega_lang_runs.specs.Words.{IsAccepted}
+use Rattle.omega_hoa_syntax.specs.declared.raw_automaton.RawAutomaton.{RawAutomaton}
+use Rattle.omega_lang_complement.specs.Complement.{IsComplement}
+use Rattle.omega_hoa_edges.specs.Determinism.{IsDeterministic}
+use Rattle.omega_lang_complement.specs.Written.{IsWrittenComplement}
+
+-- no word is accepted by a deterministic automaton and by its complement
+abbrev pub ComplementsAreApart : Type 0
+ComplementsAreApart =
+    (a complement : Description) (word : ℕ → ℕ → Bool) → IsAutomaton a → IsDeterministic a
+    → IsComplement a complement → IsAccepted a word → IsAccepted complement word → ⊥
+
+-- a test of numbers passes infinitely often, or from some number on no more
+abbrev pub RecursOrCeases : (ℕ → Bool) → Type 0
+RecursOrCeases test = ((i : ℕ) → (j : ℕ) × (i ≤ j) × IsTrue (test j))
+    ⊎ ((from : ℕ) × ((j : ℕ) → from ≤ j → test j ≡ false))
+
+-- if each test recurs or ceases, as it does by the excluded middle, each word is accepted by a deterministic automaton
+-- or by its complement
+abbrev pub ComplementsCover : Type 0
+ComplementsCover = ((test : ℕ → Bool) → RecursOrCeases test)
+    → (a complement : Description) (word : ℕ → ℕ → Bool) → IsAutomaton a → IsDeterministic a
+    → IsComplement a complement → IsAccepted a word ⊎ IsAccepted complement word
+
+-- the written complement of an automaton within the limits has no other fault than `TooDeep` and `Expansion`
+abbrev pub ComplementsAreWritable : Type 0
+ComplementsAreWritable = (a : Description) (raw : RawAutomaton) (fault : AutomatonFault)
+    → IsAutomaton a → IsDeterministic a → IsWrittenComplement a raw
+    → automaton_fault_of raw ≡ Some fault → (fault ≡ TooDeep) ⊎ (fault ≡ Expansion)
+
+-- an automaton has at most one complement
+abbrev pub ComplementsAreOne : Type 0
+ComplementsAreOne =
+    (a one other : Description) → IsComplement a one → IsComplement a other → one ≡ other

@@ -1,3 +1,0 @@
--- Which text a refusal is about.
-pub mod About
-pub mod Refusals

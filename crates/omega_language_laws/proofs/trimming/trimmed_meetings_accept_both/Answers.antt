@@ -1,5 +1,0 @@
-use Rattle.omega_language_laws.proofs.containing.Trimmed.{trimmed_accept_both}
-use Rattle.omega_language_laws.proofs.trimming.trimmed_meetings_accept_both.Goals as goal
-
-pub returns : goal.returns
-returns c = trimmed_accept_both c.automata_are_one.ensures c.meanings_are_automata.ensures c.products_meet.ensures c.trims_accept_the_same.ensures

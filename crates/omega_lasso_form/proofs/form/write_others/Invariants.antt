@@ -1,7 +1,0 @@
--- the texts so far
-use Rattle.std.proofs.Common.{◌≡◌, ◌++◌, take}
-use Rattle.omega_lasso_form.specs.Form.{others_form}
-use Rattle.omega_lasso_form.proofs.form.write_others.Given as goal
-
-abbrev pub invariant-loop-number : goal.invariant-loop-number
-invariant-loop-number g l = l.out.items ≡ l.initial.out.items ++ others_form (g.T.EdgeText.told l.edges) (take l.number-index l.others)

@@ -1,2 +1,0 @@
--- Lemmas of runs of lassos.
-pub mod Sources

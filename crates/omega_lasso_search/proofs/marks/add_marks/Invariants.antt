@@ -1,8 +1,0 @@
--- the marks of the edges before
-use Rattle.std.proofs.Common.{◌≡◌, ◌++◌, map, take}
-use Rattle.omega_automaton.specs.Automaton.{edges_from}
-use Rattle.omega_runs.specs.Lasso.{marks_of}
-use Rattle.omega_lasso_search.proofs.marks.add_marks.Given as goal
-
-abbrev pub invariant-loop-at : goal.invariant-loop-at
-invariant-loop-at l = l.marks.items ≡ l.initial.marks.items ++ map marks_of (take l.at (edges_from l.state))

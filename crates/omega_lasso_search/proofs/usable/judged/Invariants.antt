@@ -1,9 +1,0 @@
--- the edges of the states before are judged
-use Rattle.std.proofs.Common.{take}
-use Rattle.std.specs.List.{flat_map}
-use Rattle.omega_automaton.specs.Automaton.{edges_from}
-use Rattle.omega_runs.specs.Judging.{AreJudged}
-use Rattle.omega_lasso_search.proofs.usable.judged.Given as goal
-
-abbrev pub invariant-loop-state : goal.invariant-loop-state
-invariant-loop-state l = AreJudged (flat_map edges_from (take l.state-index l.automaton.defined)) l.usable.items

@@ -1,6 +1,0 @@
--- The law by its lemma.
-use Rattle.omega_lasso_text.proofs.Texts.{refusals_one}
-use Rattle.omega_lasso_text.proofs.laws.lasso_refusals_are_one.Goals as goal
-
-pub returns : goal.returns
-returns c = refusals_one c.text_faults_are_one.ensures

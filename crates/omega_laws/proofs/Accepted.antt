@@ -1,0 +1,116 @@
+-- `accepts` accepts the word that `empty --word` writes.
+use Rattle.std.proofs.Common.{◌≡◌, ◌↔◌, inl, inr, ℕ, ◌≤◌, Bool, List, length, sym, subst}
+use Rattle.omega_text.specs.Limits.{most_text}
+use Rattle.omega_text.specs.declared.refusal.Refusal.{Refusal}
+use Rattle.omega_hoa_automaton.specs.Automaton.{Description, IsAutomaton}
+use Rattle.omega_hoa_automaton.specs.Laws.{MeaningsAreAutomata}
+use Rattle.omega_hoa.specs.Laws.{AutomataAreOne, AutomataAreUnrefused}
+use Rattle.omega_io.specs.declared.exit.Exit.{Exit}
+use Rattle.omega_lang_lasso_text.specs.Laws.{WordsArePassedOver}
+use Rattle.omega_lang_lasso_word.specs.Fitting.{Fits}
+use Rattle.omega_lang_lasso_word.specs.Laws.{FittingWordsAreAccepted, HasStrings, WordsFitWhereEdgesCanBeTaken}
+use Rattle.omega_hoa_round_trips.specs.Laws.{ReadAutomataAreWritable}
+use Rattle.omega_lang_lasso_word.specs.Admitted.{Admits}
+use Rattle.omega_lang_lasso_word.specs.declared.symbolic_word.SymbolicWord.{SymbolicWord}
+use Rattle.omega_lang_word_laws.specs.NamedWords.{AcceptsNamed, NamedWord}
+use Rattle.omega_lang_word_text.specs.Laws.{FittingTextsAreRead, WordsAreNotRefused, WordsOfTextsAreOne}
+use Rattle.omega_lang_word_text.specs.Text.{IsWordRefusal, IsWordText}
+use Rattle.omega_lang_inclusion.specs.Membership.{IsMembership}
+use Rattle.omega_lang_inclusion.specs.WordRefusing.{IsMembershipRefusal}
+use Rattle.omega_lang_inclusion.specs.declared.membership.Membership.{Membership}
+use Rattle.omega_lang_inclusion.specs.declared.membership.Membership.TheVariants.{Accepted, Rejected}
+use Rattle.omega_lang_inclusion.proofs.Going.{goes_along}
+use Rattle.omega_answers_inclusion.specs.Accepts.{IsAcceptsAnswer, IsInputRefusal, IsMembershipVerdict, exit_of, membership_text}
+use Rattle.omega_laws.specs.WrittenWords.{IsOpenChoice, IsWrittenWord, IsYes, WrittenWordsAreAccepted}
+use Rattle.omega_laws.proofs.Choices.{open_choice}
+use Rattle.omega_laws.proofs.Written.{IsLassoWord, lasso_word}
+
+-- the laws that it rests on
+pub record Known : Type 0 where
+  pub passed : WordsArePassedOver
+  pub automata : MeaningsAreAutomata
+  pub one : AutomataAreOne
+  pub unrefused : AutomataAreUnrefused
+  pub writable : ReadAutomataAreWritable
+  pub accepted : FittingWordsAreAccepted
+  pub fit : WordsFitWhereEdgesCanBeTaken
+  pub read : FittingTextsAreRead
+  pub words_one : WordsOfTextsAreOne
+  pub words_unrefused : WordsAreNotRefused
+
+module _ (known : Known) (text word : List ℕ) (is : IsWrittenWord text word) where
+  its : IsLassoWord text word
+  its = lasso_word known.passed text word is
+
+  abbrev a : Description
+  a = its.automaton
+
+  automaton : IsAutomaton a
+  automaton = known.automata its.read.value.raw a its.read.value.means
+
+  strings : HasStrings a
+  strings = (known.writable a (inl (text, its.read))).propositions
+
+  -- some word fits the text
+  fitting : (named : NamedWord) × Fits word named
+  fitting =
+      let goes = goes_along a automaton its.stem its.first its.others its.lasso in
+      let P : List ℕ → Type 0 = λ w. Fits w goes.0 in
+      (goes.0, subst P (sym its.word_is) ((known.fit a its.stem its.first its.others goes.0 strings its.lasso).1 goes.1))
+
+  -- so it is read, and each word that is admitted fits it and is accepted
+  reading : length word ≤ most_text → (symbolic : SymbolicWord) × IsWordText word symbolic × ((other : NamedWord) → Admits symbolic other ↔ Fits word other)
+  reading short = known.read word fitting.0 fitting.1 short
+
+  accepted : (named : NamedWord) → Fits word named → AcceptsNamed a named
+  accepted named fits =
+      let P : List ℕ → Type 0 = λ w. Fits w named in
+      known.accepted a its.stem its.first its.others named strings its.plain its.lasso (subst P its.word_is fits)
+
+  admitted : (symbolic : SymbolicWord) → IsWordText word symbolic → (named : NamedWord) → Admits symbolic named → AcceptsNamed a named
+  admitted symbolic read named admits =
+      let own = reading read.short in
+      let same : symbolic ≡ own.0 = known.words_one word symbolic own.0 read own.1 in
+      accepted named ((own.2 named).0 (subst (λ (s : SymbolicWord). Admits s named) same admits))
+
+  -- the answer
+  module _ (explain : Bool) (exit : Exit) (output : List ℕ) where
+    said : (symbolic : SymbolicWord) → IsWordText word symbolic → (answer : Membership) → IsMembership symbolic a answer
+        → exit ≡ exit_of answer → output ≡ membership_text explain answer → IsYes exit output
+    said symbolic read Accepted right exit_is written = record { done = exit_is; written = written }
+    said symbolic read (Rejected words) right exit_is written =
+        absurd (right.rejected.not_accepted (admitted symbolic read right.named right.rejected.admitted))
+
+    yes : IsAcceptsAnswer word text explain exit output → IsYes exit output
+    yes answer =
+        let same : answer.automaton ≡ a = known.one text answer.automaton a answer.automaton_read its.read in
+        let verdict : IsMembershipVerdict answer.symbolic a explain exit output =
+        subst (λ (b : Description). IsMembershipVerdict answer.symbolic b explain exit output) same answer.verdict in
+        said answer.symbolic answer.word_read verdict.answer verdict.right verdict.exit_is verdict.written
+
+  -- the refusals
+  unrefused : (refusal : Refusal) → length word ≤ most_text → ¬ IsWordRefusal word refusal
+  unrefused refusal short refused = let own = reading short in known.words_unrefused word own.0 refusal own.1 refused
+
+  choice : (refusal : Refusal) → IsInputRefusal word text refusal → IsOpenChoice word text refusal
+  choice refusal (inl of_text) = absurd (known.unrefused text a refusal its.read of_text.refused)
+  choice refusal (inr (pair, (state, refusal_is))) =
+      let found = open_choice pair.symbolic pair.automaton state (subst (IsMembershipRefusal pair.symbolic pair.automaton) refusal_is pair.refused) in
+      record {
+        symbolic = pair.symbolic;
+        word_read = pair.word_read;
+        automaton = pair.automaton;
+        automaton_read = pair.automaton_read;
+        state = state;
+        choice = found.0;
+        open_letter = found.1;
+        refusal_is = refusal_is;
+      }
+
+pub words_accepted : Known → WrittenWordsAreAccepted
+words_accepted known text word is = record {
+  read = λ short. (let own = reading known text word is short in (own.0, own.1));
+  unrefused = unrefused known text word is;
+  yes = yes known text word is;
+  open_choice = choice known text word is;
+}

@@ -1,0 +1,25 @@
+use Rattle.omega_laws.proofs.ReadBack.{controller_read}
+use Rattle.omega_laws.proofs.controller_texts.controllers_are_read_back.Goals as goal
+
+pub returns : goal.returns
+returns c = λ source a controlled kept reached is plain stated tells.
+    controller_read
+    (record {
+      join = c.cuts_join.ensures;
+      numbers = c.numbers_are_longest.ensures;
+      plain = c.numbers_are_plain.ensures;
+      words = c.words_are_longest.ensures;
+      closed = c.closed_are_longest.ensures;
+      labels = c.label_texts_are_labels.ensures;
+      label_means = c.written_labels_mean.ensures;
+      formulas = c.acc_texts_are_formulas.ensures;
+      formula_means = c.written_formulas_mean.ensures;
+    })
+    (record {
+      label_means = c.written_labels_mean.ensures;
+      formula_means = c.written_formulas_mean.ensures;
+      label_depths = c.written_labels_are_shallowest.ensures;
+      formula_depths = c.written_formulas_are_shallowest.ensures;
+      no_fault = c.meanings_have_no_fault.ensures;
+    })
+    c.meanings_are_automata.ensures source a is plain controlled kept reached tells stated.stated.below c.automata_fill_segments.ensures

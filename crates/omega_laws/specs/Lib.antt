@@ -1,0 +1,16 @@
+-- The laws of the texts of products and complements, of trimmed products, and of containment by texts.
+-- The laws of automata without useless states.
+-- The laws of unions.
+-- The law of the words that `empty --word` writes.
+-- The laws of the texts of controllers, of what is answered to them, and of answers by lifting.
+pub mod ComplementTexts
+pub mod Containment
+pub mod ProductTexts
+pub mod TextWords
+pub mod Trimming
+pub mod Trims
+pub mod Unions
+pub mod WrittenWords
+pub mod ControllerTexts
+pub mod LiftedAnswers
+pub mod WrittenControllers

@@ -1,0 +1,16 @@
+-- Laws of trimmed automata: they accept the same words, and an automaton has one.
+use Rattle.std.specs.Prelude.{◌≡◌, ◌↔◌, ℕ, Bool, false}
+use Rattle.omega_hoa_automaton.specs.Automaton.{Description, IsAutomaton}
+use Rattle.omega_hoa_automaton.specs.Branching.{has_universal_branching}
+use Rattle.omega_lang_runs.specs.Words.{IsAccepted}
+use Rattle.omega_lang_trim.specs.Trimmed.{IsTrimmed}
+
+-- a word is accepted exactly if it is accepted without the useless states
+abbrev pub TrimsAcceptTheSame : Type 0
+TrimsAcceptTheSame = (a trim : Description) (word : ℕ → ℕ → Bool) → IsAutomaton a → IsAutomaton trim
+    → has_universal_branching a ≡ false
+    → IsTrimmed a trim → IsAccepted trim word ↔ IsAccepted a word
+
+-- an automaton has at most one trimmed automaton
+abbrev pub TrimsAreOne : Type 0
+TrimsAreOne = (a one other : Description) → IsTrimmed a one → IsTrimmed a other → one ≡ other

@@ -1,0 +1,40 @@
+//! Laws of the texts of products and complements: that their canonical texts are read back, and what `meet`,
+//! `complement` and `empty` say of two texts, one after the other. And what `meet --trim` says. No code that runs.
+//!
+//! Laws of automata without useless states: the words that they accept. No code that runs.
+//!
+//! Laws of unions: the words that they accept. No code that runs.
+//!
+//! A law of `accepts`: it accepts the word that `empty --word` writes. No code that runs.
+//!
+//! Laws of `realize`: that the text of a controller is read back, that `verify --specification` judges it right, and
+//! that answers by lifting are given within the budget. No code that runs.
+#![tactic(auto)]
+
+mod complement_texts;
+mod containment;
+mod controller_texts;
+mod lifted_answers;
+mod product_texts;
+mod trimming;
+mod trims;
+mod unions;
+mod written_controllers;
+mod written_words;
+
+pub use complement_texts::complements_are_read_back;
+pub use containment::{empty_means_contained, lassos_mean_not_contained, met_texts_accept_both};
+pub use controller_texts::controllers_are_read_back;
+pub use lifted_answers::lifted_answers_end;
+pub use omega_lang_word_laws::{
+    complements_are_apart, complements_are_one, complements_are_writable, complements_cover,
+    products_are_one, products_meet, words_are_named,
+};
+pub use product_texts::products_are_read_back;
+pub use trimming::trimmed_meetings_accept_both;
+pub use trims::{trims_accept_the_same, trims_are_one};
+pub use unions::{unions_accept_either, unions_are_one};
+pub use written_controllers::{
+    written_controllers_are_judged_right, written_controllers_are_not_at_fault,
+};
+pub use written_words::written_words_are_accepted;

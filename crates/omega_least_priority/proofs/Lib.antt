@@ -1,3 +1,0 @@
--- Lemmas by theme.
-pub mod TurnedGames
-pub mod TurnedPriorities

@@ -1,6 +1,0 @@
--- `turned_games_are_games`: the turned game is a game.
-use Rattle.omega_least_priority.proofs.TurnedGames.{turned-games}
-use Rattle.omega_least_priority.proofs.laws.turned_games_are_games.Goals as goal
-
-pub returns : goal.returns
-returns c = turned-games

@@ -1,6 +1,0 @@
--- `turned_games_win_alike`: a strategy wins alike.
-use Rattle.omega_least_priority.proofs.TurnedGames.{turned-win_alike}
-use Rattle.omega_least_priority.proofs.laws.turned_games_win_alike.Goals as goal
-
-pub returns : goal.returns
-returns c = turned-win_alike

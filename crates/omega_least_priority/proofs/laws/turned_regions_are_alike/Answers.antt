@@ -1,6 +1,0 @@
--- `turned_regions_are_alike`: the regions are alike.
-use Rattle.omega_least_priority.proofs.TurnedGames.{turned-regions_alike}
-use Rattle.omega_least_priority.proofs.laws.turned_regions_are_alike.Goals as goal
-
-pub returns : goal.returns
-returns c = turned-regions_alike

@@ -1,6 +1,0 @@
--- The law by its lemma.
-use Rattle.omega_lenient.proofs.texts.StrictBare.{strict_solutions}
-use Rattle.omega_lenient.proofs.laws.strict_solutions_are_lenient.Goals as goal
-
-pub returns : goal.returns
-returns c = strict_solutions c.numbers_are_plain.ensures

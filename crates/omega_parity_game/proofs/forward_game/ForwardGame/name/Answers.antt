@@ -1,6 +1,0 @@
--- `ForwardGame::name`: the name of the node at a place, without its quotes.
-use Rattle.omega_parity_game.proofs.layout.Columns.{name_is}
-use Rattle.omega_parity_game.proofs.forward_game.ForwardGame.name.Goals as goal
-
-pub returns : goal.returns
-returns c = name_is _ _ c.args.place _ c.self.view_is c.requires c.name_at.ensures

@@ -1,6 +1,0 @@
--- the specifications by rising identifier, their successors under the places of their identifiers
-use Rattle.omega_parity_game.proofs.building.Built.{game_built}
-use Rattle.omega_parity_game.proofs.laws.games_exist.Goals as goal
-
-pub returns : goal.returns
-returns c specs some formed faultless = (_, game_built specs some formed faultless)

@@ -1,6 +1,0 @@
--- each identifier is specified once, each successor is, and the counts are those of the game
-use Rattle.omega_parity_game.proofs.building.Faults.{without_fault}
-use Rattle.omega_parity_game.proofs.laws.games_have_no_fault.Goals as goal
-
-pub returns : goal.returns
-returns c specs nodes given limits = without_fault specs nodes given limits

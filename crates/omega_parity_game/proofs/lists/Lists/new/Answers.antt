@@ -1,8 +1,0 @@
--- `Lists::new`: no list, which takes no memory.
-use Rattle.std.proofs.Common.{refl}
-use Rattle.omega_parity_game.specs.private.layout.Lists.{lists_of}
-use Rattle.omega_parity_game.proofs.lists.Lists.new.Goals as goal
-
-pub returns : goal.returns
-unfolding lists_of
-returns g c = rw c.new.ensures.items refl

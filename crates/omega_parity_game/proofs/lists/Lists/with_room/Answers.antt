@@ -1,8 +1,0 @@
--- `Lists::with_room`: no list, and room for so many.
-use Rattle.std.proofs.Common.{refl}
-use Rattle.omega_parity_game.specs.private.layout.Lists.{lists_of}
-use Rattle.omega_parity_game.proofs.lists.Lists.with_room.Goals as goal
-
-pub returns : goal.returns
-unfolding lists_of
-returns g c = rw c.in_ok-starts.ensures.items refl

@@ -1,0 +1,111 @@
+//! Laws of all lenient texts, for the proofs of callers: each function does nothing and states one law.
+
+ghost use Rattle.omega_text.specs.Syntax.{SyntaxFaultsAreFirst};
+ghost use Rattle.omega_pg_lenient.specs.Grammar.{lenient_syntax};
+ghost use Rattle.omega_pg_lenient.specs.Laws.{LenientGamesAreNotRefused, LenientGamesAreOne};
+ghost use Rattle.omega_pg_lenient.specs.Laws.{LenientRefusalsAreOne, LenientTextsAreReadOrRefused};
+ghost use Rattle.omega_pg_lenient.specs.Laws.{PlainTextsKeepPlaces, StrictTextsAreLenient};
+ghost use Rattle.omega_pg_lenient.specs.Parts.{BlockCommentsAreBlank, LineCommentsAreBlank, LoneSlashesStay};
+ghost use Rattle.omega_pg_lenient.specs.Parts.{NamesAreShown, OtherBytesStay, UnclosedCommentsStay};
+ghost use Rattle.omega_pg_lenient.specs.SolutionText.{BareTextsKeepPlaces, StrictSolutionsAreLenient};
+ghost use Rattle.omega_pg_lenient.specs.Playing.{CompletionKeepsWinners, LenientGamesKeepWinners};
+
+use crate::kind::LenientKind;
+use crate::syntax::LenientSyntax;
+use omega_game_values::{
+    games_exist, games_have_no_fault, games_keep_limits, specifications_have_one_game,
+};
+use omega_text::laws::{
+    cuts_are_one, text_faults_are_one, texts_are_read_or_faulty, texts_have_no_fault,
+};
+use omega_text::pg::laws::numbers_are_plain;
+
+/// States that a plain text has a byte for each of the text.
+pub fn plain_texts_keep_places()
+    ensures { PlainTextsKeepPlaces }
+{}
+
+/// States that a bare text of a solution text has a byte for each of the text.
+pub fn bare_texts_keep_places()
+    ensures { BareTextsKeepPlaces }
+{
+    plain_texts_keep_places();
+}
+
+/// States what stands for each part of a text in its plain text: spaces for comments, the bytes of a name that a name
+/// of a game may have, and each byte that begins neither.
+pub fn plain_texts_show_parts()
+    ensures line_comments { LineCommentsAreBlank }
+    ensures block_comments { BlockCommentsAreBlank }
+    ensures names { NamesAreShown }
+    ensures others { OtherBytesStay }
+    ensures slashes { LoneSlashesStay }
+    ensures unclosed { UnclosedCommentsStay }
+{}
+
+/// States that a text describes at most one game.
+pub fn lenient_games_are_one()
+    ensures { LenientGamesAreOne }
+{
+    cuts_are_one::<LenientKind>();
+    specifications_have_one_game();
+}
+
+/// States that a text has at most one refusal.
+pub fn lenient_refusals_are_one()
+    ensures { LenientRefusalsAreOne }
+{
+    cuts_are_one::<LenientKind>();
+    text_faults_are_one::<LenientSyntax>();
+    texts_have_no_fault::<LenientSyntax>();
+}
+
+/// States that a text that describes a game has no refusal.
+pub fn lenient_games_are_not_refused()
+    ensures { LenientGamesAreNotRefused }
+{
+    cuts_are_one::<LenientKind>();
+    texts_have_no_fault::<LenientSyntax>();
+    games_have_no_fault();
+}
+
+/// States that a text describes a game or has a refusal.
+pub fn lenient_texts_are_read_or_refused()
+    ensures { LenientTextsAreReadOrRefused }
+{
+    texts_are_read_or_faulty::<LenientSyntax>();
+    games_exist();
+    games_keep_limits();
+}
+
+/// States that some text of the grammar begins with the tokens before the place of a syntax fault, and none with one
+/// token more.
+pub fn lenient_syntax_faults_are_first()
+    ensures { SyntaxFaultsAreFirst lenient_syntax }
+{
+    omega_text::laws::syntax_faults_are_first::<LenientSyntax>();
+}
+
+/// States that a game text describes the same game as a lenient text.
+pub fn strict_texts_are_lenient()
+    ensures { StrictTextsAreLenient }
+{}
+
+/// States that a solution text describes the same solution as a lenient text.
+pub fn strict_solutions_are_lenient()
+    ensures { StrictSolutionsAreLenient }
+{
+    numbers_are_plain();
+}
+
+/// States that each node of a game with dead ends is won by the same player in the game where these are completed: each
+/// is its only successor, with a priority that loses for its owner.
+pub fn completion_keeps_winners()
+    ensures { CompletionKeepsWinners }
+{}
+
+/// States that whoever wins at a node of a text's game wins there in the game as it is written, which may have dead
+/// ends.
+pub fn lenient_games_keep_winners()
+    ensures { LenientGamesKeepWinners }
+{}

@@ -1,6 +1,0 @@
--- the others so far
-use Rattle.std.proofs.Common.{◌≡◌, ◌++◌, take}
-use Rattle.omega_product.proofs.adding.joined.Given as goal
-
-abbrev pub invariant-loop-other : goal.invariant-loop-other
-invariant-loop-other l = l.all ≡ l.numbers ++ take l.other-index l.others

@@ -1,7 +1,0 @@
--- the formula of the sets so far
-use Rattle.std.proofs.Common.{◌≡◌}
-use Rattle.omega_formula.specs.Kind.{buchi_formula}
-use Rattle.omega_product.proofs.conjoining.recurring.Given as goal
-
-abbrev pub invariant-loop-set : goal.invariant-loop-set
-invariant-loop-set l = l.formula ≡ buchi_formula l.set

@@ -1,8 +1,0 @@
--- the starts so far
-use Rattle.std.proofs.Common.{◌≡◌, take}
-use Rattle.omega_product.specs.Pairs.{starts_between, with_pairs}
-use Rattle.omega_product.proofs.exploring.add_starts.Given as goal
-
-abbrev pub invariant-loop-start : goal.invariant-loop-start
-invariant-loop-start l =
-    l.found.keys ≡ with_pairs l.initial.found.keys (starts_between (take l.start-index l.starts) l.others)

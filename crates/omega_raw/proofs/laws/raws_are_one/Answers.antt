@@ -1,6 +1,0 @@
--- The law by its lemma.
-use Rattle.omega_raw.proofs.uniqueness.Automata.{raw_one}
-use Rattle.omega_raw.proofs.laws.raws_are_one.Goals as goal
-
-pub returns : goal.returns
-returns c = raw_one c.labels_are_one.ensures c.formulas_are_one.ensures

@@ -1,6 +1,0 @@
-use Rattle.omega_realizability_game.proofs.EdgesInLanes.{IsMadeTo}
-use Rattle.omega_realizability_game.proofs.edge_words.word_by_letters.Given as goal
-
-abbrev pub invariant-loop-lane : goal.invariant-loop-lane
-invariant-loop-lane l =
-    IsMadeTo l.automaton l.lanes.controlled.now l.lanes.inputs.now l.lanes.block l.number l.lane l.word

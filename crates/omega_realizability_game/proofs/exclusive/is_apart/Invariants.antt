@@ -1,7 +1,0 @@
--- the blocks so far are apart
-use Rattle.std.proofs.Common.{ℕ, ◌<◌, length}
-use Rattle.omega_realizability_game.specs.Exclusive.{AreApartIn}
-use Rattle.omega_realizability_game.proofs.exclusive.is_apart.Given as goal
-
-abbrev pub invariant-loop-block : goal.invariant-loop-block
-invariant-loop-block l = (block : ℕ) → block < l.block → AreApartIn l.mentioned block l.state (length l.state.edges)

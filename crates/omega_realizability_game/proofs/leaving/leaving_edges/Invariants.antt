@@ -1,5 +1,0 @@
-use Rattle.omega_realizability_game.specs.Making.{AreLeaving}
-use Rattle.omega_realizability_game.proofs.leaving.leaving_edges.Given as goal
-
-abbrev pub invariant-loop-number : goal.invariant-loop-number
-invariant-loop-number l = AreLeaving l.edges l.fn.count l.number l.lists.items

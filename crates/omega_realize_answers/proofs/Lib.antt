@@ -1,5 +1,0 @@
--- Lemmas by theme.
-mod Stated
-mod Refused
-mod Observed
-mod Winning

@@ -1,4 +1,0 @@
--- What private contracts alone cite.
-pub mod Decided
-pub mod Game
-pub mod Question

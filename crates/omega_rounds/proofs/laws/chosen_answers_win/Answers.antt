@@ -1,6 +1,0 @@
--- kept edges are walks of the game, which are won
-use Rattle.omega_rounds.proofs.Winning.{chosen_answers_win}
-use Rattle.omega_rounds.proofs.laws.chosen_answers_win.Goals as goal
-
-pub returns : goal.returns
-returns c = chosen_answers_win c.specifications_have_one_game.ensures

@@ -1,2 +1,0 @@
--- Lemmas of solving games in rounds.
-pub mod Strategies

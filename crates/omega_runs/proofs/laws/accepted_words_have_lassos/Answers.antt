@@ -1,5 +1,0 @@
-use Rattle.omega_runs.proofs.runs.Words.{accepted_words_have_lassos}
-use Rattle.omega_runs.proofs.laws.accepted_words_have_lassos.Goals as goal
-
-pub returns : goal.returns
-returns c = accepted_words_have_lassos

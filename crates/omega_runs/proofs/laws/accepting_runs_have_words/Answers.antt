@@ -1,5 +1,0 @@
-use Rattle.omega_runs.proofs.runs.Words.{accepting_runs_have_words}
-use Rattle.omega_runs.proofs.laws.accepting_runs_have_words.Goals as goal
-
-pub returns : goal.returns
-returns c = accepting_runs_have_words

@@ -1,5 +1,0 @@
-use Rattle.omega_runs.proofs.Parity.{parity_is_limit}
-use Rattle.omega_runs.proofs.laws.parity_is_limit.Goals as goal
-
-pub returns : goal.returns
-returns c = parity_is_limit c.parity_is_priority.ensures

@@ -1,7 +1,0 @@
--- The proposition is not among those so far.
-use Rattle.std.proofs.Common.{◌≡◌, drop}
-use Rattle.omega_satisfying.specs.private.Words.{word_among}
-use Rattle.omega_satisfying.proofs.mentioned.word_in.Given as goal
-
-abbrev pub invariant-loop-place : goal.invariant-loop-place
-invariant-loop-place l = word_among l.block l.place (drop l.place l.numbers) l.number ≡ word_among l.block 0 l.numbers l.number

@@ -1,6 +1,0 @@
--- The word of the label is its truth table.
-use Rattle.omega_satisfying.proofs.TruthTables.{six-table}
-use Rattle.omega_satisfying.proofs.tables.TruthTable.of.Goals as goal
-
-pub returns-then-mentions_few : goal.returns-then-mentions_few
-returns-then-mentions_few c = six-table c.args.label.now _ (c.mentions_few.ensures c.if-mentions_few.true) c.word_of_six.ensures

@@ -1,3 +1,0 @@
--- What contracts of schedules cite, and in `private` what private contracts alone cite.
-pub mod Schedule
-pub mod private

@@ -1,4 +1,0 @@
--- What the three schedules alone cite.
-pub mod Sweep
-pub mod Worklist
-pub mod Nested

@@ -1,2 +1,0 @@
--- Lemmas by theme.
-pub mod Reported

@@ -1,8 +1,0 @@
--- `canon_stream`: the text written for the stream is its canonical text.
-use Rattle.std.proofs.lemmas.Result.{IfOk-weaker}
-use Rattle.omega_stream_answers.proofs.Reported.{canon-reported}
-use Rattle.omega_stream_answers.proofs.canon.canon_stream.Goals as goal
-
-pub returns-clause-answer : goal.returns-clause-answer
-returns-clause-answer g c =
-    IfOk-weaker c.tell_stream.result _ _ (λ output reads. canon-reported _ _ output.items reads) c.tell_stream.ensures.reported

@@ -1,6 +1,0 @@
--- `check_stream`: the text is written for the stream that the input gave.
-use Rattle.std.proofs.Common.{rules}
-use Rattle.omega_stream_answers.proofs.check.check_stream.Goals as goal
-
-pub returns-clause-answer : goal.returns-clause-answer
-returns-clause-answer g c = search rules

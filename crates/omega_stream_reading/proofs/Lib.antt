@@ -1,6 +1,0 @@
--- Lemmas by theme.
-pub mod Flat
-pub mod Follows
-pub mod InTurn
-pub mod Pieces
-pub mod Texts

@@ -1,2 +1,0 @@
--- Symbolic words: what public contracts cite.
-pub mod Admitted

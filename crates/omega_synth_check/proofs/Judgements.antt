@@ -1,0 +1,31 @@
+-- A judgement is `Controls` exactly for a controller.
+use Rattle.std.proofs.Common.{◌≡◌, refl}
+use Rattle.omega_synth_game.specs.RoundsOf.{holds_in}
+use Rattle.omega_lang_inclusion.specs.declared.containment.Counterexample.{Counterexample}
+use Rattle.omega_synth_check.specs.Laws.{JudgementsAreExact}
+use Rattle.omega_synth_check.specs.declared.judgement.Judgement.TheVariants.{Controls, NoStart, NotAccepted, Unanswered}
+use Rattle.omega_synth_check.specs.declared.judgement.Lack.{Lack}
+
+none_controls : NoStart ≡ Controls → ⊥
+none_controls is = cc
+
+lack_controls : (lack : Lack) → Unanswered lack ≡ Controls → ⊥
+lack_controls lack is = cc
+
+word_controls : (example : Counterexample) → NotAccepted example ≡ Controls → ⊥
+word_controls example is = cc
+
+pub judgements_are_exact : JudgementsAreExact
+judgements_are_exact decided specification controller controlled Controls right =
+    (λ is. record { answers = right.0; accepted = right.1 decided }, λ for. refl)
+judgements_are_exact decided specification controller controlled NoStart right =
+    (λ is. absurd (none_controls is), λ for. absurd (right for.answers.begins.0 for.answers.begins.1))
+judgements_are_exact decided specification controller controlled (Unanswered lack) right = (
+  λ is. absurd (lack_controls lack is),
+  λ for. absurd (right.unanswered (for.answers.answered lack.state (holds_in lack.letter)
+      (record { start = right.start; begins = right.begins; numbers = lack.stem; leads = right.leads }))),
+)
+judgements_are_exact decided specification controller controlled (NotAccepted example) right = (
+  λ is. absurd (word_controls example is),
+  λ for. absurd (right.outside.not_accepted (for.accepted right.word right.outside.accepted)),
+)

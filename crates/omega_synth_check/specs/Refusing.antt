@@ -1,0 +1,68 @@
+-- Which automata are not judged: those with universal branching, those whose acceptance is not `all`, and those whose
+-- letters or whose containment in the specification cannot be decided.
+use Rattle.std.specs.Prelude.{◌≡◌, ℕ, ◌<◌, true, false, List, Contains, length, nat_eq}
+use Rattle.std.specs.List.{IsDistinct}
+use Rattle.omega_text.specs.Cases.{never, or_memory, or_task}
+use Rattle.omega_text.specs.declared.refusal.Refusal.{Refusal}
+use Rattle.omega_text.specs.declared.refusal.Refusal.TheVariants.{Memory, Task}
+use Rattle.omega_text.specs.declared.refusal.task.TaskFault.{TaskFault}
+use Rattle.omega_text.specs.declared.refusal.task.TaskFault.TheVariants.{NotParity, TooLarge}
+use Rattle.omega_text.specs.declared.refusal.task.TaskFault.TheVariants.{TooManyPropositions, UniversalBranch}
+use Rattle.omega_hoa_acceptance.specs.Acceptance.{constant}
+use Rattle.omega_hoa_automaton.specs.Automaton.{Description}
+use Rattle.omega_hoa_automaton.specs.Branching.{has_universal_branching}
+use Rattle.omega_hoa_edges.specs.Limits.{most_states}
+use Rattle.omega_lang_runs.specs.Judging.{HasHardLabel}
+use Rattle.omega_synth_game.specs.Making.{AllLeave, IsAskingFault}
+use Rattle.omega_lang_inclusion.specs.Refusing.{AreComparable, IsContainmentRefusal}
+use Rattle.omega_synth_check.specs.Judging.{IsReached}
+
+-- the acceptance is `all`: there are no sets, and the formula is `t`
+abbrev pub AcceptsAll : Description → Type 0
+AcceptsAll controller = (controller.sets ≡ 0) × (controller.acceptance ≡ constant true)
+
+-- the automaton can be read as a controller
+pub record IsReadable (controller : Description) : Type 0 where
+  pub plain : has_universal_branching controller ≡ false
+  pub all : AcceptsAll controller
+
+-- it can, and no refusal of the complement applies to the specification
+pub record AreJudged (specification controller : Description) : Type 0 where
+  pub readable : IsReadable controller
+  pub comparable : AreComparable controller specification
+
+-- more different states are reached than the limit
+pub record HasManyStates (controller : Description) : Type 0 where
+  pub states : List ℕ
+  pub distinct : IsDistinct nat_eq states
+  pub reached : (state : ℕ) → Contains states state → IsReached controller state
+  pub many : most_states < length states
+
+-- the fault of the search for a letter that is not answered: too many states, a label that is left undecided, or the
+-- letters of a state that is reached
+pub data IsLetterFault (controller : Description) (controlled : List ℕ) : TaskFault → Type 0 where
+  many_states : HasManyStates controller → IsLetterFault controller controlled TooLarge
+  hard_label : HasHardLabel controller → IsLetterFault controller controlled TooManyPropositions
+  not_asked : (fault : TaskFault) (state : ℕ) (numbers : List ℕ) → IsReached controller state
+      → AllLeave controller state numbers → IsAskingFault controller controlled numbers fault
+      → IsLetterFault controller controlled fault
+
+-- the refusal of that search
+abbrev pub IsLetterRefusal : Description → List ℕ → Refusal → Type 0
+IsLetterRefusal controller controlled =
+    or_task (IsLetterFault controller controlled) (or_memory never)
+
+-- the refusal of the judge, in the order of its steps; memory can be wanting in each
+pub data IsJudgeRefusal (specification controller : Description)
+    (controlled : List ℕ) : Refusal → Type 0 where
+  branches : has_universal_branching controller ≡ true
+      → IsJudgeRefusal specification controller controlled (Task UniversalBranch)
+  not_all : has_universal_branching controller ≡ false → ¬ AcceptsAll controller
+      → IsJudgeRefusal specification controller controlled (Task NotParity)
+  no_memory : IsJudgeRefusal specification controller controlled Memory
+  not_searched : (refusal : Refusal) → IsReadable controller
+      → IsLetterRefusal controller controlled refusal
+      → IsJudgeRefusal specification controller controlled refusal
+  not_contained : (refusal : Refusal)
+      → IsReadable controller → IsContainmentRefusal controller specification refusal
+      → IsJudgeRefusal specification controller controlled refusal

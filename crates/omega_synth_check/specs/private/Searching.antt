@@ -1,0 +1,73 @@
+-- A search of an automaton for a letter of the environment that a state that is reached does not answer.
+use Rattle.std.specs.Prelude.{◌≡◌, ◌⊎◌, ℕ, ◌<◌, Bool, true, false, List, Contains, Option, None, Some, length}
+use Rattle.omega_text.specs.Cases.{never, or_task}
+use Rattle.omega_text.specs.declared.refusal.Refusal.{Refusal}
+use Rattle.omega_text.specs.declared.refusal.task.TaskFault.{TaskFault}
+use Rattle.omega_text.specs.declared.refusal.task.TaskFault.TheVariants.{NotParity, UniversalBranch}
+use Rattle.omega_hoa_automaton.specs.Automaton.{Description, IsAutomaton}
+use Rattle.omega_hoa_automaton.specs.Branching.{has_universal_branching}
+use Rattle.omega_synth_controllers.specs.Controllers.{Answers}
+use Rattle.omega_synth_game.specs.RoundsOf.{holds_in}
+use Rattle.omega_synth_check.specs.Judging.{IsAnswered, IsLack, IsReached}
+use Rattle.omega_synth_check.specs.Refusing.{AcceptsAll}
+use Rattle.omega_synth_check.specs.declared.judgement.Lack.{Lack}
+use Rattle.omega_synth_check.specs.declared.searching.Lacking.{Lacking}
+use Rattle.omega_synth_check.specs.declared.search.Search.{Search}
+use Rattle.omega_synth_check.specs.private.Leaving.{IsLeavingOf}
+use Rattle.omega_synth_check.specs.private.Meeting.{state_at}
+
+-- the parts of a search
+pub record IsSearch (search : Search) : Type 0 where
+  pub automaton : IsAutomaton search.automaton.now
+  pub plain : has_universal_branching search.automaton.now ≡ false
+  pub leaving : IsLeavingOf search.automaton.now search.leaving.now
+
+-- no edge of these answers the letter, by the propositions that hold
+abbrev pub NoneAnswers : Description → (controlled numbers letter : List ℕ) → Type 0
+NoneAnswers a controlled numbers letter =
+    (number : ℕ) → Contains numbers number → ¬ Answers a controlled number (holds_in letter)
+
+-- one of these edges answers the letter
+abbrev pub SomeAnswers : Description → (controlled numbers : List ℕ) → (ℕ → Bool) → Type 0
+SomeAnswers a controlled numbers given =
+    (number : ℕ) × Contains numbers number × Answers a controlled number given
+
+-- a state answers each letter
+abbrev pub AnswersEach : Description → List ℕ → ℕ → Type 0
+AnswersEach a controlled state = (given : ℕ → Bool) → IsAnswered a controlled state given
+
+-- the state at a place does not answer the letter
+abbrev pub IsLackingIn : Description → (controlled states : List ℕ) → Lacking → Type 0
+IsLackingIn a controlled states lacking =
+    (lacking.place < length states)
+    × ¬ IsAnswered a controlled (state_at states lacking.place) (holds_in lacking.letter)
+
+-- each state that is reached answers each letter
+abbrev pub ReachedAnswer : Description → List ℕ → Type 0
+ReachedAnswer a controlled = (state : ℕ) (given : ℕ → Bool) → IsReached a state
+    → IsAnswered a controlled state given
+
+-- what a state that was visited lacks: a letter that it does not answer, or nothing
+abbrev pub IsVisited : Description → List ℕ → ℕ → Option (List ℕ) → Type 0
+IsVisited a controlled state None = AnswersEach a controlled state
+IsVisited a controlled state (Some letter) = ¬ IsAnswered a controlled state (holds_in letter)
+
+-- what a search found: a state that lacks an answer, or that none does
+abbrev pub IsSearched : Description → (controlled states : List ℕ) → Option Lacking → Type 0
+IsSearched a controlled states None = ReachedAnswer a controlled
+IsSearched a controlled states (Some lacking) = IsLackingIn a controlled states lacking
+
+-- a lack is one, or each state that is reached answers each letter
+abbrev pub IsLackOf : Description → List ℕ → Option Lack → Type 0
+IsLackOf a controlled None = ReachedAnswer a controlled
+IsLackOf a controlled (Some lack) = IsLack a controlled lack
+
+-- the fault of an automaton that cannot be read as a controller
+abbrev pub IsFormFault : Description → TaskFault → Type 0
+IsFormFault controller fault =
+    ((fault ≡ UniversalBranch) × (has_universal_branching controller ≡ true))
+    ⊎ ((fault ≡ NotParity) × (has_universal_branching controller ≡ false) × ¬ AcceptsAll controller)
+
+-- its refusal
+abbrev pub IsFormRefusal : Description → Refusal → Type 0
+IsFormRefusal controller = or_task (IsFormFault controller) never

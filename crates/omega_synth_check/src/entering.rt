@@ -1,0 +1,149 @@
+//! The states that usable edges enter.
+
+ghost use Rattle.std.specs.Prelude.{◌≡◌, ◌↔◌, ◌<◌, ℕ, Contains, IfErr, IfNone};
+ghost use Rattle.std.specs.Prelude.{IfOk, IfSome, IsTrue, OnOk, false, length};
+ghost use Rattle.omega_hoa_automaton.specs.Branching.{has_universal_branching};
+ghost use Rattle.omega_lang_runs.specs.Judging.{GivesUpOn, HasHardLabel, IsHard};
+ghost use Rattle.omega_lang_runs.specs.Lasso.{IsStep, IsUsable};
+ghost use Rattle.omega_lang_runs.specs.Places.{EdgeStandsAt};
+ghost use Rattle.omega_hoa_satisfiable.specs.Satisfiable.{IsSatisfiable};
+ghost use Rattle.omega_synth_game.specs.Making.{AllLeave, IsLeaving};
+ghost use Rattle.omega_synth_check.specs.private.Meeting.{Extends, HasEntered, IsMetOf, state_at};
+ghost use Rattle.omega_synth_check.specs.private.Searching.{IsSearch};
+
+use crate::meeting::{Entry, Met};
+use crate::search::Search;
+use omega_hoa_automaton::{Automaton, EdgeRef, Refusal, State};
+use omega_hoa_satisfiable::can_hold;
+use omega_lang_runs::EdgePlace;
+use std::alloc::Global;
+
+/// Adds the states that the usable ones of the edges with these `numbers` enter. The edges leave the state at the place
+/// `at`. Fails with [TaskFault::TooManyPropositions] if a label is given up.
+pub(crate) fn enter_all(
+    alloc: Global,
+    search: &Search<'_>,
+    met: &mut Met,
+    at: usize,
+    numbers: &[u32],
+) -> Result<(), Refusal>
+    requires search { IsSearch search.now }
+    requires met { IsMetOf search.now.automaton.now met.old }
+    requires at { at < length met.old.states.keys }
+    requires leave { AllLeave search.now.automaton.now (state_at met.old.states.keys at) numbers.now }
+    ensures met { OnOk result (IsMetOf search.now.automaton.now met.new) }
+    ensures extends { OnOk result (Extends met.old.states.keys met.new.states.keys) }
+    ensures entered { OnOk result (HasEntered search.now.automaton.now
+        (state_at met.old.states.keys at) numbers.now met.new.states.keys) }
+    ensures refused { IfErr result (GivesUpOn (HasHardLabel search.now.automaton.now)) }
+{
+    for number in numbers {
+        enter(alloc, search, met, at, *number)?;
+    }
+    Ok(())
+}
+
+/// Adds the state that the edge with this `number` enters, if it is usable. Fails as `enter_all` does.
+fn enter(
+    alloc: Global,
+    search: &Search<'_>,
+    met: &mut Met,
+    at: usize,
+    number: u32,
+) -> Result<(), Refusal>
+    requires search { IsSearch search.now }
+    requires met { IsMetOf search.now.automaton.now met.old }
+    requires at { at < length met.old.states.keys }
+    requires leaves { IsLeaving search.now.automaton.now (state_at met.old.states.keys at) number }
+    ensures met { OnOk result (IsMetOf search.now.automaton.now met.new) }
+    ensures extends { OnOk result (Extends met.old.states.keys met.new.states.keys) }
+    ensures entered { OnOk result
+        ((next : ℕ) → IsStep search.now.automaton.now (state_at met.old.states.keys at) number next
+        → Contains met.new.states.keys next) }
+    ensures refused { IfErr result (GivesUpOn (HasHardLabel search.now.automaton.now)) }
+{
+    match target(alloc, search, number)? {
+        None => Ok(()),
+        Some(state) => {
+            let entry = Entry {
+                from: at,
+                edge: number,
+            };
+            met.add(search.automaton, state, Some(entry))?;
+            Ok(())
+        }
+    }
+}
+
+/// Returns the state that the edge with this `number` enters; none if the edge is not usable. Fails as `enter_all`
+/// does.
+fn target(alloc: Global, search: &Search<'_>, number: u32) -> Result<Option<u32>, Refusal>
+    requires search { IsSearch search.now }
+    requires number { number < length search.now.leaving.now.places.items }
+    ensures step { IfOk result
+        (λ found. IfSome found (λ target. (state : ℕ) → IsLeaving search.now.automaton.now state number
+        → IsStep search.now.automaton.now state number target)) }
+    ensures none { IfOk result (λ found. IfNone found ((state next : ℕ) →
+        ¬ IsStep search.now.automaton.now state number next)) }
+    ensures refused { IfErr result (GivesUpOn (HasHardLabel search.now.automaton.now)) }
+{
+    let place = search.leaving.places[number as usize];
+    target_at(alloc, search.automaton, place, number)
+}
+
+/// Returns the state that the edge with this `number`, which is at `place`, enters; none if the edge is not usable.
+/// Fails as `enter_all` does.
+fn target_at(
+    alloc: Global,
+    automaton: &Automaton,
+    place: EdgePlace,
+    _number: u32,
+) -> Result<Option<u32>, Refusal>
+    requires plain { has_universal_branching automaton.now ≡ false }
+    requires stands { EdgeStandsAt automaton.now _number place }
+    ensures step { IfOk result (λ found. IfSome found (λ target. (state : ℕ) →
+        IsLeaving automaton.now state _number → IsStep automaton.now state _number target)) }
+    ensures none { IfOk result
+        (λ found. IfNone found ((state next : ℕ) → ¬ IsStep automaton.now state _number next)) }
+    ensures refused { IfErr result (GivesUpOn (HasHardLabel automaton.now)) }
+{
+    automaton.keeps_limits();
+    let state = &automaton.defined()[place.state];
+    let edge = state.edges.edge(place.index);
+    let possible = may_leave(alloc, state)?;
+    let usable = is_usable(alloc, state, possible, &edge)?;
+    if usable {
+        Ok(Some(edge.targets()[0]))
+    } else {
+        Ok(None)
+    }
+}
+
+/// Whether the label of `state`, if it has one, can be true. Fails with [TaskFault::TooManyPropositions] if it is given
+/// up.
+fn may_leave(alloc: Global, state: &State) -> Result<bool, Refusal>
+    ensures judged { IfOk result (λ possible. IsTrue possible ↔ IfSome state.now.label IsSatisfiable) }
+    ensures refused { IfErr result (GivesUpOn (IsHard state.now.label)) }
+{
+    let possible = can_hold(alloc, state.label.as_ref())?;
+    Ok(possible)
+}
+
+/// Whether `edge` of `state` is usable, given in `possible` whether the label of `state` can be true. Fails with
+/// [TaskFault::TooManyPropositions] if the label of `edge` is given up.
+fn is_usable(
+    alloc: Global,
+    state: &State,
+    possible: bool,
+    edge: &EdgeRef<'_>,
+) -> Result<bool, Refusal>
+    requires { IsTrue possible ↔ IfSome state.now.label IsSatisfiable }
+    ensures judged { IfOk result
+        (λ judged. IsTrue judged ↔ IsUsable (record { source = state.now; edge = edge.now })) }
+    ensures refused { IfErr result (GivesUpOn (IsHard edge.now.label)) }
+{
+    match &state.label {
+        Some(_) => Ok(possible),
+        None => can_hold(alloc, edge.label()),
+    }
+}

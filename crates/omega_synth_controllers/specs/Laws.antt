@@ -1,0 +1,53 @@
+-- Laws of controllers and of counter-strategies: the ones realize, the others refute, and no automaton has both.
+use Rattle.std.specs.Prelude.{◌≡◌, ◌⊎◌, ℕ, ◌≤◌, Bool, false, IsTrue, List, Contains}
+use Rattle.omega_hoa_automaton.specs.Automaton.{Description, IsAutomaton}
+use Rattle.omega_lang_runs.specs.Lasso.{marks_at}
+use Rattle.omega_lang_runs.specs.Runs.{IsRun, Satisfies}
+use Rattle.omega_hoa_edges.specs.Determinism.{IsDeterministic}
+use Rattle.omega_synth_controllers.specs.Controllers.{IsController, IsCounterStrategy}
+use Rattle.omega_synth_controllers.specs.Strategies.{HasKeptRun, IsRefuted, Realizes}
+use Rattle.omega_synth_controllers.specs.Strategies.{RealizesBy, System, word_of}
+
+-- a test of numbers passes infinitely often, or from some number on no more
+abbrev pub RecursOrCeases : (ℕ → Bool) → Type 0
+RecursOrCeases test = ((i : ℕ) → (j : ℕ) × (i ≤ j) × IsTrue (test j))
+    ⊎ ((from : ℕ) × ((j : ℕ) → from ≤ j → test j ≡ false))
+
+-- no automaton has both a controller and a counter-strategy
+abbrev pub ControllersExcludeCounterStrategies : Type 0
+ControllersExcludeCounterStrategies =
+    (a : Description) (controlled kept others : List ℕ) (letters : ℕ → ℕ → Bool)
+    → IsController a controlled kept → IsCounterStrategy a controlled others letters → ⊥
+
+-- from a controller there is a strategy of the system such that the word of what the environment gives and of the
+-- answers has a run of the controller's edges
+abbrev pub ControllersAnswer : Type 0
+ControllersAnswer = (a : Description) (controlled kept : List ℕ) → IsController a controlled kept
+    → (system : System) × ((given : ℕ → ℕ → Bool) → HasKeptRun a kept (word_of controlled system given))
+
+-- if each test recurs or ceases, as it does by the excluded middle, each run of a controller's edges is accepting
+abbrev pub KeptRunsAreAccepting : Type 0
+KeptRunsAreAccepting = ((test : ℕ → Bool) → RecursOrCeases test)
+    → (a : Description) (controlled kept : List ℕ) (states edges : ℕ → ℕ)
+    → IsController a controlled kept → IsRun a states edges → ((i : ℕ) → Contains kept (edges i))
+    → Satisfies (λ i. marks_at a (edges i)) a.acceptance
+
+-- if each test recurs or ceases, some strategy of the system realizes an automaton by the edges of a controller
+abbrev pub ControllersRealize : Type 0
+ControllersRealize =
+    ((test : ℕ → Bool) → RecursOrCeases test)
+    → (a : Description) (controlled kept : List ℕ) → IsController a controlled kept
+    → (system : System) × RealizesBy a controlled kept system
+
+-- a deterministic automaton with a counter-strategy is refuted
+abbrev pub CounterStrategiesRefute : Type 0
+CounterStrategiesRefute =
+    (a : Description) (controlled kept : List ℕ) (letters : ℕ → ℕ → Bool) → IsAutomaton a
+    → IsDeterministic a → IsCounterStrategy a controlled kept letters → IsRefuted a controlled
+
+-- no strategy realizes a deterministic automaton with a counter-strategy
+abbrev pub RealizingExcludesCounterStrategies : Type 0
+RealizingExcludesCounterStrategies =
+    (a : Description) (controlled kept : List ℕ) (letters : ℕ → ℕ → Bool) (system : System)
+    → IsAutomaton a → IsDeterministic a → Realizes a controlled system
+    → IsCounterStrategy a controlled kept letters → ⊥

@@ -1,0 +1,61 @@
+-- Those of a list that have a property: their members, and that they are one list.
+use Rattle.std.proofs.Common.{◌≡◌, ◌↔◌, ℕ, zero, suc, inl, inr, List, [], ◌∷◌, length, Contains, sym, ap, refl, ◌∙◌, subst, arith}
+use Rattle.omega_synth_game.specs.Those.{AreThoseWith}
+
+-- what a longer list contains
+behind : (x n : ℕ) (xs : List ℕ) → Contains xs n → Contains (x ∷ xs) n
+behind x n xs has = (suc has.0, omega (arith, has.1), has.2)
+
+in_front : (x : ℕ) (xs : List ℕ) → Contains (x ∷ xs) x
+in_front x xs = (0, omega arith, refl)
+
+none : (n : ℕ) (xs : List ℕ) → xs ≡ [] → Contains xs n → ⊥
+none n xs is has = omega (arith, has.1, ap length is)
+
+first_or : (n x : ℕ) (xs ys : List ℕ) (Q : Type 0) → xs ≡ x ∷ ys → (x ≡ n → Q) → (Contains ys n → Q) → Contains xs n → Q
+first_or n x xs ys Q is here later has = go (subst (λ (list : List ℕ). Contains list n) is has)
+  where
+    go : Contains (x ∷ ys) n → Q
+    go (zero, below, same) = here same
+    go (suc k, below, same) = later (k, omega arith, same)
+
+-- their members
+pub those_members : (P : ℕ → Type 0) (xs ys : List ℕ) → AreThoseWith P xs ys → (n : ℕ) → Contains ys n ↔ (Contains xs n × P n)
+those_members P [] ys are n = (λ has. absurd (none n ys are has), λ found. absurd (none n [] refl found.0))
+those_members P (x ∷ xs) ys are n = elim are [
+  | inl here ↦
+      let rest = those_members P xs here.0 here.3 n in (
+        first_or n x ys here.0 (Contains (x ∷ xs) n × P n) here.2
+            (λ same. (subst (λ (m : ℕ). Contains (x ∷ xs) m) same (in_front x xs), subst P same here.1))
+            (λ has. (let found = rest.0 has in (behind x n xs found.0, found.1))),
+        λ found. subst (λ (list : List ℕ). Contains list n) (sym here.2)
+            (first_or n x (x ∷ xs) xs (Contains (x ∷ here.0) n) refl
+            (λ same. subst (λ (m : ℕ). Contains (x ∷ here.0) m) same (in_front x here.0))
+            (λ has. behind x n here.0 (rest.1 (has, found.1))) found.0),
+      )
+  | inr there ↦
+      let rest = those_members P xs ys there.1 n in (
+        λ has. (let found = rest.0 has in (behind x n xs found.0, found.1)),
+        λ found. first_or n x (x ∷ xs) xs (Contains ys n) refl
+            (λ same. absurd (there.0 (subst P (sym same) found.1)))
+            (λ has. rest.1 (has, found.1)) found.0,
+      )
+]
+
+-- with a property that the numbers have alike they are the same list
+pub those_one : (P Q : ℕ → Type 0) (xs ys zs : List ℕ) → ((n : ℕ) → Contains xs n → P n ↔ Q n) → AreThoseWith P xs ys → AreThoseWith Q xs zs
+    → ys ≡ zs
+those_one P Q [] ys zs alike one other = one ∙ sym other
+those_one P Q (x ∷ xs) ys zs alike one other =
+    let both = alike x (in_front x xs) in
+    let rest : (n : ℕ) → Contains xs n → P n ↔ Q n = λ n has. alike n (behind x n xs has) in
+    elim one [
+      | inl here ↦ elim other [
+        | inl its ↦ here.2 ∙ ap (λ list. x ∷ list) (those_one P Q xs here.0 its.0 rest here.3 its.3) ∙ sym its.2
+        | inr lacks ↦ absurd (lacks.0 (both.0 here.1))
+      ]
+      | inr there ↦ elim other [
+        | inl its ↦ absurd (there.0 (both.1 its.1))
+        | inr lacks ↦ those_one P Q xs ys zs rest there.1 lacks.1
+      ]
+    ]

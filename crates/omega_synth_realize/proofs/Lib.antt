@@ -1,0 +1,10 @@
+-- Lemmas of realizability.
+-- Lemmas of solving games in rounds.
+pub mod Gamed
+pub mod Realized
+pub mod Refused
+pub mod Filled
+pub mod Unnamed
+pub mod Chosen
+pub mod Winners
+pub mod Strategies

@@ -1,0 +1,34 @@
+-- the refusals of the steps, and the runs, if there is a start
+use Rattle.std.proofs.Common.{inr}
+use Rattle.std.proofs.lemmas.Result.{err_from_is_err_and}
+use Rattle.omega_solve.proofs.within_budget.Observed.{none_observed, observed_alike, observed_as, spares}
+use Rattle.omega_synth_realize.specs.Refusing.{IsUnparted}
+use Rattle.omega_synth_realize.proofs.Refused.{on_ok_of, undecided_unrealized, unlifted, unparted_spares, unparted_unrealized}
+use Rattle.omega_synth_realize.proofs.deciding.realize_by_lifting.Goals as goal
+
+pub returns-in_err-found-clause-refused : goal.returns-in_err-found-clause-refused
+returns-in_err-found-clause-refused g c =
+    let p = err_from_is_err_and c.from_residual.result c.from_residual.ensures.1 in
+    rw (p.1, p.2) (unparted_unrealized c.args.automaton.now c.args.controlled.now c.args.budget c.in_err-found.field-0.0 c.in_err-found.ensures.refused)
+
+pub returns-in_err-found-clause-reported : goal.returns-in_err-found-clause-reported
+returns-in_err-found-clause-reported g c =
+    observed_alike _ _ _ _ c.from_residual.result _ c.in_err-found.field-0.0 _ _ c.from_residual.ensures.1 (λ e same. same)
+    (none_observed _ _ _ _ _ _
+    (spares (IsUnparted c.args.automaton.now c.args.controlled.now) _ c.in_err-found.ensures.refused
+    (unparted_spares c.args.automaton.now c.args.controlled.now)))
+
+pub returns-in-None-clause-reported : goal.returns-in-None-clause-reported
+returns-in-None-clause-reported g c =
+    unlifted c.args.automaton.now c.args.controlled.now _ _ c.args.budget _ (rw c.in-None.is at c.in_ok-found.ensures.none)
+
+pub returns-in-Some-clause-judgeable : goal.returns-in-Some-clause-judgeable
+returns-in-Some-clause-judgeable g c = on_ok_of c.lift_parted.result _ c.in_ok-found.ensures.judgeable
+
+pub returns-in-Some-clause-refused : goal.returns-in-Some-clause-refused
+returns-in-Some-clause-refused g c =
+    undecided_unrealized c.args.automaton.now c.args.controlled.now c.args.budget c.lift_parted.result c.lift_parted.ensures.refused
+
+pub returns-in-Some-clause-reported : goal.returns-in-Some-clause-reported
+returns-in-Some-clause-reported g c =
+    observed_as _ _ _ _ _ _ _ _ (λ nodes players lifted. inr lifted) c.lift_parted.ensures.reported

@@ -1,0 +1,17 @@
+-- one state more
+use Rattle.std.proofs.Common.{◌≡◌, ◌++◌, [], ◌∷◌, ℕ, List, sym, ap, ◌∙◌, arith}
+use Rattle.std.proofs.lemmas.List.FromFn.{map-range_with_len_more}
+use Rattle.omega_synth_rounds.specs.Rounds.{asked_in}
+use Rattle.omega_synth_game.specs.RoundsOf.{letter_of}
+use Rattle.omega_synth_realize.proofs.realizing.letters_by_state.Goals as goal
+
+pub loop-state-preserved : goal.loop-state-preserved
+loop-state-preserved c =
+    let letter : ℕ → List ℕ = λ state. letter_of c.args.letters.now (asked_in c.args.asked.now state) in
+    let state : ℕ = c.loop-state.state in
+    let here : c.in_ok-letter.letter ≡ letter state =
+    c.in_ok-letter.ensures.letter ∙ ap (letter_of c.args.letters.now) c.question_in-question.ensures in
+    c.in_ok-push.ensures.items
+    ∙ ap (λ (x : List ℕ). c.loop-state.found.items ++ x ∷ []) here
+    ∙ ap (λ (list : List (List ℕ)). list ++ letter state ∷ []) c.loop-state.invariant
+    ∙ sym (map-range_with_len_more letter 0 state state (omega arith))

@@ -1,0 +1,41 @@
+-- The game of an automaton decides whether it is realizable: one player wins its start's node, player 0 exactly if
+-- there is a controller, and player 1 exactly if there is a counter-strategy.
+use Rattle.std.specs.Prelude.{◌↔◌, ◌⊎◌, ℕ, Bool, List}
+use Rattle.omega_hoa_automaton.specs.Automaton.{Description}
+use Rattle.omega_game_values.specs.Game.{Node}
+use Rattle.omega_game_values.specs.Places.{new_place}
+use Rattle.omega_game_values.specs.Winning.{InRegion}
+use Rattle.omega_game_values.specs.declared.player.Player.TheVariants.{One, Zero}
+use Rattle.omega_synth_controllers.specs.Controllers.{IsController, IsCounterStrategy}
+use Rattle.omega_synth_realize.specs.Gaming.{IsPartedGame}
+
+-- there is a controller
+abbrev pub HasController : Description → List ℕ → Type 0
+HasController a controlled = (kept : List ℕ) × IsController a controlled kept
+
+-- there is a counter-strategy
+abbrev pub HasCounterStrategy : Description → List ℕ → Type 0
+HasCounterStrategy a controlled =
+    (kept : List ℕ) × (letters : ℕ → ℕ → Bool) × IsCounterStrategy a controlled kept letters
+
+-- there is one or the other, and not both
+pub record IsDecided (a : Description) (controlled : List ℕ) : Type 0 where
+  pub one : HasController a controlled ⊎ HasCounterStrategy a controlled
+  pub never_both : HasController a controlled → HasCounterStrategy a controlled → ⊥
+
+-- the node at a place decides it
+pub record DecidesAt (a : Description) (controlled : List ℕ) (game : List Node)
+    (place : ℕ) : Type 0 where
+  pub controller : InRegion game Zero place ↔ HasController a controlled
+  pub counter_strategy : InRegion game One place ↔ HasCounterStrategy a controlled
+
+-- the place of the start's node in the game
+abbrev pub start_place : (a : Description) (controlled : List ℕ) (game : List Node)
+    → IsPartedGame a controlled game → ℕ
+start_place a controlled game parted = new_place parted.part.0 parted.start
+
+-- the start's node decides, and so it is decided
+abbrev pub GamesDecide : Type 0
+GamesDecide = (a : Description) (controlled : List ℕ)
+    (game : List Node) (parted : IsPartedGame a controlled game)
+    → DecidesAt a controlled game (start_place a controlled game parted) × IsDecided a controlled

@@ -1,0 +1,18 @@
+-- The games in which deciding by lifting makes its runs.
+use Rattle.std.specs.Prelude.{◌≡◌, ◌⊎◌, ℕ, List, [], Option}
+use Rattle.omega_text.specs.declared.refusal.Refusal.{Refusal}
+use Rattle.omega_hoa_automaton.specs.Automaton.{Description}
+use Rattle.omega_game_values.specs.Game.{Node}
+use Rattle.omega_game_values.specs.declared.player.Player.{Player}
+use Rattle.omega_synth_realize.specs.Solving.{LiftsRounds}
+use Rattle.omega_synth_realize.specs.Refusing.{OfRounds}
+
+-- the runs are made in the game of rounds of the automaton
+abbrev pub LiftsParted : Description → List ℕ → Option Refusal → List Node → List Player → Type 0
+LiftsParted a controlled refusal nodes players =
+    OfRounds a controlled (λ rounds. LiftsRounds rounds refusal nodes players)
+
+-- so they are, or there is no start, and none is made
+abbrev pub LiftsAutomaton : Description → List ℕ → Option Refusal → List Node → List Player → Type 0
+LiftsAutomaton a controlled refusal nodes players =
+    ((a.starts ≡ []) × (players ≡ [])) ⊎ LiftsParted a controlled refusal nodes players

@@ -1,0 +1,114 @@
+-- The refusal of the question whether an automaton is realizable, in the order of the steps. These are universal
+-- branching, a second start, two edges at one letter, no parity kind, labels that are not judged, what hinders the
+-- making of the rounds, and what hinders solving them. Want of memory may come at each step.
+use Rattle.std.specs.Prelude.{◌≡◌, ◌⊎◌, ℕ, ◌≤◌, false, true, List, length}
+use Rattle.omega_text.specs.Cases.{never, or_game, or_memory, or_task}
+use Rattle.omega_text.specs.declared.refusal.Refusal.{Refusal}
+use Rattle.omega_text.specs.declared.refusal.game.GameFault.{GameFault}
+use Rattle.omega_text.specs.declared.refusal.game.GameFault.TheVariants.{TooManyNodes}
+use Rattle.omega_text.specs.declared.refusal.task.TaskFault.{TaskFault}
+use Rattle.omega_text.specs.declared.refusal.task.TaskFault.TheVariants.{NotDeterministic}
+use Rattle.omega_text.specs.declared.refusal.task.TaskFault.TheVariants.{NotParity, UniversalBranch}
+use Rattle.omega_hoa_parity_kind.specs.declared.kind.ParityKind.{ParityKind}
+use Rattle.omega_hoa_acceptance.specs.declared.kind.AccKind.TheVariants as kinds
+use Rattle.omega_hoa_automaton.specs.AcceptanceKind.{HasKind}
+use Rattle.omega_hoa_automaton.specs.Automaton.{Description}
+use Rattle.omega_hoa_automaton.specs.Branching.{has_universal_branching}
+use Rattle.omega_lang_runs.specs.Lasso.{IsStart}
+use Rattle.omega_hoa_edges.specs.Determinism.{AreExclusiveBelow, IsDeterministic}
+use Rattle.omega_hoa_edges.specs.Refusing.{IsFirstClash, IsFirstUndecided, IsSecondStart}
+use Rattle.omega_synth_rounds.specs.RoundsGame.{IsRoundsFault}
+use Rattle.omega_synth_rounds.specs.declared.rounds.Rounds.{Rounds}
+use Rattle.omega_synth_realize.specs.Solving.{IsUnsolved}
+use Rattle.omega_synth_game.specs.Laws.{IsParted}
+use Rattle.omega_synth_game.specs.Making.{HasManyQuestions, IsMakingFault}
+
+-- no start and no edge branches universally, and there is at most one start
+pub record IsSingle (a : Description) : Type 0 where
+  pub plain : has_universal_branching a ≡ false
+  pub one_start : length a.starts ≤ 1
+
+-- the acceptance is one of the parity kinds, by its name and its formula
+abbrev pub HasParityKind : Description → Type 0
+HasParityKind a = (kind : ParityKind) × HasKind a (kinds.Parity kind)
+
+-- no two edges of a state can be taken at one letter, or from some state on that is not judged
+abbrev pub HasNoClash : Description → Type 0
+HasNoClash a = AreExclusiveBelow a a.states ⊎ ((fault : TaskFault) × IsFirstUndecided a fault)
+
+-- the fault of an automaton of which the question is not asked
+pub data IsJudgingFault (a : Description) : TaskFault → Type 0 where
+  branches : has_universal_branching a ≡ true → IsJudgingFault a UniversalBranch
+  second_start : (state : ℕ) → has_universal_branching a ≡ false → IsSecondStart a state
+      → IsJudgingFault a (NotDeterministic state)
+  clash : (state : ℕ) → IsSingle a → IsFirstClash a state → IsJudgingFault a (NotDeterministic state)
+  no_kind : IsSingle a → HasNoClash a → (HasParityKind a → ⊥) → IsJudgingFault a NotParity
+  undecided : (fault : TaskFault) → IsSingle a → IsFirstUndecided a fault → HasParityKind a
+      → IsJudgingFault a fault
+
+-- the refusal of such an automaton: such a fault, or want of memory
+abbrev pub IsUnjudgeable : Description → Refusal → Type 0
+IsUnjudgeable a = or_task (IsJudgingFault a) (or_memory never)
+
+-- the question can be asked: the automaton is deterministic, and its acceptance is of a parity kind
+pub record IsJudgeable (a : Description) : Type 0 where
+  pub deterministic : IsDeterministic a
+  pub parity : HasParityKind a
+
+-- in addition there is a start
+pub record IsPosed (a : Description) : Type 0 where
+  pub judgeable : IsJudgeable a
+  pub begins : (start : ℕ) × IsStart a start
+
+-- this holds of rounds of the automaton
+pub record OfRounds (a : Description) (controlled : List ℕ) (holds : Rounds → Type 0) : Type 0 where
+  pub rounds : Rounds
+  pub letters : List (List ℕ)
+  pub start : ℕ
+  pub parted : IsParted a controlled rounds letters start
+  pub is : holds rounds
+
+-- a fault of the task by which there are no rounds
+pub data IsPartingFault (a : Description) (controlled : List ℕ) : TaskFault → Type 0 where
+  unjudged : (fault : TaskFault) → IsJudgingFault a fault → IsPartingFault a controlled fault
+  unmade : (fault : TaskFault) → IsPosed a → IsMakingFault a controlled fault
+      → IsPartingFault a controlled fault
+
+-- the states have more questions than a game may have nodes
+abbrev pub IsQuestionsFault : Description → List ℕ → GameFault → Type 0
+IsQuestionsFault a controlled fault =
+    (fault ≡ TooManyNodes) × IsPosed a × HasManyQuestions a controlled
+
+-- the refusal by which there are no rounds
+abbrev pub IsUnparted : Description → List ℕ → Refusal → Type 0
+IsUnparted a controlled =
+    or_game (IsQuestionsFault a controlled) (or_task (IsPartingFault a controlled) (or_memory never))
+
+-- lifting in the game of the rounds within the budget has this fault
+abbrev pub IsUnsolvedFault : Description → List ℕ → ℕ → TaskFault → Type 0
+IsUnsolvedFault a controlled budget fault =
+    OfRounds a controlled (λ rounds. IsUnsolved rounds budget fault)
+
+-- the game of the rounds is too large
+abbrev pub IsLargeFault : Description → List ℕ → GameFault → Type 0
+IsLargeFault a controlled fault = OfRounds a controlled (λ rounds. IsRoundsFault rounds fault)
+
+-- the refusal of rounds that are not decided
+abbrev pub IsUndecidedRounds : Description → List ℕ → ℕ → Refusal → Type 0
+IsUndecidedRounds a controlled budget = or_game (IsLargeFault a controlled)
+    (or_task (IsUnsolvedFault a controlled budget) (or_memory never))
+
+-- a fault of the game: too many questions, or too large in all
+abbrev pub IsRealizingGameFault : Description → List ℕ → GameFault → Type 0
+IsRealizingGameFault a controlled fault =
+    IsQuestionsFault a controlled fault ⊎ IsLargeFault a controlled fault
+
+-- a fault of the task: there are no rounds, or they are not solved within the budget
+abbrev pub IsRealizingFault : Description → List ℕ → ℕ → TaskFault → Type 0
+IsRealizingFault a controlled budget fault =
+    IsPartingFault a controlled fault ⊎ IsUnsolvedFault a controlled budget fault
+
+-- the refusal: such a fault, or want of memory
+abbrev pub IsUnrealized : Description → List ℕ → ℕ → Refusal → Type 0
+IsUnrealized a controlled budget = or_game (IsRealizingGameFault a controlled)
+    (or_task (IsRealizingFault a controlled budget) (or_memory never))

@@ -1,6 +1,0 @@
--- the law of one
-use Rattle.omega_trim_laws.proofs.One.{one_trim}
-use Rattle.omega_trim_laws.proofs.trims.trims_are_one.Goals as goal
-
-pub returns : goal.returns
-returns c = one_trim

@@ -1,2 +1,0 @@
--- The laws of automata without useless states.
-pub mod Trims

@@ -1,7 +1,0 @@
--- memory is refused for an item
-use Rattle.std.proofs.lemmas.Result.{IfErr-weaker}
-use Rattle.omega_edge_labels.proofs.Refusals.{memory_task}
-use Rattle.omega_union.proofs.header.header.Goals as goal
-
-pub returns-in-Ok-clause-err : goal.returns-in-Ok-clause-err
-returns-in-Ok-clause-err c = IfErr-weaker c.items_of.result _ _ (λ refusal is. memory_task _ refusal is) c.items_of.ensures.memory

@@ -1,7 +1,0 @@
--- the numbers so far
-use Rattle.std.proofs.Common.{◌≡◌, take}
-use Rattle.omega_union.specs.Parts.{moved}
-use Rattle.omega_union.proofs.numbers.moved.Given as goal
-
-abbrev pub invariant-loop-number : goal.invariant-loop-number
-invariant-loop-number l = l.list ≡ moved l.before (take l.number-index l.numbers)

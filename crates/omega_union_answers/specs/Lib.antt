@@ -1,3 +1,0 @@
--- What `join` answers, and in `private` what private contracts alone cite.
-pub mod Join
-pub mod private

@@ -1,2 +1,0 @@
--- The laws of unions.
-pub mod Unions

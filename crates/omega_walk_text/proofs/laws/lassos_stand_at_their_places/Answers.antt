@@ -1,6 +1,0 @@
--- The law by its lemma.
-use Rattle.omega_walk_text.proofs.Covers.{same_length}
-use Rattle.omega_walk_text.proofs.laws.lassos_stand_at_their_places.Goals as goal
-
-pub returns : goal.returns
-returns c = same_length

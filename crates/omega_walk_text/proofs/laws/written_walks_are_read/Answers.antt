@@ -1,6 +1,0 @@
--- The law by its lemma.
-use Rattle.omega_walk_text.proofs.Written.{walks_read}
-use Rattle.omega_walk_text.proofs.laws.written_walks_are_read.Goals as goal
-
-pub returns : goal.returns
-returns c = walks_read c.spaced_lassos_are_read.ensures c.lassos_stand_at_their_places.ensures

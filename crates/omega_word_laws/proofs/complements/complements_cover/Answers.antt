@@ -1,5 +1,0 @@
-use Rattle.omega_word_laws.proofs.parting.Cover.{complements_over}
-use Rattle.omega_word_laws.proofs.complements.complements_cover.Goals as goal
-
-pub returns : goal.returns
-returns c = complements_over

@@ -1,5 +1,0 @@
-use Rattle.omega_word_laws.proofs.meeting.Meeting.{products_meet}
-use Rattle.omega_word_laws.proofs.products.products_meet.Goals as goal
-
-pub returns : goal.returns
-returns c = products_meet
