@@ -1,9 +1,8 @@
 //! Labels over aliases, and acceptance formulas: read, built, taken apart, measured and written.
 use crate::lists::{answer, each, is_front, numbers, put, put_answer};
-use omega_hoa_label_text::{Aliases, expand, expanded_size};
 use omega_hoa_acceptance::{Acc, RawAcc, read_acc, read_raw_acc, write_acc};
 use omega_hoa_label::{Label, RawLabel, write_label};
-use omega_hoa_label_text::{read_label, read_raw_label};
+use omega_hoa_label_text::{Aliases, expand, expanded_size, read_label, read_raw_label};
 use omega_text::{Cursor, HoaKind, Refusal, TextCursor, check_tokens, hoa_tokens};
 use std::alloc::Global;
 
@@ -89,7 +88,10 @@ fn over_aliases(
 ) -> Result<Vec<u8>, Refusal> {
     match call {
         "expanded_size" => size(alloc, raw, aliases),
-        "shape of a label" => text_of_label(alloc, rebuilt_label(alloc, expand(alloc, raw, aliases))),
+        "shape of a label" => text_of_label(
+            alloc,
+            rebuilt_label(alloc, expand(alloc, raw, aliases)),
+        ),
         _ => text_of_label(alloc, expand(alloc, raw, aliases)),
     }
 }

@@ -4,17 +4,19 @@ ghost use Rattle.std.specs.Prelude.{◌<◌, length};
 use crate::expressions::label_in;
 use crate::kinds::put_hoa;
 use crate::lists::{put, put_all, put_answer, put_each};
-use omega_hoa_label_text::{Aliases, expand};
-use omega_hoa_automaton::{Automaton, EdgeRef, State};
-use omega_hoa_acceptance::{AccKind, Order, Parity, ParityKind, acceptance_kind, parity_of, priority};
 use omega_game::{Game, Player, Refusal, Seq, Strategy};
 use omega_hoa::{Stream, read_one};
-use omega_io::{Exit, exit_code};
+use omega_hoa_acceptance::{
+    AccKind, Order, Parity, ParityKind, acceptance_kind, parity_of, priority,
+};
+use omega_hoa_automaton::{Automaton, EdgeRef, State};
 use omega_hoa_label::{Label, RawLabel};
+use omega_hoa_label_text::{Aliases, expand};
+use omega_hoa_satisfiable::satisfiable;
+use omega_hoa_syntax::HeaderValue;
+use omega_io::{Exit, exit_code};
 use omega_lift_bound::bound;
 use omega_measure::fits;
-use omega_hoa_syntax::HeaderValue;
-use omega_hoa_satisfiable::satisfiable;
 use omega_text::{
     ByteString, Cursor, HoaKind, PgKind, TextCursor, TextFault, Token, TokenKind, TokenSource,
     check_tokens, hoa_tokens, next_hoa_token, next_pg_number, next_pg_token,

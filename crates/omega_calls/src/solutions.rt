@@ -63,7 +63,12 @@ fn judged_by_order(
 }
 
 /// Returns what a call gives of both players' choices.
-fn choices_verdict(alloc: Global, call: &str, game: &Game, solution: &Solution) -> Result<Vec<u8>, Refusal> {
+fn choices_verdict(
+    alloc: Global,
+    call: &str,
+    game: &Game,
+    solution: &Solution,
+) -> Result<Vec<u8>, Refusal> {
     let mut out = Vec::new(alloc);
     judge(alloc, call, game, solution, Player::Zero, &mut out)?;
     judge(alloc, call, game, solution, Player::One, &mut out)?;
