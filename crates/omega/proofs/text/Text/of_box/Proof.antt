@@ -39,8 +39,8 @@ Lr = Loose kept_row Z heap_laws.the_row_laws ghosts
 abbrev stayed : Stays f.ended.signature.params f.ended.kept
 stayed = (stay_dropped (plain (λ _. RawPtr)) yes, (stay_dropped (plain (λ _. usize)) yes, (stay_dropped (plain (λ _. Lr)) yes, tt)))
 
-pub holding_spec : {M : Type 1} → statement M
-holding_spec 𝓤 𝓛 𝓜 𝓡 wired =
+pub of_box_spec : {M : Type 1} → statement M
+of_box_spec 𝓤 𝓛 𝓜 𝓡 wired =
     let H = 𝓛.H in let 𝓣 = tables 𝓤 H 𝓜 𝓡 𝓡.env in let c = f.clauses 𝓛 𝓜.mem 𝓡.returns in
     proved_at 𝓛 f.ended stayed c 𝓜 𝓡 (Goes-dropped 𝓛 0 (plain (λ _. RawPtr)) yes (λ κs x w. refl), (Goes-dropped 𝓛 0 (plain (λ _. usize)) yes (λ κs x w. refl), (Goes-dropped 𝓛 0 (plain (λ _. Lr)) yes (λ κs x w. refl), tt)))
     #self code.function (code.unfolded 𝓤 H 𝓜 𝓡 wired) (λ z are.
