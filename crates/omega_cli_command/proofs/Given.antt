@@ -1,9 +1,6 @@
 -- What an option that may be left out gives, if it has a text or not; and that a flag is not both set and not.
 use Rattle.std.proofs.Common.{◌≡◌, ◌≢◌, ℕ, true, false, List, Option, None, Some, codes, is_some, option_map, refl}
-use Rattle.omega_cli_command.specs.CommandLine.{Gives, GivesFlag, LeavesNoFormat, MeansForGames, text_of}
-use Rattle.omega_cli_command.specs.declared.options.OptionName.TheVariants as name
-use Rattle.omega_cli_command.specs.declared.options.Options.{Options}
-use Rattle.omega_cli_command.specs.declared.subcommand.Subcommand.{Subcommand}
+use Rattle.omega_cli_command.specs.Values.{Gives, GivesFlag}
 
 module _ {T : Type 0} (reads : List ℕ → T → Type 0) where
   -- if it gives a value, there is a text
@@ -22,16 +19,6 @@ module _ {T : Type 0} (reads : List ℕ → T → Type 0) where
 pub unset : (text : Option (List ℕ)) → GivesFlag text false → GivesFlag text true → ⊥
 unset None is set = cc
 unset (Some text) is set = cc
-
--- a text is not left out
-not_none : (text : Option (List ℕ)) (value : List ℕ) → text ≡ Some value → text ≡ None → ⊥
-not_none None value is none = cc
-not_none (Some text) value is none = cc
-
--- options for games leave no format to a text
-pub told_for_games : (subcommand : Subcommand) (options meant : Options) → MeansForGames options meant → LeavesNoFormat subcommand meant
-told_for_games subcommand options meant means asked file leaves =
-    not_none (text_of name.Format meant) (codes "pg") (means name.Format) leaves.asks.unformatted
 
 -- an option that is there has a text
 pub some_read : {A : Type 0} (reads : A → List ℕ) (option : Option A) → is_some option ≡ true → option_map reads option ≢ None

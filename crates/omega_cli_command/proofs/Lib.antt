@@ -1,4 +1,3 @@
 -- Lemmas of the command line.
 pub mod Given
-pub mod Lines
 pub mod Numbers

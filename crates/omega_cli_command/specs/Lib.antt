@@ -1,10 +1,20 @@
 -- What contracts of the command line cite.
 pub use Rattle.omega_game_values.specs.Player
 pub mod Limits
-pub mod Reason
+pub mod Values
+pub mod Options
+pub mod Source
 pub mod Subcommands
-pub mod CommandLine
-pub mod Either
-pub mod Line
+pub mod Formats
+pub mod OneText
+pub mod Stream
+pub mod TwoTexts
+pub mod Leniency
+pub mod Task
+pub mod Request
+pub mod Reason
+pub mod Faults
+pub mod Conflicts
+pub mod Mistakes
 pub mod Usage
 pub mod private

@@ -1,5 +1,5 @@
 -- What only private contracts cite.
 pub mod Flags
-pub mod Judging
 pub mod Numbers
 pub mod Tasks
+pub mod Verify

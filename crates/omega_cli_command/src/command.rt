@@ -1,107 +1,35 @@
-use crate::each::OfEach;
-use omega_game_values::Player;
-use std::fmt;
+ghost use Rattle.std.specs.Prelude.{◌≡◌};
+ghost use Rattle.omega_cli_command.specs.Formats.{for_automata};
 
-/// What the program does with the one text that it reads.
+use crate::one_text::OneText;
+use crate::other::Other;
+use crate::stream::Stream;
+use crate::two_texts::TwoTexts;
+
+/// What the program does, by what it reads.
 #[derive(Debug, Drop)]
 pub enum Command {
-    /// Describes the value of the text: its size, and for a game the bounds on lifts.
-    Show(Format),
-    /// The same as a value of JSON.
-    ShowJson(Format),
-    /// Says that the text is accepted.
-    Check(Format),
-    /// Writes the text in the one form that its value has.
-    Canon(Format),
-    /// Writes the part of a game that one node reaches, in the same form.
-    CanonPart {
-        /// The identifier of the node.
-        from: u32,
-    },
-    /// Reads a game in which the least priority decides, and writes in the same form one in which the greatest does and
-    /// the same players win; whole, or the part that one node reaches.
-    CanonLeast {
-        /// The identifier of the node whose part is written.
-        from: Option<u32>,
-    },
-    /// Solves a game: for both players, or for one alone; whole, or the part that one node reaches.
-    Solve {
-        player: Option<Player>,
-        /// The identifier of the node whose part is solved.
-        from: Option<u32>,
-    },
-    /// Solves a game for both players by a search whose answer is judged; whole, or the part that one node reaches.
-    Search {
-        /// The identifier of the node whose part is solved.
-        from: Option<u32>,
-    },
-    /// Says whether an automaton accepts nothing, and shows a lasso if it accepts something. Decided by lifting.
-    Empty {
-        /// Whether the word that the lasso accepts is written too.
-        word: bool,
-        /// Whether the states of the lasso's run are written too, with their names.
-        names: bool,
-        /// Whether the exit says which of the two is written.
-        status: bool,
-    },
-    /// The same, decided by a search.
-    EmptySearch {
-        /// Whether the word that the lasso accepts is written too.
-        word: bool,
-        /// Whether the states of the lasso's run are written too, with their names.
-        names: bool,
-        /// Whether the exit says which of the two is written.
-        status: bool,
-    },
-    /// Answers for each automaton of a stream, one after the other.
-    Each(OfEach),
-    /// Writes the emptiness game of an automaton.
-    Game,
-    /// Writes an automaton that accepts the words that a deterministic one does not.
-    Complement,
-    /// Writes an automaton without the states that no start reaches and those in which no accepting lasso starts.
-    Trim,
-    /// Says whether an automaton is realizable. Decided by a search whose answer is judged, and by lifting if the
-    /// search finds nothing.
-    Realize {
-        /// Whether the winner's automaton is written in place of the line.
-        controller: bool,
-    },
-    /// The same, decided by lifting.
-    RealizeByLifting {
-        /// Whether the winner's automaton is written in place of the line.
-        controller: bool,
-    },
-    /// Writes the game in which it is decided whether an automaton is realizable.
-    RealizabilityGame,
-    /// Draws the one game or automaton of the text.
-    Draw(Format),
-    /// Draws the part of a game that one node reaches.
-    DrawPart {
-        /// The identifier of the node.
-        from: u32,
-        /// How many steps from the node the part goes, if that is said.
-        depth: Option<u32>,
-    },
-    /// Draws an automaton with an accepting lasso, if it has one.
-    DrawLasso,
+    /// With one text.
+    OneText(OneText),
+    /// With a stream of automata.
+    Stream(Stream),
+    /// With the text of the input, and with the other.
+    TwoTexts(TwoTexts, Other),
 }
 
-/// What kind of text is read.
-#[derive(Clone, Copy, Debug, PartialEq, Eq)]
-pub enum Format {
-    /// A game in the text of PGSolver.
-    Pg,
-    /// A stream of automata in the Hanoi Omega-Automata Format, version 1.
-    Hoa,
-}
-
-/// The name of the format on a command line.
-impl fmt::Display for Format {
-    fn fmt<W: fmt::Write>(&self, f: &mut fmt::Formatter<W>) -> fmt::Result {
-        f.write_str(match self {
-            Format::Pg => "pg",
-            Format::Hoa => "hoa",
-        })
+impl Command {
+    /// Returns the command for a text of automata: that of automata in place of `show`, `check`, `canon` and `draw` of
+    /// games, and any other as it is.
+    pub fn for_automata(self) -> Command
+        ensures { result ≡ for_automata self }
+    {
+        match self {
+            Command::OneText(OneText::Show) => Command::Stream(Stream::Show),
+            Command::OneText(OneText::ShowJson) => Command::Stream(Stream::ShowJson),
+            Command::OneText(OneText::Check) => Command::Stream(Stream::Check),
+            Command::OneText(OneText::Canon) => Command::Stream(Stream::Canon),
+            Command::OneText(OneText::DrawGame) => Command::OneText(OneText::DrawAutomaton),
+            other => other,
+        }
     }
 }

@@ -1,11 +1,12 @@
 //! The option `--lenient`, by which games are read as other tools write them.
 ghost use Rattle.std.specs.Prelude.{◌≡◌, IfErr, IfOk, OnOk, false, true};
-ghost use Rattle.omega_cli_command.specs.CommandLine.{GivesLeniency, HasGames, HasOption};
-ghost use Rattle.omega_cli_command.specs.CommandLine.{IsForGames, IsWrong, MeansForGames};
+ghost use Rattle.omega_cli_command.specs.Leniency.{GivesLeniency, IsForGames, MeansForGames};
+ghost use Rattle.omega_cli_command.specs.Mistakes.{IsWrong};
+ghost use Rattle.omega_cli_command.specs.Subcommands.{HasGames, HasOption};
 ghost use Rattle.omega_cli_command.specs.declared.options.OptionName.TheVariants as name;
 ghost use Rattle.omega_cli_command.specs.declared.subcommand.Subcommand.TheVariants as sub;
 
-use crate::command::Format;
+use crate::format::Format;
 use crate::mistake::Mistake;
 use crate::options::{OptionName, Options};
 use crate::subcommand::Subcommand;

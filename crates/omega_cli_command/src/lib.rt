@@ -1,32 +1,35 @@
-//! What a command line asks for: a subcommand with the texts of its options, or what is wrong with them.
+//! What a command line requests: a subcommand with the texts of its options, or what is wrong with them.
 #![tactic(auto)]
 
-mod asking;
-mod beside;
 mod command;
-mod each;
-mod either;
-mod emptiness;
+mod format;
 mod leniency;
 mod limits;
-mod line;
 mod mistake;
 mod number;
+mod one_text;
 mod options;
+mod other;
+mod request;
 mod source;
+mod stream;
 mod subcommand;
+mod task;
 mod tasks;
+mod two_texts;
 mod values;
-mod verifying;
 
-pub use asking::line_for;
-pub use beside::Beside;
-pub use command::{Command, Format};
-pub use each::OfEach;
-pub use either::OfEither;
+pub use command::Command;
+pub use format::Format;
 pub use limits::{MOST_BUDGET, budget_limit_is_stated};
-pub use line::{Line, Source, Task};
 pub use mistake::{Mistake, Reason};
 pub use omega_game_values::{Player, Refusal};
+pub use one_text::OneText;
 pub use options::{OptionName, Options};
+pub use other::Other;
+pub use request::{Request, request_for};
+pub use source::Source;
+pub use stream::Stream;
 pub use subcommand::{Subcommand, subcommand_named};
+pub use task::Task;
+pub use two_texts::TwoTexts;

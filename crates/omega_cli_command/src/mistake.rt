@@ -1,7 +1,7 @@
 ghost use Rattle.std.specs.Prelude.{◌≡◌, ◌≢◌, IfOk, true};
 ghost use Rattle.omega_cli_command.specs.declared.mistake.Mistake.TheVariants as mistake;
 
-use crate::command::Format;
+use crate::format::Format;
 use crate::options::OptionName;
 use std::alloc::{AllocError, AllocFailed, Global};
 use std::fmt;

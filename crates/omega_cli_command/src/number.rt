@@ -1,7 +1,7 @@
 ghost use Rattle.std.specs.Prelude.{◌≡◌, ℕ, IfOk, IfErr};
 ghost use Rattle.std.specs.List.{list_all};
-ghost use Rattle.omega_cli_command.specs.CommandLine.{IsNumberText};
 ghost use Rattle.omega_cli_command.specs.Reason.{IsNumberReason};
+ghost use Rattle.omega_cli_command.specs.Values.{IsNumberText};
 ghost use Rattle.omega_cli_command.specs.private.Numbers.{is_decimal, reason_for};
 
 use crate::mistake::Reason;

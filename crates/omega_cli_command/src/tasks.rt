@@ -1,43 +1,60 @@
-//! Tasks with a second text beside that of the input, and those that lift.
-ghost use Rattle.std.specs.Prelude.{◌≡◌, IfErr, IfOk};
-ghost use Rattle.omega_cli_command.specs.declared.mistake.Mistake.TheVariants as mistake;
-ghost use Rattle.omega_cli_command.specs.private.Tasks.{IsTaskBeside, IsTaskGiven, lifting_task};
+//! The tasks that the subcommands request.
+ghost use Rattle.std.specs.Prelude.{IfErr, IfOk};
+ghost use Rattle.omega_cli_command.specs.Mistakes.{IsMistake};
+ghost use Rattle.omega_cli_command.specs.Task.{AsksFor};
 
-use crate::beside::Beside;
+mod canon;
+mod draw;
+mod either;
+mod empty;
+mod realize;
+mod solve;
+mod transform;
+mod two_automata;
+mod verify;
+
 use crate::command::Command;
-use crate::line::Task;
 use crate::mistake::Mistake;
+use crate::one_text::OneText;
+use crate::options::Options;
+use crate::subcommand::Subcommand;
+use crate::task::Task;
+use canon::canon_task;
+use draw::draw_task;
+use either::{check_task, show_task};
+use empty::empty_task;
+use realize::realize_task;
+use solve::solve_task;
 use std::alloc::Global;
+use transform::{complement_task, trim_task};
+use two_automata::{accepts_task, contained_task, equal_task, join_task, meet_task};
+use verify::verify_task;
 
-/// Returns the task with the file of this name beside the input.
-pub(crate) fn task_beside<'a>(alloc: Global, name: &str, asked: Beside) -> Result<Task, Mistake<'a>>
-    ensures task { IfOk result (IsTaskBeside name.now asked) }
-    ensures memory { IfErr result (λ found. found ≡ mistake.Memory) }
+/// Returns the task that `subcommand` requests with `options`, or what is wrong with them.
+pub(crate) fn task_for<'a>(
+    alloc: Global,
+    subcommand: Subcommand,
+    options: &Options<'a>,
+) -> Result<Task, Mistake<'a>>
+    ensures asked { IfOk result (AsksFor subcommand options.now) }
+    ensures mistaken { IfErr result (IsMistake subcommand options.now) }
 {
-    match String::from_str(alloc, name) {
-        Ok(file) => Ok(Task::Beside { file, asked }),
-        Err(_) => Err(Mistake::Memory),
-    }
-}
-
-/// Returns the task with this text beside the input.
-pub(crate) fn task_given<'a>(alloc: Global, given: &str, asked: Beside) -> Result<Task, Mistake<'a>>
-    ensures task { IfOk result (IsTaskGiven given.now asked) }
-    ensures memory { IfErr result (λ found. found ≡ mistake.Memory) }
-{
-    match String::from_str(alloc, given) {
-        Ok(text) => Ok(Task::Given { text, asked }),
-        Err(_) => Err(Mistake::Memory),
-    }
-}
-
-/// Returns the task of a command that lifts, with its progress reported or not.
-pub(crate) fn lifting_task(command: Command, budget: u64, observed: bool) -> Task
-    ensures { result ≡ lifting_task command budget observed }
-{
-    if observed {
-        Task::Observed(command, budget)
-    } else {
-        Task::Run(command, budget)
+    match subcommand {
+        Subcommand::Show => show_task(options),
+        Subcommand::Check => check_task(options),
+        Subcommand::Canon => canon_task(options),
+        Subcommand::Solve => solve_task(options),
+        Subcommand::Verify => verify_task(alloc, options),
+        Subcommand::Empty => empty_task(options),
+        Subcommand::Game => Ok(Task::of(Command::OneText(OneText::Game))),
+        Subcommand::Accepts => accepts_task(alloc, options),
+        Subcommand::Contained => contained_task(alloc, options),
+        Subcommand::Equal => equal_task(alloc, options),
+        Subcommand::Meet => meet_task(alloc, options),
+        Subcommand::Join => join_task(alloc, options),
+        Subcommand::Complement => complement_task(options),
+        Subcommand::Trim => trim_task(options),
+        Subcommand::Realize => realize_task(options),
+        Subcommand::Draw => draw_task(alloc, options),
     }
 }

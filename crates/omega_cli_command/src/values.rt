@@ -1,12 +1,14 @@
 //! The values of options.
 ghost use Rattle.std.specs.Prelude.{◌≡◌, Bool, Some, IfOk, IfErr, MatchOption, option_map};
 ghost use Rattle.omega_text.specs.Limits.{most_number};
-ghost use Rattle.omega_cli_command.specs.CommandLine.{Gives, GivesBudget, GivesFlag, IsFaulty, IsFormatText};
-ghost use Rattle.omega_cli_command.specs.CommandLine.{IsNumberText, IsPlayerText, IsTruthText, text_of};
+ghost use Rattle.omega_cli_command.specs.Faults.{IsFaulty};
+ghost use Rattle.omega_cli_command.specs.Options.{GivesFormat, GivesNode, text_of};
+ghost use Rattle.omega_cli_command.specs.Values.{Gives, GivesBudget, GivesFlag, IsNumberText};
+ghost use Rattle.omega_cli_command.specs.Values.{IsPlayerText, IsTruthText};
 ghost use Rattle.omega_cli_command.specs.declared.options.OptionName.TheVariants as name;
 ghost use Rattle.omega_cli_command.specs.private.Flags.{IsNoTruth};
 
-use crate::command::Format;
+use crate::format::Format;
 use crate::limits::MOST_BUDGET;
 use crate::mistake::{Mistake, Reason};
 use crate::number::number_in;
@@ -16,8 +18,7 @@ use omega_text::MOST_NUMBER;
 
 /// Returns the kind of text, which has to be given.
 pub fn format_in<'a>(options: &Options<'a>) -> Result<Format, Mistake<'a>>
-    ensures given { IfOk result
-        (λ format. Gives IsFormatText (text_of name.Format options.now) (Some format)) }
+    ensures given { IfOk result (GivesFormat options.now) }
     ensures faulty { IfErr result (IsFaulty name.Format options.now) }
 {
     let Some(text) = options.format else {
@@ -59,7 +60,7 @@ pub fn player_in<'a>(options: &Options<'a>) -> Result<Option<Player>, Mistake<'a
 
 /// Returns the identifier of the node whose part is meant, if one is named.
 pub fn identifier_in<'a>(options: &Options<'a>) -> Result<Option<u32>, Mistake<'a>>
-    ensures given { IfOk result (Gives (IsNumberText most_number) (text_of name.From options.now)) }
+    ensures given { IfOk result (GivesNode options.now) }
     ensures faulty { IfErr result (IsFaulty name.From options.now) }
 {
     let Some(text) = options.from else {

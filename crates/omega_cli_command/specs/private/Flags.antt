@@ -1,6 +1,6 @@
 -- What is wrong with the text of a flag.
 use Rattle.std.specs.Prelude.{◌≡◌, Bool, List, Option, Some, ℕ}
-use Rattle.omega_cli_command.specs.CommandLine.{IsTruthText}
+use Rattle.omega_cli_command.specs.Values.{IsTruthText}
 use Rattle.omega_cli_command.specs.declared.mistake.Mistake.{Mistake}
 use Rattle.omega_cli_command.specs.declared.mistake.Mistake.TheVariants as mistake
 use Rattle.omega_cli_command.specs.declared.mistake.Reason.TheVariants as reason

@@ -1,7 +1,15 @@
-/// What is answered for each automaton of a stream.
+/// A command that reads a stream of automata in pieces, and answers for each automaton, one after the other.
 #[derive(Clone, Copy, Debug)]
-pub enum OfEach {
-    /// Whether it accepts nothing, with a lasso if it accepts something. Decided by lifting.
+pub enum Stream {
+    /// Describes the automaton: its size and its acceptance.
+    Show,
+    /// The same as a value of JSON.
+    ShowJson,
+    /// Says that the text of the stream is accepted.
+    Check,
+    /// Writes the automaton in the one form that it has.
+    Canon,
+    /// Says whether it accepts nothing, and shows a lasso if it accepts something. Decided by lifting.
     Empty {
         /// Whether the word that a lasso accepts is written too.
         word: bool,
@@ -19,8 +27,8 @@ pub enum OfEach {
         /// Whether the exit says if one of the automata accepts nothing.
         status: bool,
     },
-    /// An automaton that accepts the words that it does not.
+    /// Writes an automaton that accepts the words that it does not.
     Complement,
-    /// The same automaton without its useless states.
+    /// Writes the same automaton without its useless states.
     Trim,
 }

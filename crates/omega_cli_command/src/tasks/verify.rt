@@ -1,20 +1,24 @@
-//! The tasks that `verify` requests.
+//! The task that `verify` requests.
 ghost use Rattle.std.specs.Prelude.{◌≡◌, IfErr, IfOk, None, Some};
-ghost use Rattle.omega_cli_command.specs.CommandLine.{AsksFor, GivesFlag, IsMistake, text_of};
+ghost use Rattle.omega_cli_command.specs.Mistakes.{IsMistake};
+ghost use Rattle.omega_cli_command.specs.Options.{text_of};
+ghost use Rattle.omega_cli_command.specs.Task.{AsksFor};
+ghost use Rattle.omega_cli_command.specs.Values.{GivesFlag};
 ghost use Rattle.omega_cli_command.specs.declared.options.OptionName.TheVariants as name;
 ghost use Rattle.omega_cli_command.specs.declared.subcommand.Subcommand.TheVariants as sub;
-ghost use Rattle.omega_cli_command.specs.private.Judging.{judging_for};
+ghost use Rattle.omega_cli_command.specs.private.Verify.{solution_question};
 
-use crate::beside::Beside;
-use crate::line::Task;
+use crate::command::Command;
 use crate::mistake::Mistake;
 use crate::options::{OptionName, Options};
-use crate::tasks::task_beside;
+use crate::other::Other;
+use crate::task::Task;
+use crate::two_texts::TwoTexts;
 use crate::values::{identifier_in, is_set};
 use std::alloc::Global;
 
 /// Returns the task that `verify` requests with `options`, or what is wrong with them.
-pub fn verifying_for<'a>(alloc: Global, options: &Options<'a>) -> Result<Task, Mistake<'a>>
+pub(crate) fn verify_task<'a>(alloc: Global, options: &Options<'a>) -> Result<Task, Mistake<'a>>
     ensures asked { IfOk result (AsksFor sub.Verify options.now) }
     ensures mistaken { IfErr result (IsMistake sub.Verify options.now) }
 {
@@ -22,17 +26,17 @@ pub fn verifying_for<'a>(alloc: Global, options: &Options<'a>) -> Result<Task, M
     let winners = is_set(OptionName::Winners, options.winners)?;
     let names = is_set(OptionName::Names, options.names)?;
     if let Some(specification) = options.specification {
-        return controller_verifying_for(alloc, options, specification, explain, winners, names);
+        return controller_task(alloc, options, specification, explain, winners, names);
     }
     if let Some(automaton) = options.automaton {
-        return lasso_verifying_for(alloc, options, automaton, explain, winners, names);
+        return lasso_task(alloc, options, automaton, explain, winners, names);
     }
-    solution_verifying_for(alloc, options, explain, winners, names)
+    solution_task(alloc, options, explain, winners, names)
 }
 
 /// Returns the task that `verify` requests with `options` that name neither an automaton nor a specification, or what
 /// is wrong with them.
-fn solution_verifying_for<'a>(
+fn solution_task<'a>(
     alloc: Global,
     options: &Options<'a>,
     explain: bool,
@@ -57,25 +61,27 @@ fn solution_verifying_for<'a>(
     if names && !explain {
         return Err(Mistake::Missing(OptionName::Explain));
     }
-    task_beside(alloc, name, judging_for(from, explain, winners, names))
+    let asked = solution_question(from, explain, winners, names);
+    let other = Other::of_file(alloc, name)?;
+    Ok(Task::of(Command::TwoTexts(asked, other)))
 }
 
 /// Returns what is asked of a solution. With names of nodes, its choices are judged and a `no` is explained.
-fn judging_for(from: Option<u32>, explain: bool, winners: bool, names: bool) -> Beside
-    ensures { result ≡ judging_for from explain winners names }
+fn solution_question(from: Option<u32>, explain: bool, winners: bool, names: bool) -> TwoTexts
+    ensures { result ≡ solution_question from explain winners names }
 {
     if names {
-        Beside::VerifyNamed { from }
+        TwoTexts::VerifyNamed { from }
     } else if winners {
-        Beside::VerifyWinners { from, explain }
+        TwoTexts::VerifyWinners { from, explain }
     } else {
-        Beside::Verify { from, explain }
+        TwoTexts::Verify { from, explain }
     }
 }
 
 /// Returns the task that `verify` requests with `options` that name an automaton and no specification, or what is wrong
 /// with them.
-fn lasso_verifying_for<'a>(
+fn lasso_task<'a>(
     alloc: Global,
     options: &Options<'a>,
     automaton: &'a str,
@@ -103,11 +109,12 @@ fn lasso_verifying_for<'a>(
     if names {
         return Err(Mistake::Conflict(OptionName::Automaton, OptionName::Names));
     }
-    task_beside(alloc, automaton, Beside::VerifyLasso { explain })
+    let other = Other::of_file(alloc, automaton)?;
+    Ok(Task::of(Command::TwoTexts(TwoTexts::VerifyLasso { explain }, other)))
 }
 
 /// Returns the task that `verify` requests with `options` that name a specification, or what is wrong with them.
-fn controller_verifying_for<'a>(
+fn controller_task<'a>(
     alloc: Global,
     options: &Options<'a>,
     specification: &'a str,
@@ -137,5 +144,6 @@ fn controller_verifying_for<'a>(
     if names {
         return Err(Mistake::Conflict(OptionName::Specification, OptionName::Names));
     }
-    task_beside(alloc, specification, Beside::VerifyController { explain })
+    let other = Other::of_file(alloc, specification)?;
+    Ok(Task::of(Command::TwoTexts(TwoTexts::VerifyController { explain }, other)))
 }

@@ -1,6 +1,6 @@
-/// A task with two texts: that of a file, or of the command line, and that of the input.
+/// A command about two texts, that of the input and another.
 #[derive(Clone, Copy, Debug)]
-pub enum Beside {
+pub enum TwoTexts {
     /// Checks the solution that the input has, of the game of the file or of the part of it that one node reaches.
     Verify {
         /// The identifier of the node whose part is meant.

@@ -1,91 +1,109 @@
-//! The tasks that `empty` requests.
-ghost use Rattle.std.specs.Prelude.{◌≡◌, IfErr, IfOk, false, true};
-ghost use Rattle.omega_cli_command.specs.CommandLine.{AsksFor, GivesFlag, IsMistake, text_of};
+//! The task that `empty` requests.
+ghost use Rattle.std.specs.Prelude.{IfErr, IfOk, false, true};
+ghost use Rattle.omega_cli_command.specs.Mistakes.{IsMistake};
+ghost use Rattle.omega_cli_command.specs.Options.{GivesEmptyLines, text_of};
+ghost use Rattle.omega_cli_command.specs.Task.{AsksFor};
+ghost use Rattle.omega_cli_command.specs.Values.{GivesFlag};
 ghost use Rattle.omega_cli_command.specs.declared.options.OptionName.TheVariants as name;
 ghost use Rattle.omega_cli_command.specs.declared.subcommand.Subcommand.TheVariants as sub;
 
 use crate::command::Command;
-use crate::each::OfEach;
-use crate::limits::MOST_BUDGET;
-use crate::line::Task;
 use crate::mistake::Mistake;
+use crate::one_text::OneText;
 use crate::options::{OptionName, Options};
-use crate::tasks::lifting_task;
+use crate::stream::Stream;
+use crate::task::Task;
 use crate::values::{budget_in, is_set};
 
 /// Returns the task that `empty` requests with `options`, or what is wrong with them.
-pub fn emptiness_for<'a>(options: &Options<'a>) -> Result<Task, Mistake<'a>>
-    ensures asked { IfOk result (AsksFor sub.Empty options.now) }
-    ensures mistaken { IfErr result (IsMistake sub.Empty options.now) }
-{
-    if is_set(OptionName::Stream, options.stream)? {
-        emptiness_of_each_for(options)
-    } else {
-        emptiness_of_one_for(options)
-    }
-}
-
-/// Returns the task that `empty` requests with `options` for one automaton, or what is wrong with them.
-fn emptiness_of_one_for<'a>(options: &Options<'a>) -> Result<Task, Mistake<'a>>
-    requires { GivesFlag (text_of name.Stream options.now) false }
+pub(crate) fn empty_task<'a>(options: &Options<'a>) -> Result<Task, Mistake<'a>>
     ensures asked { IfOk result (AsksFor sub.Empty options.now) }
     ensures mistaken { IfErr result (IsMistake sub.Empty options.now) }
 {
     let word = is_set(OptionName::Word, options.word)?;
     let names = is_set(OptionName::Names, options.names)?;
     let status = is_set(OptionName::Status, options.status)?;
+    if is_set(OptionName::Stream, options.stream)? {
+        stream_task(options, word, names, status)
+    } else {
+        automaton_task(options, word, names, status)
+    }
+}
+
+/// Returns the task that `empty` requests with `options` for one automaton, or what is wrong with them.
+fn automaton_task<'a>(
+    options: &Options<'a>,
+    word: bool,
+    names: bool,
+    status: bool,
+) -> Result<Task, Mistake<'a>>
+    requires one { GivesFlag (text_of name.Stream options.now) false }
+    requires lines { GivesEmptyLines options.now word names }
+    requires status { GivesFlag (text_of name.Status options.now) status }
+    ensures asked { IfOk result (AsksFor sub.Empty options.now) }
+    ensures mistaken { IfErr result (IsMistake sub.Empty options.now) }
+{
     let budget = budget_in(options)?;
-    let observed = is_set(OptionName::Progress, options.progress)?;
+    let progress = is_set(OptionName::Progress, options.progress)?;
     if !is_set(OptionName::Search, options.search)? {
-        let command = Command::Empty {
+        let asked = OneText::Empty {
             word,
             names,
             status,
         };
-        return Ok(lifting_task(command, budget, observed));
+        return Ok(Task {
+            budget,
+            progress,
+            ..Task::of(Command::OneText(asked))
+        });
     }
     if options.budget.is_some() {
         return Err(Mistake::Conflict(OptionName::Search, OptionName::Budget));
     }
-    if observed {
+    if progress {
         return Err(Mistake::Conflict(OptionName::Search, OptionName::Progress));
     }
-    let command = Command::EmptySearch {
+    Ok(Task::of(Command::OneText(OneText::EmptySearch {
         word,
         names,
         status,
-    };
-    Ok(Task::Run(command, MOST_BUDGET))
+    })))
 }
 
 /// Returns the task that `empty` requests with `options` for a stream, or what is wrong with them.
-fn emptiness_of_each_for<'a>(options: &Options<'a>) -> Result<Task, Mistake<'a>>
-    requires { GivesFlag (text_of name.Stream options.now) true }
+fn stream_task<'a>(
+    options: &Options<'a>,
+    word: bool,
+    names: bool,
+    status: bool,
+) -> Result<Task, Mistake<'a>>
+    requires stream { GivesFlag (text_of name.Stream options.now) true }
+    requires lines { GivesEmptyLines options.now word names }
+    requires status { GivesFlag (text_of name.Status options.now) status }
     ensures asked { IfOk result (AsksFor sub.Empty options.now) }
     ensures mistaken { IfErr result (IsMistake sub.Empty options.now) }
 {
     if is_set(OptionName::Progress, options.progress)? {
         return Err(Mistake::Conflict(OptionName::Stream, OptionName::Progress));
     }
-    let word = is_set(OptionName::Word, options.word)?;
-    let names = is_set(OptionName::Names, options.names)?;
-    let status = is_set(OptionName::Status, options.status)?;
     let budget = budget_in(options)?;
     if !is_set(OptionName::Search, options.search)? {
-        let each = OfEach::Empty {
+        let asked = Stream::Empty {
             word,
             names,
             status,
         };
-        return Ok(Task::Run(Command::Each(each), budget));
+        return Ok(Task {
+            budget,
+            ..Task::of(Command::Stream(asked))
+        });
     }
     if options.budget.is_some() {
         return Err(Mistake::Conflict(OptionName::Search, OptionName::Budget));
     }
-    let each = OfEach::EmptySearch {
+    Ok(Task::of(Command::Stream(Stream::EmptySearch {
         word,
         names,
         status,
-    };
-    Ok(Task::Run(Command::Each(each), MOST_BUDGET))
+    })))
 }

@@ -1,0 +1,70 @@
+-- What a subcommand asks for that reads one text.
+use Rattle.std.specs.Prelude.{◌≡◌, true, false, Some, None}
+use Rattle.omega_cli_command.specs.Formats.{AsksOfEither}
+use Rattle.omega_cli_command.specs.Options.{GivesEmptyLines, GivesFormat, GivesNoDrawn, GivesNoLifting, GivesNode, GivesPart, text_of}
+use Rattle.omega_cli_command.specs.Values.{Gives, GivesFlag, IsPlayerText}
+use Rattle.omega_cli_command.specs.declared.format.Format.TheVariants.{Hoa, Pg}
+use Rattle.omega_cli_command.specs.declared.one_text.OneText.{OneText}
+use Rattle.omega_cli_command.specs.declared.one_text.OneText.TheVariants as one
+use Rattle.omega_cli_command.specs.declared.options.OptionName.TheVariants as name
+use Rattle.omega_cli_command.specs.declared.options.Options.{Options}
+use Rattle.omega_cli_command.specs.declared.subcommand.Subcommand.{Subcommand}
+use Rattle.omega_cli_command.specs.declared.subcommand.Subcommand.TheVariants as sub
+
+-- the subcommand, with these options, asks for this of one text
+abbrev pub AsksOneText : Subcommand → Options → OneText → Type 0
+AsksOneText subcommand options one.Show =
+    GivesFormat options Pg × AsksOfEither subcommand options one.Show
+AsksOneText subcommand options one.ShowJson =
+    GivesFormat options Pg × AsksOfEither subcommand options one.ShowJson
+AsksOneText subcommand options one.Check =
+    GivesFormat options Pg × AsksOfEither subcommand options one.Check
+AsksOneText subcommand options one.Canon =
+    GivesFormat options Pg × AsksOfEither subcommand options one.Canon
+AsksOneText subcommand options (one.CanonPart from) =
+    (subcommand ≡ sub.Canon) × GivesFormat options Pg × GivesNode options (Some from)
+    × GivesFlag (text_of name.Min options) false
+AsksOneText subcommand options (one.CanonLeast from) =
+    (subcommand ≡ sub.Canon) × GivesFormat options Pg × GivesNode options from
+    × GivesFlag (text_of name.Min options) true
+AsksOneText subcommand options (one.Solve player from) =
+    (subcommand ≡ sub.Solve) × GivesFlag (text_of name.Search options) false
+    × Gives IsPlayerText (text_of name.Player options) player × GivesNode options from
+AsksOneText subcommand options (one.Search from) =
+    (subcommand ≡ sub.Solve) × GivesFlag (text_of name.Search options) true
+    × (text_of name.Player options ≡ None) × GivesNode options from
+AsksOneText subcommand options (one.Empty word names status) =
+    (subcommand ≡ sub.Empty) × GivesFlag (text_of name.Stream options) false
+    × GivesFlag (text_of name.Search options) false
+    × GivesEmptyLines options word names × GivesFlag (text_of name.Status options) status
+AsksOneText subcommand options (one.EmptySearch word names status) =
+    (subcommand ≡ sub.Empty) × GivesFlag (text_of name.Stream options) false
+    × GivesFlag (text_of name.Search options) true × GivesNoLifting options
+    × GivesEmptyLines options word names × GivesFlag (text_of name.Status options) status
+AsksOneText subcommand options one.Game = subcommand ≡ sub.Game
+AsksOneText subcommand options one.Complement =
+    (subcommand ≡ sub.Complement) × GivesFlag (text_of name.Stream options) false
+AsksOneText subcommand options one.Trim =
+    (subcommand ≡ sub.Trim) × GivesFlag (text_of name.Stream options) false
+AsksOneText subcommand options (one.Realize controller) =
+    (subcommand ≡ sub.Realize) × GivesFlag (text_of name.Lift options) false
+    × GivesNoLifting options × GivesFlag (text_of name.AsGame options) false
+    × GivesFlag (text_of name.Controller options) controller
+AsksOneText subcommand options (one.RealizeByLifting controller) =
+    (subcommand ≡ sub.Realize) × GivesFlag (text_of name.Lift options) true
+    × GivesFlag (text_of name.AsGame options) false
+    × GivesFlag (text_of name.Controller options) controller
+AsksOneText subcommand options one.RealizabilityGame =
+    (subcommand ≡ sub.Realize) × GivesFlag (text_of name.Lift options) false
+    × GivesNoLifting options × GivesFlag (text_of name.AsGame options) true
+    × GivesFlag (text_of name.Controller options) false
+AsksOneText subcommand options one.DrawGame =
+    GivesFormat options Pg × AsksOfEither subcommand options one.DrawGame
+AsksOneText subcommand options (one.DrawPart from depth) =
+    (subcommand ≡ sub.Draw) × GivesFormat options Pg × GivesNoDrawn options
+    × GivesPart options (Some from) depth × GivesFlag (text_of name.Lasso options) false
+AsksOneText subcommand options one.DrawAutomaton =
+    GivesFormat options Hoa × AsksOfEither subcommand options one.DrawGame
+AsksOneText subcommand options one.DrawLasso =
+    (subcommand ≡ sub.Draw) × GivesFormat options Hoa × GivesNoDrawn options
+    × GivesPart options None None × GivesFlag (text_of name.Lasso options) true

@@ -1,0 +1,52 @@
+-- The task that a subcommand asks for.
+use Rattle.std.specs.Prelude.{◌≡◌, Bool, true, false, ℕ}
+use Rattle.omega_cli_command.specs.Formats.{AsksOfEither, LeavesFormat}
+use Rattle.omega_cli_command.specs.Leniency.{IsForGames, MeansForGames}
+use Rattle.omega_cli_command.specs.Limits.{most_budget}
+use Rattle.omega_cli_command.specs.OneText.{AsksOneText}
+use Rattle.omega_cli_command.specs.Options.{text_of}
+use Rattle.omega_cli_command.specs.Stream.{AsksStream}
+use Rattle.omega_cli_command.specs.TwoTexts.{AsksTwoTexts}
+use Rattle.omega_cli_command.specs.Values.{GivesBudget, GivesFlag}
+use Rattle.omega_cli_command.specs.declared.command.Command.{Command}
+use Rattle.omega_cli_command.specs.declared.command.Command.TheVariants as command
+use Rattle.omega_cli_command.specs.declared.options.OptionName.TheVariants as name
+use Rattle.omega_cli_command.specs.declared.options.Options.{Options}
+use Rattle.omega_cli_command.specs.declared.subcommand.Subcommand.{Subcommand}
+use Rattle.omega_cli_command.specs.declared.subcommand.Subcommand.TheVariants as sub
+use Rattle.omega_cli_command.specs.declared.task.Task.{Task}
+
+-- the subcommand, with these options, asks for the command; if the format is left to a text, for that of games
+abbrev pub AsksCommand : (by_text : Bool) → Subcommand → Options → Command → Type 0
+AsksCommand false subcommand options (command.OneText asked) = AsksOneText subcommand options asked
+AsksCommand false subcommand options (command.Stream asked) = AsksStream subcommand options asked
+AsksCommand false subcommand options (command.TwoTexts asked other) =
+    AsksTwoTexts subcommand options asked other
+AsksCommand true subcommand options (command.OneText asked) =
+    LeavesFormat subcommand options × AsksOfEither subcommand options asked
+AsksCommand true subcommand options other = ⊥
+
+-- the most lifts of each run, and whether progress is reported, for a subcommand that may lift; any other has the
+-- greatest budget, and reports nothing
+abbrev pub GivesLifts : Subcommand → Options → (budget : ℕ) → (progress : Bool) → Type 0
+GivesLifts sub.Solve options budget progress =
+    GivesBudget (text_of name.Budget options) budget
+    × GivesFlag (text_of name.Progress options) progress
+GivesLifts sub.Empty options budget progress =
+    GivesBudget (text_of name.Budget options) budget
+    × GivesFlag (text_of name.Progress options) progress
+GivesLifts sub.Realize options budget progress =
+    GivesBudget (text_of name.Budget options) budget
+    × GivesFlag (text_of name.Progress options) progress
+GivesLifts other options budget progress = (budget ≡ most_budget) × (progress ≡ false)
+
+-- the subcommand, with these options, asks for the command of the task, with its budget and its reports
+abbrev pub AsksFor : Subcommand → Options → Task → Type 0
+AsksFor subcommand options task = AsksCommand task.by_text subcommand options task.command
+    × GivesLifts subcommand options task.budget task.progress
+
+-- the same, with games read leniently or not
+abbrev pub AsksReading : (lenient : Bool) → Subcommand → Options → Task → Type 0
+AsksReading false subcommand options task = AsksFor subcommand options task
+AsksReading true subcommand options task = IsForGames subcommand options
+    × ((meant : Options) × MeansForGames options meant × AsksFor subcommand meant task)

@@ -1,0 +1,78 @@
+//! The tasks about two automata, or about an automaton and a word.
+ghost use Rattle.std.specs.Prelude.{IfErr, IfOk};
+ghost use Rattle.omega_cli_command.specs.Mistakes.{IsMistake};
+ghost use Rattle.omega_cli_command.specs.Task.{AsksFor};
+ghost use Rattle.omega_cli_command.specs.declared.subcommand.Subcommand.TheVariants as sub;
+
+use crate::command::Command;
+use crate::mistake::Mistake;
+use crate::options::{OptionName, Options};
+use crate::other::Other;
+use crate::task::Task;
+use crate::two_texts::TwoTexts;
+use crate::values::{is_set, other_in};
+use std::alloc::Global;
+
+/// Returns the task that `meet` requests with `options`, or what is wrong with them.
+pub(crate) fn meet_task<'a>(alloc: Global, options: &Options<'a>) -> Result<Task, Mistake<'a>>
+    ensures asked { IfOk result (AsksFor sub.Meet options.now) }
+    ensures mistaken { IfErr result (IsMistake sub.Meet options.now) }
+{
+    let trim = is_set(OptionName::Trim, options.trim)?;
+    let other = Other::of_file(alloc, other_in(options)?)?;
+    Ok(Task::of(Command::TwoTexts(TwoTexts::Meet { trim }, other)))
+}
+
+/// Returns the task that `join` requests with `options`, or what is wrong with them.
+pub(crate) fn join_task<'a>(alloc: Global, options: &Options<'a>) -> Result<Task, Mistake<'a>>
+    ensures asked { IfOk result (AsksFor sub.Join options.now) }
+    ensures mistaken { IfErr result (IsMistake sub.Join options.now) }
+{
+    let other = Other::of_file(alloc, other_in(options)?)?;
+    Ok(Task::of(Command::TwoTexts(TwoTexts::Join, other)))
+}
+
+/// Returns the task that `accepts` requests with `options`, or what is wrong with them.
+pub(crate) fn accepts_task<'a>(alloc: Global, options: &Options<'a>) -> Result<Task, Mistake<'a>>
+    ensures asked { IfOk result (AsksFor sub.Accepts options.now) }
+    ensures mistaken { IfErr result (IsMistake sub.Accepts options.now) }
+{
+    let explain = is_set(OptionName::Explain, options.explain)?;
+    let Some(word) = options.word_text else {
+        return Err(Mistake::Missing(OptionName::WordText));
+    };
+    let other = Other::of_word(alloc, word)?;
+    Ok(Task::of(Command::TwoTexts(TwoTexts::Accepts { explain }, other)))
+}
+
+/// Returns the task that `contained` requests with `options`, or what is wrong with them.
+pub(crate) fn contained_task<'a>(alloc: Global, options: &Options<'a>) -> Result<Task, Mistake<'a>>
+    ensures asked { IfOk result (AsksFor sub.Contained options.now) }
+    ensures mistaken { IfErr result (IsMistake sub.Contained options.now) }
+{
+    let explain = is_set(OptionName::Explain, options.explain)?;
+    let stream = is_set(OptionName::Stream, options.stream)?;
+    let Some(name) = options.within else {
+        return Err(Mistake::Missing(OptionName::In));
+    };
+    let asked = if stream {
+        TwoTexts::ContainedStream { explain }
+    } else {
+        TwoTexts::Contained { explain }
+    };
+    let other = Other::of_file(alloc, name)?;
+    Ok(Task::of(Command::TwoTexts(asked, other)))
+}
+
+/// Returns the task that `equal` requests with `options`, or what is wrong with them.
+pub(crate) fn equal_task<'a>(alloc: Global, options: &Options<'a>) -> Result<Task, Mistake<'a>>
+    ensures asked { IfOk result (AsksFor sub.Equal options.now) }
+    ensures mistaken { IfErr result (IsMistake sub.Equal options.now) }
+{
+    let explain = is_set(OptionName::Explain, options.explain)?;
+    let Some(name) = options.to else {
+        return Err(Mistake::Missing(OptionName::To));
+    };
+    let other = Other::of_file(alloc, name)?;
+    Ok(Task::of(Command::TwoTexts(TwoTexts::Equal { explain }, other)))
+}
