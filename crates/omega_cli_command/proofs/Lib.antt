@@ -1,3 +1,5 @@
 -- Lemmas of the command line.
+pub mod Formats
 pub mod Given
+pub mod Lifts
 pub mod Numbers

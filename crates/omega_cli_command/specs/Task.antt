@@ -1,8 +1,7 @@
 -- The task that a subcommand asks for.
-use Rattle.std.specs.Prelude.{◌≡◌, Bool, true, false, ℕ}
+use Rattle.std.specs.Prelude.{Bool, true, false, List, Option, None, ℕ}
 use Rattle.omega_cli_command.specs.Formats.{AsksOfEither, LeavesFormat}
 use Rattle.omega_cli_command.specs.Leniency.{IsForGames, MeansForGames}
-use Rattle.omega_cli_command.specs.Limits.{most_budget}
 use Rattle.omega_cli_command.specs.OneText.{AsksOneText}
 use Rattle.omega_cli_command.specs.Options.{text_of}
 use Rattle.omega_cli_command.specs.Stream.{AsksStream}
@@ -10,6 +9,7 @@ use Rattle.omega_cli_command.specs.TwoTexts.{AsksTwoTexts}
 use Rattle.omega_cli_command.specs.Values.{GivesBudget, GivesFlag}
 use Rattle.omega_cli_command.specs.declared.command.Command.{Command}
 use Rattle.omega_cli_command.specs.declared.command.Command.TheVariants as command
+use Rattle.omega_cli_command.specs.declared.options.OptionName.{OptionName}
 use Rattle.omega_cli_command.specs.declared.options.OptionName.TheVariants as name
 use Rattle.omega_cli_command.specs.declared.options.Options.{Options}
 use Rattle.omega_cli_command.specs.declared.subcommand.Subcommand.{Subcommand}
@@ -26,19 +26,18 @@ AsksCommand true subcommand options (command.OneText asked) =
     LeavesFormat subcommand options × AsksOfEither subcommand options asked
 AsksCommand true subcommand options other = ⊥
 
--- the most lifts of each run, and whether progress is reported, for a subcommand that may lift; any other has the
--- greatest budget, and reports nothing
+-- the text of an option that goes with lifting, if the subcommand may lift
+abbrev pub lifting_text : Subcommand → OptionName → Options → Option (List ℕ)
+lifting_text sub.Solve option options = text_of option options
+lifting_text sub.Empty option options = text_of option options
+lifting_text sub.Realize option options = text_of option options
+lifting_text other option options = None
+
+-- the most lifts of each run, and whether the progress is reported
 abbrev pub GivesLifts : Subcommand → Options → (budget : ℕ) → (progress : Bool) → Type 0
-GivesLifts sub.Solve options budget progress =
-    GivesBudget (text_of name.Budget options) budget
-    × GivesFlag (text_of name.Progress options) progress
-GivesLifts sub.Empty options budget progress =
-    GivesBudget (text_of name.Budget options) budget
-    × GivesFlag (text_of name.Progress options) progress
-GivesLifts sub.Realize options budget progress =
-    GivesBudget (text_of name.Budget options) budget
-    × GivesFlag (text_of name.Progress options) progress
-GivesLifts other options budget progress = (budget ≡ most_budget) × (progress ≡ false)
+GivesLifts subcommand options budget progress =
+    GivesBudget (lifting_text subcommand name.Budget options) budget
+    × GivesFlag (lifting_text subcommand name.Progress options) progress
 
 -- the subcommand, with these options, asks for the command of the task, with its budget and its reports
 abbrev pub AsksFor : Subcommand → Options → Task → Type 0

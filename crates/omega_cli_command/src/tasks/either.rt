@@ -1,9 +1,10 @@
 //! The tasks of commands that take a text of either format.
 ghost use Rattle.std.specs.Prelude.{◌≡◌, IfErr, IfOk, None, false, true};
-ghost use Rattle.omega_cli_command.specs.Formats.{AsksOfEither, LeavesFormat};
+ghost use Rattle.omega_cli_command.specs.Formats.{AsksOfEither};
 ghost use Rattle.omega_cli_command.specs.Mistakes.{IsMistake};
 ghost use Rattle.omega_cli_command.specs.Options.{text_of};
 ghost use Rattle.omega_cli_command.specs.Source.{NamesFile};
+ghost use Rattle.omega_cli_command.specs.Subcommands.{HasOption};
 ghost use Rattle.omega_cli_command.specs.Task.{AsksFor};
 ghost use Rattle.omega_cli_command.specs.declared.options.OptionName.TheVariants as name;
 ghost use Rattle.omega_cli_command.specs.declared.subcommand.Subcommand.{Subcommand};
@@ -42,16 +43,15 @@ pub(crate) fn check_task<'a>(options: &Options<'a>) -> Result<Task, Mistake<'a>>
 fn either_task<'a>(options: &Options<'a>, game: OneText) -> Result<Task, Mistake<'a>>
     ensures asked { (subcommand : Subcommand) → AsksOfEither subcommand options.now game
         → IfOk result (AsksFor subcommand options.now) }
-    ensures mistaken { (subcommand : Subcommand) → AsksOfEither subcommand options.now game
+    ensures mistaken { (subcommand : Subcommand) → HasOption subcommand name.Format
         → IfErr result (IsMistake subcommand options.now) }
 {
     if leaves_format(options) {
         return Ok(task_by_text(game));
     }
-    let command = Command::OneText(game);
     match format_in(options)? {
-        Format::Pg => Ok(Task::of(command)),
-        Format::Hoa => Ok(Task::of(command.for_automata())),
+        Format::Pg => Ok(Task::of(Command::OneText(game))),
+        Format::Hoa => Ok(Task::of(Command::OneText(game).for_automata())),
     }
 }
 
