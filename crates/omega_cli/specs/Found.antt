@@ -1,19 +1,20 @@
--- The line that is made of what `clap` found in the words.
+-- What is requested by what `clap` found in the words.
 use Rattle.std.specs.Prelude.{◌≡◌, ◌≢◌, ◌⊎◌, List, Option, Some, None, ℕ, codes}
 use Rattle.clap.specs.Words.{Row, first_of}
 use Rattle.clap.specs.declared.error.kind.ErrorKind.{ErrorKind}
 use Rattle.clap.specs.declared.error.kind.ErrorKind.TheVariants.{DisplayHelp, DisplayVersion}
-use Rattle.omega_cli_command.specs.CommandLine.{Asks, IsWrong, text_of}
-use Rattle.omega_cli_command.specs.Line.{IsFaultLine}
+use Rattle.omega_cli_command.specs.Mistakes.{IsWrong}
+use Rattle.omega_cli_command.specs.Options.{text_of}
+use Rattle.omega_cli_command.specs.Request.{Asks, IsFault}
 use Rattle.omega_cli_command.specs.Subcommands.{name_of}
 use Rattle.omega_cli_command.specs.declared.subcommand.Subcommand.{Subcommand}
-use Rattle.omega_cli_command.specs.declared.line.Line.{Line}
-use Rattle.omega_cli_command.specs.declared.line.Line.TheVariants as line
 use Rattle.omega_cli_command.specs.declared.mistake.Mistake.{Mistake}
 use Rattle.omega_cli_command.specs.declared.mistake.Mistake.TheVariants as mistake
 use Rattle.omega_cli_command.specs.declared.options.OptionName.{OptionName}
 use Rattle.omega_cli_command.specs.declared.options.OptionName.TheVariants as name
 use Rattle.omega_cli_command.specs.declared.options.Options.{Options}
+use Rattle.omega_cli_command.specs.declared.request.Request.{Request}
+use Rattle.omega_cli_command.specs.declared.request.Request.TheVariants as request
 
 -- how `clap` knows an option, or the operand
 abbrev pub id_of : OptionName → List ℕ
@@ -51,31 +52,30 @@ id_of name.Lenient = codes "lenient"
 id_of name.Verbose = codes "verbose"
 id_of name.File = codes "file"
 
--- the line is a fault with the message of the mistake; want of memory has no line
-abbrev pub IsFaultLineOf : Mistake → Line → Type 0
-IsFaultLineOf found line = IsFaultLine line × (found ≢ mistake.Memory)
+-- a fault with the message of the mistake is requested; want of memory has no message
+abbrev pub IsFaultOf : Mistake → Request → Type 0
+IsFaultOf found request = IsFault request × (found ≢ mistake.Memory)
 
--- the line for the subcommand with these options: what it requests, or a fault that says what is wrong
-abbrev pub IsLineOf : Subcommand → Options → Line → Type 0
-IsLineOf subcommand options line = Asks subcommand options line
-    ⊎ ((found : Mistake) × IsWrong subcommand options found × IsFaultLineOf found line)
+-- this is requested by the subcommand with these options, or is a fault that says what is wrong
+abbrev pub IsRequestOf : Subcommand → Options → Request → Type 0
+IsRequestOf subcommand options request = Asks subcommand options request
+    ⊎ ((found : Mistake) × IsWrong subcommand options found × IsFaultOf found request)
 
--- the line for the subcommand, with the options that `clap` found after it
-abbrev pub IsLineFor : Subcommand → List Row → Line → Type 0
-IsLineFor subcommand rows line =
+-- this is requested by the subcommand with the options that `clap` found after it
+abbrev pub IsRequestFor : Subcommand → List Row → Request → Type 0
+IsRequestFor subcommand rows request =
     (options : Options) × ((name : OptionName) → text_of name options ≡ first_of (id_of name) rows)
-    × IsLineOf subcommand options line
+    × IsRequestOf subcommand options request
 
--- the line for the subcommand of the name that `clap` found; a fault if it found none, or if none has the name
-abbrev pub IsLineFound : Option (List ℕ × List Row) → Line → Type 0
-IsLineFound None line = IsFaultLine line
-IsLineFound (Some (name, rows)) line =
-    ((subcommand : Subcommand) × (name ≡ name_of subcommand) × IsLineFor subcommand rows line)
-    ⊎ (((subcommand : Subcommand) → name ≡ name_of subcommand → ⊥) × IsFaultLine line)
+-- this is requested by the subcommand of the name that `clap` found; a fault if it found none, or if none has the name
+abbrev pub IsRequestFound : Option (List ℕ × List Row) → Request → Type 0
+IsRequestFound None request = IsFault request
+IsRequestFound (Some (name, rows)) request =
+    ((subcommand : Subcommand) × (name ≡ name_of subcommand) × IsRequestFor subcommand rows request)
+    ⊎ (((subcommand : Subcommand) → name ≡ name_of subcommand → ⊥) × IsFault request)
 
--- the line for an error of `clap`: help if the user requested a text, else a fault
-abbrev pub IsPrinted : ErrorKind → Line → Type 0
-IsPrinted kind (line.Help text) = (kind ≡ DisplayHelp) ⊎ (kind ≡ DisplayVersion)
-IsPrinted kind (line.Fault text) = (kind ≢ DisplayHelp) × (kind ≢ DisplayVersion)
-IsPrinted kind (line.Do task source lenient verbose) = ⊥
-IsPrinted kind (line.ByText asked file verbose) = ⊥
+-- this is made of an error of `clap`: help if the user requested a text, else a fault
+abbrev pub IsPrinted : ErrorKind → Request → Type 0
+IsPrinted kind (request.Help text) = (kind ≡ DisplayHelp) ⊎ (kind ≡ DisplayVersion)
+IsPrinted kind (request.Fault text) = (kind ≢ DisplayHelp) × (kind ≢ DisplayVersion)
+IsPrinted kind (request.Do task) = ⊥

@@ -2,7 +2,7 @@ ghost use Rattle.std.specs.Prelude.{◌≡◌};
 ghost use Rattle.clap.specs.Words.{first_of, found_of, rows_of};
 ghost use Rattle.omega_cli.specs.Found.{id_of};
 ghost use Rattle.omega_cli_command.specs.declared.options.OptionName.{OptionName};
-ghost use Rattle.omega_cli_command.specs.CommandLine.{text_of};
+ghost use Rattle.omega_cli_command.specs.Options.{text_of};
 
 use clap::ArgMatches;
 use omega_cli_command::Options;

@@ -27,8 +27,8 @@ mod version;
 mod words;
 
 pub use omega_cli_command::{
-    Beside, Command, Format, Line, Mistake, OfEach, OfEither, OptionName, Options, Player, Reason,
-    Refusal, Source, Subcommand, Task, line_for,
+    Command, Format, Mistake, OneText, OptionName, Options, Other, Player, Reason, Refusal,
+    Request, Source, Stream, Subcommand, Task, TwoTexts, request_for,
 };
 pub use program::{fault_text, matches_of};
 pub use words::read_words;
