@@ -1,6 +1,6 @@
 -- The format of a text, where a subcommand takes either.
-use Rattle.std.proofs.Common.{◌≡◌, inl, refl}
-use Rattle.omega_cli_command.specs.Faults.{IsFaulty}
+use Rattle.std.proofs.Common.{inl, refl}
+use Rattle.omega_cli_command.specs.Faulty.{IsFaulty}
 use Rattle.omega_cli_command.specs.Formats.{AsksOfEither, LeavesFormat, for_automata}
 use Rattle.omega_cli_command.specs.Mistakes.{IsMistake}
 use Rattle.omega_cli_command.specs.Options.{GivesFormat}

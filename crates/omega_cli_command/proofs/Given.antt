@@ -1,5 +1,5 @@
 -- What an option that may be left out gives, if it has a text or not; and that a flag is not both set and not.
-use Rattle.std.proofs.Common.{◌≡◌, ◌≢◌, ℕ, true, false, List, Option, None, Some, codes, is_some, option_map, refl}
+use Rattle.std.proofs.Common.{◌≡◌, ◌≢◌, ℕ, true, false, List, Option, None, Some, is_some, option_map, refl}
 use Rattle.omega_cli_command.specs.Values.{Gives, GivesFlag}
 
 module _ {T : Type 0} (reads : List ℕ → T → Type 0) where

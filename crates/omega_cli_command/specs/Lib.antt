@@ -13,7 +13,7 @@ pub mod Leniency
 pub mod Task
 pub mod Request
 pub mod Reason
-pub mod Faults
+pub mod Faulty
 pub mod Conflicts
 pub mod Mistakes
 pub mod Usage

@@ -1,7 +1,7 @@
 -- What is wrong with a subcommand, or with its options.
 use Rattle.std.specs.Prelude.{◌≡◌, ◌≢◌, ◌⊎◌, true}
 use Rattle.omega_cli_command.specs.Conflicts.{IsConflict, IsOfOtherFormat, IsWanting}
-use Rattle.omega_cli_command.specs.Faults.{IsFaulty}
+use Rattle.omega_cli_command.specs.Faulty.{IsFaulty}
 use Rattle.omega_cli_command.specs.Formats.{LeavesFormat}
 use Rattle.omega_cli_command.specs.Leniency.{GivesLeniency, MeansForGames}
 use Rattle.omega_cli_command.specs.Subcommands.{HasOption}

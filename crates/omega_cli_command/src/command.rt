@@ -9,11 +9,11 @@ use crate::two_texts::TwoTexts;
 /// What the program does, by what it reads.
 #[derive(Debug, Drop)]
 pub enum Command {
-    /// With one text.
+    /// Reads one text.
     OneText(OneText),
-    /// With a stream of automata.
+    /// Reads a stream of automata, in pieces.
     Stream(Stream),
-    /// With the text of the input, and with the other.
+    /// Reads the text of the input and the other.
     TwoTexts(TwoTexts, Other),
 }
 

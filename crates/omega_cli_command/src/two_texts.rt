@@ -1,4 +1,4 @@
-/// A command about two texts, that of the input and another.
+/// A command about two texts, that of the input and another: that of a file, or for `Accepts` the text of a word.
 #[derive(Clone, Copy, Debug)]
 pub enum TwoTexts {
     /// Checks the solution that the input has, of the game of the file or of the part of it that one node reaches.
@@ -37,7 +37,7 @@ pub enum TwoTexts {
     },
     /// Writes an automaton that accepts the words that one of the two accepts, that of the input or that of the file.
     Join,
-    /// Says whether the automaton of the input accepts each word that the word of the other text admits.
+    /// Says whether the automaton of the input accepts each word that the other text admits.
     Accepts {
         /// Whether a `no` is explained.
         explain: bool,

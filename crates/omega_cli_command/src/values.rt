@@ -1,7 +1,7 @@
 //! The values of options.
 ghost use Rattle.std.specs.Prelude.{◌≡◌, Bool, Some, IfOk, IfErr, MatchOption, option_map};
 ghost use Rattle.omega_text.specs.Limits.{most_number};
-ghost use Rattle.omega_cli_command.specs.Faults.{IsFaulty};
+ghost use Rattle.omega_cli_command.specs.Faulty.{IsFaulty};
 ghost use Rattle.omega_cli_command.specs.Options.{GivesFormat, GivesNode, text_of};
 ghost use Rattle.omega_cli_command.specs.Values.{Gives, GivesBudget, GivesFlag, IsNumberText};
 ghost use Rattle.omega_cli_command.specs.Values.{IsPlayerText, IsTruthText};

@@ -16,7 +16,7 @@ use crate::one_text::OneText;
 use crate::options::{OptionName, Options};
 use crate::stream::Stream;
 use crate::task::Task;
-use crate::tasks::either::{leaves_format, task_by_text};
+use crate::tasks::formats::{leaves_format, task_by_text};
 use crate::values::{format_in, identifier_in, is_set};
 
 /// Returns the task that `canon` requests with `options`, or what is wrong with them.

@@ -16,7 +16,7 @@ use crate::one_text::OneText;
 use crate::options::{OptionName, Options};
 use crate::other::Other;
 use crate::task::Task;
-use crate::tasks::either::{leaves_format, task_by_text};
+use crate::tasks::formats::{leaves_format, task_by_text};
 use crate::two_texts::TwoTexts;
 use crate::values::{depth_in, format_in, identifier_in, is_set};
 use std::alloc::Global;

@@ -1,4 +1,4 @@
-//! The tasks of commands that take a text of either format.
+//! The tasks of commands that take a text of either format, and the format that is left to the text.
 ghost use Rattle.std.specs.Prelude.{◌≡◌, IfErr, IfOk, None, false, true};
 ghost use Rattle.omega_cli_command.specs.Formats.{AsksOfEither};
 ghost use Rattle.omega_cli_command.specs.Mistakes.{IsMistake};
@@ -8,39 +8,20 @@ ghost use Rattle.omega_cli_command.specs.Subcommands.{HasOption};
 ghost use Rattle.omega_cli_command.specs.Task.{AsksFor};
 ghost use Rattle.omega_cli_command.specs.declared.options.OptionName.TheVariants as name;
 ghost use Rattle.omega_cli_command.specs.declared.subcommand.Subcommand.{Subcommand};
-ghost use Rattle.omega_cli_command.specs.declared.subcommand.Subcommand.TheVariants as sub;
 ghost use Rattle.omega_cli_command.specs.private.Tasks.{task_by_text};
 
 use crate::command::Command;
 use crate::format::Format;
 use crate::mistake::Mistake;
 use crate::one_text::OneText;
-use crate::options::{OptionName, Options};
+use crate::options::Options;
 use crate::source::names_file;
 use crate::task::Task;
-use crate::values::{format_in, is_set};
+use crate::values::format_in;
 
-/// Returns the task that `show` requests with `options`, or what is wrong with them.
-pub(crate) fn show_task<'a>(options: &Options<'a>) -> Result<Task, Mistake<'a>>
-    ensures asked { IfOk result (AsksFor sub.Show options.now) }
-    ensures mistaken { IfErr result (IsMistake sub.Show options.now) }
-{
-    if is_set(OptionName::Json, options.json)? {
-        return either_task(options, OneText::ShowJson);
-    }
-    either_task(options, OneText::Show)
-}
-
-/// Returns the task that `check` requests with `options`, or what is wrong with them.
-pub(crate) fn check_task<'a>(options: &Options<'a>) -> Result<Task, Mistake<'a>>
-    ensures asked { IfOk result (AsksFor sub.Check options.now) }
-    ensures mistaken { IfErr result (IsMistake sub.Check options.now) }
-{
-    either_task(options, OneText::Check)
-}
-
-/// Returns the task of `game`, a command of games, or of the command of automata in its place, by the format.
-fn either_task<'a>(options: &Options<'a>, game: OneText) -> Result<Task, Mistake<'a>>
+/// Returns the task of `game`, a command of games, or of that of automata in its place, or what is wrong with the
+/// format. It is that of `options`, or is left to the text of the file that the operand names.
+pub(crate) fn either_task<'a>(options: &Options<'a>, game: OneText) -> Result<Task, Mistake<'a>>
     ensures asked { (subcommand : Subcommand) → AsksOfEither subcommand options.now game
         → IfOk result (AsksFor subcommand options.now) }
     ensures mistaken { (subcommand : Subcommand) → HasOption subcommand name.Format
@@ -55,7 +36,7 @@ fn either_task<'a>(options: &Options<'a>, game: OneText) -> Result<Task, Mistake
     }
 }
 
-/// Returns the task of `game`, a command of games, or of the command of automata in its place, by the text.
+/// Returns the task of `game`, a command of games, or of that of automata in its place: the text tells which.
 pub(crate) fn task_by_text(game: OneText) -> Task
     ensures { result ≡ task_by_text game }
 {

@@ -7,7 +7,7 @@ use Rattle.omega_cli_command.specs.declared.command.Command.TheVariants as comma
 use Rattle.omega_cli_command.specs.declared.task.Task.{Task}
 use Rattle.omega_cli_command.specs.private.Tasks.{default_task}
 use Rattle.omega_cli_command.proofs.Formats.{automata_are_asked, format_is_mistaken}
-use Rattle.omega_cli_command.proofs.tasks.either.either_task.Goals as goal
+use Rattle.omega_cli_command.proofs.tasks.formats.either_task.Goals as goal
 
 pub returns-in_err-format_in-clause-mistaken : goal.returns-in_err-format_in-clause-mistaken
 returns-in_err-format_in-clause-mistaken c subcommand has =
