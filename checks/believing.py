@@ -175,8 +175,8 @@ its clause.
   contracts cite (`List`, `Option`, numbers), and the crates `clap`, `indexmap`, `itoa`, `smallvec` and `thiserror`
   with their contracts;
 - that the definitions of `clap` for what it makes of words (`subcommand_of`, `fault_of`) are what one expects of a
-  command line. In these words `read_words` is proved: the line that it gives is the one that the words ask for
-  (`IsLineAsked`), for the subcommands and options of `crates/omega_cli/specs/Program.antt`;
+  command line. In these words `read_words` is proved: what it gives is what the words request
+  (`IsRequested`), for the subcommands and options of `crates/omega_cli/specs/Program.antt`;
 - the texts of help and of faults of the command line, which are tested;
 - `main`, which hands `read_words` the words that the program was started with, and `obey` the machine's streams and
   files. Of these the toolchain says nothing; that they are the right ones is tested;

@@ -1,7 +1,8 @@
 -- What a subcommand asks for that reads one text.
 use Rattle.std.specs.Prelude.{◌≡◌, true, false, Some, None}
 use Rattle.omega_cli_command.specs.Formats.{AsksOfEither}
-use Rattle.omega_cli_command.specs.Options.{GivesEmptyLines, GivesFormat, GivesNoDrawn, GivesNoLifting, GivesNode, GivesPart, text_of}
+use Rattle.omega_cli_command.specs.Options.{GivesEmptyLines, GivesFormat, GivesNoDrawn, GivesNoLifting}
+use Rattle.omega_cli_command.specs.Options.{GivesNode, GivesPart, text_of}
 use Rattle.omega_cli_command.specs.Values.{Gives, GivesFlag, IsPlayerText}
 use Rattle.omega_cli_command.specs.declared.format.Format.TheVariants.{Hoa, Pg}
 use Rattle.omega_cli_command.specs.declared.one_text.OneText.{OneText}
