@@ -1,9 +1,14 @@
-ghost use Rattle.std.specs.Prelude.{◌≡◌};
-ghost use Rattle.omega_cli_command.specs.private.Tasks.{default_task};
+ghost use Rattle.std.specs.Prelude.{◌≡◌, IfErr, IfOk};
+ghost use Rattle.omega_cli_command.specs.declared.mistake.Mistake.TheVariants as mistake;
+ghost use Rattle.omega_cli_command.specs.private.Tasks.{IsTaskWithFile, default_task};
 
 use crate::command::Command;
 use crate::limits::MOST_BUDGET;
+use crate::mistake::Mistake;
+use crate::other::Other;
 use crate::source::Source;
+use crate::two_texts::TwoTexts;
+use std::alloc::Global;
 
 /// A command, the texts that it is about, and how it is to be run.
 #[derive(Debug, Drop)]
@@ -38,5 +43,18 @@ impl Task {
             lenient: false,
             verbose: false,
         }
+    }
+
+    /// Returns the task of `asked` about the text of standard input and that of the file of this name.
+    pub(crate) fn with_file<'a>(
+        alloc: Global,
+        asked: TwoTexts,
+        name: &str,
+    ) -> Result<Task, Mistake<'a>>
+        ensures task { IfOk result (IsTaskWithFile asked name.now) }
+        ensures memory { IfErr result (λ found. found ≡ mistake.Memory) }
+    {
+        let other = Other::of_file(alloc, name)?;
+        Ok(Task::of(Command::TwoTexts(asked, other)))
     }
 }

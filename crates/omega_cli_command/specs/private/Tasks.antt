@@ -1,11 +1,14 @@
--- Tasks with the defaults, and those whose format a text tells.
-use Rattle.std.specs.Prelude.{false, true}
+-- Tasks with the defaults, those whose format a text tells, and those with the text of a file too.
+use Rattle.std.specs.Prelude.{◌≡◌, false, true, List, Some, ℕ}
 use Rattle.omega_cli_command.specs.Limits.{most_budget}
+use Rattle.omega_cli_command.specs.TwoTexts.{NamesOther}
 use Rattle.omega_cli_command.specs.declared.command.Command.{Command}
 use Rattle.omega_cli_command.specs.declared.command.Command.TheVariants as command
 use Rattle.omega_cli_command.specs.declared.one_text.OneText.{OneText}
+use Rattle.omega_cli_command.specs.declared.other.Other.{Other}
 use Rattle.omega_cli_command.specs.declared.source.Source.TheVariants as source
 use Rattle.omega_cli_command.specs.declared.task.Task.{Task}
+use Rattle.omega_cli_command.specs.declared.two_texts.TwoTexts.{TwoTexts}
 
 -- the task of a command with the text of standard input, the greatest budget, and no flag
 abbrev pub default_task : Command → Task
@@ -22,3 +25,8 @@ default_task command = record {
 -- the same of a command of games, or of that of automata in its place
 abbrev pub task_by_text : OneText → Task
 task_by_text game = record (default_task (command.OneText game)) { by_text = true }
+
+-- the task is this one, about the text of standard input and that of the file of this name
+abbrev pub IsTaskWithFile : TwoTexts → (name : List ℕ) → Task → Type 0
+IsTaskWithFile asked name task = (source : Other) × NamesOther (Some name) source
+    × (task ≡ default_task (command.TwoTexts asked source))

@@ -2,7 +2,7 @@
 ghost use Rattle.std.specs.Prelude.{◌≡◌, IfErr, IfOk, false, true};
 ghost use Rattle.omega_cli_command.specs.Formats.{GoesWithEither};
 ghost use Rattle.omega_cli_command.specs.Mistakes.{IsMistake};
-ghost use Rattle.omega_cli_command.specs.Options.{GivesFormat, GivesNoDrawn, GivesPart, text_of};
+ghost use Rattle.omega_cli_command.specs.Options.{GivesFormat, GivesPart, text_of};
 ghost use Rattle.omega_cli_command.specs.Task.{AsksFor};
 ghost use Rattle.omega_cli_command.specs.Values.{GivesFlag};
 ghost use Rattle.omega_cli_command.specs.declared.format.Format.TheVariants.{Hoa, Pg};
@@ -14,7 +14,6 @@ use crate::format::Format;
 use crate::mistake::Mistake;
 use crate::one_text::OneText;
 use crate::options::{OptionName, Options};
-use crate::other::Other;
 use crate::task::Task;
 use crate::tasks::formats::{leaves_format, task_by_text};
 use crate::two_texts::TwoTexts;
@@ -102,8 +101,7 @@ fn part_task<'a>(
             depth,
             legend,
         };
-        let other = Other::of_file(alloc, solution)?;
-        return Ok(Task::of(Command::TwoTexts(asked, other)));
+        return Task::with_file(alloc, asked, solution);
     }
     if let Some(walk) = options.walk {
         let asked = TwoTexts::DrawWalk {
@@ -111,8 +109,7 @@ fn part_task<'a>(
             depth,
             legend,
         };
-        let other = Other::of_file(alloc, walk)?;
-        return Ok(Task::of(Command::TwoTexts(asked, other)));
+        return Task::with_file(alloc, asked, walk);
     }
     if legend {
         return Err(Mistake::Missing(OptionName::Solution));
@@ -140,17 +137,6 @@ fn automaton_task<'a>(options: &Options<'a>, legend: bool, lasso: bool) -> Resul
     if legend {
         return Err(Mistake::OnlyWith(OptionName::Legend, Format::Pg));
     }
-    whole_automaton_task(options, lasso)
-}
-
-/// Returns the task that `draw` requests for an automaton in which nothing is drawn, or what is wrong with `options`.
-fn whole_automaton_task<'a>(options: &Options<'a>, lasso: bool) -> Result<Task, Mistake<'a>>
-    requires format { GivesFormat options.now Hoa }
-    requires alone { GivesNoDrawn options.now }
-    requires lasso { GivesFlag (text_of name.Lasso options.now) lasso }
-    ensures asked { IfOk result (AsksFor sub.Draw options.now) }
-    ensures mistaken { IfErr result (IsMistake sub.Draw options.now) }
-{
     if options.from.is_some() {
         return Err(Mistake::OnlyWith(OptionName::From, Format::Pg));
     }

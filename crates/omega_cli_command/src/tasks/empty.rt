@@ -1,8 +1,8 @@
 //! The task that `empty` requests.
-ghost use Rattle.std.specs.Prelude.{IfErr, IfOk, false, true};
+ghost use Rattle.std.specs.Prelude.{◌≡◌, IfErr, IfOk, false, true};
 ghost use Rattle.omega_cli_command.specs.Mistakes.{IsMistake};
-ghost use Rattle.omega_cli_command.specs.Options.{GivesEmptyLines, text_of};
-ghost use Rattle.omega_cli_command.specs.Task.{AsksFor};
+ghost use Rattle.omega_cli_command.specs.Options.{GivesNoLifting, text_of};
+ghost use Rattle.omega_cli_command.specs.Task.{AsksCommand, AsksFor};
 ghost use Rattle.omega_cli_command.specs.Values.{GivesFlag};
 ghost use Rattle.omega_cli_command.specs.declared.options.OptionName.TheVariants as name;
 ghost use Rattle.omega_cli_command.specs.declared.subcommand.Subcommand.TheVariants as sub;
@@ -20,90 +20,64 @@ pub(crate) fn empty_task<'a>(options: &Options<'a>) -> Result<Task, Mistake<'a>>
     ensures asked { IfOk result (AsksFor sub.Empty options.now) }
     ensures mistaken { IfErr result (IsMistake sub.Empty options.now) }
 {
-    let word = is_set(OptionName::Word, options.word)?;
-    let names = is_set(OptionName::Names, options.names)?;
-    let status = is_set(OptionName::Status, options.status)?;
-    if is_set(OptionName::Stream, options.stream)? {
-        stream_task(options, word, names, status)
-    } else {
-        automaton_task(options, word, names, status)
-    }
-}
-
-/// Returns the task that `empty` requests with `options` for one automaton, or what is wrong with them.
-fn automaton_task<'a>(
-    options: &Options<'a>,
-    word: bool,
-    names: bool,
-    status: bool,
-) -> Result<Task, Mistake<'a>>
-    requires one { GivesFlag (text_of name.Stream options.now) false }
-    requires lines { GivesEmptyLines options.now word names }
-    requires status { GivesFlag (text_of name.Status options.now) status }
-    ensures asked { IfOk result (AsksFor sub.Empty options.now) }
-    ensures mistaken { IfErr result (IsMistake sub.Empty options.now) }
-{
-    let budget = budget_in(options)?;
+    let stream = is_set(OptionName::Stream, options.stream)?;
     let progress = is_set(OptionName::Progress, options.progress)?;
-    if !is_set(OptionName::Search, options.search)? {
-        let asked = OneText::Empty {
-            word,
-            names,
-            status,
-        };
-        return Ok(Task {
-            budget,
-            progress,
-            ..Task::of(Command::OneText(asked))
-        });
-    }
-    if options.budget.is_some() {
-        return Err(Mistake::Conflict(OptionName::Search, OptionName::Budget));
-    }
-    if progress {
-        return Err(Mistake::Conflict(OptionName::Search, OptionName::Progress));
-    }
-    Ok(Task::of(Command::OneText(OneText::EmptySearch {
-        word,
-        names,
-        status,
-    })))
-}
-
-/// Returns the task that `empty` requests with `options` for a stream, or what is wrong with them.
-fn stream_task<'a>(
-    options: &Options<'a>,
-    word: bool,
-    names: bool,
-    status: bool,
-) -> Result<Task, Mistake<'a>>
-    requires stream { GivesFlag (text_of name.Stream options.now) true }
-    requires lines { GivesEmptyLines options.now word names }
-    requires status { GivesFlag (text_of name.Status options.now) status }
-    ensures asked { IfOk result (AsksFor sub.Empty options.now) }
-    ensures mistaken { IfErr result (IsMistake sub.Empty options.now) }
-{
-    if is_set(OptionName::Progress, options.progress)? {
+    if stream && progress {
         return Err(Mistake::Conflict(OptionName::Stream, OptionName::Progress));
     }
     let budget = budget_in(options)?;
-    if !is_set(OptionName::Search, options.search)? {
-        let asked = Stream::Empty {
+    let search = is_set(OptionName::Search, options.search)?;
+    if search && options.budget.is_some() {
+        return Err(Mistake::Conflict(OptionName::Search, OptionName::Budget));
+    }
+    if search && progress {
+        return Err(Mistake::Conflict(OptionName::Search, OptionName::Progress));
+    }
+    let command = empty_command(options, stream, search)?;
+    Ok(Task {
+        budget,
+        progress,
+        ..Task::of(command)
+    })
+}
+
+/// Returns the command that `empty` requests for one automaton or a stream, decided by lifting or by a search, or what
+/// is wrong with `options`.
+fn empty_command<'a>(
+    options: &Options<'a>,
+    stream: bool,
+    search: bool,
+) -> Result<Command, Mistake<'a>>
+    requires stream { GivesFlag (text_of name.Stream options.now) stream }
+    requires search { GivesFlag (text_of name.Search options.now) search }
+    requires unobserved { stream ≡ true → GivesFlag (text_of name.Progress options.now) false }
+    requires unlifted { search ≡ true → GivesNoLifting options.now }
+    ensures asked { IfOk result (AsksCommand false sub.Empty options.now) }
+    ensures mistaken { IfErr result (IsMistake sub.Empty options.now) }
+{
+    let word = is_set(OptionName::Word, options.word)?;
+    let names = is_set(OptionName::Names, options.names)?;
+    let status = is_set(OptionName::Status, options.status)?;
+    Ok(match (stream, search) {
+        (false, false) => Command::OneText(OneText::Empty {
             word,
             names,
             status,
-        };
-        return Ok(Task {
-            budget,
-            ..Task::of(Command::Stream(asked))
-        });
-    }
-    if options.budget.is_some() {
-        return Err(Mistake::Conflict(OptionName::Search, OptionName::Budget));
-    }
-    Ok(Task::of(Command::Stream(Stream::EmptySearch {
-        word,
-        names,
-        status,
-    })))
+        }),
+        (false, true) => Command::OneText(OneText::EmptySearch {
+            word,
+            names,
+            status,
+        }),
+        (true, false) => Command::Stream(Stream::Empty {
+            word,
+            names,
+            status,
+        }),
+        (true, true) => Command::Stream(Stream::EmptySearch {
+            word,
+            names,
+            status,
+        }),
+    })
 }

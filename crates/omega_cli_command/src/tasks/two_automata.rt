@@ -19,8 +19,8 @@ pub(crate) fn meet_task<'a>(alloc: Global, options: &Options<'a>) -> Result<Task
     ensures mistaken { IfErr result (IsMistake sub.Meet options.now) }
 {
     let trim = is_set(OptionName::Trim, options.trim)?;
-    let other = Other::of_file(alloc, other_in(options)?)?;
-    Ok(Task::of(Command::TwoTexts(TwoTexts::Meet { trim }, other)))
+    let name = other_in(options)?;
+    Task::with_file(alloc, TwoTexts::Meet { trim }, name)
 }
 
 /// Returns the task that `join` requests with `options`, or what is wrong with them.
@@ -28,8 +28,8 @@ pub(crate) fn join_task<'a>(alloc: Global, options: &Options<'a>) -> Result<Task
     ensures asked { IfOk result (AsksFor sub.Join options.now) }
     ensures mistaken { IfErr result (IsMistake sub.Join options.now) }
 {
-    let other = Other::of_file(alloc, other_in(options)?)?;
-    Ok(Task::of(Command::TwoTexts(TwoTexts::Join, other)))
+    let name = other_in(options)?;
+    Task::with_file(alloc, TwoTexts::Join, name)
 }
 
 /// Returns the task that `accepts` requests with `options`, or what is wrong with them.
@@ -55,13 +55,11 @@ pub(crate) fn contained_task<'a>(alloc: Global, options: &Options<'a>) -> Result
     let Some(name) = options.within else {
         return Err(Mistake::Missing(OptionName::In));
     };
-    let asked = if stream {
-        TwoTexts::ContainedStream { explain }
+    if stream {
+        Task::with_file(alloc, TwoTexts::ContainedStream { explain }, name)
     } else {
-        TwoTexts::Contained { explain }
-    };
-    let other = Other::of_file(alloc, name)?;
-    Ok(Task::of(Command::TwoTexts(asked, other)))
+        Task::with_file(alloc, TwoTexts::Contained { explain }, name)
+    }
 }
 
 /// Returns the task that `equal` requests with `options`, or what is wrong with them.
@@ -73,6 +71,5 @@ pub(crate) fn equal_task<'a>(alloc: Global, options: &Options<'a>) -> Result<Tas
     let Some(name) = options.to else {
         return Err(Mistake::Missing(OptionName::To));
     };
-    let other = Other::of_file(alloc, name)?;
-    Ok(Task::of(Command::TwoTexts(TwoTexts::Equal { explain }, other)))
+    Task::with_file(alloc, TwoTexts::Equal { explain }, name)
 }

@@ -8,10 +8,8 @@ ghost use Rattle.omega_cli_command.specs.declared.options.OptionName.TheVariants
 ghost use Rattle.omega_cli_command.specs.declared.subcommand.Subcommand.TheVariants as sub;
 ghost use Rattle.omega_cli_command.specs.private.Verify.{solution_question};
 
-use crate::command::Command;
 use crate::mistake::Mistake;
 use crate::options::{OptionName, Options};
-use crate::other::Other;
 use crate::task::Task;
 use crate::two_texts::TwoTexts;
 use crate::values::{identifier_in, is_set};
@@ -62,8 +60,7 @@ fn solution_task<'a>(
         return Err(Mistake::Missing(OptionName::Explain));
     }
     let asked = solution_question(from, explain, winners, names);
-    let other = Other::of_file(alloc, name)?;
-    Ok(Task::of(Command::TwoTexts(asked, other)))
+    Task::with_file(alloc, asked, name)
 }
 
 /// Returns what is asked of a solution. With names of nodes, its choices are judged and a `no` is explained.
@@ -109,8 +106,7 @@ fn lasso_task<'a>(
     if names {
         return Err(Mistake::Conflict(OptionName::Automaton, OptionName::Names));
     }
-    let other = Other::of_file(alloc, automaton)?;
-    Ok(Task::of(Command::TwoTexts(TwoTexts::VerifyLasso { explain }, other)))
+    Task::with_file(alloc, TwoTexts::VerifyLasso { explain }, automaton)
 }
 
 /// Returns the task that `verify` requests with `options` that name a specification, or what is wrong with them.
@@ -144,6 +140,5 @@ fn controller_task<'a>(
     if names {
         return Err(Mistake::Conflict(OptionName::Specification, OptionName::Names));
     }
-    let other = Other::of_file(alloc, specification)?;
-    Ok(Task::of(Command::TwoTexts(TwoTexts::VerifyController { explain }, other)))
+    Task::with_file(alloc, TwoTexts::VerifyController { explain }, specification)
 }
