@@ -13,6 +13,7 @@ use std::alloc::Global;
 /// A command, the texts that it is about, and how it is to be run.
 #[derive(Debug, Drop)]
 pub struct Task {
+    /// What is done with the texts.
     pub command: Command,
     /// Whether the first token of the input's text tells its format. If the text is of automata, the command is that of
     /// [Command::for_automata].
