@@ -2,7 +2,7 @@
 use Rattle.std.proofs.Common.{List, ℕ, subst}
 use Rattle.omega_synth_check.specs.Refusing.{IsJudgeRefusal}
 use Rattle.omega_answers_synth.proofs.Reported.{judge_refused}
-use Rattle.omega_answers_synth.proofs.verify.verdict_on.Goals as goal
+use Rattle.omega_answers_synth.proofs.verify.controller_verdict.Goals as goal
 
 pub returns-clause-refused : goal.returns-clause-refused
 returns-clause-refused c =
