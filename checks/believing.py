@@ -42,7 +42,7 @@ CONTROLLER_LAWS = ("ControllersRealize", "CounterStrategiesRefute", "Controllers
 # The laws on written controllers, and the answers and refusals from which they conclude.
 WRITTEN_CONTROLLERS = "omega_laws.specs.WrittenControllers"
 WRITTEN_CONTROLLER_LAWS = ("WrittenControllersAreJudgedRight", "WrittenControllersAreNotAtFault")
-WRITTEN_CONTROLLER_ANSWERS = frozenset({"IsWinnerAnswer", "IsControllerAnswer", "IsFileRefusal", "IsInputRefusal"})
+WRITTEN_CONTROLLER_ANSWERS = frozenset({"IsWinnerAnswer", "IsControllerAnswer", "IsControllerRefused"})
 # What calls of the library answer, where they answer.
 CALLS = {
     "`decide_containment` of `omega_lang_inclusion`": ("omega_lang_inclusion.specs.Containing", "IsContainment"),

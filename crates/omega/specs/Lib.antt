@@ -4,7 +4,6 @@ pub mod Held
 pub mod Holding
 pub mod TextOutcome
 pub mod Giving
-pub mod Languages
 pub mod Solving
 pub mod Verifying
 pub mod Bounding

@@ -1,16 +1,13 @@
-ghost use Rattle.std.specs.Prelude.{IfErr, IfOk};
-ghost use Rattle.omega_answers_inclusion.specs.Contained.{IsContainedAnswer};
-ghost use Rattle.omega_answers_inclusion.specs.Equal.{IsEqualAnswer};
+ghost use Rattle.omega_answers_inclusion.specs.Contained.{IsContainedAnswer, IsContainedRefused};
+ghost use Rattle.omega_answers_inclusion.specs.Equal.{IsEqualAnswer, IsEqualRefused};
 ghost use Rattle.omega.specs.Giving.{IsVerdictOutcome};
-ghost use Rattle.omega.specs.Languages.{IsContainedRefused, IsEqualRefused};
 ghost use Rattle.omega.specs.Solving.{asks};
 
-use crate::giving::{copy_of_text, give_verdict};
+use crate::giving::give_verdict;
 use crate::solving::asks;
 use crate::text::Text;
 use crate::text_outcome::TextOutcome;
-use omega_answers_inclusion::{Exit, contained_texts, equal_texts};
-use omega_io::Refused;
+use omega_answers_inclusion::{contained_texts, equal_texts};
 use std::alloc::Global;
 
 /// Decides whether each word that the automaton of `text` accepts is accepted, in its part, by the automaton of
@@ -32,7 +29,7 @@ pub extern "C" fn omega_contained(
     ensures { IsVerdictOutcome (IsContainedAnswer other.now text.now (asks explain))
         (IsContainedRefused other.now text.now) result verdict.old verdict.new out.old out.new }
 {
-    match containment_of(alloc, text, other, asks(explain)) {
+    match contained_texts(alloc, other, text, asks(explain)) {
         Ok((exit, output)) => give_verdict(alloc, exit, output, verdict, out),
         Err(refused) => TextOutcome::of(refused),
     }
@@ -55,40 +52,8 @@ pub extern "C" fn omega_equal(
     ensures { IsVerdictOutcome (IsEqualAnswer other.now text.now (asks explain))
         (IsEqualRefused other.now text.now) result verdict.old verdict.new out.old out.new }
 {
-    match equality_of(alloc, text, other, asks(explain)) {
+    match equal_texts(alloc, other, text, asks(explain)) {
         Ok((exit, output)) => give_verdict(alloc, exit, output, verdict, out),
         Err(refused) => TextOutcome::of(refused),
     }
-}
-
-/// Decides as [contained_texts] does, of copies of the texts.
-fn containment_of(
-    alloc: Global,
-    text: &[u8],
-    other: &[u8],
-    explain: bool,
-) -> Result<(Exit, Vec<u8>), Refused>
-    ensures answer { IfOk result
-        (λ made. IsContainedAnswer other.now text.now explain made.0 made.1.items) }
-    ensures refused { IfErr result (IsContainedRefused other.now text.now) }
-{
-    let file = copy_of_text(alloc, other)?;
-    let input = copy_of_text(alloc, text)?;
-    contained_texts(alloc, file, input, explain)
-}
-
-/// Decides as [equal_texts] does, of copies of the texts.
-fn equality_of(
-    alloc: Global,
-    text: &[u8],
-    other: &[u8],
-    explain: bool,
-) -> Result<(Exit, Vec<u8>), Refused>
-    ensures answer { IfOk result
-        (λ made. IsEqualAnswer other.now text.now explain made.0 made.1.items) }
-    ensures refused { IfErr result (IsEqualRefused other.now text.now) }
-{
-    let file = copy_of_text(alloc, other)?;
-    let input = copy_of_text(alloc, text)?;
-    equal_texts(alloc, file, input, explain)
 }

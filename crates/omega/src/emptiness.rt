@@ -1,15 +1,13 @@
-ghost use Rattle.std.specs.Prelude.{false, IfErr, IfOk};
+ghost use Rattle.std.specs.Prelude.{false};
 ghost use Rattle.omega_answers_empty.specs.empty.Answer.{IsEmptySearchAnswer, IsEmptySearchRefusal};
-ghost use Rattle.omega_text.specs.Cases.{or_memory};
 ghost use Rattle.omega.specs.Giving.{IsOneRefused, IsTextOutcome};
 ghost use Rattle.omega.specs.Solving.{asks};
 
-use crate::giving::{copy_of_text, give};
+use crate::giving::give;
 use crate::solving::asks;
 use crate::text::Text;
 use crate::text_outcome::TextOutcome;
 use omega_answers_empty::{Lines, search_emptiness};
-use omega_text::Refusal;
 use std::alloc::Global;
 
 /// Gives `empty` if the automaton of `text` accepts no word, and else the lines of an accepting lasso. With `word` not
@@ -26,17 +24,8 @@ pub extern "C" fn omega_empty(alloc: Global, text: &[u8], word: u8, out: &mut Te
         word: asks(word),
         run: false,
     };
-    match search_output(alloc, text, lines) {
-        Ok(output) => give(alloc, output, out),
+    match search_emptiness(alloc, text, lines, false) {
+        Ok((_exit, output)) => give(alloc, output, out),
         Err(refusal) => TextOutcome::of_one(refusal),
     }
-}
-
-/// Searches as [search_emptiness] does, in a copy of `text`.
-fn search_output(alloc: Global, text: &[u8], lines: Lines) -> Result<Vec<u8>, Refusal>
-    ensures answer { IfOk result (λ output. IsEmptySearchAnswer text.now lines output.items) }
-    ensures refused { IfErr result (or_memory (IsEmptySearchRefusal text.now)) }
-{
-    let copy = copy_of_text(alloc, text)?;
-    search_emptiness(alloc, copy, lines)
 }

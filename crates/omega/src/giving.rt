@@ -1,4 +1,4 @@
-ghost use Rattle.std.specs.Prelude.{◌≡◌, IfOk, IsOkUnless};
+ghost use Rattle.std.specs.Prelude.{◌≡◌};
 ghost use Rattle.omega.specs.Giving.{IsTextOutcome, IsVerdictOutcome};
 ghost use Rattle.omega.specs.TextOutcome.{verdict_number};
 ghost use Rattle.omega_io.specs.Refused.{about_none};
@@ -54,12 +54,4 @@ fn verdict_number(exit: Exit) -> u32
         Exit::Done => 1,
         Exit::No => 0,
     }
-}
-
-/// Returns a copy of a caller's text.
-pub(crate) fn copy_of_text(alloc: Global, text: &[u8]) -> Result<Vec<u8>, Refusal>
-    ensures text { IfOk result (λ made. made.items ≡ text.now) }
-    ensures memory { IsOkUnless result Memory }
-{
-    Ok(Vec::from_slice(alloc, text)?)
 }

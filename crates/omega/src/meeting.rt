@@ -1,6 +1,5 @@
-ghost use Rattle.omega_answers_automaton.specs.Meet.{IsMeetAnswer};
+ghost use Rattle.omega_answers_automaton.specs.Meet.{IsMeetAnswer, IsMeetRefused};
 ghost use Rattle.omega.specs.Giving.{IsTextOutcome};
-ghost use Rattle.omega.specs.Languages.{IsMeetRefused};
 
 use crate::giving::give;
 use crate::text::Text;

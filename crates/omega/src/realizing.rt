@@ -1,15 +1,12 @@
-ghost use Rattle.std.specs.Prelude.{IfErr, IfOk};
 ghost use Rattle.omega_answers_synth.specs.Refusing.{IsRealizeRefusal};
 ghost use Rattle.omega_answers_synth.specs.Winner.{IsWinnerAnswer};
 ghost use Rattle.omega_solve.specs.Limits.{most_lifts};
-ghost use Rattle.omega_text.specs.Cases.{or_memory};
 ghost use Rattle.omega.specs.Giving.{IsOneRefused, IsVerdictOutcome};
 
-use crate::giving::{copy_of_text, give_verdict};
+use crate::giving::give_verdict;
 use crate::text::Text;
 use crate::text_outcome::TextOutcome;
-use omega_answers_synth::{Exit, write_winner};
-use omega_text::Refusal;
+use omega_answers_synth::write_winner;
 use std::alloc::Global;
 
 /// Decides whether the automaton of `text` is realizable where the system controls the propositions that its item
@@ -30,17 +27,8 @@ pub extern "C" fn omega_realize(
         (IsWinnerAnswer text.now) (IsOneRefused (IsRealizeRefusal text.now most_lifts))
         result verdict.old verdict.new out.old out.new }
 {
-    match winner_output(alloc, text) {
+    match write_winner(alloc, text) {
         Ok((exit, output)) => give_verdict(alloc, exit, output, verdict, out),
         Err(refusal) => TextOutcome::of_one(refusal),
     }
-}
-
-/// Writes the winner as [write_winner] does, of a copy of `text`.
-fn winner_output(alloc: Global, text: &[u8]) -> Result<(Exit, Vec<u8>), Refusal>
-    ensures answer { IfOk result (λ made. IsWinnerAnswer text.now made.0 made.1.items) }
-    ensures refused { IfErr result (or_memory (IsRealizeRefusal text.now most_lifts)) }
-{
-    let copy = copy_of_text(alloc, text)?;
-    write_winner(alloc, copy)
 }

@@ -1,6 +1,3 @@
--- Which text a refusal is about.
--- Which text a refusal is about.
-pub mod About
-pub mod Refusals
-pub mod TrimAbout
-pub mod UnionAbout
+-- Lemmas by theme: the faults of lassos, and which text a refusal is about.
+pub mod Faults
+pub mod Lassos

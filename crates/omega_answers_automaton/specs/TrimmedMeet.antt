@@ -1,16 +1,16 @@
 -- The answer of `meet --trim` for the texts of two automata, that of a file and that of the input: the canonical text
 -- of their product without its useless states; and its refusals.
-use Rattle.std.specs.Prelude.{◌≡◌, ◌⊎◌, List, ℕ}
+use Rattle.std.specs.Prelude.{◌⊎◌, List, ℕ}
 use Rattle.omega_text.specs.declared.refusal.Refusal.{Refusal}
-use Rattle.omega_text.specs.declared.refusal.Refusal.TheVariants.{Memory}
 use Rattle.omega_hoa_automaton.specs.Automaton.{Description}
-use Rattle.omega_hoa.specs.Alone.{IsAutomatonRefusal, IsAutomatonText}
-use Rattle.omega_answers_automaton.specs.Meet.{IsProductRefused, IsTextRefused}
+use Rattle.omega_io.specs.declared.refused.Refused.{Refused}
 use Rattle.omega_lang_product.specs.Limits.{IsWithin}
 use Rattle.omega_lang_product.specs.Product.{IsProduct}
-use Rattle.omega_lang_product.specs.Refusing.{HaveNoBranch}
+use Rattle.omega_lang_product.specs.Refusing.{HaveNoBranch, IsProductRefusal}
 use Rattle.omega_lang_product.specs.Written.{IsWritten}
 use Rattle.omega_lang_trim.specs.Refusing.{IsTrimRefusal}
+use Rattle.omega_answers.specs.TwoAutomata.{IsRefusalOfTexts, OfAutomata}
+use Rattle.omega_answers.specs.TwoTexts.{IsAboutNeither}
 use Rattle.omega_answers_automaton.specs.Trim.{IsTrimText}
 
 -- the product of two automata without universal branching, within the limits
@@ -20,35 +20,31 @@ pub record IsMeeting (first second product : Description) : Type 0 where
   pub written : IsWritten first second product
   pub within : IsWithin product
 
--- both texts are those of automata, that of the input first, which have this product
-pub record AreMeetingTexts (file input : List ℕ) (product : Description) : Type 0 where
-  pub second : Description
-  pub second_read : IsAutomatonText file second
-  pub first : Description
-  pub first_read : IsAutomatonText input first
+-- the canonical text of the product of two automata without its useless states
+pub record IsTrimmedProductText (first second : Description) (output : List ℕ) : Type 0 where
+  pub product : Description
   pub meeting : IsMeeting first second product
+  pub trimmed : IsTrimText product output
+
+-- the trimming of the product of two automata is refused
+pub record RefusesTrimming (first second : Description) (refusal : Refusal) : Type 0 where
+  pub product : Description
+  pub meeting : IsMeeting first second product
+  pub refused : IsTrimRefusal product refusal
+
+-- the product is refused, or else its trimming
+abbrev pub IsTrimmedProductRefusal : Description → Description → Refusal → Type 0
+IsTrimmedProductRefusal first second refusal =
+    IsProductRefusal first second refusal ⊎ RefusesTrimming first second refusal
 
 -- the answer of `meet --trim`: both texts are those of automata, and the canonical text of their product without its
 -- useless states is written
-pub record IsMeetTrimmedAnswer (file input output : List ℕ) : Type 0 where
-  pub product : Description
-  pub texts : AreMeetingTexts file input product
-  pub trimmed : IsTrimText product output
+abbrev pub IsMeetTrimmedAnswer : (file input output : List ℕ) → Type 0
+IsMeetTrimmedAnswer file input output =
+    OfAutomata (λ second first. IsTrimmedProductText first second output) file input
 
--- both texts are those of automata, and the trimming of their product is refused
-pub record IsTrimRefused (file input : List ℕ) (refusal : Refusal) : Type 0 where
-  pub product : Description
-  pub texts : AreMeetingTexts file input product
-  pub refused : IsTrimRefusal product refusal
-
--- the refusal of `meet --trim`: that of the file's text, or else that of the input's, or else that of the product, or
--- else that of its trimming
-abbrev pub IsMeetTrimmedRefusal : List ℕ → List ℕ → Refusal → Type 0
-IsMeetTrimmedRefusal file input refusal =
-    (IsAutomatonRefusal file refusal ⊎ IsTextRefused file input refusal)
-    ⊎ (IsProductRefused file input refusal ⊎ IsTrimRefused file input refusal)
-
--- no text is at fault: want of memory, or the refusal of the product, or else that of its trimming
-abbrev pub IsOfNoText : List ℕ → List ℕ → Refusal → Type 0
-IsOfNoText file input refusal =
-    (refusal ≡ Memory) ⊎ (IsProductRefused file input refusal ⊎ IsTrimRefused file input refusal)
+-- the refusal of `meet --trim`: that of one of the texts, or else that of the product, or else that of its trimming,
+-- which are about neither
+abbrev pub IsMeetTrimmedRefused : (file input : List ℕ) → Refused → Type 0
+IsMeetTrimmedRefused =
+    IsRefusalOfTexts (λ second first. IsAboutNeither (IsTrimmedProductRefusal first second))

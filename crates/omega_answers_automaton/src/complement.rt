@@ -1,9 +1,8 @@
-ghost use Rattle.std.specs.Prelude.{IfErr, IfOk, OnOk};
-ghost use Rattle.omega_lang_complement.specs.Complement.{HasComplement, IsComplement};
+ghost use Rattle.std.specs.Prelude.{IfErr, IfOk};
+ghost use Rattle.omega_text.specs.Cases.{or_memory};
 ghost use Rattle.omega_lang_complement.specs.Refusing.{IsUncomplemented};
 ghost use Rattle.omega_answers_automaton.specs.Complement.{IsComplementAnswer};
 ghost use Rattle.omega_answers_automaton.specs.Complement.{IsComplementRefusal, IsComplementText};
-ghost use Rattle.omega_text.specs.Cases.{or_memory};
 
 use omega_canon::canonical;
 use omega_hoa::read_one;
@@ -22,13 +21,8 @@ pub fn complement_text(alloc: Global, text: &[u8]) -> Result<Vec<u8>, Refusal>
     ensures answer { IfOk result (λ output. IsComplementAnswer text.now output.items) }
     ensures refused { IfErr result (or_memory (IsComplementRefusal text.now)) }
 {
-    match read_one(alloc, text) {
-        Ok(automaton) => match complement_of(alloc, automaton) {
-            Ok(turned) => canonical(alloc, &turned),
-            Err(refusal) => Err(refusal),
-        },
-        Err(refusal) => Err(refusal),
-    }
+    let automaton = read_one(alloc, text)?;
+    complement_automaton(alloc, &automaton)
 }
 
 /// Returns the canonical text of the complement of `automaton`, as [complement_text] does. Fails with
@@ -42,13 +36,4 @@ pub fn complement_automaton(alloc: Global, automaton: &Automaton) -> Result<Vec<
         Ok(made) => canonical(alloc, &made),
         Err(refusal) => Err(refusal),
     }
-}
-
-/// Returns the complement of `automaton`, which is dropped. Fails as `complement` does.
-fn complement_of(alloc: Global, automaton: Automaton) -> Result<Automaton, Refusal>
-    ensures complement { IfOk result (IsComplement automaton) }
-    ensures given { OnOk result (HasComplement automaton) }
-    ensures refused { IfErr result (IsUncomplemented automaton) }
-{
-    complement(alloc, &automaton)
 }

@@ -1,12 +1,4 @@
-//! What `meet`, `complement` and `verify --automaton` answer.
-//!
-//! docs/formats.md says when each refusal comes.
-//!
-//! What `trim` and `meet --trim` answer: an automaton, or a product, without its useless states.
-//!
-//! docs/formats.md says when each refusal comes.
-//!
-//! What `join` answers: the union of two automata.
+//! What `complement`, `trim`, `meet`, `join` and `verify --automaton` answer to texts of automata.
 //!
 //! docs/formats.md says when each refusal comes.
 #![tactic(auto)]
@@ -21,7 +13,7 @@ mod verify;
 pub use complement::{complement_automaton, complement_text};
 pub use join::join_texts;
 pub use meet::meet_texts;
-pub use omega_io::Exit;
+pub use omega_answers::Exit;
 pub use trim::{trim_automaton, trim_text};
 pub use trimmed_meet::meet_trimmed_texts;
 pub use verify::verify_lasso;

@@ -1,6 +1,5 @@
 ghost use Rattle.std.specs.Prelude.{IfErr, IfOk};
 ghost use Rattle.omega_text.specs.Cases.{or_memory};
-ghost use Rattle.omega_hoa.specs.Alone.{IsAutomatonRefusal, IsAutomatonText};
 ghost use Rattle.omega_lang_trim.specs.Refusing.{IsTrimRefusal};
 ghost use Rattle.omega_answers_automaton.specs.Trim.{IsTrimAnswer, IsTrimAnswerRefusal, IsTrimText};
 
@@ -12,19 +11,16 @@ use omega_text::Refusal;
 use std::alloc::Global;
 
 /// Returns the canonical text of the automaton of `text` without its useless states, those that no start reaches or in
-/// which no accepting lasso starts. `text` is dropped once it is read. The cost is that of `trim`, and linear in both
-/// texts.
+/// which no accepting lasso starts. The cost is that of `trim`, and linear in both texts.
 ///
 /// Fails with the [Refusal::Text] or [Refusal::Automaton] of the text, or else with the first of
 /// [TaskFault::UniversalBranch], [TaskFault::TooManyPropositions] and [TaskFault::TooLarge] that `trim` meets.
-pub fn trim_text(alloc: Global, text: Vec<u8>) -> Result<Vec<u8>, Refusal>
-    ensures answer { IfOk result (λ output. IsTrimAnswer text.items output.items) }
-    ensures refused { IfErr result (or_memory (IsTrimAnswerRefusal text.items)) }
+pub fn trim_text(alloc: Global, text: &[u8]) -> Result<Vec<u8>, Refusal>
+    ensures answer { IfOk result (λ output. IsTrimAnswer text.now output.items) }
+    ensures refused { IfErr result (or_memory (IsTrimAnswerRefusal text.now)) }
 {
-    match read(alloc, text) {
-        Ok(automaton) => trimmed_text(alloc, automaton),
-        Err(refusal) => Err(refusal),
-    }
+    let automaton = read_one(alloc, text)?;
+    trim_automaton(alloc, &automaton)
 }
 
 /// Returns the canonical text of `automaton` without its useless states, as [trim_text] does. Fails with the first of
@@ -40,20 +36,4 @@ pub fn trim_automaton(alloc: Global, automaton: &Automaton) -> Result<Vec<u8>, R
         }
         Err(refusal) => Err(refusal),
     }
-}
-
-/// Reads the automaton of `text`, which is dropped.
-fn read(alloc: Global, text: Vec<u8>) -> Result<Automaton, Refusal>
-    ensures automaton { IfOk result (IsAutomatonText text.items) }
-    ensures refused { IfErr result (or_memory (IsAutomatonRefusal text.items)) }
-{
-    read_one(alloc, text.as_slice())
-}
-
-/// Returns the canonical text of `automaton`, which is dropped, without its useless states. Fails as `trim` does.
-fn trimmed_text(alloc: Global, automaton: Automaton) -> Result<Vec<u8>, Refusal>
-    ensures text { IfOk result (λ output. IsTrimText automaton output.items) }
-    ensures refused { IfErr result (IsTrimRefusal automaton) }
-{
-    trim_automaton(alloc, &automaton)
 }

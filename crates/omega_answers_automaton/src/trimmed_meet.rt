@@ -1,14 +1,11 @@
-ghost use Rattle.std.specs.Prelude.{ℕ, List, IfErr, IfOk};
-ghost use Rattle.omega_hoa.specs.Alone.{IsAutomatonRefusal, IsAutomatonText};
-ghost use Rattle.omega_io.specs.Refused.{IsAbout};
-ghost use Rattle.omega_answers_automaton.specs.Meet.{IsTextRefused};
-ghost use Rattle.omega_answers_automaton.specs.TrimmedMeet.{IsMeetTrimmedAnswer, IsOfNoText};
-ghost use Rattle.omega_answers_automaton.specs.private.TrimmedMet.{IsMetTrimmed, IsUnmet};
+ghost use Rattle.std.specs.Prelude.{IfErr, IfOk};
+ghost use Rattle.omega_answers_automaton.specs.TrimmedMeet.{IsMeetTrimmedAnswer, IsMeetTrimmedRefused};
+ghost use Rattle.omega_answers_automaton.specs.TrimmedMeet.{IsTrimmedProductRefusal};
+ghost use Rattle.omega_answers_automaton.specs.TrimmedMeet.{IsTrimmedProductText};
 
 use crate::trim::trim_automaton;
-use omega_hoa::read_one;
+use omega_answers::{Refused, read_two};
 use omega_hoa_automaton::{Automaton, Refusal};
-use omega_io::{Refused, Which};
 use omega_lang_product::product;
 use std::alloc::Global;
 
@@ -21,39 +18,13 @@ use std::alloc::Global;
 /// [TaskFault::UniversalBranch], [TaskFault::TooManyPropositions] or [TaskFault::TooLarge].
 pub fn meet_trimmed_texts(alloc: Global, file: &[u8], input: &[u8]) -> Result<Vec<u8>, Refused>
     ensures answer { IfOk result (λ output. IsMeetTrimmedAnswer file.now input.now output.items) }
-    ensures refused { IfErr result (λ refused. IsAbout (IsOfNoText file.now input.now)
-        (IsAutomatonRefusal file.now) (IsTextRefused file.now input.now) refused.text refused.refusal) }
+    ensures refused { IfErr result (IsMeetTrimmedRefused file.now input.now) }
 {
-    match read_one(alloc, file) {
-        Ok(second) => met_with(alloc, &second, input),
-        Err(refusal) => Err(Refused::of(Which::File, refusal)),
+    let read = read_two(alloc, file, input)?;
+    match trimmed_product_text(alloc, &read.input, &read.file) {
+        Ok(output) => Ok(output),
+        Err(refusal) => Err(Refused::from(refusal)),
     }
-}
-
-/// Returns what [meet_trimmed_texts] does for each text of a file that is the text of `second`.
-fn met_with(alloc: Global, second: &Automaton, input: &[u8]) -> Result<Vec<u8>, Refused>
-    ensures answer { (file : List ℕ) → IsAutomatonText file second.now
-        → IfOk result (λ output. IsMeetTrimmedAnswer file input.now output.items) }
-    ensures refused { (file : List ℕ) → IsAutomatonText file second.now
-        → IfErr result (λ refused. IsAbout (IsOfNoText file input.now)
-        (IsAutomatonRefusal file) (IsTextRefused file input.now) refused.text refused.refusal) }
-{
-    match read_one(alloc, input) {
-        Ok(first) => match met_first(alloc, first, second) {
-            Ok(output) => Ok(output),
-            Err(refusal) => Err(Refused::from(refusal)),
-        },
-        Err(refusal) => Err(Refused::of(Which::Input, refusal)),
-    }
-}
-
-/// Returns the canonical text of the product of `first`, which is dropped, and `second` without its useless states.
-/// Fails as `product` does, or else as `trim` does for the product.
-fn met_first(alloc: Global, first: Automaton, second: &Automaton) -> Result<Vec<u8>, Refusal>
-    ensures met { IfOk result (λ output. IsMetTrimmed first second.now output.items) }
-    ensures refused { IfErr result (IsUnmet first second.now) }
-{
-    trimmed_product_text(alloc, &first, second)
 }
 
 /// Returns the canonical text of the product of `first` and `second` without its useless states. Fails as `product`
@@ -63,8 +34,8 @@ fn trimmed_product_text(
     first: &Automaton,
     second: &Automaton,
 ) -> Result<Vec<u8>, Refusal>
-    ensures met { IfOk result (λ output. IsMetTrimmed first.now second.now output.items) }
-    ensures refused { IfErr result (IsUnmet first.now second.now) }
+    ensures text { IfOk result (λ output. IsTrimmedProductText first.now second.now output.items) }
+    ensures refused { IfErr result (IsTrimmedProductRefusal first.now second.now) }
 {
     match product(alloc, first, second) {
         Ok(meeting) => trim_automaton(alloc, &meeting),

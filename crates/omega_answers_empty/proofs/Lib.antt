@@ -1,4 +1,2 @@
 -- Lemmas by theme.
-pub mod Emptiness
-pub mod Refused
 pub mod Observing

@@ -1,5 +1,5 @@
 -- The reports of the run of `empty`, also if it goes on to be refused.
-use Rattle.std.proofs.Common.{◌≢◌, ℕ, List, None, Some, inl, inr}
+use Rattle.std.proofs.Common.{◌≢◌, ℕ, List, None, Some}
 use Rattle.omega_text.specs.declared.refusal.Refusal.{Refusal}
 use Rattle.omega_text.specs.declared.refusal.Refusal.TheVariants.{Task}
 use Rattle.omega_text.specs.declared.refusal.task.TaskFault.TheVariants.{Budget}
@@ -7,19 +7,8 @@ use Rattle.omega_hoa_automaton.specs.Automaton.{Description}
 use Rattle.omega_empty.specs.Observing.{LiftsAutomaton}
 use Rattle.omega_game_values.specs.Game.{Node}
 use Rattle.omega_game_values.specs.declared.player.Player.{Player}
-use Rattle.omega_hoa.specs.Alone.{IsAutomatonRefusal}
 use Rattle.omega_answers_empty.specs.Observing.{LiftsAutomatonText}
 use Rattle.omega_solve.proofs.within_budget.Observed.{made_refused}
-
--- no text of an automaton is refused for the budget
-pub text_spares : (text : List ℕ) → IsAutomatonRefusal text (Task Budget) → ⊥
-text_spares text (inl (e, long)) = cc
-text_spares text (inr (short, inl (fault, e, is))) = cc
-text_spares text (inr (short, inr (lexemes, cut, inl (at, e, none)))) = cc
-text_spares text (inr (short, inr (lexemes, cut, inr segment))) = elim segment.refused [
-  | inl (fault, first) ↦ fault
-  | inr (raw, (next, more, rest, e)) ↦ cc
-]
 
 -- the run stays made, whatever refuses it later but the budget
 pub automaton_refused : (automaton : Description) (refusal : Refusal) → refusal ≢ Task Budget

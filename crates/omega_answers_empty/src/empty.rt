@@ -1,7 +1,8 @@
 ghost use Rattle.std.specs.Prelude.{◌≡◌, ◌++◌, ◌≤◌, IfOk, IfErr, IsOkUnless, OnOk};
-ghost use Rattle.omega_answers_empty.specs.empty.Answer.{IsEmptyAnswer, IsEmptyRefusal, IsEmptySearchAnswer};
-ghost use Rattle.omega_answers_empty.specs.empty.Answer.{IsEmptySearchRefusal, IsDecision, IsSearchDecision};
-ghost use Rattle.omega_answers_empty.specs.empty.Answer.{emptiness_text, lasso_lines, run_line, word_line};
+ghost use Rattle.omega_answers_empty.specs.empty.Answer.{EndsDecision, EndsEmpty, EndsEmptySearch};
+ghost use Rattle.omega_answers_empty.specs.empty.Answer.{EndsSearch, IsEmptyRefusal, IsEmptySearchRefusal};
+ghost use Rattle.omega_answers_empty.specs.empty.Answer.{emptiness_text, exit_after, lasso_lines};
+ghost use Rattle.omega_answers_empty.specs.empty.Answer.{run_line, word_line};
 ghost use Rattle.omega_answers_empty.specs.Observing.{LiftsAutomatonText};
 ghost use Rattle.omega_solve.specs.budget.Observing.{IsObserved, refusal_in};
 ghost use Rattle.omega_empty.specs.Deciding.{IsEmptinessRefusal};
@@ -10,11 +11,12 @@ ghost use Rattle.omega_lang_lasso_search.specs.Searching.{IsSearchRefusal};
 ghost use Rattle.omega_solve.specs.Limits.{most_lifts};
 ghost use Rattle.omega_text.specs.Cases.{or_memory};
 
-use crate::automaton_text::automaton_in;
 use crate::lines::Lines;
 use omega_empty::{Verdict, emptiness_observed};
 use omega_game_values::Refusal;
+use omega_hoa::read_one;
 use omega_hoa_automaton::Automaton;
+use omega_io::Exit;
 use omega_lang_lasso_search::lasso;
 use omega_lang_lasso_text::write_lasso;
 use omega_lang_lasso_word::{run_of, word_of};
@@ -22,42 +24,50 @@ use omega_solve::budget::Reporter;
 use std::alloc::Global;
 
 /// Decides by lifting in the emptiness game whether the automaton of `text` is empty. Returns `empty`, or an accepting
-/// lasso with the wanted `lines`. The run is reported to `observer`.
+/// lasso with the wanted `lines`. Ends with [Exit::No] if it is empty and `status` is set, and else with [Exit::Done].
+/// The run is reported to `observer`.
 ///
 /// Fails with the [Refusal::Text] or [Refusal::Automaton] of the text, or else with the first that applies of
 /// [GameFault::TooManyNodes], [TaskFault::NotParity], [TaskFault::UniversalBranch], [TaskFault::TooManyPropositions],
 /// [TaskFault::TooWide] and [TaskFault::Budget].
 pub fn decide_emptiness<L, W: Reporter<L>>(
     alloc: Global,
-    text: Vec<u8>,
+    text: &[u8],
     lines: Lines,
+    status: bool,
     budget: u64,
     reporter: &W,
     observer: &mut L,
-) -> Result<Vec<u8>, Refusal>
+) -> Result<(Exit, Vec<u8>), Refusal>
     requires { budget ≤ most_lifts }
-    ensures answer { IfOk result (λ output. IsEmptyAnswer text.items budget lines output.items) }
-    ensures refused { IfErr result (or_memory (IsEmptyRefusal text.items budget)) }
-    ensures reported { IsObserved (LiftsAutomatonText text.items) (refusal_in result)
+    ensures answer { IfOk result (λ made. EndsEmpty text.now budget lines status made.0 made.1.items) }
+    ensures refused { IfErr result (or_memory (IsEmptyRefusal text.now budget)) }
+    ensures reported { IsObserved (LiftsAutomatonText text.now) (refusal_in result)
         (W.tells reporter.now) (W.pace reporter.now) budget observer.old observer.new }
 {
-    let automaton = automaton_in(alloc, text)?;
-    output_by_lifting(alloc, automaton, lines, budget, reporter, observer)
+    let automaton = read_one(alloc, text)?;
+    decide_automaton(alloc, &automaton, lines, status, budget, reporter, observer)
 }
 
 /// Decides by a search in the automaton of `text` whether it is empty. Returns `empty`, or an accepting lasso with the
-/// wanted `lines`. Fails with the [Refusal::Text] or [Refusal::Automaton] of the text, or else with
-/// [TaskFault::UniversalBranch], or else with [TaskFault::TooManyPropositions].
-pub fn search_emptiness(alloc: Global, text: Vec<u8>, lines: Lines) -> Result<Vec<u8>, Refusal>
-    ensures answer { IfOk result (λ output. IsEmptySearchAnswer text.items lines output.items) }
-    ensures refused { IfErr result (or_memory (IsEmptySearchRefusal text.items)) }
+/// wanted `lines`. Ends with [Exit::No] if it is empty and `status` is set, and else with [Exit::Done]. Fails with the
+/// [Refusal::Text] or [Refusal::Automaton] of the text, or else with [TaskFault::UniversalBranch], or else with
+/// [TaskFault::TooManyPropositions].
+pub fn search_emptiness(
+    alloc: Global,
+    text: &[u8],
+    lines: Lines,
+    status: bool,
+) -> Result<(Exit, Vec<u8>), Refusal>
+    ensures answer { IfOk result (λ made. EndsEmptySearch text.now lines status made.0 made.1.items) }
+    ensures refused { IfErr result (or_memory (IsEmptySearchRefusal text.now)) }
 {
-    let automaton = automaton_in(alloc, text)?;
-    output_by_search(alloc, automaton, lines)
+    let automaton = read_one(alloc, text)?;
+    search_automaton(alloc, &automaton, lines, status)
 }
 
-/// Decides by lifting in its emptiness game whether `automaton` is empty. Returns `empty`, or an accepting lasso with
-/// the wanted `lines`. The run is reported to `observer`.
+/// Decides by lifting in its emptiness game whether `automaton` is empty, as [decide_emptiness] does. The run is
+/// reported to `observer`.
 ///
 /// Fails with the first that applies of [GameFault::TooManyNodes], [TaskFault::NotParity],
 /// [TaskFault::UniversalBranch], [TaskFault::TooManyPropositions], [TaskFault::TooWide] and [TaskFault::Budget].
@@ -65,68 +75,72 @@ pub fn decide_automaton<L, W: Reporter<L>>(
     alloc: Global,
     automaton: &Automaton,
     lines: Lines,
+    status: bool,
     budget: u64,
     reporter: &W,
     observer: &mut L,
-) -> Result<Vec<u8>, Refusal>
+) -> Result<(Exit, Vec<u8>), Refusal>
     requires { budget ≤ most_lifts }
-    ensures decision { IfOk result (λ output. IsDecision automaton.now budget lines output.items) }
+    ensures decision { IfOk result
+        (λ made. EndsDecision automaton.now budget lines status made.0 made.1.items) }
     ensures refused { IfErr result (IsEmptinessRefusal automaton.now budget) }
     ensures reported { IsObserved (LiftsAutomaton automaton.now) (refusal_in result)
         (W.tells reporter.now) (W.pace reporter.now) budget observer.old observer.new }
 {
     let verdict = emptiness_observed(alloc, automaton, budget, reporter, observer)?;
-    emptiness_text(alloc, automaton, verdict, lines)
+    emptiness_reply(alloc, automaton, &verdict, lines, status)
 }
 
-/// Decides by a search whether `automaton` is empty. Returns `empty`, or an accepting lasso with the wanted `lines`.
-/// Fails with [TaskFault::UniversalBranch], or else with [TaskFault::TooManyPropositions].
+/// Decides by a search whether `automaton` is empty, as [search_emptiness] does. Fails with
+/// [TaskFault::UniversalBranch], or else with [TaskFault::TooManyPropositions].
 pub fn search_automaton(
     alloc: Global,
     automaton: &Automaton,
     lines: Lines,
-) -> Result<Vec<u8>, Refusal>
-    ensures decision { IfOk result (λ output. IsSearchDecision automaton.now lines output.items) }
+    status: bool,
+) -> Result<(Exit, Vec<u8>), Refusal>
+    ensures decision { IfOk result
+        (λ made. EndsSearch automaton.now lines status made.0 made.1.items) }
     ensures refused { IfErr result (IsSearchRefusal automaton.now) }
 {
     let verdict = lasso(alloc, automaton)?;
-    emptiness_text(alloc, automaton, verdict, lines)
+    emptiness_reply(alloc, automaton, &verdict, lines, status)
 }
 
-/// Returns the output for `automaton` by lifting, and drops it. Fails as `decide_automaton` does.
-fn output_by_lifting<L, W: Reporter<L>>(
+/// Returns how `empty` ends after a `verdict` on `automaton`, and its output.
+fn emptiness_reply(
     alloc: Global,
-    automaton: Automaton,
+    automaton: &Automaton,
+    verdict: &Verdict,
     lines: Lines,
-    budget: u64,
-    reporter: &W,
-    observer: &mut L,
-) -> Result<Vec<u8>, Refusal>
-    requires { budget ≤ most_lifts }
-    ensures decision { IfOk result (λ output. IsDecision automaton budget lines output.items) }
-    ensures refused { IfErr result (IsEmptinessRefusal automaton budget) }
-    ensures reported { IsObserved (LiftsAutomaton automaton) (refusal_in result)
-        (W.tells reporter.now) (W.pace reporter.now) budget observer.old observer.new }
+    status: bool,
+) -> Result<(Exit, Vec<u8>), Refusal>
+    ensures reply { IfOk result (λ made. (made.0 ≡ exit_after status verdict.now)
+        × (made.1.items ≡ emptiness_text automaton.now lines verdict.now)) }
+    ensures memory { IsOkUnless result Refusal.Memory }
 {
-    decide_automaton(alloc, &automaton, lines, budget, reporter, observer)
+    let text = emptiness_text(alloc, automaton, verdict, lines)?;
+    Ok((exit_after(verdict, status), text))
 }
 
-/// Returns the output for `automaton` by a search, and drops it. Fails as `search_automaton` does.
-fn output_by_search(alloc: Global, automaton: Automaton, lines: Lines) -> Result<Vec<u8>, Refusal>
-    ensures decision { IfOk result (λ output. IsSearchDecision automaton lines output.items) }
-    ensures refused { IfErr result (IsSearchRefusal automaton) }
+/// Returns how `empty` ends after a `verdict`, which the exit tells if `status` is set.
+fn exit_after(verdict: &Verdict, status: bool) -> Exit
+    ensures { result ≡ exit_after status verdict.now }
 {
-    search_automaton(alloc, &automaton, lines)
+    match verdict {
+        Verdict::Empty if status => Exit::No,
+        _ => Exit::Done,
+    }
 }
 
 /// Returns the output for a `verdict` on `automaton`.
 fn emptiness_text(
     alloc: Global,
     automaton: &Automaton,
-    verdict: Verdict,
+    verdict: &Verdict,
     lines: Lines,
 ) -> Result<Vec<u8>, Refusal>
-    ensures text { IfOk result (λ text. text.items ≡ emptiness_text automaton.now lines verdict) }
+    ensures text { IfOk result (λ text. text.items ≡ emptiness_text automaton.now lines verdict.now) }
     ensures memory { IsOkUnless result Refusal.Memory }
 {
     match verdict {

@@ -4,9 +4,9 @@ ghost use Rattle.omega_empty.specs.EmptinessGame.{IsEmptinessGame};
 ghost use Rattle.omega_empty.specs.Refusing.{IsGameRefusal, IsGiven};
 ghost use Rattle.omega_text.specs.Cases.{or_memory};
 
-use crate::automaton_text::automaton_in;
 use omega_empty::emptiness_game;
 use omega_game_values::{ForwardGame, Refusal};
+use omega_hoa::read_one;
 use omega_hoa_automaton::Automaton;
 use omega_pg::write_game;
 use std::alloc::Global;
@@ -14,11 +14,11 @@ use std::alloc::Global;
 /// Returns the canonical text of the emptiness game of the automaton of `text`. Fails with the [Refusal::Text] or
 /// [Refusal::Automaton] of the text, or else with the first that applies of [GameFault::TooManyNodes],
 /// [TaskFault::NotParity], [TaskFault::UniversalBranch] and [TaskFault::TooManyPropositions].
-pub fn write_emptiness_game(alloc: Global, text: Vec<u8>) -> Result<Vec<u8>, Refusal>
-    ensures answer { IfOk result (λ output. IsEmptinessGameAnswer text.items output.items) }
-    ensures refused { IfErr result (or_memory (IsEmptinessGameRefusal text.items)) }
+pub fn write_emptiness_game(alloc: Global, text: &[u8]) -> Result<Vec<u8>, Refusal>
+    ensures answer { IfOk result (λ output. IsEmptinessGameAnswer text.now output.items) }
+    ensures refused { IfErr result (or_memory (IsEmptinessGameRefusal text.now)) }
 {
-    let automaton = automaton_in(alloc, text)?;
+    let automaton = read_one(alloc, text)?;
     let game = game_of(alloc, automaton)?;
     write_game(alloc, &game)
 }

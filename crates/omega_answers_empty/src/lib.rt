@@ -3,7 +3,6 @@
 //! docs/formats.md says when each refusal comes.
 #![tactic(auto)]
 
-mod automaton_text;
 mod draw;
 mod empty;
 mod game;

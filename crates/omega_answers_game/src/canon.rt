@@ -6,17 +6,16 @@ pub mod least;
 pub mod part;
 
 use crate::dropping::drop_game;
-use crate::game_text::forward_game_of;
 use omega_game::Refusal;
-use omega_pg::write_game;
+use omega_pg::{read_forward_game, write_game};
 use std::alloc::Global;
 
 /// Returns the canonical text of the game of `text`. Fails with the [Refusal::Text] or [Refusal::Game] of the text.
-pub fn canon_game(alloc: Global, text: Vec<u8>) -> Result<Vec<u8>, Refusal>
-    ensures answer { IfOk result (λ output. IsCanonAnswer text.items output.items) }
-    ensures refused { IfErr result (IsReadRefusal text.items) }
+pub fn canon_game(alloc: Global, text: &[u8]) -> Result<Vec<u8>, Refusal>
+    ensures answer { IfOk result (λ output. IsCanonAnswer text.now output.items) }
+    ensures refused { IfErr result (IsReadRefusal text.now) }
 {
-    let game = forward_game_of(alloc, text)?;
+    let game = read_forward_game(alloc, text)?;
     let written = write_game(alloc, &game);
     drop_game(game);
     written

@@ -9,12 +9,11 @@ ghost use Rattle.omega_answers_game.specs.private.steps.Drawn.{IsDrawnRefusal, I
 ghost use Rattle.omega_answers_game.specs.private.steps.Drawn.{IsUnknownFrom, IsSolvedDrawn};
 
 use crate::dropping::drop_game;
-use crate::game_text::forward_game_of;
 use crate::verify::judged_game;
 use omega_game::{ForwardGame, Refusal, TaskFault};
 use omega_game_dot::{Extent, draw_game, draw_solution};
 use omega_io::{Refused, Which};
-use omega_pg::read_solution;
+use omega_pg::{read_forward_game, read_solution};
 use std::alloc::Global;
 
 /// Returns the drawing of the game of `text`. If an identifier `from` is given, only the part that its node reaches is
@@ -22,14 +21,14 @@ use std::alloc::Global;
 /// or [Refusal::Game] of the text, or with [TaskFault::UnknownNode].
 pub fn draw_game_text(
     alloc: Global,
-    text: Vec<u8>,
+    text: &[u8],
     from: Option<u32>,
     depth: Option<u32>,
 ) -> Result<Vec<u8>, Refusal>
-    ensures answer { IfOk result (λ output. IsGameDrawingAnswer text.items from depth output.items) }
-    ensures refused { IfErr result (or_memory (IsJudgedGameRefusal text.items from)) }
+    ensures answer { IfOk result (λ output. IsGameDrawingAnswer text.now from depth output.items) }
+    ensures refused { IfErr result (or_memory (IsJudgedGameRefusal text.now from)) }
 {
-    let game = forward_game_of(alloc, text)?;
+    let game = read_forward_game(alloc, text)?;
     let drawn = draw_alone(alloc, &game, from, depth);
     drop_game(game);
     drawn
@@ -57,16 +56,16 @@ fn draw_alone(
 /// are of the input's text. Or else fails with the [Refusal::Text] or [TaskFault::BadSolution] of the solution's text.
 pub fn draw_solution_text(
     alloc: Global,
-    text: Vec<u8>,
+    text: &[u8],
     solution: &[u8],
     from: Option<u32>,
     depth: Option<u32>,
     legend: bool,
 ) -> Result<Vec<u8>, Refused>
     ensures answer { IfOk result
-        (λ output. IsSolutionDrawingAnswer text.items solution.now from depth legend output.items) }
-    ensures refused { IfErr result (IsRefusedOf (RefusesSolution text.items from solution.now)
-        (IsJudgedGameRefusal text.items from)) }
+        (λ output. IsSolutionDrawingAnswer text.now solution.now from depth legend output.items) }
+    ensures refused { IfErr result (IsRefusedOf (RefusesSolution text.now from solution.now)
+        (IsJudgedGameRefusal text.now from)) }
 {
     match judged_game(alloc, text, from) {
         Ok(game) => {

@@ -15,7 +15,6 @@ mod check;
 mod counting;
 mod draw;
 mod dropping;
-mod game_text;
 mod graph;
 mod laws;
 mod leaders;

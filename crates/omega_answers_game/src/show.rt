@@ -7,20 +7,20 @@ ghost use Rattle.omega_answers_game.specs.Show.{IsShowAnswer, bound_line, bound_
 pub mod json;
 
 use crate::dropping::drop_game;
-use crate::game_text::forward_game_of;
 use crate::numbered::append_numbered;
 use crate::player_text::append_player;
 use omega_game::{ForwardGame, Player, Refusal};
 use omega_lift_bound::bound;
+use omega_pg::read_forward_game;
 use std::alloc::Global;
 
 /// Returns the size of the game of `text`, and the bounds on lifts. Fails with the [Refusal::Text] or [Refusal::Game]
 /// of the text.
-pub fn show_game(alloc: Global, text: Vec<u8>) -> Result<Vec<u8>, Refusal>
-    ensures answer { IfOk result (λ output. IsShowAnswer text.items output.items) }
-    ensures refused { IfErr result (IsReadRefusal text.items) }
+pub fn show_game(alloc: Global, text: &[u8]) -> Result<Vec<u8>, Refusal>
+    ensures answer { IfOk result (λ output. IsShowAnswer text.now output.items) }
+    ensures refused { IfErr result (IsReadRefusal text.now) }
 {
-    let game = forward_game_of(alloc, text)?;
+    let game = read_forward_game(alloc, text)?;
     let described = describe(alloc, &game);
     drop_game(game);
     described

@@ -15,12 +15,12 @@ mod one;
 pub(crate) mod searched;
 
 use crate::dropping::drop_game;
-use crate::game_text::forward_game_of;
 use crate::part::part_from;
 use asked::Asked;
 use both::solve_both;
 use omega_game::{ForwardGame, Refusal};
 use omega_game_region_laws::regions_of_parts;
+use omega_pg::read_forward_game;
 use omega_solve::budget::Reporter;
 use one::solve_one;
 use searched::solve_by_judged_search;
@@ -33,7 +33,7 @@ use std::alloc::Global;
 /// [TaskFault::TooWide], or else with [TaskFault::Budget].
 pub fn solve_game<L, W: Reporter<L>>(
     alloc: Global,
-    text: Vec<u8>,
+    text: &[u8],
     asked: Asked,
     from: Option<u32>,
     budget: u64,
@@ -41,14 +41,14 @@ pub fn solve_game<L, W: Reporter<L>>(
     observer: &mut L,
 ) -> Result<Vec<u8>, Refusal>
     requires { budget ≤ most_lifts }
-    ensures answer { IfOk result (λ output. IsSolveAnswer text.items asked from budget output.items) }
-    ensures refused { IfErr result (or_memory (IsSolveRefusal text.items asked from budget)) }
-    ensures reported { IsObserved (LiftsText text.items asked from) (refusal_in result)
+    ensures answer { IfOk result (λ output. IsSolveAnswer text.now asked from budget output.items) }
+    ensures refused { IfErr result (or_memory (IsSolveRefusal text.now asked from budget)) }
+    ensures reported { IsObserved (LiftsText text.now asked from) (refusal_in result)
         (W.tells reporter.now) (W.pace reporter.now) budget observer.old observer.new }
     ensures counted { IfOk result (λ output. CountsReportedOfText (W.tells reporter.now)
-        (W.pace reporter.now) text.items asked from budget output.items observer.old observer.new) }
+        (W.pace reporter.now) text.now asked from budget output.items observer.old observer.new) }
 {
-    let game = forward_game_of(alloc, text)?;
+    let game = read_forward_game(alloc, text)?;
     match from {
         None => solve_whole(alloc, game, asked, budget, reporter, observer),
         Some(identifier) => {

@@ -2,7 +2,6 @@ ghost use Rattle.std.specs.Prelude.{◌≡◌, ◌↔◌, IfOk, IfErr, IsOkUnles
 ghost use Rattle.omega_text.specs.Cases.{or_memory};
 ghost use Rattle.omega_game_values.specs.Solution.{IsSolution, WinsAsGiven, WinsGiven};
 ghost use Rattle.omega_pg.specs.solution.Refusing.{IsReadSolutionRefusal, IsSolutionRefusal};
-ghost use Rattle.omega_pg.specs.solution.Text.{IsSolutionText};
 ghost use Rattle.omega_answers_game.specs.Part.{IsPartText, IsPartTextRefusal};
 ghost use Rattle.omega_answers_game.specs.Verify.{IsJudgedGame, IsJudgedGameRefusal, IsSolutionVerdict};
 ghost use Rattle.omega_answers_game.specs.Verify.{IsVerifyAnswer, RefusesSolution};
@@ -14,31 +13,29 @@ pub mod explaining;
 pub mod winners;
 
 use crate::dropping::drop_game;
-use crate::game_text::forward_game_of;
 use crate::part::part_from;
 use explaining::explained_verdict;
 use omega_game::{ForwardGame, Player, Refusal, Solution, check_strategy};
 use omega_io::{Exit, Refused, Which};
-use omega_pg::read_solution;
+use omega_pg::{read_forward_game, read_solution};
 use std::alloc::Global;
 
-/// Judges the solution in `text` without solving the game. The game's text is dropped before the solution is read. If
-/// its choices do not win and `explain` is set, the answer also says why. If an identifier `from` is given, the
-/// solution is one of the part that its node reaches.
+/// Judges the solution in `text` without solving the game. If its choices do not win and `explain` is set, the answer
+/// also says why. If an identifier `from` is given, the solution is one of the part that its node reaches.
 ///
 /// Fails with the [Refusal::Text] or [Refusal::Game] of the game's text, or else with [TaskFault::UnknownNode]; both
 /// are of the file's text. Or else fails with the [Refusal::Text] or [TaskFault::BadSolution] of the solution's text.
 pub fn verify_solution(
     alloc: Global,
-    game: Vec<u8>,
+    game: &[u8],
     from: Option<u32>,
-    text: Vec<u8>,
+    text: &[u8],
     explain: bool,
 ) -> Result<(Exit, Vec<u8>), Refused>
     ensures answer { IfOk result
-        (λ made. IsVerifyAnswer game.items from text.items explain made.0 made.1.items) }
-    ensures refused { IfErr result (IsRefusedOf (IsJudgedGameRefusal game.items from)
-        (RefusesSolution game.items from text.items)) }
+        (λ made. IsVerifyAnswer game.now from text.now explain made.0 made.1.items) }
+    ensures refused { IfErr result (IsRefusedOf (IsJudgedGameRefusal game.now from)
+        (RefusesSolution game.now from text.now)) }
 {
     match judged_game(alloc, game, from) {
         Ok(game) => {
@@ -55,13 +52,13 @@ pub fn verify_solution(
 fn judged_or_refused(
     alloc: Global,
     game: &ForwardGame,
-    text: Vec<u8>,
+    text: &[u8],
     explain: bool,
 ) -> Result<(Exit, Vec<u8>), Refused>
     ensures judged { IfOk result
-        (λ made. IsSolutionJudged game.now text.items explain made.0 made.1.items) }
+        (λ made. IsSolutionJudged game.now text.now explain made.0 made.1.items) }
     ensures refused { IfErr result
-        (IsRefusedOf (λ refusal. ⊥) (IsSolutionRefusal game.now text.items)) }
+        (IsRefusedOf (λ refusal. ⊥) (IsSolutionRefusal game.now text.now)) }
 {
     match solution_verdict(alloc, game, text, explain) {
         Ok(made) => Ok(made),
@@ -74,40 +71,40 @@ fn judged_or_refused(
 fn solution_verdict(
     alloc: Global,
     game: &ForwardGame,
-    text: Vec<u8>,
+    text: &[u8],
     explain: bool,
 ) -> Result<(Exit, Vec<u8>), Refusal>
     ensures judged { IfOk result
-        (λ made. IsSolutionJudged game.now text.items explain made.0 made.1.items) }
-    ensures refused { IfErr result (IsReadSolutionRefusal game.now text.items) }
+        (λ made. IsSolutionJudged game.now text.now explain made.0 made.1.items) }
+    ensures refused { IfErr result (IsReadSolutionRefusal game.now text.now) }
 {
-    let solution = solution_in(alloc, game, text)?;
+    let solution = read_solution(alloc, game, text)?;
     verdict_on(alloc, game, &solution, explain)
 }
 
-/// Reads the game of `text`, or the part of it that the node with the identifier `from` reaches, if one is given. The
-/// text is dropped. Fails with the [Refusal::Text] or [Refusal::Game] of the text, or with [TaskFault::UnknownNode].
-pub fn judged_game(alloc: Global, text: Vec<u8>, from: Option<u32>) -> Result<ForwardGame, Refusal>
-    ensures game { IfOk result (IsJudgedGame text.items from) }
-    ensures refused { IfErr result (or_memory (IsJudgedGameRefusal text.items from)) }
+/// Reads the game of `text`, or the part of it that the node with the identifier `from` reaches, if one is given. Fails
+/// with the [Refusal::Text] or [Refusal::Game] of the text, or with [TaskFault::UnknownNode].
+pub fn judged_game(alloc: Global, text: &[u8], from: Option<u32>) -> Result<ForwardGame, Refusal>
+    ensures game { IfOk result (IsJudgedGame text.now from) }
+    ensures refused { IfErr result (or_memory (IsJudgedGameRefusal text.now from)) }
 {
     match from {
-        None => forward_game_of(alloc, text),
+        None => read_forward_game(alloc, text),
         Some(identifier) => judged_part(alloc, text, identifier),
     }
 }
 
-/// Reads the part that the node with `identifier` reaches in the game of `text`. The text is dropped. Fails with the
-/// [Refusal::Text] or [Refusal::Game] of the text, or with [TaskFault::UnknownNode].
+/// Reads the part that the node with `identifier` reaches in the game of `text`. Fails with the [Refusal::Text] or
+/// [Refusal::Game] of the text, or with [TaskFault::UnknownNode].
 pub(crate) fn judged_part(
     alloc: Global,
-    text: Vec<u8>,
+    text: &[u8],
     identifier: u32,
 ) -> Result<ForwardGame, Refusal>
-    ensures part { IfOk result (IsPartText text.items identifier) }
-    ensures refused { IfErr result (or_memory (IsPartTextRefusal text.items identifier)) }
+    ensures part { IfOk result (IsPartText text.now identifier) }
+    ensures refused { IfErr result (or_memory (IsPartTextRefusal text.now identifier)) }
 {
-    let game = forward_game_of(alloc, text)?;
+    let game = read_forward_game(alloc, text)?;
     part_from(alloc, game, identifier)
 }
 
@@ -141,14 +138,6 @@ fn verdict(alloc: Global, is_right: bool) -> Result<(Exit, Vec<u8>), Refusal>
     } else {
         Ok((Exit::No, Vec::from_slice(alloc, b"no\n")?))
     }
-}
-
-/// Reads the solution of `game` in `text`. The text is dropped.
-fn solution_in(alloc: Global, game: &ForwardGame, text: Vec<u8>) -> Result<Solution, Refusal>
-    ensures solution { IfOk result (IsSolutionText game.now text.items) }
-    ensures refused { IfErr result (IsReadSolutionRefusal game.now text.items) }
-{
-    read_solution(alloc, game, text.as_slice())
 }
 
 /// Whether for each player the choices win from all nodes given to that player.

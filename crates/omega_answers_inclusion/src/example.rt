@@ -1,22 +1,24 @@
 ghost use Rattle.std.specs.Prelude.{◌≡◌, ◌++◌, IfOk, IsOkUnless, OnOk};
-ghost use Rattle.omega_answers_inclusion.specs.Example.{example_lines, no_text};
+ghost use Rattle.omega_answers.specs.Answer.{explained};
+ghost use Rattle.omega_answers_inclusion.specs.Example.{example_lines};
 
 use omega_lang_inclusion::Counterexample;
 use omega_lang_lasso_text::write_lasso;
 use omega_text::Refusal;
 use std::alloc::Global;
 
-/// Returns `no`, and if `explain` is set, `who`, which is a line or nothing, and the lines of `example`.
-pub(crate) fn no_text(
+/// Returns `who`, which is a line or nothing, and the lines of `example`, if `explain` is set, and else nothing.
+pub fn counterexample_lines(
     alloc: Global,
-    explain: bool,
     who: &[u8],
     example: &Counterexample,
+    explain: bool,
 ) -> Result<Vec<u8>, Refusal>
-    ensures text { IfOk result (λ text. text.items ≡ no_text explain who.now example.now) }
+    ensures lines { IfOk result
+        (λ lines. lines.items ≡ explained explain (who.now ++ example_lines example.now)) }
     ensures memory { IsOkUnless result Refusal.Memory }
 {
-    let mut out = Vec::from_slice(alloc, b"no\n")?;
+    let mut out = Vec::new(alloc);
     if explain {
         out.extend_from_slice(who)?;
         append_lines(alloc, example, &mut out)?;
@@ -26,7 +28,7 @@ pub(crate) fn no_text(
 
 /// Appends the lines of the lasso of `example`, and the line of its word.
 fn append_lines(alloc: Global, example: &Counterexample, out: &mut Vec<u8>) -> Result<(), Refusal>
-    ensures text { OnOk result (out.new.items ≡ out.old.items ++ example_lines example.now) }
+    ensures lines { OnOk result (out.new.items ≡ out.old.items ++ example_lines example.now) }
     ensures memory { IsOkUnless result Refusal.Memory }
 {
     let lasso = write_lasso(alloc, example.stem.as_slice(), example.cycle.as_slice())?;

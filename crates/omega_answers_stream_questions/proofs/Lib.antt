@@ -1,2 +1,2 @@
--- Lemmas by theme.
-pub mod EmptyLine
+-- Which text a refusal is about.
+pub mod StreamAbout

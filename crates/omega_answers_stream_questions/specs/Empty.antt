@@ -1,33 +1,25 @@
 -- The answers of `empty` for a stream of automata: for each of them an accepting lasso, or `empty` only if no lasso
 -- accepts; and the refusals. An answer is `no` if it is `empty`.
-use Rattle.std.specs.Prelude.{◌≡◌, ℕ, Bool, false, true, List}
+use Rattle.std.specs.Prelude.{ℕ, Bool, true, List}
 use Rattle.omega_text.specs.declared.refusal.Refusal.{Refusal}
 use Rattle.omega_hoa_automaton.specs.Automaton.{Description}
 use Rattle.omega_empty.specs.Deciding.{IsEmptinessRefusal}
 use Rattle.omega_answers_empty.specs.declared.lines.Lines.{Lines}
-use Rattle.omega_answers_empty.specs.empty.Answer.{IsDecision, IsSearchDecision}
+use Rattle.omega_answers_empty.specs.empty.Answer.{EndsDecision, EndsSearch}
 use Rattle.omega_lang_lasso_search.specs.Searching.{IsSearchRefusal}
-use Rattle.omega_lang_runs.specs.declared.verdict.Verdict.{Verdict}
-use Rattle.omega_lang_runs.specs.declared.verdict.Verdict.TheVariants as verdict
 use Rattle.omega_answers_stream.specs.Answer.{Answer}
 use Rattle.omega_answers_stream.specs.Asking.{IsAnswered, IsAskingRefusal}
-use Rattle.omega_answers_stream_questions.specs.Items.{AnswersItem, RefusesAutomaton, aborted_line}
-
--- whether no lasso accepts
-abbrev pub is_empty : Verdict → Bool
-is_empty verdict.Empty = true
-is_empty (verdict.Lasso stem cycle) = false
+use Rattle.omega_answers_stream_questions.specs.Items.{AnswersItem, RefusesAutomaton, aborted_line, exit_for}
 
 -- the answer of `empty --search` for an automaton
 abbrev pub IsSearchAnswer : (lines : Lines) → Description → Answer → Type 0
 IsSearchAnswer lines automaton answer =
-    (decided : IsSearchDecision automaton lines answer.text) × (answer.no ≡ is_empty decided.verdict)
+    EndsSearch automaton lines true (exit_for answer.no) answer.text
 
 -- the answer of `empty` for an automaton, which is decided within the budget
 abbrev pub IsLiftingAnswer : (budget : ℕ) (lines : Lines) → Description → Answer → Type 0
 IsLiftingAnswer budget lines automaton answer =
-    (decided : IsDecision automaton budget lines answer.text)
-    × (answer.no ≡ is_empty decided.verdict)
+    EndsDecision automaton budget lines true (exit_for answer.no) answer.text
 
 -- the answers of `empty --search --stream`, one after the other
 abbrev pub AreSearchAnswers : List ℕ → (lines : Lines) → List ℕ → Bool → Type 0

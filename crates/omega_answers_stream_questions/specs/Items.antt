@@ -1,9 +1,11 @@
 -- What is answered for an item of a stream: the answer to its automaton, or what an aborted segment is answered.
-use Rattle.std.specs.Prelude.{◌≡◌, ℕ, false, [], codes}
+use Rattle.std.specs.Prelude.{◌≡◌, ℕ, Bool, false, true, [], codes}
 use Rattle.omega_text.specs.declared.refusal.Refusal.{Refusal}
 use Rattle.omega_hoa_automaton.specs.Automaton.{Description}
 use Rattle.omega_hoa.specs.declared.item.Item.{Item}
 use Rattle.omega_hoa.specs.declared.item.Item.TheVariants.{Aborted, Automaton}
+use Rattle.omega_io.specs.declared.exit.Exit.{Exit}
+use Rattle.omega_io.specs.declared.exit.Exit.TheVariants.{Done, No}
 use Rattle.omega_answers_stream.specs.Answer.{Answer}
 
 -- an automaton has such an answer, and an aborted segment this one
@@ -15,6 +17,11 @@ AnswersItem Answers aborted number Aborted answer = answer ≡ aborted
 abbrev pub RefusesAutomaton : (Description → Refusal → Type 0) → Item → Refusal → Type 0
 RefusesAutomaton Refuses (Automaton automaton) refusal = Refuses automaton refusal
 RefusesAutomaton Refuses Aborted refusal = ⊥
+
+-- how `contained` or `empty` ends for one automaton, if its answer is `no` or is not
+abbrev pub exit_for : (no : Bool) → Exit
+exit_for false = Done
+exit_for true = No
 
 -- the line `aborted`
 abbrev pub aborted_line : Answer

@@ -5,4 +5,3 @@ pub mod Contained
 pub mod Empty
 pub mod Items
 pub mod Trim
-pub mod private

@@ -1,21 +1,19 @@
 //! Whether automata are contained in that of a file.
 
-ghost use Rattle.std.specs.Prelude.{◌≡◌, ◌+◌, ◌-◌, ◌^◌, ◌<◌, IfErr, IfOk};
+ghost use Rattle.std.specs.Prelude.{◌≡◌, ◌+◌, ◌-◌, ◌^◌, ◌<◌, ℕ, List, IfErr, IfOk};
 ghost use Rattle.omega_text.specs.Cases.{or_memory};
 ghost use Rattle.omega_lang_inclusion.specs.Refusing.{IsContainmentRefusal};
-ghost use Rattle.omega_hoa.specs.Alone.{IsAutomatonRefusal, IsAutomatonText};
+ghost use Rattle.omega_hoa.specs.Alone.{IsAutomatonText};
 ghost use Rattle.omega_io.specs.Reading.{ReadsWhole};
-ghost use Rattle.omega_io.specs.Refused.{IsAbout};
 ghost use Rattle.omega_answers_stream.specs.Answer.{AppendsAnswer, not_io};
 ghost use Rattle.omega_answers_stream.specs.Asking.{IsAnswered};
 ghost use Rattle.omega_answers_stream_questions.specs.Contained.{AreContainedAnswers, IsContainedAnswer};
-ghost use Rattle.omega_answers_stream_questions.specs.Contained.{IsFileRefusal, IsInputRefusal, IsOfNoText};
-ghost use Rattle.omega_answers_stream_questions.specs.Contained.{failures_of};
+ghost use Rattle.omega_answers_stream_questions.specs.Contained.{IsContainedStreamRefused, failures_of};
 ghost use Rattle.omega_answers_stream_questions.specs.Items.{AnswersItem, RefusesAutomaton, aborted_line};
-ghost use Rattle.omega_answers_stream_questions.specs.private.Pairs.{IsAskedRefusal};
 
 use crate::aborted::append_aborted;
-use omega_answers_inclusion::{Exit, contained_automata, refused_for};
+use omega_answers::{Exit, refused_for};
+use omega_answers_inclusion::contained_automata;
 use omega_answers_stream::{Answers, Asked, Automaton, Input, Item, ItemQuestion, ask_each};
 use omega_hoa::read_one;
 use omega_io::{Refused, Which};
@@ -25,7 +23,7 @@ use std::alloc::Global;
 /// Decides for each automaton of the stream that `input` gives, in turn, whether that of `file`, which is to be
 /// deterministic, accepts each word that it accepts. Returns for each of them `yes`, or `no`, and if `explain` is set,
 /// after `no` an accepting lasso of the automaton of the stream and its word, and for an aborted segment the line
-/// `aborted`. The answer is `no` if it is so for one of the automata. `file` is dropped once it is read.
+/// `aborted`. The answer is `no` if it is so for one of the automata.
 ///
 /// Fails with the [Refusal::Text] or [Refusal::Automaton] of `file`, or else with that of the stream. Or else fails
 /// with the refusal of the first automaton that is refused, as `contained` of `omega_lang_inclusion` refuses it with
@@ -35,32 +33,21 @@ use std::alloc::Global;
 pub fn contained_stream<R: Input>(
     alloc: Global,
     input: &mut R,
-    file: Vec<u8>,
+    file: &[u8],
     explain: bool,
 ) -> Result<Answers, Refused>
     requires { R.failed input.old < 2 ^ 64 - 1 }
     ensures answers { IfOk result
         (λ answers. ReadsWhole (R.remaining input.old) (R.remaining input.new)
-        (λ text. AreContainedAnswers file.items text explain answers.text.items answers.no)) }
-    ensures refused { IfErr result (λ refused.
-        IsAbout (IsOfNoText file.items explain (R.remaining input.old) (R.remaining input.new))
-        (IsFileRefusal file.items explain (R.remaining input.old) (R.remaining input.new))
-        (IsInputRefusal file.items (R.remaining input.old) (R.remaining input.new))
-        refused.text refused.refusal) }
+        (λ text. AreContainedAnswers file.now text explain answers.text.items answers.no)) }
+    ensures refused { IfErr result (IsContainedStreamRefused file.now explain
+        (R.remaining input.old) (R.remaining input.new)) }
     ensures counted { R.failed input.new ≡ R.failed input.old + failures_of result }
 {
-    match automaton_in(alloc, file) {
+    match read_one(alloc, file) {
         Ok(automaton) => contained_in::<R>(alloc, input, &automaton, explain),
         Err(refusal) => Err(Refused::of(Which::File, refusal)),
     }
-}
-
-/// Reads the automaton of `text`, which is dropped.
-fn automaton_in(alloc: Global, text: Vec<u8>) -> Result<Automaton, Refusal>
-    ensures automaton { IfOk result (IsAutomatonText text.items) }
-    ensures refused { IfErr result (or_memory (IsAutomatonRefusal text.items)) }
-{
-    read_one(alloc, text.as_slice())
 }
 
 /// Returns the answers for the stream and the automaton of the file. Fails as `contained_stream` does after the file is
@@ -76,8 +63,8 @@ fn contained_in<R: Input>(
         (λ answers. ReadsWhole (R.remaining input.old) (R.remaining input.new)
         (λ text. IsAnswered (AnswersItem (IsContainedAnswer file.now explain) aborted_line) text
         answers.text.items answers.no)) }
-    ensures refused { IfErr result
-        (IsAskedRefusal file.now explain (R.remaining input.old) (R.remaining input.new)) }
+    ensures refused { (text : List ℕ) → IsAutomatonText text file.now → IfErr result
+        (IsContainedStreamRefused text explain (R.remaining input.old) (R.remaining input.new)) }
     ensures counted { R.failed input.new ≡ R.failed input.old + failures_of result }
 {
     let question = ContainedIn { file, explain };

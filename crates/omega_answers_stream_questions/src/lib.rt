@@ -7,7 +7,6 @@
 mod aborted;
 mod complement;
 mod contained;
-mod emptied;
 mod lifting;
 mod search;
 mod trim;

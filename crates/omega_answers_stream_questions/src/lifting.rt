@@ -12,7 +12,7 @@ ghost use Rattle.omega_answers_stream_questions.specs.Empty.{IsLiftingStreamRefu
 ghost use Rattle.omega_answers_stream_questions.specs.Items.{AnswersItem, RefusesAutomaton, aborted_line};
 
 use crate::aborted::append_aborted;
-use crate::emptied::is_empty_line;
+use omega_answers::Exit;
 use omega_answers_empty::{Lines, decide_automaton};
 use omega_answers_stream::{Answers, Automaton, Input, Item, ItemQuestion, ask_stream};
 use omega_solve::budget::NoObserver;
@@ -95,7 +95,15 @@ fn append_decided(
         AppendsAnswer (IsLiftingAnswer budget lines automaton.now) out.old.items out.new.items no) }
     ensures refused { IfErr result (or_memory (not_io (IsEmptinessRefusal automaton.now budget))) }
 {
-    let text = decide_automaton(alloc, automaton, lines, budget, &NoObserver, &mut ())?;
+    let (exit, text) = decide_automaton(
+        alloc,
+        automaton,
+        lines,
+        true,
+        budget,
+        &NoObserver,
+        &mut (),
+    )?;
     out.extend_from_slice(text.as_slice())?;
-    Ok(is_empty_line(text.as_slice()))
+    Ok(exit == Exit::No)
 }

@@ -11,7 +11,7 @@ ghost use Rattle.omega_answers_stream_questions.specs.Empty.{IsSearchStreamRefus
 ghost use Rattle.omega_answers_stream_questions.specs.Items.{AnswersItem, RefusesAutomaton, aborted_line};
 
 use crate::aborted::append_aborted;
-use crate::emptied::is_empty_line;
+use omega_answers::Exit;
 use omega_answers_empty::{Lines, search_automaton};
 use omega_answers_stream::{Answers, Automaton, Input, Item, ItemQuestion, ask_stream};
 use omega_text::Refusal;
@@ -77,7 +77,7 @@ fn append_searched(
         AppendsAnswer (IsSearchAnswer lines automaton.now) out.old.items out.new.items no) }
     ensures refused { IfErr result (or_memory (not_io (IsSearchRefusal automaton.now))) }
 {
-    let text = search_automaton(alloc, automaton, lines)?;
+    let (exit, text) = search_automaton(alloc, automaton, lines, true)?;
     out.extend_from_slice(text.as_slice())?;
-    Ok(is_empty_line(text.as_slice()))
+    Ok(exit == Exit::No)
 }

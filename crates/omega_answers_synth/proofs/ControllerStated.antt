@@ -1,6 +1,5 @@
 -- An item lists one list of numbers.
 use Rattle.std.proofs.Common.{◌≡◌, ℕ, List, [], ◌∷◌, map, refl, sym, ap, ◌∙◌}
-use Rattle.omega_hoa_syntax.specs.declared.header_value.HeaderValue.{HeaderValue}
 use Rattle.omega_hoa_syntax.specs.declared.header_value.HeaderValue.TheVariants as value
 use Rattle.omega_hoa_automaton.specs.Automaton.{Description}
 use Rattle.omega_synth_controllers.specs.Controllable.{IsControlled}

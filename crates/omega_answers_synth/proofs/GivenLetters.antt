@@ -1,8 +1,8 @@
 -- A letter as a label is true exactly where its propositions hold as it says.
-use Rattle.std.proofs.Common.{◌≡◌, ◌↔◌, ℕ, zero, suc, ◌+◌, ◌<◌, ◌⊎◌, inl, inr, Bool, true, false, ◌&&◌, not, if◌then◌else◌, List, [], ◌∷◌, ◌++◌, Contains, length, get_or, refl, sym, ap, ap₂, subst, ◌∙◌, arith, true≢false}
+use Rattle.std.proofs.Common.{◌≡◌, ◌↔◌, ℕ, zero, suc, ◌<◌, ◌⊎◌, inl, inr, Bool, true, false, ◌&&◌, not, if◌then◌else◌, List, [], ◌∷◌, Contains, length, get_or, refl, sym, ap, ap₂, subst, ◌∙◌, arith, true≢false}
 use Rattle.std.specs.List.{filter, range_with_len}
 use Rattle.std.proofs.lemmas.Bool.{and_parts}
-use Rattle.std.proofs.lemmas.List.Elements.{Contains-append_cases, Contains-append_left, Contains-append_right}
+use Rattle.std.proofs.lemmas.List.Elements.{Contains-append_cases, Contains-append_right}
 use Rattle.std.proofs.lemmas.List.FromFn.{get_or-range_with_len, length-range_with_len}
 use Rattle.omega_hoa_automaton.specs.Automaton.{Description}
 use Rattle.omega_graph.specs.Graph.{listed}
@@ -13,7 +13,7 @@ use Rattle.omega_lang_lasso_word.proofs.Said.{label_said}
 use Rattle.omega_synth_game.specs.RoundsOf.{holds_in}
 use Rattle.omega_synth_text.specs.Winner.{inputs_of, letter_label, literal, with_literals}
 use Rattle.omega_answers_synth.proofs.Ranges.{has_listed, is_listed}
-use Rattle.omega_answers_synth.specs.Laws.{GivesLetter, LettersAreTrueWhereGiven}
+use Rattle.omega_answers_synth.specs.Laws.{LettersAreTrueWhereGiven}
 
 none_there : {X : Type 0} (x : X) → Contains [] x → ⊥
 none_there x has = omega (arith, has.1)

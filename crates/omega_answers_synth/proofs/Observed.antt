@@ -9,31 +9,22 @@ use Rattle.omega_solve.specs.budget.Observing.{IsObserved, refusal_in}
 use Rattle.omega_solve.specs.declared.budget.observing.Progress.{Progress}
 use Rattle.omega_solve.proofs.within_budget.Observed.{made_refused, observed_after}
 use Rattle.omega_synth_controllers.specs.Controllable.{IsControlled, IsMisstated}
-use Rattle.omega_hoa.specs.Alone.{IsAutomatonRefusal, IsAutomatonText}
+use Rattle.omega_hoa.specs.Alone.{IsAutomatonText}
 use Rattle.omega_game_values.specs.Game.{Node}
 use Rattle.omega_game_values.specs.declared.player.Player.{Player}
 use Rattle.omega_synth_realize.specs.Lifting.{LiftsAutomaton}
+use Rattle.omega_answers.proofs.Refusals.{text_spares}
 use Rattle.omega_answers_synth.specs.Observing.{LiftsText}
 use Rattle.omega_answers_synth.specs.private.Question.{IsUnasked}
 
--- no text of an automaton is refused for the budget
-text_spares : (text : List ℕ) → IsAutomatonRefusal text (Task Budget) → ⊥
-text_spares text (inl (e, long)) = cc
-text_spares text (inr (short, inl (fault, e, is))) = cc
-text_spares text (inr (short, inr (lexemes, cut, inl (at, e, none)))) = cc
-text_spares text (inr (short, inr (lexemes, cut, inr segment))) = elim segment.refused [
-  | inl (fault, first) ↦ fault
-  | inr (raw, (next, more, rest, e)) ↦ cc
-]
-
--- nor is an item
+-- no item is refused for the budget
 item_spares : (stated : Type 0) → IsMisstated stated (Task Budget) → ⊥
 item_spares stated h = let e : Budget ≡ Controllable = h.0 in cc
 
 -- so no text is that states no question
 pub unasked_spares : (text : List ℕ) → or_memory (IsUnasked text) (Task Budget) → ⊥
 unasked_spares text (inl unread) = text_spares text unread
-unasked_spares text (inr item) = item_spares _ item.misstated
+unasked_spares text (inr item) = item_spares _ item.holds
 
 -- runs for an automaton are runs for its text
 pub of_text : (text : List ℕ) (automaton : Description) (controlled : List ℕ) (refusal : Option Refusal) (nodes : List Node) (players : List Player)

@@ -1,8 +1,8 @@
 -- A controller as it is written is a part of its automaton that keeps the edges.
-use Rattle.std.proofs.Common.{◌≡◌, ◌↔◌, ℕ, zero, suc, ◌+◌, ◌<◌, Bool, true, ◌&&◌, nat_lt, List, [], ◌∷◌, length, map, get_or, slice_get, All, Contains, Option, Some, None, option_map, refl, sym, ap, ap₂, subst, ◌∙◌, arith}
-use Rattle.std.specs.Prelude.{IfSome, IsTrue}
+use Rattle.std.proofs.Common.{◌≡◌, ◌↔◌, ℕ, zero, suc, ◌<◌, Bool, true, ◌&&◌, nat_lt, List, [], ◌∷◌, length, map, get_or, slice_get, All, Contains, Option, Some, None, option_map, refl, sym, ap, ap₂, subst, ◌∙◌, arith}
+use Rattle.std.specs.Prelude.{IfSome}
 use Rattle.std.specs.List.{filter, flat_map}
-use Rattle.std.specs.Option.{option_or, unwrap_or}
+use Rattle.std.specs.Option.{unwrap_or}
 use Rattle.std.proofs.lemmas.Bool.{and_parts, lt-ltb}
 use Rattle.std.proofs.lemmas.List.{get_or-map, length-map}
 use Rattle.std.proofs.lemmas.List.Elements.{All-head}
@@ -10,8 +10,6 @@ use Rattle.std.proofs.lemmas.Option.{get_or_from_slice_get, slice_get-map, slice
 use Rattle.omega_hoa_label.specs.Label.{LabelTree, truth}
 use Rattle.omega_hoa_satisfiable.specs.Satisfiable.{IsSatisfiable}
 use Rattle.omega_hoa_automaton.specs.Automaton.{AreBelow, AreTargets, BodyEdge, Description, IsAutomaton, IsEdge, IsState, edge_at, edges_from}
-use Rattle.omega_hoa_automaton.specs.declared.edge.Edge.{Edge}
-use Rattle.omega_hoa_automaton.specs.declared.state.State.{State}
 use Rattle.omega_lang_runs.specs.Laws.{IsIndexLabel}
 use Rattle.omega_lang_runs.specs.Lasso.{IsStart, IsStep, Leads, label_of}
 use Rattle.omega_lang_runs.specs.Words.{Allows, CanBeTaken, has_bit, index_in}

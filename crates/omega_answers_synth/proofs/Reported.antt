@@ -1,7 +1,6 @@
 -- How refusals of two automata are reported, and which text they are about.
-use Rattle.std.proofs.Common.{◌≡◌, ◌⊎◌, inl, inr, List, ℕ, true, Option, None, Some, refl, sym, ap, subst, ◌∙◌}
+use Rattle.std.proofs.Common.{◌≡◌, inl, inr, List, ℕ, true, Some, refl, sym, ap, subst, ◌∙◌}
 use Rattle.std.specs.List.{list_any}
-use Rattle.omega_text.specs.Cases.{or_memory}
 use Rattle.omega_text.specs.declared.refusal.Refusal.{Refusal}
 use Rattle.omega_text.specs.declared.refusal.Refusal.TheVariants.{Automaton, Game, Io, Memory, Task, Text}
 use Rattle.omega_text.specs.declared.refusal.task.TaskFault.{TaskFault}
@@ -10,22 +9,20 @@ use Rattle.omega_hoa_automaton.specs.declared.header.Header.{Header}
 use Rattle.omega_hoa_automaton.specs.Automaton.{Description}
 use Rattle.omega_synth_controllers.specs.Controllable.{HasControlled, IsControlled, IsMisstated, is_controllable_item}
 use Rattle.omega_synth_check.specs.Refusing.{IsJudgeRefusal}
-use Rattle.omega_hoa.specs.Alone.{IsAutomatonText}
-use Rattle.omega_io.specs.Refused.{IsAbout, about, about_none}
+use Rattle.omega_io.specs.Refused.{about}
 use Rattle.omega_io.specs.declared.refused.Refused.{Refused}
-use Rattle.omega_io.specs.declared.refused.Which.{Which}
 use Rattle.omega_io.specs.declared.refused.Which.TheVariants.{File, Input}
 use Rattle.omega_answers_synth.specs.Parting.{AreAlike, IsParted}
-use Rattle.omega_answers_synth.specs.Verify.{IsFileRefusal, IsInputRefusal, IsOfNoText, IsPairRefusal, controller_misstated, not_judged, parted_unlike, specification_misstated}
-use Rattle.omega_answers_synth.specs.private.Reported.{IsPairReported, judge_reported}
+use Rattle.omega_answers_synth.specs.Verify.{IsPairRefusal, RefusesController, controller_misstated, not_judged, parted_unlike, specification_misstated}
+use Rattle.omega_answers_synth.specs.private.Reported.{judge_reported}
 
 module _ (specification controller : Description) where
   -- the item of the specification, or that of the controller, is refused
   pub specification_reported : (refusal : Refusal) → IsMisstated (HasControlled specification) refusal → (reported : Refused) → reported ≡ about File refusal
-      → IsPairReported specification controller reported
-  specification_reported refusal refused reported is = subst (IsPairReported specification controller) (sym is) (go refusal refused)
+      → RefusesController specification controller reported
+  specification_reported refusal refused reported is = subst (RefusesController specification controller) (sym is) (go refusal refused)
     where
-      go : (refusal : Refusal) → IsMisstated (HasControlled specification) refusal → IsPairReported specification controller (about File refusal)
+      go : (refusal : Refusal) → IsMisstated (HasControlled specification) refusal → RefusesController specification controller (about File refusal)
       go (Task fault) h = inr (subst (λ (f : TaskFault). IsPairRefusal specification controller (Some File) (Task f)) (sym h.0) (specification_misstated h.1))
       go Memory h = inl refl
       go (Text fault) h = absurd h
@@ -34,10 +31,10 @@ module _ (specification controller : Description) where
       go Io h = absurd h
 
   pub controller_reported : HasControlled specification → (refusal : Refusal) → IsMisstated (HasControlled controller) refusal → (reported : Refused)
-      → reported ≡ about Input refusal → IsPairReported specification controller reported
-  controller_reported stated refusal refused reported is = subst (IsPairReported specification controller) (sym is) (go refusal refused)
+      → reported ≡ about Input refusal → RefusesController specification controller reported
+  controller_reported stated refusal refused reported is = subst (RefusesController specification controller) (sym is) (go refusal refused)
     where
-      go : (refusal : Refusal) → IsMisstated (HasControlled controller) refusal → IsPairReported specification controller (about Input refusal)
+      go : (refusal : Refusal) → IsMisstated (HasControlled controller) refusal → RefusesController specification controller (about Input refusal)
       go (Task fault) h = inr (subst (λ (f : TaskFault). IsPairRefusal specification controller (Some Input) (Task f)) (sym h.0) (controller_misstated stated h.1))
       go Memory h = inl refl
       go (Text fault) h = absurd h
@@ -50,35 +47,18 @@ module _ (specification controller : Description) where
       → IsControlled specification stated → IsControlled controller controlled
       → names ≡ specification.propositions → own_names ≡ controller.propositions → one ≡ stated → other ≡ controlled → headers ≡ specification.unknown
       → list_any is_controllable_item headers ≡ true → ¬ AreAlike names own_names one other
-      → (reported : Refused) → reported ≡ about Input (Task Controllable) → IsPairReported specification controller reported
+      → (reported : Refused) → reported ≡ about Input (Task Controllable) → RefusesController specification controller reported
   unlike_reported stated controlled names own_names one other headers is_stated is_controlled same own_same one_is other_is headers_are item unlike reported is =
       let apart : ¬ AreAlike specification.propositions controller.propositions stated controlled =
       subst (λ (ns : List (List ℕ)). ¬ AreAlike ns controller.propositions stated controlled) same
       (subst (λ (ns : List (List ℕ)). ¬ AreAlike names ns stated controlled) own_same
       (subst (λ (ns : List ℕ). ¬ AreAlike names own_names ns controlled) one_is
       (subst (λ (ns : List ℕ). ¬ AreAlike names own_names one ns) other_is unlike))) in
-      subst (IsPairReported specification controller) (sym is)
+      subst (RefusesController specification controller) (sym is)
       (inr (parted_unlike stated controlled is_stated is_controlled (ap (list_any is_controllable_item) (sym headers_are) ∙ item) apart))
 
   -- the judge refuses
   pub judge_refused : (controlled : List ℕ) → IsParted specification controller controlled → (refusal : Refusal) → IsJudgeRefusal specification controller controlled refusal
-      → (reported : Refused) → reported ≡ judge_reported controller refusal → IsPairReported specification controller reported
+      → (reported : Refused) → reported ≡ judge_reported controller refusal → RefusesController specification controller reported
   judge_refused controlled parted refusal refused reported is =
-      subst (IsPairReported specification controller) (sym is) (inr (not_judged controlled refusal parted refused))
-
-  -- a refusal of two automata that were read is about the text that it names
-  pub pair_about : (file input : List ℕ) → IsAutomatonText file specification → IsAutomatonText input controller → (reported : Refused)
-      → IsPairReported specification controller reported
-      → IsAbout (IsOfNoText file input) (IsFileRefusal file input) (IsInputRefusal file input) reported.text reported.refusal
-  pair_about file input file_read input_read reported (inl memory) =
-      subst (λ (r : Refused). IsAbout (IsOfNoText file input) (IsFileRefusal file input) (IsInputRefusal file input) r.text r.refusal) (sym memory) (inl refl)
-  pair_about file input file_read input_read reported (inr is) = go reported.text reported.refusal is
-    where
-      go : (text : Option Which) (refusal : Refusal) → IsPairRefusal specification controller text refusal
-          → IsAbout (IsOfNoText file input) (IsFileRefusal file input) (IsInputRefusal file input) text refusal
-      go None refusal is =
-          inr (record { specification = specification; specification_read = file_read; controller = controller; controller_read = input_read; refused = is })
-      go (Some File) refusal is =
-          inr (record { specification = specification; specification_read = file_read; controller = controller; controller_read = input_read; refused = is })
-      go (Some Input) refusal is =
-          inr (record { specification = specification; specification_read = file_read; controller = controller; controller_read = input_read; refused = is })
+      subst (RefusesController specification controller) (sym is) (inr (not_judged controlled refusal parted refused))

@@ -1,11 +1,10 @@
 -- The edges of states as rows, each with its state, its index there and the number of the state's first edge. The edges
 -- of a winner's states are those of the rows that are kept.
-use Rattle.std.proofs.Common.{◌≡◌, ℕ, zero, suc, ◌+◌, ◌-◌, ◌<◌, ◌≤◌, ◌⊎◌, inl, inr, Bool, true, false, ◌&&◌, if◌then◌else◌, nat_lt, List, [], ◌∷◌, ◌++◌, length, map, slice_get, Option, Some, None, option_map, refl, sym, ap, ap₂, subst, ◌∙◌, arith, add-one}
+use Rattle.std.proofs.Common.{◌≡◌, ℕ, zero, suc, ◌+◌, ◌-◌, ◌<◌, ◌≤◌, ◌⊎◌, inl, inr, Bool, true, false, ◌&&◌, if◌then◌else◌, nat_lt, List, [], ◌∷◌, ◌++◌, length, map, slice_get, Option, Some, None, refl, sym, ap, ap₂, subst, ◌∙◌, arith}
 use Rattle.std.specs.List.{filter, flat_map}
 use Rattle.std.proofs.lemmas.Bool.{cases_lt, lt-ltb}
 use Rattle.std.proofs.lemmas.List.{map-append}
 use Rattle.std.proofs.lemmas.List.Elements.{filter-append}
-use Rattle.std.proofs.lemmas.Option.{slice_get-map}
 use Rattle.omega_hoa_label.specs.Label.{LabelTree}
 use Rattle.omega_hoa_automaton.specs.Automaton.{BodyEdge, edges_from}
 use Rattle.omega_hoa_automaton.specs.declared.edge.Edge.{Edge}

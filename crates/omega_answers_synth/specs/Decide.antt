@@ -3,10 +3,10 @@ use Rattle.std.specs.Prelude.{◌≡◌, Bool, List, ℕ, codes}
 use Rattle.omega_hoa_automaton.specs.Automaton.{Description}
 use Rattle.omega_synth_controllers.specs.Controllable.{IsControlled}
 use Rattle.omega_synth_controllers.specs.Controllers.{IsController, IsCounterStrategy}
-use Rattle.omega_hoa.specs.Alone.{IsAutomatonText}
 use Rattle.omega_io.specs.declared.exit.Exit.{Exit}
 use Rattle.omega_io.specs.declared.exit.Exit.TheVariants.{Done, No}
 use Rattle.omega_synth_realize.specs.Refusing.{IsJudgeable}
+use Rattle.omega_answers.specs.OneAutomaton.{OfAutomaton}
 
 -- an automaton has a controller, where the system controls these propositions
 abbrev pub HasController : Description → List ℕ → Type 0
@@ -32,7 +32,5 @@ pub record IsDecision (a : Description) (exit : Exit) (output : List ℕ) : Type
   pub verdict : IsVerdict a controlled exit output
 
 -- the answer of `realize`: the verdict on the automaton of the text
-pub record IsDecisionAnswer (text : List ℕ) (exit : Exit) (output : List ℕ) : Type 0 where
-  pub automaton : Description
-  pub read : IsAutomatonText text automaton
-  pub decision : IsDecision automaton exit output
+abbrev pub IsDecisionAnswer : (text : List ℕ) → Exit → List ℕ → Type 0
+IsDecisionAnswer text exit output = OfAutomaton (λ a. IsDecision a exit output) text

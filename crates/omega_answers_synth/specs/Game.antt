@@ -4,9 +4,9 @@ use Rattle.std.specs.Prelude.{◌≡◌, ◌⊎◌, List, ℕ}
 use Rattle.omega_text.specs.declared.refusal.Refusal.{Refusal}
 use Rattle.omega_hoa_automaton.specs.Automaton.{Description}
 use Rattle.omega_synth_controllers.specs.Controllable.{HasControlled, IsControlled, IsMisstated}
-use Rattle.omega_hoa.specs.Alone.{IsAutomatonRefusal, IsAutomatonText}
 use Rattle.omega_game_values.specs.Game.{Node}
 use Rattle.omega_pg.specs.game.Canonical.{canonical_game}
+use Rattle.omega_answers.specs.OneAutomaton.{IsRefusalOfText, OfAutomaton}
 use Rattle.omega_synth_realize.specs.Gaming.{IsRealizabilityGame, IsUngamed}
 
 -- the game of an automaton, where the system controls the propositions that its item `controllable-AP:` lists
@@ -15,13 +15,15 @@ pub record IsStatedGame (a : Description) (nodes : List Node) : Type 0 where
   pub stated : IsControlled a controlled
   pub game : IsRealizabilityGame a controlled nodes
 
--- the answer of `realize --game`: the canonical text of the game of the automaton of the text
-pub record IsGameAnswer (text output : List ℕ) : Type 0 where
-  pub automaton : Description
-  pub read : IsAutomatonText text automaton
+-- the canonical text of that game
+pub record IsGameText (a : Description) (output : List ℕ) : Type 0 where
   pub nodes : List Node
-  pub game : IsStatedGame automaton nodes
+  pub game : IsStatedGame a nodes
   pub written : output ≡ canonical_game nodes
+
+-- the answer of `realize --game`: the canonical text of the game of the automaton of the text
+abbrev pub IsGameAnswer : (text output : List ℕ) → Type 0
+IsGameAnswer text output = OfAutomaton (λ a. IsGameText a output) text
 
 -- the item lists propositions, and the game is refused
 pub record RefusesGame (a : Description) (refusal : Refusal) : Type 0 where
@@ -33,12 +35,6 @@ pub record RefusesGame (a : Description) (refusal : Refusal) : Type 0 where
 abbrev pub IsUngamedAutomaton : Description → Refusal → Type 0
 IsUngamedAutomaton a refusal = IsMisstated (HasControlled a) refusal ⊎ RefusesGame a refusal
 
--- the text is that of an automaton whose game is refused
-pub record RefusesGameOfText (text : List ℕ) (refusal : Refusal) : Type 0 where
-  pub automaton : Description
-  pub read : IsAutomatonText text automaton
-  pub refused : IsUngamedAutomaton automaton refusal
-
 -- the refusal of `realize --game`: that of the text, or else that of its automaton
 abbrev pub IsGameRefusal : List ℕ → Refusal → Type 0
-IsGameRefusal text refusal = IsAutomatonRefusal text refusal ⊎ RefusesGameOfText text refusal
+IsGameRefusal = IsRefusalOfText IsUngamedAutomaton

@@ -1,25 +1,20 @@
 -- Laws of the answers of `verify --specification`: which texts they call a controller, and what a letter says.
-use Rattle.std.specs.Prelude.{◌≡◌, ◌↔◌, ℕ, ◌<◌, Bool, true, List, Contains, None, codes, length}
+use Rattle.std.specs.Prelude.{◌≡◌, ◌↔◌, ℕ, ◌<◌, Bool, true, List, Contains, None, length}
 use Rattle.omega_hoa_automaton.specs.Automaton.{Description, IsAutomaton}
 use Rattle.omega_synth_controllers.specs.Controllable.{IsControlled}
 use Rattle.omega_synth_check.specs.Judging.{IsControllerFor}
 use Rattle.omega_synth_check.specs.Laws.{IsKeptPart}
 use Rattle.omega_hoa.specs.Alone.{IsAutomatonText}
 use Rattle.omega_io.specs.declared.exit.Exit.{Exit}
-use Rattle.omega_io.specs.declared.exit.Exit.TheVariants.{Done}
 use Rattle.omega_lang_lasso_word.specs.Formulas.{HasTruth, formula}
 use Rattle.omega_lang_lasso_word.specs.Laws.{HasStrings, by_number}
 use Rattle.omega_synth_game.specs.RoundsOf.{holds_in}
 use Rattle.omega_synth_text.specs.Reaching.{TellsReached}
 use Rattle.omega_synth_text.specs.Winner.{winner}
 use Rattle.omega_lang_word_laws.specs.Complements.{RecursOrCeases}
+use Rattle.omega_answers.specs.Answer.{IsYes}
 use Rattle.omega_answers_synth.specs.Letter.{letter_text}
 use Rattle.omega_answers_synth.specs.Verify.{IsControllerAnswer}
-
--- `yes` is written
-pub record IsYes (exit : Exit) (output : List ℕ) : Type 0 where
-  pub done : exit ≡ Done
-  pub written : output ≡ codes "yes\n"
 
 -- if each test recurs or ceases, as it does by the excluded middle, `yes` is written exactly if the one text is that of
 -- a controller for the specification of the other

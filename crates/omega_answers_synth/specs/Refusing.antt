@@ -4,7 +4,7 @@ use Rattle.std.specs.Prelude.{◌⊎◌, List, ℕ}
 use Rattle.omega_text.specs.declared.refusal.Refusal.{Refusal}
 use Rattle.omega_hoa_automaton.specs.Automaton.{Description}
 use Rattle.omega_synth_controllers.specs.Controllable.{HasControlled, IsControlled, IsMisstated}
-use Rattle.omega_hoa.specs.Alone.{IsAutomatonRefusal, IsAutomatonText}
+use Rattle.omega_answers.specs.OneAutomaton.{IsRefusalOfText}
 use Rattle.omega_synth_realize.specs.Refusing.{IsUnrealized}
 
 -- the item lists propositions, and the question about them is refused, with this budget of lifts
@@ -18,13 +18,6 @@ abbrev pub IsUndecided : Description → ℕ → Refusal → Type 0
 IsUndecided a budget refusal =
     IsMisstated (HasControlled a) refusal ⊎ RefusesRealizing a budget refusal
 
--- the text is that of an automaton that is refused
-pub record RefusesAutomaton (text : List ℕ) (budget : ℕ) (refusal : Refusal) : Type 0 where
-  pub automaton : Description
-  pub read : IsAutomatonText text automaton
-  pub refused : IsUndecided automaton budget refusal
-
 -- the refusal of `realize`
 abbrev pub IsRealizeRefusal : List ℕ → ℕ → Refusal → Type 0
-IsRealizeRefusal text budget refusal =
-    IsAutomatonRefusal text refusal ⊎ RefusesAutomaton text budget refusal
+IsRealizeRefusal text budget = IsRefusalOfText (λ a refusal. IsUndecided a budget refusal) text

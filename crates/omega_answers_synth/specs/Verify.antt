@@ -11,13 +11,15 @@ use Rattle.omega_synth_controllers.specs.Controllable.{HasControlled, IsControll
 use Rattle.omega_synth_check.specs.Judging.{IsJudgement}
 use Rattle.omega_synth_check.specs.Refusing.{AreJudged, IsJudgeRefusal}
 use Rattle.omega_synth_check.specs.declared.judgement.Judgement.{Judgement}
-use Rattle.omega_hoa.specs.Alone.{IsAutomatonRefusal, IsAutomatonText}
 use Rattle.omega_io.specs.declared.exit.Exit.{Exit}
+use Rattle.omega_io.specs.Refused.{about_none}
+use Rattle.omega_io.specs.declared.refused.Refused.{Refused}
 use Rattle.omega_io.specs.declared.refused.Which.{Which}
 use Rattle.omega_io.specs.declared.refused.Which.TheVariants.{File, Input}
-use Rattle.omega_answers_automaton.specs.Meet.{IsTextRefused}
+use Rattle.omega_answers.specs.Answer.{IsReply}
+use Rattle.omega_answers.specs.TwoAutomata.{IsRefusalOfTexts, OfAutomata}
 use Rattle.omega_answers_synth.specs.Parting.{AreAlike, IsParted, has_item}
-use Rattle.omega_answers_synth.specs.Reason.{exit_of, judgement_text}
+use Rattle.omega_answers_synth.specs.Reason.{judgement_answer}
 
 -- what is written of a specification and an automaton is right: `yes` if it is a controller for the specification, and
 -- else `no` with the reason
@@ -28,17 +30,13 @@ pub record IsControllerVerdict (specification controller : Description) (explain
   pub judged : AreJudged specification controller
   pub judgement : Judgement
   pub right : IsJudgement specification controller controlled judgement
-  pub exit_is : exit ≡ exit_of judgement
-  pub written : output ≡ judgement_text explain controller controlled judgement
+  pub reply : IsReply (judgement_answer explain controller controlled judgement) exit output
 
 -- the answer of `verify --specification`: both texts are those of automata, and what is written of the two is right
-pub record IsControllerAnswer (file input : List ℕ) (explain : Bool) (exit : Exit)
-    (output : List ℕ) : Type 0 where
-  pub specification : Description
-  pub specification_read : IsAutomatonText file specification
-  pub controller : Description
-  pub controller_read : IsAutomatonText input controller
-  pub verdict : IsControllerVerdict specification controller explain exit output
+abbrev pub IsControllerAnswer : (file input : List ℕ) (explain : Bool) → Exit → List ℕ → Type 0
+IsControllerAnswer file input explain exit output =
+    OfAutomata (λ specification controller.
+    IsControllerVerdict specification controller explain exit output) file input
 
 -- the text that a refusal of the judge is about: a choice is one of the specification, and an acceptance that is not
 -- `all` one of the controller. Universal branching is one of the controller if it has any. All others are about neither
@@ -67,25 +65,11 @@ pub data IsPairRefusal (specification controller : Description) : Option Which
       → IsJudgeRefusal specification controller controlled refusal
       → IsPairRefusal specification controller (text_about controller refusal) refusal
 
--- both texts are those of automata, and the two are refused
-pub record IsPairRefused (file input : List ℕ) (text : Option Which)
-    (refusal : Refusal) : Type 0 where
-  pub specification : Description
-  pub specification_read : IsAutomatonText file specification
-  pub controller : Description
-  pub controller_read : IsAutomatonText input controller
-  pub refused : IsPairRefusal specification controller text refusal
+-- the two automata are refused so, or memory is
+abbrev pub RefusesController : (specification controller : Description) → Refused → Type 0
+RefusesController specification controller refused = (refused ≡ about_none Memory)
+    ⊎ IsPairRefusal specification controller refused.text refused.refusal
 
--- the refusal about the file: that of its text, or else one of its automaton
-abbrev pub IsFileRefusal : (file input : List ℕ) → Refusal → Type 0
-IsFileRefusal file input refusal =
-    IsAutomatonRefusal file refusal ⊎ IsPairRefused file input (Some File) refusal
-
--- the refusal about the input: that of its text, or else one of its automaton
-abbrev pub IsInputRefusal : (file input : List ℕ) → Refusal → Type 0
-IsInputRefusal file input refusal =
-    IsTextRefused file input refusal ⊎ IsPairRefused file input (Some Input) refusal
-
--- the refusal about no text: want of memory, or any other one of the two automata
-abbrev pub IsOfNoText : (file input : List ℕ) → Refusal → Type 0
-IsOfNoText file input refusal = (refusal ≡ Memory) ⊎ IsPairRefused file input None refusal
+-- the refusal of `verify --specification`: that of one of the texts, or else that of the two automata
+abbrev pub IsControllerRefused : (file input : List ℕ) → Refused → Type 0
+IsControllerRefused = IsRefusalOfTexts RefusesController

@@ -3,11 +3,11 @@ use Rattle.std.specs.Prelude.{List, ℕ}
 use Rattle.omega_hoa_automaton.specs.Automaton.{Description}
 use Rattle.omega_synth_controllers.specs.Controllable.{IsControlled}
 use Rattle.omega_synth_controllers.specs.Controllers.{IsController, IsCounterStrategy}
-use Rattle.omega_hoa.specs.Alone.{IsAutomatonText}
 use Rattle.omega_io.specs.declared.exit.Exit.{Exit}
 use Rattle.omega_io.specs.declared.exit.Exit.TheVariants.{Done, No}
 use Rattle.omega_synth_game.specs.RoundsOf.{letters_by_state}
 use Rattle.omega_synth_realize.specs.Refusing.{IsJudgeable}
+use Rattle.omega_answers.specs.OneAutomaton.{OfAutomaton}
 use Rattle.omega_synth_text.specs.Winner.{IsControllerText, IsCounterStrategyText}
 
 -- the text is that of a controller, where the system controls these propositions
@@ -37,7 +37,5 @@ pub record IsWinning (a : Description) (exit : Exit) (output : List ℕ) : Type 
   pub winner : IsWinner a controlled exit output
 
 -- the answer of `realize --controller`: the winner's automaton for the automaton of the text
-pub record IsWinnerAnswer (text : List ℕ) (exit : Exit) (output : List ℕ) : Type 0 where
-  pub automaton : Description
-  pub read : IsAutomatonText text automaton
-  pub winning : IsWinning automaton exit output
+abbrev pub IsWinnerAnswer : (text : List ℕ) → Exit → List ℕ → Type 0
+IsWinnerAnswer text exit output = OfAutomaton (λ a. IsWinning a exit output) text

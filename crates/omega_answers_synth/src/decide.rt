@@ -21,9 +21,9 @@ use std::alloc::Global;
 ///
 /// Fails with the [Refusal::Text] or [Refusal::Automaton] of the text, or else with [TaskFault::Controllable], or else
 /// as `realize` does.
-pub fn decide_realizability(alloc: Global, text: Vec<u8>) -> Result<(Exit, Vec<u8>), Refusal>
-    ensures answer { IfOk result (λ made. IsDecisionAnswer text.items made.0 made.1.items) }
-    ensures refused { IfErr result (or_memory (IsRealizeRefusal text.items most_lifts)) }
+pub fn decide_realizability(alloc: Global, text: &[u8]) -> Result<(Exit, Vec<u8>), Refusal>
+    ensures answer { IfOk result (λ made. IsDecisionAnswer text.now made.0 made.1.items) }
+    ensures refused { IfErr result (or_memory (IsRealizeRefusal text.now most_lifts)) }
 {
     let decided = decided_in(alloc, text)?;
     verdict_of(alloc, &decided)
@@ -35,15 +35,15 @@ pub fn decide_realizability(alloc: Global, text: Vec<u8>) -> Result<(Exit, Vec<u
 /// as `realize_by_lifting` does.
 pub fn decide_realizability_by_lifting<L, W: Reporter<L>>(
     alloc: Global,
-    text: Vec<u8>,
+    text: &[u8],
     budget: u64,
     reporter: &W,
     observer: &mut L,
 ) -> Result<(Exit, Vec<u8>), Refusal>
     requires { budget ≤ most_lifts }
-    ensures answer { IfOk result (λ made. IsDecisionAnswer text.items made.0 made.1.items) }
-    ensures refused { IfErr result (or_memory (IsRealizeRefusal text.items budget)) }
-    ensures reported { IsObserved (LiftsText text.items) (refusal_in result)
+    ensures answer { IfOk result (λ made. IsDecisionAnswer text.now made.0 made.1.items) }
+    ensures refused { IfErr result (or_memory (IsRealizeRefusal text.now budget)) }
+    ensures reported { IsObserved (LiftsText text.now) (refusal_in result)
         (W.tells reporter.now) (W.pace reporter.now) budget observer.old observer.new }
 {
     let decided = decided_by_lifting(alloc, text, budget, reporter, observer)?;

@@ -22,9 +22,9 @@ pub(crate) struct Decided {
 }
 
 /// Decides the question of `text`. Fails as `decide_realizability` does.
-pub(crate) fn decided_in(alloc: Global, text: Vec<u8>) -> Result<Decided, Refusal>
-    ensures decided { IfOk result (IsDecidedText text.items) }
-    ensures refused { IfErr result (or_memory (IsRealizeRefusal text.items most_lifts)) }
+pub(crate) fn decided_in(alloc: Global, text: &[u8]) -> Result<Decided, Refusal>
+    ensures decided { IfOk result (IsDecidedText text.now) }
+    ensures refused { IfErr result (or_memory (IsRealizeRefusal text.now most_lifts)) }
 {
     let question = question_in(alloc, text)?;
     let controlled = question.controlled.as_slice();
@@ -39,15 +39,15 @@ pub(crate) fn decided_in(alloc: Global, text: Vec<u8>) -> Result<Decided, Refusa
 /// `decide_realizability_by_lifting` does.
 pub(crate) fn decided_by_lifting<L, W: Reporter<L>>(
     alloc: Global,
-    text: Vec<u8>,
+    text: &[u8],
     budget: u64,
     reporter: &W,
     observer: &mut L,
 ) -> Result<Decided, Refusal>
     requires { budget ≤ most_lifts }
-    ensures decided { IfOk result (IsDecidedText text.items) }
-    ensures refused { IfErr result (or_memory (IsRealizeRefusal text.items budget)) }
-    ensures reported { IsObserved (LiftsText text.items) (refusal_in result)
+    ensures decided { IfOk result (IsDecidedText text.now) }
+    ensures refused { IfErr result (or_memory (IsRealizeRefusal text.now budget)) }
+    ensures reported { IsObserved (LiftsText text.now) (refusal_in result)
         (W.tells reporter.now) (W.pace reporter.now) budget observer.old observer.new }
 {
     let question = question_in(alloc, text)?;

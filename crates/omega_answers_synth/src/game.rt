@@ -17,18 +17,18 @@ use std::alloc::Global;
 ///
 /// Fails with the [Refusal::Text] or [Refusal::Automaton] of the text, or else with [TaskFault::Controllable], or else
 /// as `realizability_game` does.
-pub fn write_realizability_game(alloc: Global, text: Vec<u8>) -> Result<Vec<u8>, Refusal>
-    ensures answer { IfOk result (λ output. IsGameAnswer text.items output.items) }
-    ensures refused { IfErr result (or_memory (IsGameRefusal text.items)) }
+pub fn write_realizability_game(alloc: Global, text: &[u8]) -> Result<Vec<u8>, Refusal>
+    ensures answer { IfOk result (λ output. IsGameAnswer text.now output.items) }
+    ensures refused { IfErr result (or_memory (IsGameRefusal text.now)) }
 {
     let game = game_in(alloc, text)?;
     write_game(alloc, game.forward_game())
 }
 
 /// Returns the game of `text`. Its automaton is dropped. Fails as [write_realizability_game] does.
-fn game_in(alloc: Global, text: Vec<u8>) -> Result<Game, Refusal>
-    ensures game { IfOk result (IsGameOfText text.items) }
-    ensures refused { IfErr result (or_memory (IsGameRefusal text.items)) }
+fn game_in(alloc: Global, text: &[u8]) -> Result<Game, Refusal>
+    ensures game { IfOk result (IsGameOfText text.now) }
+    ensures refused { IfErr result (or_memory (IsGameRefusal text.now)) }
 {
     let question = question_in(alloc, text)?;
     realizability_game(alloc, &question.automaton, question.controlled.as_slice())

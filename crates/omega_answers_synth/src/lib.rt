@@ -15,7 +15,6 @@ mod laws;
 mod letter;
 mod parting;
 mod question;
-mod reading;
 mod reason;
 mod verify;
 mod winner;
@@ -25,6 +24,6 @@ pub use game::write_realizability_game;
 pub use laws::{
     controller_answers_are_exact, letters_are_true_where_given, written_controllers_are_parts,
 };
-pub use omega_io::Exit;
+pub use omega_answers::Exit;
 pub use verify::verify_controller;
 pub use winner::{write_winner, write_winner_by_lifting};

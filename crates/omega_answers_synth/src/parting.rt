@@ -6,7 +6,7 @@ ghost use Rattle.omega_graph.specs.Graph.{listed};
 ghost use Rattle.omega_synth_controllers.specs.Controllable.{is_controllable_item};
 ghost use Rattle.omega_answers_synth.specs.Parting.{AreAlike, IsParted};
 ghost use Rattle.omega_answers_synth.specs.private.Alike.{IsAlike, is_unlike};
-ghost use Rattle.omega_answers_synth.specs.private.Reported.{IsPairReported};
+ghost use Rattle.omega_answers_synth.specs.Verify.{RefusesController};
 
 use omega_hoa_automaton::{Automaton, Header, Refusal};
 use omega_io::{Refused, Which};
@@ -25,7 +25,7 @@ pub(crate) fn controlled_numbers(
     controller: &Automaton,
 ) -> Result<Numbers, Refused>
     ensures parted { IfOk result (IsParted specification.now controller.now) }
-    ensures refused { IfErr result (IsPairReported specification.now controller.now) }
+    ensures refused { IfErr result (RefusesController specification.now controller.now) }
 {
     let stated = match controlled_propositions(alloc, specification) {
         Ok(numbers) => numbers,

@@ -1,5 +1,4 @@
 ghost use Rattle.std.specs.Prelude.{IfErr, IfOk};
-ghost use Rattle.omega_hoa.specs.Alone.{IsAutomatonRefusal, IsAutomatonText};
 ghost use Rattle.omega_text.specs.Cases.{or_memory};
 ghost use Rattle.omega_answers_synth.specs.private.Question.{IsQuestion, IsUnasked};
 
@@ -17,22 +16,14 @@ pub(crate) struct Question {
 }
 
 /// Reads the automaton of `text`, and then its item.
-pub(crate) fn question_in(alloc: Global, text: Vec<u8>) -> Result<Question, Refusal>
-    ensures question { IfOk result (IsQuestion text.items) }
-    ensures refused { IfErr result (or_memory (IsUnasked text.items)) }
+pub(crate) fn question_in(alloc: Global, text: &[u8]) -> Result<Question, Refusal>
+    ensures question { IfOk result (IsQuestion text.now) }
+    ensures refused { IfErr result (or_memory (IsUnasked text.now)) }
 {
-    let automaton = automaton_in(alloc, text)?;
+    let automaton = read_one(alloc, text)?;
     let controlled = controlled_propositions(alloc, &automaton)?;
     Ok(Question {
         automaton,
         controlled,
     })
-}
-
-/// Reads the automaton of `text`. The text is dropped, so that it takes no memory while the automaton is used.
-fn automaton_in(alloc: Global, text: Vec<u8>) -> Result<Automaton, Refusal>
-    ensures automaton { IfOk result (IsAutomatonText text.items) }
-    ensures refused { IfErr result (or_memory (IsAutomatonRefusal text.items)) }
-{
-    read_one(alloc, text.as_slice())
 }

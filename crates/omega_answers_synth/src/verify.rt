@@ -1,18 +1,15 @@
-ghost use Rattle.std.specs.Prelude.{List, ℕ, IfErr, IfOk};
+ghost use Rattle.std.specs.Prelude.{IfErr, IfOk};
 ghost use Rattle.omega_answers_synth.specs.Parting.{IsParted};
-ghost use Rattle.omega_answers_synth.specs.Verify.{IsControllerAnswer, IsControllerVerdict};
-ghost use Rattle.omega_answers_synth.specs.Verify.{IsFileRefusal, IsInputRefusal, IsOfNoText};
-ghost use Rattle.omega_answers_synth.specs.private.Reported.{IsPairReported};
+ghost use Rattle.omega_answers_synth.specs.Verify.{IsControllerAnswer, IsControllerRefused};
+ghost use Rattle.omega_answers_synth.specs.Verify.{IsControllerVerdict, RefusesController};
 ghost use Rattle.omega_synth_check.specs.Refusing.{IsJudgeRefusal};
-ghost use Rattle.omega_hoa.specs.Alone.{IsAutomatonText};
-ghost use Rattle.omega_io.specs.Refused.{IsAbout};
 
 use crate::about::judge_reported;
 use crate::parting::controlled_numbers;
-use crate::reading::automaton_in;
-use crate::reason::{exit_of, judgement_text};
+use crate::reason::judgement_answer;
+use omega_answers::read_two;
 use omega_hoa_automaton::{Automaton, Refusal};
-use omega_io::{Exit, Refused, Which};
+use omega_io::{Exit, Refused};
 use omega_synth_check::judge;
 use std::alloc::Global;
 
@@ -28,8 +25,7 @@ use std::alloc::Global;
 /// If `explain` is set, lines follow `no`. Without a start there is one, `no start`. For a letter without an answer
 /// they are `state` with the number of the state, `letter` with what holds of each proposition of the environment, as
 /// in the words of `empty`, and `stem` with the edges that lead there from a start. For a word that the specification
-/// does not accept they are the lines of `contained_texts`: an accepting lasso of the controller, and its word. Both
-/// texts are dropped once read.
+/// does not accept they are the lines of `contained_texts`: an accepting lasso of the controller, and its word.
 ///
 /// Fails with the [Refusal::Text] or [Refusal::Automaton] of `specification`, or else with that of `text`. Or else
 /// fails with [TaskFault::Controllable] about `specification` if its item is refused, or else so about `text` if its
@@ -39,44 +35,20 @@ use std::alloc::Global;
 /// [TaskFault::TooLarge] and [TaskFault::TooManyPropositions] are about neither text.
 pub fn verify_controller(
     alloc: Global,
-    specification: Vec<u8>,
-    text: Vec<u8>,
+    specification: &[u8],
+    text: &[u8],
     explain: bool,
 ) -> Result<(Exit, Vec<u8>), Refused>
     ensures answer { IfOk result
-        (λ made. IsControllerAnswer specification.items text.items explain made.0 made.1.items) }
-    ensures refused { IfErr result (λ refused. IsAbout (IsOfNoText specification.items text.items)
-        (IsFileRefusal specification.items text.items)
-        (IsInputRefusal specification.items text.items) refused.text refused.refusal) }
+        (λ made. IsControllerAnswer specification.now text.now explain made.0 made.1.items) }
+    ensures refused { IfErr result (IsControllerRefused specification.now text.now) }
 {
-    match automaton_in(alloc, specification) {
-        Ok(specified) => verified_with(alloc, &specified, text, explain),
-        Err(refusal) => Err(Refused::of(Which::File, refusal)),
-    }
+    let read = read_two(alloc, specification, text)?;
+    controller_verdict(alloc, &read.file, &read.input, explain)
 }
 
-/// Returns what [verify_controller] does for each text of a specification that is the text of `specified`.
-fn verified_with(
-    alloc: Global,
-    specified: &Automaton,
-    text: Vec<u8>,
-    explain: bool,
-) -> Result<(Exit, Vec<u8>), Refused>
-    ensures answer { (specification : List ℕ) → IsAutomatonText specification specified.now
-        → IfOk result (λ made. IsControllerAnswer specification text.items explain made.0 made.1.items) }
-    ensures refused { (specification : List ℕ) → IsAutomatonText specification specified.now
-        → IfErr result (λ refused. IsAbout (IsOfNoText specification text.items)
-        (IsFileRefusal specification text.items) (IsInputRefusal specification text.items)
-        refused.text refused.refusal) }
-{
-    match automaton_in(alloc, text) {
-        Ok(controller) => verdict_on(alloc, specified, &controller, explain),
-        Err(refusal) => Err(Refused::of(Which::Input, refusal)),
-    }
-}
-
-/// Returns the exit and the text for two automata. Fails as `verify_controller` does after both texts are read.
-fn verdict_on(
+/// Returns the exit and the text for two automata. Fails as [verify_controller] does after both texts are read.
+fn controller_verdict(
     alloc: Global,
     specification: &Automaton,
     controller: &Automaton,
@@ -84,10 +56,10 @@ fn verdict_on(
 ) -> Result<(Exit, Vec<u8>), Refused>
     ensures verdict { IfOk result
         (λ made. IsControllerVerdict specification.now controller.now explain made.0 made.1.items) }
-    ensures refused { IfErr result (IsPairReported specification.now controller.now) }
+    ensures refused { IfErr result (RefusesController specification.now controller.now) }
 {
     let controlled = controlled_numbers(alloc, specification, controller)?;
-    match controller_answer(
+    match controller_reply(
         alloc,
         specification,
         controller,
@@ -101,7 +73,7 @@ fn verdict_on(
 
 /// Returns the exit and the text for two automata. The system controls the propositions of `controller` with the
 /// numbers `controlled`. Fails as `judge` does.
-fn controller_answer(
+fn controller_reply(
     alloc: Global,
     specification: &Automaton,
     controller: &Automaton,
@@ -114,6 +86,6 @@ fn controller_answer(
     ensures refused { IfErr result (IsJudgeRefusal specification.now controller.now controlled.now) }
 {
     let judgement = judge(alloc, specification, controller, controlled)?;
-    let text = judgement_text(alloc, controller, controlled, &judgement, explain)?;
-    Ok((exit_of(&judgement), text))
+    let answer = judgement_answer(alloc, controller, controlled, &judgement, explain)?;
+    answer.reply(alloc)
 }

@@ -19,9 +19,9 @@ use std::alloc::Global;
 
 /// Decides as `decide_realizability` does, and returns the canonical text of the winner's automaton: a controller with
 /// [Exit::Done], or a counter-strategy with [Exit::No]. Fails as `decide_realizability` does.
-pub fn write_winner(alloc: Global, text: Vec<u8>) -> Result<(Exit, Vec<u8>), Refusal>
-    ensures answer { IfOk result (λ made. IsWinnerAnswer text.items made.0 made.1.items) }
-    ensures refused { IfErr result (or_memory (IsRealizeRefusal text.items most_lifts)) }
+pub fn write_winner(alloc: Global, text: &[u8]) -> Result<(Exit, Vec<u8>), Refusal>
+    ensures answer { IfOk result (λ made. IsWinnerAnswer text.now made.0 made.1.items) }
+    ensures refused { IfErr result (or_memory (IsRealizeRefusal text.now most_lifts)) }
 {
     let decided = decided_in(alloc, text)?;
     winner_of(alloc, &decided)
@@ -31,15 +31,15 @@ pub fn write_winner(alloc: Global, text: Vec<u8>) -> Result<(Exit, Vec<u8>), Ref
 /// `observer`. Fails as `decide_realizability_by_lifting` does.
 pub fn write_winner_by_lifting<L, W: Reporter<L>>(
     alloc: Global,
-    text: Vec<u8>,
+    text: &[u8],
     budget: u64,
     reporter: &W,
     observer: &mut L,
 ) -> Result<(Exit, Vec<u8>), Refusal>
     requires { budget ≤ most_lifts }
-    ensures answer { IfOk result (λ made. IsWinnerAnswer text.items made.0 made.1.items) }
-    ensures refused { IfErr result (or_memory (IsRealizeRefusal text.items budget)) }
-    ensures reported { IsObserved (LiftsText text.items) (refusal_in result)
+    ensures answer { IfOk result (λ made. IsWinnerAnswer text.now made.0 made.1.items) }
+    ensures refused { IfErr result (or_memory (IsRealizeRefusal text.now budget)) }
+    ensures reported { IsObserved (LiftsText text.now) (refusal_in result)
         (W.tells reporter.now) (W.pace reporter.now) budget observer.old observer.new }
 {
     let decided = decided_by_lifting(alloc, text, budget, reporter, observer)?;

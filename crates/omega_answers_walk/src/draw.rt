@@ -32,16 +32,16 @@ use std::alloc::Global;
 /// if that is no walk of the game or of the part.
 pub fn draw_walk_text(
     alloc: Global,
-    text: Vec<u8>,
+    text: &[u8],
     walk: &[u8],
     from: Option<u32>,
     depth: Option<u32>,
     legend: bool,
 ) -> Result<Vec<u8>, Refused>
     ensures answer { IfOk result
-        (λ output. IsWalkDrawingAnswer text.items walk.now from depth legend output.items) }
+        (λ output. IsWalkDrawingAnswer text.now walk.now from depth legend output.items) }
     ensures refused { IfErr result
-        (IsRefusedOf (RefusesWalk text.items from walk.now) (IsJudgedGameRefusal text.items from)) }
+        (IsRefusedOf (RefusesWalk text.now from walk.now) (IsJudgedGameRefusal text.now from)) }
 {
     match judged_game(alloc, text, from) {
         Ok(game) => draw_with(alloc, &game, walk, from, depth, legend),
@@ -104,7 +104,7 @@ fn draw_extent(
 /// with those of the walk's text.
 pub fn draw_solution_walk_text(
     alloc: Global,
-    text: Vec<u8>,
+    text: &[u8],
     solution: &[u8],
     walk: &[u8],
     from: Option<u32>,
@@ -112,10 +112,10 @@ pub fn draw_solution_walk_text(
     legend: bool,
 ) -> Result<Vec<u8>, RefusedDrawing>
     ensures answer { IfOk result (λ output.
-        IsSolutionWalkDrawingAnswer text.items solution.now walk.now from depth legend output.items) }
-    ensures refused { IfErr result (IsRefusedDrawing (IsJudgedGameRefusal text.items from)
-        (RefusesSolution text.items from solution.now)
-        (RefusesWalkAfter text.items from solution.now walk.now)) }
+        IsSolutionWalkDrawingAnswer text.now solution.now walk.now from depth legend output.items) }
+    ensures refused { IfErr result (IsRefusedDrawing (IsJudgedGameRefusal text.now from)
+        (RefusesSolution text.now from solution.now)
+        (RefusesWalkAfter text.now from solution.now walk.now)) }
 {
     match judged_game(alloc, text, from) {
         Ok(game) => draw_both(alloc, &game, solution, walk, from, depth, legend),

@@ -3,7 +3,6 @@ ghost use Rattle.omega_answers_game.specs.Verify.{IsJudgedGameRefusal, RefusesSo
 ghost use Rattle.omega_io.specs.Refused.{IsRefusedOf};
 ghost use Rattle.omega_game_values.specs.Solution.{IsSolution};
 ghost use Rattle.omega_pg.specs.solution.Refusing.{IsReadSolutionRefusal};
-ghost use Rattle.omega_pg.specs.solution.Text.{IsSolutionText};
 ghost use Rattle.omega_answers_walk.specs.Verify.{IsNamedVerdict, IsNamedVerifyAnswer};
 ghost use Rattle.omega_answers_walk.specs.private.Judged.{IsNamedJudged};
 
@@ -23,14 +22,14 @@ use std::alloc::Global;
 /// [TaskFault::BadSolution] of the solution's text.
 pub fn verify_with_names(
     alloc: Global,
-    game: Vec<u8>,
+    game: &[u8],
     from: Option<u32>,
-    text: Vec<u8>,
+    text: &[u8],
 ) -> Result<(Exit, Vec<u8>), Refused>
     ensures answer { IfOk result
-        (λ made. IsNamedVerifyAnswer game.items from text.items made.0 made.1.items) }
-    ensures refused { IfErr result (IsRefusedOf (IsJudgedGameRefusal game.items from)
-        (RefusesSolution game.items from text.items)) }
+        (λ made. IsNamedVerifyAnswer game.now from text.now made.0 made.1.items) }
+    ensures refused { IfErr result (IsRefusedOf (IsJudgedGameRefusal game.now from)
+        (RefusesSolution game.now from text.now)) }
 {
     match judged_game(alloc, game, from) {
         Ok(game) => match solution_verdict(alloc, &game, text) {
@@ -46,21 +45,13 @@ pub fn verify_with_names(
 fn solution_verdict(
     alloc: Global,
     game: &ForwardGame,
-    text: Vec<u8>,
+    text: &[u8],
 ) -> Result<(Exit, Vec<u8>), Refusal>
-    ensures judged { IfOk result (λ made. IsNamedJudged game.now text.items made.0 made.1.items) }
-    ensures refused { IfErr result (IsReadSolutionRefusal game.now text.items) }
+    ensures judged { IfOk result (λ made. IsNamedJudged game.now text.now made.0 made.1.items) }
+    ensures refused { IfErr result (IsReadSolutionRefusal game.now text.now) }
 {
-    let solution = solution_in(alloc, game, text)?;
+    let solution = read_solution(alloc, game, text)?;
     explained_verdict(alloc, game, &solution)
-}
-
-/// Reads the solution of `game` in `text`. The text is dropped.
-fn solution_in(alloc: Global, game: &ForwardGame, text: Vec<u8>) -> Result<Solution, Refusal>
-    ensures solution { IfOk result (IsSolutionText game.now text.items) }
-    ensures refused { IfErr result (IsReadSolutionRefusal game.now text.items) }
-{
-    read_solution(alloc, game, text.as_slice())
 }
 
 /// Returns the verdict on `solution`. A `no` is explained for the least player whose choices do not win as given.

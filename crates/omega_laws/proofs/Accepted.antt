@@ -1,11 +1,17 @@
 -- `accepts` accepts the word that `empty --word` writes.
-use Rattle.std.proofs.Common.{◌≡◌, ◌↔◌, inl, inr, ℕ, ◌≤◌, Bool, List, length, sym, subst}
+use Rattle.std.proofs.Common.{◌≡◌, ◌↔◌, inl, inr, ℕ, ◌≤◌, Bool, List, Option, Some, length, sym, subst, ◌∙◌}
 use Rattle.omega_text.specs.Limits.{most_text}
 use Rattle.omega_text.specs.declared.refusal.Refusal.{Refusal}
+use Rattle.omega_text.specs.declared.refusal.Refusal.TheVariants.{Memory}
 use Rattle.omega_hoa_automaton.specs.Automaton.{Description, IsAutomaton}
 use Rattle.omega_hoa_automaton.specs.Laws.{MeaningsAreAutomata}
+use Rattle.omega_hoa.specs.Alone.{IsAutomatonRefusal}
 use Rattle.omega_hoa.specs.Laws.{AutomataAreOne, AutomataAreUnrefused}
+use Rattle.omega_io.specs.Refused.{IsAbout}
 use Rattle.omega_io.specs.declared.exit.Exit.{Exit}
+use Rattle.omega_io.specs.declared.refused.Refused.{Refused}
+use Rattle.omega_io.specs.declared.refused.Which.{Which}
+use Rattle.omega_io.specs.declared.refused.Which.TheVariants.{Input}
 use Rattle.omega_lang_lasso_text.specs.Laws.{WordsArePassedOver}
 use Rattle.omega_lang_lasso_word.specs.Fitting.{Fits}
 use Rattle.omega_lang_lasso_word.specs.Laws.{FittingWordsAreAccepted, HasStrings, WordsFitWhereEdgesCanBeTaken}
@@ -20,8 +26,10 @@ use Rattle.omega_lang_inclusion.specs.WordRefusing.{IsMembershipRefusal}
 use Rattle.omega_lang_inclusion.specs.declared.membership.Membership.{Membership}
 use Rattle.omega_lang_inclusion.specs.declared.membership.Membership.TheVariants.{Accepted, Rejected}
 use Rattle.omega_lang_inclusion.proofs.Going.{goes_along}
-use Rattle.omega_answers_inclusion.specs.Accepts.{IsAcceptsAnswer, IsInputRefusal, IsMembershipVerdict, exit_of, membership_text}
-use Rattle.omega_laws.specs.WrittenWords.{IsOpenChoice, IsWrittenWord, IsYes, WrittenWordsAreAccepted}
+use Rattle.omega_answers.specs.Answer.{IsReply, IsYes}
+use Rattle.omega_answers.proofs.Chosen.{chosen, told_refusal}
+use Rattle.omega_answers_inclusion.specs.Accepts.{IsAcceptsAnswer, IsAcceptsRefused, IsMembershipVerdict, membership_answer}
+use Rattle.omega_laws.specs.WrittenWords.{IsOpenChoice, IsWrittenWord, WrittenWordsAreAccepted}
 use Rattle.omega_laws.proofs.Choices.{open_choice}
 use Rattle.omega_laws.proofs.Written.{IsLassoWord, lasso_word}
 
@@ -76,35 +84,40 @@ module _ (known : Known) (text word : List ℕ) (is : IsWrittenWord text word) w
   -- the answer
   module _ (explain : Bool) (exit : Exit) (output : List ℕ) where
     said : (symbolic : SymbolicWord) → IsWordText word symbolic → (answer : Membership) → IsMembership symbolic a answer
-        → exit ≡ exit_of answer → output ≡ membership_text explain answer → IsYes exit output
-    said symbolic read Accepted right exit_is written = record { done = exit_is; written = written }
-    said symbolic read (Rejected words) right exit_is written =
+        → IsReply (membership_answer explain answer) exit output → IsYes exit output
+    said symbolic read Accepted right reply = reply
+    said symbolic read (Rejected words) right reply =
         absurd (right.rejected.not_accepted (admitted symbolic read right.named right.rejected.admitted))
 
     yes : IsAcceptsAnswer word text explain exit output → IsYes exit output
     yes answer =
-        let same : answer.automaton ≡ a = known.one text answer.automaton a answer.automaton_read its.read in
-        let verdict : IsMembershipVerdict answer.symbolic a explain exit output =
-        subst (λ (b : Description). IsMembershipVerdict answer.symbolic b explain exit output) same answer.verdict in
-        said answer.symbolic answer.word_read verdict.answer verdict.right verdict.exit_is verdict.written
+        let same : answer.input ≡ a = known.one text answer.input a answer.input_read its.read in
+        let verdict : IsMembershipVerdict answer.file a explain exit output =
+        subst (λ (b : Description). IsMembershipVerdict answer.file b explain exit output) same answer.holds in
+        said answer.file answer.file_read verdict.answer verdict.right verdict.reply
 
   -- the refusals
   unrefused : (refusal : Refusal) → length word ≤ most_text → ¬ IsWordRefusal word refusal
   unrefused refusal short refused = let own = reading short in known.words_unrefused word own.0 refusal own.1 refused
 
-  choice : (refusal : Refusal) → IsInputRefusal word text refusal → IsOpenChoice word text refusal
-  choice refusal (inl of_text) = absurd (known.unrefused text a refusal its.read of_text.refused)
-  choice refusal (inr (pair, (state, refusal_is))) =
-      let found = open_choice pair.symbolic pair.automaton state (subst (IsMembershipRefusal pair.symbolic pair.automaton) refusal_is pair.refused) in
+  choice : (refused : Refused) → IsAcceptsRefused word text refused → refused.text ≡ Some Input → IsOpenChoice word text refused.refusal
+  choice refused (inl unread) about =
+      let P : Option Which → Type 0 = λ t. IsAbout (λ other. other ≡ Memory) (IsWordRefusal word)
+      (λ other. (symbolic : SymbolicWord) × IsWordText word symbolic × IsAutomatonRefusal text other) t refused.refusal in
+      absurd (known.unrefused text a refused.refusal its.read (subst P about unread).2)
+  choice refused (inr pair) about =
+      let refusal : Refusal = pair.holds.0 in
+      let for_choice = chosen Input Input refusal refused pair.holds.2 about in
+      let found = open_choice pair.file pair.input for_choice.0 (subst (IsMembershipRefusal pair.file pair.input) for_choice.1 pair.holds.1) in
       record {
-        symbolic = pair.symbolic;
-        word_read = pair.word_read;
-        automaton = pair.automaton;
-        automaton_read = pair.automaton_read;
-        state = state;
+        symbolic = pair.file;
+        word_read = pair.file_read;
+        automaton = pair.input;
+        automaton_read = pair.input_read;
+        state = for_choice.0;
         choice = found.0;
         open_letter = found.1;
-        refusal_is = refusal_is;
+        refusal_is = told_refusal Input refusal refused pair.holds.2 ∙ for_choice.1;
       }
 
 pub words_accepted : Known → WrittenWordsAreAccepted

@@ -1,12 +1,11 @@
 -- Acceptance formulas of runs without their marks, and with guards.
-use Rattle.std.proofs.Common.{◌≡◌, ◌⊎◌, ℕ, ◌+◌, ◌≤◌, inl, inr, Bool, true, false, not, ◌&&◌, ◌||◌, cond, Option, Some, None, List, [], ◌∷◌, Contains, refl, sym, ap, ap₂, subst, ◌∙◌, arith, true≢false}
-use Rattle.std.specs.Prelude.{IfSome}
+use Rattle.std.proofs.Common.{◌≡◌, ◌⊎◌, ℕ, ◌+◌, inl, inr, Bool, true, false, not, ◌&&◌, ◌||◌, cond, Option, Some, None, List, [], Contains, refl, sym, ap, ap₂, ◌∙◌, arith, true≢false}
 use Rattle.std.proofs.lemmas.List.Elements.{Contains-append_left, Contains-append_right}
 use Rattle.omega_hoa_acceptance.specs.Acceptance.{AccTree, conjunction, constant, disjunction, fin, holds, inf}
 use Rattle.omega_hoa_automaton.specs.Automaton.{sets_of}
 use Rattle.omega_lang_product.specs.Acceptance.{moved_after}
 use Rattle.omega_lang_product.proofs.Membership.{Contains-here}
-use Rattle.omega_lang_runs.specs.Runs.{ForEver, Satisfies}
+use Rattle.omega_lang_runs.specs.Runs.{Satisfies}
 use Rattle.omega_lang_union.specs.Sharing.{guard_of, guarded, holds_unmarked}
 
 either_true : (a b : Bool) → (a ≡ true) ⊎ (b ≡ true) → (a || b) ≡ true

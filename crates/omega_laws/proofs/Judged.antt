@@ -4,8 +4,9 @@ use Rattle.omega_hoa_syntax.specs.declared.header_value.HeaderValue.TheVariants 
 use Rattle.omega_hoa_automaton.specs.Automaton.{Description, IsAutomaton}
 use Rattle.omega_hoa_automaton.specs.Laws.{MeaningsAreAutomata}
 use Rattle.omega_synth_controllers.specs.Controllable.{IsControlled}
-use Rattle.omega_answers_synth.specs.Laws.{IsYes, WrittenControllersAreParts}
-use Rattle.omega_answers_synth.specs.Reason.{exit_of, judgement_text}
+use Rattle.omega_answers.specs.Answer.{IsYes, answer_text, exit_of}
+use Rattle.omega_answers_synth.specs.Laws.{WrittenControllersAreParts}
+use Rattle.omega_answers_synth.specs.Reason.{judgement_answer}
 use Rattle.omega_answers_synth.specs.Verify.{IsControllerAnswer}
 use Rattle.omega_answers_synth.proofs.ControllerStated.{numbers_one}
 use Rattle.omega_synth_check.specs.Judging.{IsJudgement}
@@ -44,21 +45,20 @@ module _ (back : ControllersAreReadBack) (one : AutomataAreOne) (automata : Mean
   answered : ((test : ℕ → Bool) → RecursOrCeases test) → (output : List ℕ) (explain : Bool) (exit : Exit) → IsControllerAnswer specification controller explain exit output
       → IsYes exit output
   answered decided output explain exit answer =
-      let verdict = answer.verdict in
-      let same : answer.specification ≡ given = one specification answer.specification given answer.specification_read is.answer.read in
-      let also : answer.controller ≡ part = one controller answer.controller part answer.controller_read (written.part_read back specification controller is) in
+      let verdict = answer.holds in
+      let same : answer.file ≡ given = one specification answer.file given answer.file_read is.answer.read in
+      let also : answer.input ≡ part = one controller answer.input part answer.input_read (written.part_read back specification controller is) in
       let own : IsControlled part verdict.controlled = subst (λ (c : Description). IsControlled c verdict.controlled) also verdict.parted.own in
       let listed : map value.Number verdict.controlled ≡ map value.Number controlled = sym own.stated.listed ∙ append_none (map value.Number controlled) in
       let numbers : verdict.controlled ≡ controlled = numbers_one verdict.controlled controlled listed in
       let judged : IsJudgement given part controlled verdict.judgement =
       subst (λ (s : Description). IsJudgement s part controlled verdict.judgement) same
-      (subst (λ (c : Description). IsJudgement answer.specification c controlled verdict.judgement) also
-      (subst (λ (n : List ℕ). IsJudgement answer.specification answer.controller n verdict.judgement) numbers verdict.right)) in
-      let is_controls : verdict.judgement ≡ Controls = controls decided verdict.judgement judged in
-      record {
-        done = verdict.exit_is ∙ ap exit_of is_controls;
-        written = verdict.written ∙ ap (judgement_text explain answer.controller verdict.controlled) is_controls;
-      }
+      (subst (λ (c : Description). IsJudgement answer.file c controlled verdict.judgement) also
+      (subst (λ (n : List ℕ). IsJudgement answer.file answer.input n verdict.judgement) numbers verdict.right)) in
+      let is_controls : verdict.judgement ≡ Controls = controls decided verdict.judgement judged in (
+        verdict.reply.0 ∙ ap (λ (j : Judgement). exit_of (judgement_answer explain answer.input verdict.controlled j)) is_controls,
+        verdict.reply.1 ∙ ap (λ (j : Judgement). answer_text (judgement_answer explain answer.input verdict.controlled j)) is_controls,
+      )
     where
       append_none : {X : Type 0} (xs : List X) → xs ++ [] ≡ xs
       append_none [] = refl

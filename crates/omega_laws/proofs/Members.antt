@@ -1,5 +1,5 @@
 -- Which states and edges stay, by their numbers and indices.
-use Rattle.std.proofs.Common.{◌≡◌, ◌==◌, ℕ, zero, suc, ◌+◌, ◌<◌, Bool, true, false, cond, ◌&&◌, ◌||◌, nat_eq, inl, inr, List, [], ◌∷◌, length, get_or, filter, map, slice_get, Option, Some, None, Contains, refl, sym, ap, subst, ◌∙◌, arith, eqb-true, eq-eqb, true≢false}
+use Rattle.std.proofs.Common.{◌≡◌, ◌==◌, ℕ, zero, suc, ◌+◌, ◌<◌, Bool, true, false, cond, ◌&&◌, ◌||◌, nat_eq, inl, inr, List, [], ◌∷◌, filter, map, slice_get, Option, Some, None, Contains, refl, sym, ap, subst, ◌∙◌, arith, eqb-true, eq-eqb, true≢false}
 use Rattle.std.specs.Prelude.{if◌then◌else◌, is_some}
 use Rattle.std.specs.Option.{option_or, unwrap_or}
 use Rattle.std.specs.List.{list_all, list_any}
@@ -7,7 +7,7 @@ use Rattle.omega_hoa_label.specs.Label.{LabelTree}
 use Rattle.omega_hoa_automaton.specs.declared.edge.Edge.{Edge}
 use Rattle.omega_hoa_automaton.specs.declared.state.State.{State}
 use Rattle.omega_graph.proofs.ClosedWalking.{first_or_later, has_first, has_later}
-use Rattle.omega_hoa_edges.specs.AutomatonLabels.{state_among, undefined}
+use Rattle.omega_hoa_edges.specs.AutomatonLabels.{state_among}
 use Rattle.omega_hoa_edges.specs.Labels.{label_at, valuation_label}
 use Rattle.omega_lang_trim.specs.Trimmed.{edge_kept, edge_stays, edges_kept, keeps_labels, new_number, state_kept, states_kept, stays}
 use Rattle.omega_lang_trim.proofs.Among.{place_one}

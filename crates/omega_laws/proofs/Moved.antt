@@ -1,13 +1,13 @@
 -- Moves of an automaton are those of the trimmed one between states that stay.
-use Rattle.std.proofs.Common.{◌≡◌, ℕ, ◌+◌, Bool, true, false, ◌&&◌, List, [], ◌∷◌, ◌++◌, length, map, slice_get, Some, Contains, refl, sym, ap, subst, ◌∙◌, arith, true≢false}
+use Rattle.std.proofs.Common.{◌≡◌, ℕ, ◌+◌, Bool, true, false, ◌&&◌, List, [], ◌∷◌, ◌++◌, length, map, Some, Contains, refl, sym, ap, subst, ◌∙◌, arith}
 use Rattle.std.specs.List.{list_all}
 use Rattle.omega_hoa_label.specs.Label.{truth}
 use Rattle.omega_hoa_automaton.specs.Automaton.{Description}
 use Rattle.omega_hoa_automaton.specs.declared.edge.Edge.{Edge}
 use Rattle.omega_hoa_automaton.specs.declared.state.State.{State}
-use Rattle.omega_hoa_edges.specs.AutomatonLabels.{state_among, state_at}
+use Rattle.omega_hoa_edges.specs.AutomatonLabels.{state_at}
 use Rattle.omega_hoa_edges.specs.Labels.{label_at}
-use Rattle.omega_lang_trim.specs.Trimmed.{edge_kept, edge_stays, edges_kept, keeps_labels, new_number, state_kept, states_kept, stays, trimmed}
+use Rattle.omega_lang_trim.specs.Trimmed.{edge_kept, edge_stays, keeps_labels, new_number, state_kept, stays, trimmed}
 use Rattle.omega_lang_word_laws.proofs.parting.Moves.{IsMove, IsMoveOf}
 use Rattle.omega_laws.proofs.Members.{HasOld, IsKeptAt, IsOf, kept_at, kept_of, label_same, old_of, state_moved, stays_from, stays_has}
 

@@ -1,6 +1,5 @@
 -- An automaton has one trimmed automaton.
 use Rattle.std.proofs.Common.{◌≡◌, ℕ, List, sym, ap, ◌∙◌}
-use Rattle.omega_hoa_automaton.specs.Automaton.{Description}
 use Rattle.omega_hoa_automaton.proofs.MarkLemmas.{rising_is_one}
 use Rattle.omega_lang_trim.specs.Trimmed.{trimmed}
 use Rattle.omega_laws.specs.Trims.{TrimsAreOne}

@@ -17,10 +17,10 @@ module _ (back : ControllersAreReadBack) (specification controller : List ℕ) (
   given = is.answer.automaton
 
   abbrev pub controlled : List ℕ
-  controlled = is.answer.winning.controlled
+  controlled = is.answer.holds.controlled
 
   abbrev pub winner : IsControllerWritten given controlled controller
-  winner = is.answer.winning.winner
+  winner = is.answer.holds.winner
 
   -- the edges of the controller
   abbrev pub kept : List ℕ
@@ -43,5 +43,5 @@ module _ (back : ControllersAreReadBack) (specification controller : List ℕ) (
   part_read =
       let text : controller ≡ canonical_automaton part = winner.written.2 in
       subst (λ (bytes : List ℕ). IsAutomatonText bytes part) (sym text)
-      (back specification given controlled kept reached is.answer.read is.answer.winning.judgeable.deterministic.plain is.answer.winning.stated tells
+      (back specification given controlled kept reached is.answer.read is.answer.holds.judgeable.deterministic.plain is.answer.holds.stated tells
       (subst (λ (bytes : List ℕ). length bytes ≤ most_text) text is.short))

@@ -1,5 +1,5 @@
 -- No refusal is about the text of a controller or about its specification.
-use Rattle.std.proofs.Common.{◌≡◌, ◌⊎◌, inl, inr, ℕ, zero, suc, ◌≤◌, Bool, true, false, ◌||◌, nat_lt, List, [], ◌∷◌, ◌++◌, Contains, length, map, slice_get, Option, Some, None, refl, sym, ap, subst, ◌∙◌, arith, true≢false}
+use Rattle.std.proofs.Common.{◌≡◌, ◌⊎◌, inl, inr, ℕ, zero, suc, ◌≤◌, Bool, false, ◌||◌, nat_lt, List, [], ◌∷◌, ◌++◌, Contains, length, map, slice_get, Option, Some, None, refl, sym, ap, subst, ◌∙◌, arith, true≢false}
 use Rattle.std.specs.List.{list_any}
 use Rattle.std.specs.Str.{bytes_eq}
 use Rattle.std.proofs.lemmas.Bool.{or_parts}
@@ -19,11 +19,15 @@ use Rattle.omega_lang_complement.specs.Refusing.{IsUncomplemented}
 use Rattle.omega_lang_inclusion.specs.Refusing.{IsContainmentRefusal, no_memory, not_complemented, not_met}
 use Rattle.omega_synth_controllers.specs.Controllable.{IsControlled, controllable_items}
 use Rattle.omega_answers_synth.specs.Parting.{AreAlike}
-use Rattle.omega_answers_synth.specs.Verify.{IsFileRefusal, IsInputRefusal, IsPairRefusal, IsPairRefused, controller_misstated, not_judged, parted_unlike, specification_misstated, text_about}
+use Rattle.omega_answers_synth.specs.Verify.{IsPairRefusal, RefusesController, controller_misstated, not_judged, parted_unlike, specification_misstated, text_about}
 use Rattle.omega_answers_synth.proofs.ControllerStated.{controlled_one}
 use Rattle.omega_synth_check.specs.Refusing.{IsJudgeRefusal, IsLetterFault, IsLetterRefusal}
 use Rattle.omega_synth_check.specs.Refusing as judge
+use Rattle.omega_answers.specs.TwoAutomata.{OfAutomata}
+use Rattle.omega_hoa.specs.Alone.{IsAutomatonRefusal, IsAutomatonText}
 use Rattle.omega_hoa.specs.Laws.{AutomataAreOne, AutomataAreUnrefused}
+use Rattle.omega_io.specs.Refused.{IsAbout}
+use Rattle.omega_io.specs.declared.refused.Refused.{Refused}
 use Rattle.omega_io.specs.declared.refused.Which.{Which}
 use Rattle.omega_io.specs.declared.refused.Which.TheVariants.{File, Input}
 use Rattle.omega_lang_product.specs.Refusing.{IsProductRefusal}
@@ -167,13 +171,13 @@ module _ (back : ControllersAreReadBack) (one : AutomataAreOne) (unrefused : Aut
   controlled = written.controlled back specification controller is
 
   deterministic : IsDeterministic given
-  deterministic = is.answer.winning.judgeable.deterministic
+  deterministic = is.answer.holds.judgeable.deterministic
 
   plain : has_universal_branching part ≡ false
   plain = controller_plain given controlled (written.kept back specification controller is) (written.reached back specification controller is) deterministic.plain
 
   stated : IsControlled given controlled
-  stated = is.answer.winning.stated
+  stated = is.answer.holds.stated
 
   -- the item of the controller lists the same
   own_stated : IsControlled part controlled
@@ -211,23 +215,30 @@ module _ (back : ControllersAreReadBack) (one : AutomataAreOne) (unrefused : Aut
   about_neither text refusal (parted_unlike ones others first second item not) = absurd (not (alike ones others first second))
   about_neither text refusal (not_judged others other parted refused) = about_none part other (judge_of_neither others other refused)
 
-  pair_unrefused : (which : Which) (refusal : Refusal) → IsPairRefused specification controller (Some which) refusal → ⊥
-  pair_unrefused which refusal pair =
-      let same : pair.specification ≡ given = one specification pair.specification given pair.specification_read is.answer.read in
-      let also : pair.controller ≡ part = one controller pair.controller part pair.controller_read (written.part_read back specification controller is) in
-      let refused : IsPairRefusal given part (Some which) refusal =
-      subst (λ (s : Description). IsPairRefusal s part (Some which) refusal) same
-      (subst (λ (c : Description). IsPairRefusal pair.specification c (Some which) refusal) also pair.refused) in
-      let no : ◌≡◌ {A = Option Which} (Some which) None = about_neither (Some which) refusal refused in cc
+  -- both automata together are refused
+  pair_text : (refused : Refused) → OfAutomata (λ one other. RefusesController one other refused) specification controller → refused.text ≡ None
+  pair_text refused pair =
+      let same : pair.file ≡ given = one specification pair.file given pair.file_read is.answer.read in
+      let also : pair.input ≡ part = one controller pair.input part pair.input_read (written.part_read back specification controller is) in
+      let refuses : RefusesController given part refused =
+      subst (λ (s : Description). RefusesController s part refused) same
+      (subst (λ (c : Description). RefusesController pair.file c refused) also pair.holds) in
+      elim refuses [
+        | inl memory ↦ ap (λ (r : Refused). r.text) memory
+        | inr pair_refused ↦ about_neither refused.text refused.refusal pair_refused
+      ]
 
-  file_unrefused : (refusal : Refusal) → IsFileRefusal specification controller refusal → ⊥
-  file_unrefused refusal (inl text) = unrefused specification given refusal is.answer.read text
-  file_unrefused refusal (inr pair) = pair_unrefused File refusal pair
-
-  input_unrefused : (refusal : Refusal) → IsInputRefusal specification controller refusal → ⊥
-  input_unrefused refusal (inl text) = unrefused controller part refusal (written.part_read back specification controller is) text.refused
-  input_unrefused refusal (inr pair) = pair_unrefused Input refusal pair
+  -- neither text is
+  unread_text : (text : Option Which) (refusal : Refusal)
+      → IsAbout (λ other. other ≡ Memory) (IsAutomatonRefusal specification) (λ other. (a : Description) × IsAutomatonText specification a × IsAutomatonRefusal controller other)
+      text refusal
+      → text ≡ None
+  unread_text None refusal unread = refl
+  unread_text (Some File) refusal unread = absurd (unrefused specification given refusal is.answer.read unread)
+  unread_text (Some Input) refusal unread = absurd (unrefused controller part refusal (written.part_read back specification controller is) unread.2)
 
 pub not_at_fault : ControllersAreReadBack → AutomataAreOne → AutomataAreUnrefused → MeaningsAreAutomata → WrittenControllersAreNotAtFault
-not_at_fault back one unrefused automata specification controller refusal is =
-    (file_unrefused back one unrefused automata specification controller is refusal, input_unrefused back one unrefused automata specification controller is refusal)
+not_at_fault back one unrefused automata specification controller refused is h = elim h [
+  | inl unread ↦ unread_text back one unrefused automata specification controller is refused.text refused.refusal unread
+  | inr pair ↦ pair_text back one unrefused automata specification controller is refused pair
+]

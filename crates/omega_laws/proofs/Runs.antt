@@ -1,5 +1,5 @@
 -- The states of an accepting run are useful.
-use Rattle.std.proofs.Common.{◌≡◌, ℕ, zero, suc, ◌+◌, ◌-◌, ◌<◌, ◌≤◌, Bool, false, ◌||◌, IsTrue, inl, inr, List, [], ◌∷◌, ◌++◌, Contains, refl, sym, ap, subst, ◌∙◌, arith, add-one}
+use Rattle.std.proofs.Common.{◌≡◌, ℕ, zero, suc, ◌+◌, ◌-◌, ◌≤◌, false, IsTrue, inl, inr, List, [], ◌∷◌, ◌++◌, Contains, refl, sym, ap, subst, ◌∙◌, arith, add-one}
 use Rattle.std.specs.List.{list_any}
 use Rattle.std.specs.Prelude.{length, nat_lt}
 use Rattle.std.proofs.lemmas.Bool.{or_parts}
@@ -7,8 +7,8 @@ use Rattle.omega_hoa_acceptance.specs.Acceptance.{AccTree, conjunction, constant
 use Rattle.omega_hoa_automaton.specs.Automaton.{Description}
 use Rattle.omega_hoa_automaton.specs.Branching.{has_universal_branching, state_branches}
 use Rattle.omega_graph.specs.Marks.{meets}
-use Rattle.omega_lang_runs.specs.Lasso.{IsAcceptingLasso, IsStart, IsStep, Leads, marks_at}
-use Rattle.omega_lang_runs.specs.Runs.{AcceptingRunsHaveLassos, IsAcceptingRun, IsRun, Satisfies}
+use Rattle.omega_lang_runs.specs.Lasso.{IsAcceptingLasso, IsStep, Leads, marks_at}
+use Rattle.omega_lang_runs.specs.Runs.{AcceptingRunsHaveLassos, IsAcceptingRun, Satisfies}
 use Rattle.omega_lang_runs.proofs.Leads.{leads_on}
 use Rattle.omega_lang_trim.specs.Useful.{IsReached, IsUseful, StartsLasso}
 

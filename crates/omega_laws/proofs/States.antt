@@ -1,5 +1,5 @@
 -- The states of a union, by their numbers.
-use Rattle.std.proofs.Common.{◌≡◌, ℕ, ◌+◌, ◌<◌, ◌==◌, Bool, true, false, if◌then◌else◌, List, [], ◌∷◌, ◌++◌, map, Contains, append-nil, refl, sym, ap, subst, ◌∙◌, arith, eqb-true, eq-eqb, true≢false}
+use Rattle.std.proofs.Common.{◌≡◌, ℕ, ◌+◌, ◌<◌, ◌==◌, Bool, true, false, if◌then◌else◌, List, [], ◌∷◌, ◌++◌, Contains, append-nil, refl, sym, ap, ◌∙◌, arith, eqb-true, eq-eqb}
 use Rattle.std.proofs.lemmas.List.Elements.{All-contains}
 use Rattle.omega_hoa_automaton.specs.Automaton.{Description, IsAutomaton, IsState}
 use Rattle.omega_hoa_automaton.specs.declared.state.State.{State}

@@ -1,5 +1,5 @@
 -- The moves of an automaton are those of a union in its part.
-use Rattle.std.proofs.Common.{◌≡◌, ℕ, ◌+◌, ◌<◌, Bool, true, List, [], ◌∷◌, ◌++◌, length, map, slice_get, Some, Contains, append_assoc, sym, ap, subst, ◌∙◌, refl}
+use Rattle.std.proofs.Common.{◌≡◌, ℕ, ◌+◌, ◌<◌, Bool, List, [], ◌∷◌, ◌++◌, length, map, Contains, append_assoc, sym, ap, subst, ◌∙◌, refl}
 use Rattle.std.proofs.lemmas.List.{map-append}
 use Rattle.std.proofs.lemmas.List.Elements.{All-contains}
 use Rattle.omega_hoa_label.specs.Label.{truth}
@@ -10,12 +10,12 @@ use Rattle.omega_hoa_edges.specs.AutomatonLabels.{state_at}
 use Rattle.omega_hoa_edges.specs.Labels.{label_at}
 use Rattle.omega_lang_product.specs.Joining.{number_among}
 use Rattle.omega_lang_product.proofs.Membership.{Contains-here}
-use Rattle.omega_lang_runs.specs.Lasso.{IsStep, marks_at}
+use Rattle.omega_lang_runs.specs.Lasso.{IsStep}
 use Rattle.omega_lang_runs.proofs.Kept.{edge_kept}
 use Rattle.omega_lang_union.specs.Parts.{Part, edge_in, moved, state_in}
 use Rattle.omega_lang_union.specs.Sharing.{guard_sets}
 use Rattle.omega_lang_product.proofs.Valuations.{truth_relabelled}
-use Rattle.omega_lang_word_laws.proofs.parting.Moves.{IsMove, IsMoveOf, IsTakenStep, move_steps}
+use Rattle.omega_lang_word_laws.proofs.parting.Moves.{IsMove, IsMoveOf}
 use Rattle.omega_laws.proofs.Edges.{IsEdgeFrom, edge_from, edge_there, label_same}
 
 -- the marks of an edge in a part

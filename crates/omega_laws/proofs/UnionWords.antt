@@ -1,10 +1,9 @@
 -- Runs of an automaton on its part of a word are runs of a union in its part.
-use Rattle.std.proofs.Common.{◌≡◌, ℕ, zero, suc, ◌+◌, ◌<◌, Bool, List, length, Contains, refl, sym, ap, subst, ◌∙◌, arith, add-one}
+use Rattle.std.proofs.Common.{◌≡◌, ℕ, zero, suc, ◌+◌, ◌<◌, Bool, List, length, Contains, sym, ap, subst, ◌∙◌, arith, add-one}
 use Rattle.std.proofs.lemmas.List.Elements.{All-contains}
 use Rattle.omega_hoa_acceptance.specs.Acceptance.{AccTree, holds}
 use Rattle.omega_hoa_automaton.specs.Automaton.{Description, IsAutomaton}
 use Rattle.omega_hoa_edges.specs.AutomatonLabels.{state_at}
-use Rattle.omega_lang_product.specs.Acceptance.{moved_after}
 use Rattle.omega_lang_product.specs.Joining.{part_of_word}
 use Rattle.omega_lang_runs.specs.Lasso.{IsStart, marks_at}
 use Rattle.omega_lang_runs.specs.Runs.{Satisfies}

@@ -3,16 +3,16 @@ use Rattle.std.proofs.Common.{◌≡◌, ◌↔◌, ℕ, zero, suc, ◌+◌, ◌
 use Rattle.std.specs.List.{list_all}
 use Rattle.omega_hoa_automaton.specs.Automaton.{Description, IsAutomaton}
 use Rattle.omega_hoa_automaton.specs.Branching.{has_universal_branching}
-use Rattle.omega_lang_runs.specs.Lasso.{IsStart, IsStep, marks_at}
-use Rattle.omega_lang_runs.specs.Runs.{AcceptingRunsHaveLassos, IsAcceptingRun}
-use Rattle.omega_lang_runs.specs.Words.{CanBeTaken, IsAccepted}
-use Rattle.omega_lang_trim.specs.Trimmed.{IsTrimmed, new_number, starts_kept, stays, trimmed}
-use Rattle.omega_lang_trim.specs.Useful.{AreUsefulStates, IsUseful}
+use Rattle.omega_lang_runs.specs.Lasso.{IsStart, marks_at}
+use Rattle.omega_lang_runs.specs.Runs.{AcceptingRunsHaveLassos}
+use Rattle.omega_lang_runs.specs.Words.{IsAccepted}
+use Rattle.omega_lang_trim.specs.Trimmed.{new_number, stays, trimmed}
+use Rattle.omega_lang_trim.specs.Useful.{AreUsefulStates}
 use Rattle.omega_lang_trim.proofs.Kept.{filter_has}
 use Rattle.omega_lang_trim.proofs.Among.{IsImage, contains_from_map, contains_map, place_one}
 use Rattle.omega_lang_word_laws.proofs.parting.Moves.{IsMove, IsTakenStep, move_steps, step_moves}
 use Rattle.omega_laws.specs.Trims.{TrimsAcceptTheSame}
-use Rattle.omega_laws.proofs.Members.{stays_from, stays_has}
+use Rattle.omega_laws.proofs.Members.{stays_from}
 use Rattle.omega_laws.proofs.Moved.{IsMovedFrom, move_back, move_on}
 use Rattle.omega_laws.proofs.Runs.{satisfies_same, states_useful}
 

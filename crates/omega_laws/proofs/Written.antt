@@ -79,8 +79,8 @@ module _ (passed : WordsArePassedOver) (text word : List ℕ) where
     where
       go : IsWordAnswer text is.output → IsLassoWord text word
       go (inl searched) =
-          let decided = searched.decided in
+          let decided = searched.holds in
           of_verdict searched.automaton searched.read decided.given is.output is.line decided.verdict decided.right decided.written
       go (inr (budget, lifted)) =
-          let decided = lifted.decided in
+          let decided = lifted.holds in
           of_verdict lifted.automaton lifted.read decided.given.plain is.output is.line decided.verdict decided.right decided.written

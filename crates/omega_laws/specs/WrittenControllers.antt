@@ -1,16 +1,16 @@
 -- What `realize --controller` writes of a specification as a controller, and what `verify --specification` answers to
 -- it, with the same specification.
-use Rattle.std.specs.Prelude.{◌≤◌, ℕ, Bool, List, length}
+use Rattle.std.specs.Prelude.{◌≡◌, ◌≤◌, ℕ, Bool, List, None, length}
 use Rattle.omega_text.specs.Limits.{most_text}
-use Rattle.omega_text.specs.declared.refusal.Refusal.{Refusal}
 use Rattle.omega_hoa_automaton.specs.Automaton.{Description}
 use Rattle.omega_hoa.specs.Alone.{IsAutomatonText}
 use Rattle.omega_io.specs.declared.exit.Exit.{Exit}
 use Rattle.omega_io.specs.declared.exit.Exit.TheVariants.{Done}
+use Rattle.omega_io.specs.declared.refused.Refused.{Refused}
 use Rattle.omega_lang_word_laws.specs.Complements.{RecursOrCeases}
 use Rattle.omega_answers_synth.specs.Winner.{IsWinnerAnswer}
-use Rattle.omega_answers_synth.specs.Laws.{IsYes}
-use Rattle.omega_answers_synth.specs.Verify.{IsControllerAnswer, IsFileRefusal, IsInputRefusal}
+use Rattle.omega_answers.specs.Answer.{IsYes}
+use Rattle.omega_answers_synth.specs.Verify.{IsControllerAnswer, IsControllerRefused}
 
 -- a text is what is written of a specification as a controller, and it is within the limit of texts
 pub record IsWrittenController (specification controller : List ℕ) : Type 0 where
@@ -29,7 +29,6 @@ WrittenControllersAreJudgedRight =
 
 -- no refusal is about one of the two texts: memory can be wanting, or room within the limits of the judge
 abbrev pub WrittenControllersAreNotAtFault : Type 0
-WrittenControllersAreNotAtFault = (specification controller : List ℕ) (refusal : Refusal)
+WrittenControllersAreNotAtFault = (specification controller : List ℕ) (refused : Refused)
     → IsWrittenController specification controller
-    → ¬ IsFileRefusal specification controller refusal
-    × ¬ IsInputRefusal specification controller refusal
+    → IsControllerRefused specification controller refused → refused.text ≡ None

@@ -1,5 +1,5 @@
 -- What `empty --word` writes of a text, and what `accepts` answers to that word and the same text.
-use Rattle.std.specs.Prelude.{◌≡◌, ◌⊎◌, ◌++◌, ◌≤◌, ℕ, Bool, true, false, List, length, codes}
+use Rattle.std.specs.Prelude.{◌≡◌, ◌⊎◌, ◌++◌, ◌≤◌, ℕ, Bool, true, false, List, Some, length, codes}
 use Rattle.omega_text.specs.Limits.{most_text}
 use Rattle.omega_text.specs.declared.refusal.Refusal.{Refusal}
 use Rattle.omega_text.specs.declared.refusal.Refusal.TheVariants.{Task}
@@ -7,7 +7,8 @@ use Rattle.omega_text.specs.declared.refusal.task.TaskFault.TheVariants.{NotDete
 use Rattle.omega_hoa_automaton.specs.Automaton.{Description}
 use Rattle.omega_hoa.specs.Alone.{IsAutomatonText}
 use Rattle.omega_io.specs.declared.exit.Exit.{Exit}
-use Rattle.omega_io.specs.declared.exit.Exit.TheVariants.{Done}
+use Rattle.omega_io.specs.declared.refused.Refused.{Refused}
+use Rattle.omega_io.specs.declared.refused.Which.TheVariants.{Input}
 use Rattle.omega_lang_lasso_text.specs.Lines.{lasso_part}
 use Rattle.omega_answers_empty.specs.declared.lines.Lines.{Lines}
 use Rattle.omega_answers_empty.specs.empty.Answer.{IsEmptyAnswer, IsEmptySearchAnswer}
@@ -15,7 +16,8 @@ use Rattle.omega_lang_lasso_word.specs.declared.symbolic_word.SymbolicWord.{Symb
 use Rattle.omega_lang_word_text.specs.Text.{IsWordRefusal, IsWordText}
 use Rattle.omega_lang_inclusion.specs.OneWord.{HasOpenLetter}
 use Rattle.omega_lang_inclusion.specs.WordRefusing.{HasChoice}
-use Rattle.omega_answers_inclusion.specs.Accepts.{IsAcceptsAnswer, IsInputRefusal}
+use Rattle.omega_answers.specs.Answer.{IsYes}
+use Rattle.omega_answers_inclusion.specs.Accepts.{IsAcceptsAnswer, IsAcceptsRefused}
 
 -- of a lasso the line `word` is wanted, and not that of its run
 abbrev pub word_alone : Lines
@@ -31,11 +33,6 @@ pub record IsWrittenWord (text word : List ℕ) : Type 0 where
   pub output : List ℕ
   pub answered : IsWordAnswer text output
   pub line : output ≡ lasso_part output ++ (codes "word " ++ (word ++ codes "\n"))
-
--- the answer is `yes`
-pub record IsYes (exit : Exit) (output : List ℕ) : Type 0 where
-  pub done : exit ≡ Done
-  pub written : output ≡ codes "yes\n"
 
 -- the refusal is for a choice of the automaton of the text, and a letter of the word leaves one of its propositions
 -- open
@@ -56,8 +53,8 @@ pub record IsAcceptedWord (word text : List ℕ) : Type 0 where
   pub unrefused : (refusal : Refusal) → length word ≤ most_text → ¬ IsWordRefusal word refusal
   pub yes : (explain : Bool) (exit : Exit) (output : List ℕ)
       → IsAcceptsAnswer word text explain exit output → IsYes exit output
-  pub open_choice : (refusal : Refusal) → IsInputRefusal word text refusal
-      → IsOpenChoice word text refusal
+  pub open_choice : (refused : Refused) → IsAcceptsRefused word text refused
+      → refused.text ≡ Some Input → IsOpenChoice word text refused.refusal
 
 -- so it is with each word that `empty --word` writes of a text, and this text
 abbrev pub WrittenWordsAreAccepted : Type 0

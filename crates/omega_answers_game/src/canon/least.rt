@@ -18,9 +18,9 @@ use std::alloc::Global;
 /// `omega_answers_game` say. If an identifier `from` is given, the game is the part that its node reaches.
 ///
 /// Fails with the [Refusal::Text] or [Refusal::Game] of the text, or with [TaskFault::UnknownNode].
-pub fn canon_least(alloc: Global, text: Vec<u8>, from: Option<u32>) -> Result<Vec<u8>, Refusal>
-    ensures answer { IfOk result (λ output. IsCanonLeastAnswer text.items from output.items) }
-    ensures refused { IfErr result (or_memory (IsJudgedGameRefusal text.items from)) }
+pub fn canon_least(alloc: Global, text: &[u8], from: Option<u32>) -> Result<Vec<u8>, Refusal>
+    ensures answer { IfOk result (λ output. IsCanonLeastAnswer text.now from output.items) }
+    ensures refused { IfErr result (or_memory (IsJudgedGameRefusal text.now from)) }
 {
     let game = judged_game(alloc, text, from)?;
     let written = write_turned(alloc, &game);

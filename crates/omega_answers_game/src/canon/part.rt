@@ -11,9 +11,9 @@ use std::alloc::Global;
 
 /// Returns the canonical text of the part that the node with the identifier `from` reaches in the game of `text`. Fails
 /// with the [Refusal::Text] or [Refusal::Game] of the text, or with [TaskFault::UnknownNode].
-pub fn canon_part(alloc: Global, text: Vec<u8>, from: u32) -> Result<Vec<u8>, Refusal>
-    ensures answer { IfOk result (λ output. IsCanonPartAnswer text.items from output.items) }
-    ensures refused { IfErr result (or_memory (IsPartTextRefusal text.items from)) }
+pub fn canon_part(alloc: Global, text: &[u8], from: u32) -> Result<Vec<u8>, Refusal>
+    ensures answer { IfOk result (λ output. IsCanonPartAnswer text.now from output.items) }
+    ensures refused { IfErr result (or_memory (IsPartTextRefusal text.now from)) }
 {
     let part = judged_part(alloc, text, from)?;
     let written = write_game(alloc, &part);

@@ -6,11 +6,11 @@ ghost use Rattle.omega_answers_game.specs.ShowJson.{pair_text, pairs_after, pair
 ghost use Rattle.omega_answers_game.specs.ShowJson.{priorities_member, self_loop_count, size_members};
 
 use crate::dropping::drop_game;
-use crate::game_text::forward_game_of;
 use crate::numbered::append_numbered;
 use crate::{Components, count_components};
 use omega_game::{ForwardGame, Player, PriorityCount, Refusal};
 use omega_lift_bound::bound;
+use omega_pg::read_forward_game;
 use omega_text::write_number;
 use std::alloc::Global;
 
@@ -20,11 +20,11 @@ use std::alloc::Global;
 /// connected components), `largest` (the number of nodes of the largest one) and `bounds`. The last has for player 0
 /// and player 1 the bound on lifts, or null if it is 2^128 or more. Fails with the [Refusal::Text] or [Refusal::Game]
 /// of the text.
-pub fn show_json(alloc: Global, text: Vec<u8>) -> Result<Vec<u8>, Refusal>
-    ensures answer { IfOk result (λ output. IsShowJsonAnswer text.items output.items) }
-    ensures refused { IfErr result (IsReadRefusal text.items) }
+pub fn show_json(alloc: Global, text: &[u8]) -> Result<Vec<u8>, Refusal>
+    ensures answer { IfOk result (λ output. IsShowJsonAnswer text.now output.items) }
+    ensures refused { IfErr result (IsReadRefusal text.now) }
 {
-    let game = forward_game_of(alloc, text)?;
+    let game = read_forward_game(alloc, text)?;
     let object = object_of(alloc, &game);
     drop_game(game);
     object

@@ -37,15 +37,15 @@ use std::alloc::Global;
 /// solve the game.
 pub fn verify_winners(
     alloc: Global,
-    game: Vec<u8>,
+    game: &[u8],
     from: Option<u32>,
-    text: Vec<u8>,
+    text: &[u8],
     explain: bool,
 ) -> Result<(Exit, Vec<u8>), Refused>
     ensures answer { IfOk result
-        (λ made. IsWinnersAnswer game.items from text.items explain made.0 made.1.items) }
-    ensures refused { IfErr result (IsRefusedOf (IsWinnersGameRefusal game.items from text.items)
-        (RefusesWinners game.items from text.items)) }
+        (λ made. IsWinnersAnswer game.now from text.now explain made.0 made.1.items) }
+    ensures refused { IfErr result (IsRefusedOf (IsWinnersGameRefusal game.now from text.now)
+        (RefusesWinners game.now from text.now)) }
 {
     match judged_game(alloc, game, from) {
         Ok(game) => winners_judged(alloc, game, text, explain),
@@ -58,13 +58,13 @@ pub fn verify_winners(
 fn winners_judged(
     alloc: Global,
     game: ForwardGame,
-    text: Vec<u8>,
+    text: &[u8],
     explain: bool,
 ) -> Result<(Exit, Vec<u8>), Refused>
     ensures judged { IfOk result
-        (λ made. AreWinnersJudged game text.items explain made.0 made.1.items) }
+        (λ made. AreWinnersJudged game text.now explain made.0 made.1.items) }
     ensures refused { IfErr result
-        (IsRefusedOf (IsUnsolvedRefusal game text.items) (IsWinnersRefusal game text.items)) }
+        (IsRefusedOf (IsUnsolvedRefusal game text.now) (IsWinnersRefusal game text.now)) }
 {
     match winners_in(alloc, &game, text) {
         Ok(winners) => match verdict_on_winners(alloc, game, winners.as_slice(), explain) {
@@ -78,13 +78,13 @@ fn winners_judged(
     }
 }
 
-/// Reads the winners of `game` in `text`. The text is dropped.
-fn winners_in(alloc: Global, game: &ForwardGame, text: Vec<u8>) -> Result<Vec<Player>, Refusal>
-    ensures winners { IfOk result (λ winners. IsWinnersText game.now text.items winners.items) }
+/// Reads the winners of `game` in `text`: one of each node.
+fn winners_in(alloc: Global, game: &ForwardGame, text: &[u8]) -> Result<Vec<Player>, Refusal>
+    ensures winners { IfOk result (λ winners. IsWinnersText game.now text.now winners.items) }
     ensures count { IfOk result (λ winners. length winners.items ≡ length game.now) }
-    ensures refused { IfErr result (IsReadWinnersRefusal game.now text.items) }
+    ensures refused { IfErr result (IsReadWinnersRefusal game.now text.now) }
 {
-    let winners = read_winners(alloc, game, text.as_slice())?;
+    let winners = read_winners(alloc, game, text)?;
     Ok(winners)
 }
 

@@ -40,22 +40,22 @@ of_automaton text a word read accepted = record { automaton = a; read = read; ac
 
 pub met_accept_both : AutomataAreOne → MeaningsAreAutomata → ProductsAreReadBack → ProductsMeet → MetTextsAcceptBoth
 met_accept_both one automata back meet file input output m short =
-    let plain = or_parts (has_universal_branching m.first) (has_universal_branching m.second) m.given in
+    let plain = or_parts (has_universal_branching m.input) (has_universal_branching m.file) m.holds.given in
     let P : List ℕ → Type 0 = λ text. length text ≤ most_text in
-    let Q : List ℕ → Type 0 = λ text. IsAutomatonText text m.product in
-    let read : IsAutomatonText output m.product =
-    subst Q (sym m.written) (back m.first m.second m.product (inl (input, m.first_read)) (inl (file, m.second_read)) m.product_written m.within (subst P m.written short)) in
-    let exactly : (word : NamedWord) → AcceptsNamed m.product word ↔ (AcceptsNamed m.first word × AcceptsNamed m.second word) =
-    products_meet_named meet m.first m.second m.product (is_automaton automata input m.first m.first_read) (is_automaton automata file m.second m.second_read)
-    plain.0 plain.1 m.product_is in (
-      (m.product, read),
+    let Q : List ℕ → Type 0 = λ text. IsAutomatonText text m.holds.product in
+    let read : IsAutomatonText output m.holds.product =
+    subst Q (sym m.holds.written) (back m.input m.file m.holds.product (inl (input, m.input_read)) (inl (file, m.file_read)) m.holds.product_written m.holds.within (subst P m.holds.written short)) in
+    let exactly : (word : NamedWord) → AcceptsNamed m.holds.product word ↔ (AcceptsNamed m.input word × AcceptsNamed m.file word) =
+    products_meet_named meet m.input m.file m.holds.product (is_automaton automata input m.input m.input_read) (is_automaton automata file m.file m.file_read)
+    plain.0 plain.1 m.holds.product_is in (
+      (m.holds.product, read),
       λ word. (
         λ accepts. (
-            let both = (exactly word).0 (of_text one output m.product word read accepts) in
-            (of_automaton file m.second word m.second_read both.1, of_automaton input m.first word m.first_read both.0)
+            let both = (exactly word).0 (of_text one output m.holds.product word read accepts) in
+            (of_automaton file m.file word m.file_read both.1, of_automaton input m.input word m.input_read both.0)
             ),
-        λ both. of_automaton output m.product word read
-            ((exactly word).1 (of_text one input m.first word m.first_read both.1, of_text one file m.second word m.second_read both.0)),
+        λ both. of_automaton output m.holds.product word read
+            ((exactly word).1 (of_text one input m.input word m.input_read both.1, of_text one file m.file word m.file_read both.0)),
       ),
     )
 
@@ -73,20 +73,20 @@ judged : (text output : List ℕ) → IsEmptinessAnswer text output → IsJudged
 judged text output (lines, inl found) = record {
   automaton = found.automaton;
   read = found.read;
-  plain = found.decided.given;
+  plain = found.holds.given;
   lines = lines;
-  verdict = found.decided.verdict;
-  right = found.decided.right;
-  written = found.decided.written;
+  verdict = found.holds.verdict;
+  right = found.holds.right;
+  written = found.holds.written;
 }
 judged text output (lines, inr (budget, found)) = record {
   automaton = found.automaton;
   read = found.read;
-  plain = found.decided.given.plain;
+  plain = found.holds.given.plain;
   lines = lines;
-  verdict = found.decided.verdict;
-  right = found.decided.right;
-  written = found.decided.written;
+  verdict = found.holds.verdict;
+  right = found.holds.right;
+  written = found.holds.written;
 }
 
 -- no lasso is written as `empty`
@@ -103,7 +103,7 @@ module _ (one : AutomataAreOne) (automata : MeaningsAreAutomata) (back : Complem
   given = is.complemented.automaton
 
   abbrev complement : Description
-  complement = is.complemented.complement
+  complement = is.complemented.holds.complement
 
   abbrev part : NamedWord → ℕ → ℕ → Bool
   part word = part_of given.propositions word
@@ -112,15 +112,15 @@ module _ (one : AutomataAreOne) (automata : MeaningsAreAutomata) (back : Complem
   given_is = is_automaton automata other given is.complemented.read
 
   complement_short : IsMeetAnswer text is.complement is.meeting ⊎ IsMeetAnswer is.complement text is.meeting → length is.complement ≤ most_text
-  complement_short (inl m) = m.first_read.short
-  complement_short (inr m) = m.second_read.short
+  complement_short (inl m) = m.input_read.short
+  complement_short (inr m) = m.file_read.short
 
   complement_read : IsAutomatonText is.complement complement
   complement_read =
       let P : List ℕ → Type 0 = λ t. length t ≤ most_text in
       let Q : List ℕ → Type 0 = λ t. IsAutomatonText t complement in
-      subst Q (sym is.complemented.written)
-      (back given complement (inl (other, is.complemented.read)) is.complemented.given is.complemented.right (subst P is.complemented.written (complement_short is.met)))
+      subst Q (sym is.complemented.holds.written)
+      (back given complement (inl (other, is.complemented.read)) is.complemented.holds.given is.complemented.holds.right (subst P is.complemented.holds.written (complement_short is.met)))
 
   abbrev said : IsJudged is.meeting output
   said = judged is.meeting output is.answered
@@ -136,12 +136,12 @@ module _ (one : AutomataAreOne) (automata : MeaningsAreAutomata) (back : Complem
   complement_accepts : (word : NamedWord) → IsAccepted complement (part word) → TextAccepts is.complement word
   complement_accepts word accepted =
       let P : List (List ℕ) → Type 0 = λ names. IsAccepted complement (part_of names word) in
-      of_automaton is.complement complement word complement_read (subst P (sym (same_names given complement is.complemented.right)) accepted)
+      of_automaton is.complement complement word complement_read (subst P (sym (same_names given complement is.complemented.holds.right)) accepted)
 
   accepts_complement : (word : NamedWord) → TextAccepts is.complement word → IsAccepted complement (part word)
   accepts_complement word accepts =
       let P : List (List ℕ) → Type 0 = λ names. IsAccepted complement (part_of names word) in
-      subst P (same_names given complement is.complemented.right) (of_text one is.complement complement word complement_read accepts)
+      subst P (same_names given complement is.complemented.holds.right) (of_text one is.complement complement word complement_read accepts)
 
   -- none is in both: so each word of the one is one of the other
   within : EmptyAcceptsNoWord → (word : NamedWord) → IsAccepted given (part word) ⊎ IsAccepted complement (part word) → IsVerdict said.automaton Empty
@@ -161,7 +161,7 @@ module _ (one : AutomataAreOne) (automata : MeaningsAreAutomata) (back : Complem
       let parts = (meeting_exactly is.met word.0).0 (of_automaton is.meeting said.automaton word.0 said.read (word.1.0 found.1)) in (
         word.0,
         parts.0,
-        λ accepts. apart given complement (part word.0) given_is is.complemented.given.deterministic is.complemented.right
+        λ accepts. apart given complement (part word.0) given_is is.complemented.holds.given.deterministic is.complemented.holds.right
             (of_text one other given word.0 is.complemented.read accepts) (accepts_complement word.0 parts.1),
       )
 
@@ -169,8 +169,8 @@ pub empty_contained : AutomataAreOne → MeaningsAreAutomata → ComplementsAreR
 empty_contained one automata back both cover none settled text other is word =
     let said = judged is.meeting (codes "empty\n") is.answered in
     within one automata back both text other (codes "empty\n") is none word
-    (cover settled is.complemented.automaton is.complemented.complement (part_of is.complemented.automaton.propositions word)
-    (is_automaton automata other is.complemented.automaton is.complemented.read) is.complemented.given.deterministic is.complemented.right)
+    (cover settled is.complemented.automaton is.complemented.holds.complement (part_of is.complemented.automaton.propositions word)
+    (is_automaton automata other is.complemented.automaton is.complemented.read) is.complemented.holds.given.deterministic is.complemented.holds.right)
     (is_empty said.automaton said.lines said.verdict said.right said.written)
 
 pub lassos_uncontained : AutomataAreOne → MeaningsAreAutomata → ComplementsAreReadBack → MetTextsAcceptBoth → ComplementsAreApart → LassosHaveAcceptedWords → WordsAreNamed

@@ -24,24 +24,24 @@ trim_named same a trim automaton trim_automaton plain is word =
 
 pub trimmed_accept_both : AutomataAreOne → MeaningsAreAutomata → ProductsMeet → TrimsAcceptTheSame → TrimmedMeetingsAcceptBoth
 trimmed_accept_both one automata meet same file input output answer =
-    let texts = answer.texts in
-    let made = texts.meeting in
-    let left = answer.trimmed in
-    let plain = or_parts (has_universal_branching texts.first) (has_universal_branching texts.second) made.given in
-    let product_is : IsAutomaton answer.product = automata made.written.written answer.product made.written.means in
-    let both : (word : NamedWord) → AcceptsNamed answer.product word ↔ (AcceptsNamed texts.first word × AcceptsNamed texts.second word) =
-    products_meet_named meet texts.first texts.second answer.product (is_automaton automata input texts.first texts.first_read)
-    (is_automaton automata file texts.second texts.second_read) plain.0 plain.1 made.is in
-    let trim : (word : NamedWord) → AcceptsNamed left.trim word ↔ AcceptsNamed answer.product word =
-    trim_named same answer.product left.trim product_is left.is_automaton left.given left.right in (
+    let product = answer.holds.product in
+    let made = answer.holds.meeting in
+    let left = answer.holds.trimmed in
+    let plain = or_parts (has_universal_branching answer.input) (has_universal_branching answer.file) made.given in
+    let product_is : IsAutomaton product = automata made.written.written product made.written.means in
+    let both : (word : NamedWord) → AcceptsNamed product word ↔ (AcceptsNamed answer.input word × AcceptsNamed answer.file word) =
+    products_meet_named meet answer.input answer.file product (is_automaton automata input answer.input answer.input_read)
+    (is_automaton automata file answer.file answer.file_read) plain.0 plain.1 made.is in
+    let trim : (word : NamedWord) → AcceptsNamed left.trim word ↔ AcceptsNamed product word =
+    trim_named same product left.trim product_is left.is_automaton left.given left.right in (
       left.trim,
       left.written,
       λ word. (
         λ accepted. (
             let parts = (both word).0 ((trim word).0 accepted) in
-            (of_automaton file texts.second word texts.second_read parts.1, of_automaton input texts.first word texts.first_read parts.0)
+            (of_automaton file answer.file word answer.file_read parts.1, of_automaton input answer.input word answer.input_read parts.0)
             ),
         λ texts'. (trim word).1 ((both word).1
-            (of_text one input texts.first word texts.first_read texts'.1, of_text one file texts.second word texts.second_read texts'.0)),
+            (of_text one input answer.input word answer.input_read texts'.1, of_text one file answer.file word answer.file_read texts'.0)),
       ),
     )

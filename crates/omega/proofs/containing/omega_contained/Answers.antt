@@ -1,7 +1,6 @@
 -- `omega_contained`: the verdict and the text of the call that it hands on, or its refusal.
 use Rattle.std.proofs.Common.{Bool, inl, inr, refl, subst}
-use Rattle.omega_answers_inclusion.specs.Contained.{IsContainedAnswer}
-use Rattle.omega.specs.Languages.{IsContainedRefused}
+use Rattle.omega_answers_inclusion.specs.Contained.{IsContainedAnswer, IsContainedRefused}
 use Rattle.omega.specs.Solving.{asks}
 use Rattle.omega.proofs.Given.{verdict_given}
 use Rattle.omega.proofs.containing.omega_contained.Goals as goal

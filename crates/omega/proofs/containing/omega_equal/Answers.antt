@@ -1,7 +1,6 @@
 -- `omega_equal`: the verdict and the text of the call that it hands on, or its refusal.
 use Rattle.std.proofs.Common.{Bool, inl, inr, refl, subst}
-use Rattle.omega_answers_inclusion.specs.Equal.{IsEqualAnswer}
-use Rattle.omega.specs.Languages.{IsEqualRefused}
+use Rattle.omega_answers_inclusion.specs.Equal.{IsEqualAnswer, IsEqualRefused}
 use Rattle.omega.specs.Solving.{asks}
 use Rattle.omega.proofs.Given.{verdict_given}
 use Rattle.omega.proofs.containing.omega_equal.Goals as goal

@@ -9,8 +9,12 @@ use Rattle.omega.proofs.emptiness.omega_empty.Goals as goal
 
 pub returns-in-Ok : goal.returns-in-Ok
 returns-in-Ok c =
+    let ends = c.in-Ok.ensures.answer in
     text_given (IsEmptySearchAnswer c.args.text.now (record { word = asks c.args.word; run = false })) (IsOneRefused (IsEmptySearchRefusal c.args.text.now)) c.give.result c.args.out.now c.give.new.out
-    c.in-Ok.output.items (subst (λ (b : Bool). IsEmptySearchAnswer c.args.text.now (record { word = b; run = false }) c.in-Ok.output.items) c.asks.ensures c.in-Ok.ensures.answer) refl c.give.ensures
+    c.in-Ok.output.items
+    (subst (λ (b : Bool). IsEmptySearchAnswer c.args.text.now (record { word = b; run = false }) c.in-Ok.output.items) c.asks.ensures
+    (record { automaton = ends.automaton; read = ends.read; holds = ends.holds.0 }))
+    refl c.give.ensures
 
 pub returns-in-Err : goal.returns-in-Err
 returns-in-Err c =

@@ -1,7 +1,6 @@
 -- `omega_meet`: the text of the call that it hands on, or its refusal.
 use Rattle.std.proofs.Common.{inl, inr, refl}
-use Rattle.omega_answers_automaton.specs.Meet.{IsMeetAnswer}
-use Rattle.omega.specs.Languages.{IsMeetRefused}
+use Rattle.omega_answers_automaton.specs.Meet.{IsMeetAnswer, IsMeetRefused}
 use Rattle.omega.proofs.Given.{text_given}
 use Rattle.omega.proofs.meeting.omega_meet.Goals as goal
 

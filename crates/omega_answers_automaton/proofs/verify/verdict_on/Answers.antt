@@ -1,22 +1,20 @@
--- a fault was found, so the lasso does not accept
-use Rattle.std.proofs.Common.{ℕ, List, sym, subst}
-use Rattle.std.specs.Prelude.{IsNone}
-use Rattle.std.proofs.lemmas.Bool.{false≢true}
-use Rattle.omega_lang_runs.specs.Lasso.{IsAcceptingLasso}
-use Rattle.omega_lang_lasso_check.specs.Fault.{IsLassoFault}
+-- the fault that the judge of lassos found is told, or that there is none
+use Rattle.std.proofs.lemmas.Result.{IfErr-weaker, IfOk-weaker}
+use Rattle.omega_answers.proofs.Told.{told}
+use Rattle.omega_answers_automaton.proofs.Faults.{first_fault}
 use Rattle.omega_answers_automaton.proofs.verify.verdict_on.Goals as goal
 
-pub returns-in_ok-no_text-in-Some-clause-verdict : goal.returns-in_ok-no_text-in-Some-clause-verdict
-returns-in_ok-no_text-in-Some-clause-verdict c =
-    let found = rw c.in-Some.is at c.in_ok-judge_lasso.ensures.fault in (
-      λ accepting.
-          let given = subst (λ (stem : List ℕ). IsAcceptingLasso c.args.automaton.now stem c.as_slice-2.result.now) (sym c.as_slice.ensures)
-          (subst (λ (cycle : List ℕ). IsAcceptingLasso c.args.automaton.now c.args.lasso.now.stem cycle) (sym c.as_slice-2.ensures) accepting) in
-          false≢true (sym (subst IsNone c.in-Some.is (c.in_ok-judge_lasso.ensures.accepting.1 given))),
-      (
-        c.in-Some.fault,
-        subst (λ (cycle : List ℕ). IsLassoFault c.args.automaton.now c.args.lasso.now.stem cycle c.in-Some.fault) c.as_slice-2.ensures
-            (subst (λ (stem : List ℕ). IsLassoFault c.args.automaton.now stem c.as_slice-2.result.now c.in-Some.fault) c.as_slice.ensures found),
-        c.in_ok-no_text-in-Some.ensures.text,
-      ),
-    )
+pub returns-clause-verdict : goal.returns-clause-verdict
+returns-clause-verdict c =
+    IfOk-weaker c.reply.result _ _
+    (λ made reply. record {
+      fault = c.in_ok-fault.fault;
+      right = first_fault c.args.automaton.now c.args.lasso.now c.in_ok-fault.fault
+          (rw (c.as_slice-stem.ensures, c.as_slice.ensures) at c.in_ok-fault.ensures.accepting)
+          (rw (c.as_slice-stem.ensures, c.as_slice.ensures) at c.in_ok-fault.ensures.fault);
+      reply = told c.in_ok-answer.answer _ made.0 made.1.items c.in_ok-answer.ensures.answer reply;
+    })
+    c.reply.ensures.reply
+
+pub returns-clause-refused : goal.returns-clause-refused
+returns-clause-refused c = IfErr-weaker c.reply.result _ _ (λ refusal e. rw e tt) c.reply.ensures.memory

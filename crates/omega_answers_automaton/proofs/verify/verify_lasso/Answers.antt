@@ -1,32 +1,22 @@
--- the automaton's text is refused, or the automaton itself
-use Rattle.std.proofs.Common.{inl, inr, sym, subst}
-use Rattle.omega_io.specs.declared.refused.Refused.{Refused}
-use Rattle.omega_io.specs.Refused.{IsRefusedOf}
-use Rattle.omega_lang_lasso_check.specs.Refusing.{RefusesToJudge}
-use Rattle.omega_answers_automaton.specs.Verify.{RefusesAutomaton, RefusesFileFirst, RefusesLasso}
-use Rattle.omega_answers_automaton.proofs.Refusals.{file_is_read, of_file}
+-- one of the texts is refused, or what is answered or refused is that of the automaton and the lasso
+use Rattle.std.proofs.Common.{inl}
+use Rattle.omega_hoa_automaton.specs.Automaton.{Description}
+use Rattle.omega_io.specs.declared.refused.Which.TheVariants.{File}
+use Rattle.omega_lang_lasso_text.specs.Lines.{IsLassoLinesRefusal}
+use Rattle.omega_answers.specs.OneAutomaton.{IsRefusalOfText}
+use Rattle.omega_answers.proofs.About.{of_read}
+use Rattle.omega_answers_automaton.specs.Verify.{IsPlainText, RefusesBranching}
+use Rattle.omega_answers_automaton.proofs.Lassos.{file_is_read, judge_refused}
 use Rattle.omega_answers_automaton.proofs.verify.verify_lasso.Goals as goal
 
 pub returns-clause-refused : goal.returns-clause-refused
 returns-clause-refused c =
-    subst (λ (refused : Refused). IsRefusedOf (RefusesAutomaton c.args.file.items c.args.input.items) (RefusesLasso c.args.file.items c.args.input.items) refused)
-    (sym c.of-in-Err.ensures)
-    (of_file (RefusesFileFirst c.args.file.items) (RefusesAutomaton c.args.file.items c.args.input.items) (RefusesLasso c.args.file.items c.args.input.items)
-    (λ refusal is. inl is) (file_is_read c.args.file.items) c.in-Err.refusal c.in-Err.ensures.refused)
+    inl (of_read (IsRefusalOfText RefusesBranching c.args.file.now)
+    (λ refusal. (automaton : Description) × IsPlainText c.args.file.now automaton × IsLassoLinesRefusal c.args.input.now refusal)
+    File (IsRefusalOfText RefusesBranching c.args.file.now) (λ refusal is. is) (file_is_read c.args.file.now)
+    c.in-Err.refusal c.in-Err.ensures.refused c.of-in-Err.result c.of-in-Err.ensures)
 
-pub returns-in-Ok-lasso_in-clause-refused : goal.returns-in-Ok-lasso_in-clause-refused
-returns-in-Ok-lasso_in-clause-refused c =
-    subst (λ (refused : Refused). IsRefusedOf (RefusesAutomaton c.args.file.items c.args.input.items) (RefusesLasso c.args.file.items c.args.input.items) refused)
-    (sym c.of.ensures)
-    (of_file (RefusesToJudge c.in-Ok.automaton c.in-Ok-lasso_in.lasso.stem c.in-Ok-lasso_in.lasso.cycle) (RefusesAutomaton c.args.file.items c.args.input.items)
-    (RefusesLasso c.args.file.items c.args.input.items)
-    (λ refusal is. inr (record {
-      automaton = c.in-Ok.automaton;
-      automaton_read = c.in-Ok.ensures.automaton;
-      given = c.in-Ok.ensures.given;
-      lasso = c.in-Ok-lasso_in.lasso;
-      read = c.in-Ok-lasso_in.ensures.lasso;
-      refused = is;
-    }))
-    (λ is. is)
-    c.in-Err-verdict_on.refusal c.in-Err-verdict_on.ensures.refused)
+pub returns-in-Ok-read_lasso_lines-clause-refused : goal.returns-in-Ok-read_lasso_lines-clause-refused
+returns-in-Ok-read_lasso_lines-clause-refused c =
+    judge_refused c.args.file.now c.args.input.now c.in-Ok.automaton c.in-Ok-read_lasso_lines.lasso c.in-Ok.ensures.automaton
+    c.in-Ok-read_lasso_lines.ensures.lasso c.in-Err-verdict_on.refusal c.in-Err-verdict_on.ensures.refused c.of.result c.of.ensures

@@ -9,18 +9,21 @@ use Rattle.omega_answers_empty.proofs.empty.decide_automaton.Goals as goal
 
 pub returns-clause-decision : goal.returns-clause-decision
 returns-clause-decision g c =
-    IfOk-weaker c.emptiness_text.result _ _
-    (λ output written. record {
-      given = c.in_ok-verdict.ensures.given;
-      within = c.in_ok-verdict.ensures.budget;
-      verdict = c.in_ok-verdict.verdict;
-      right = c.in_ok-verdict.ensures.verdict;
-      written = written;
-    })
-    c.emptiness_text.ensures.text
+    IfOk-weaker c.emptiness_reply.result _ _
+    (λ made reply. (
+      record {
+        given = c.in_ok-verdict.ensures.given;
+        within = c.in_ok-verdict.ensures.budget;
+        verdict = c.in_ok-verdict.verdict;
+        right = c.in_ok-verdict.ensures.verdict;
+        written = reply.1;
+      },
+      reply.0,
+    ))
+    c.emptiness_reply.ensures.reply
 
 pub returns-clause-refused : goal.returns-clause-refused
-returns-clause-refused g c = IfErr-weaker c.emptiness_text.result _ _ (λ refusal e. rw e tt) c.emptiness_text.ensures.memory
+returns-clause-refused g c = IfErr-weaker c.emptiness_reply.result _ _ (λ refusal e. rw e tt) c.emptiness_reply.ensures.memory
 
 pub returns-in_err-verdict-clause-reported : goal.returns-in_err-verdict-clause-reported
 returns-in_err-verdict-clause-reported g c =
@@ -29,6 +32,6 @@ returns-in_err-verdict-clause-reported g c =
 
 pub returns-clause-reported : goal.returns-clause-reported
 returns-clause-reported g c =
-    observed_after _ _ _ _ c.emptiness_text.result (λ refusal. refusal ≡ Memory) _ _ c.emptiness_text.ensures.memory (λ e. cc)
+    observed_after _ _ _ _ c.emptiness_reply.result (λ refusal. refusal ≡ Memory) _ _ c.emptiness_reply.ensures.memory (λ e. cc)
     (λ refusal other. automaton_refused c.args.automaton.now refusal other)
     (rw c.in_ok-verdict.was at c.emptiness_observed.ensures.reported)

@@ -8,10 +8,7 @@ returns-clause-answer c =
     (λ output written. record {
       automaton = c.in_ok-automaton.automaton;
       read = c.in_ok-automaton.ensures.automaton;
-      given = c.in_ok-game.ensures.given;
-      game = c.in_ok-game.game;
-      game_is = c.in_ok-game.ensures.game;
-      written = written;
+      holds = record { given = c.in_ok-game.ensures.given; game = c.in_ok-game.game; game_is = c.in_ok-game.ensures.game; written = written };
     })
     c.write_game.ensures.text
 

@@ -18,5 +18,5 @@ returns-clause-answer c =
 pub returns-clause-refused : goal.returns-clause-refused
 returns-clause-refused c =
     IfErr-weaker c.draw_alone-drawn.result _ _
-    (λ refusal unknown. unknown_text_or_memory c.args.text.items c.in_ok-game.game c.args.from refusal c.in_ok-game.ensures.game unknown)
+    (λ refusal unknown. unknown_text_or_memory c.args.text.now c.in_ok-game.game c.args.from refusal c.in_ok-game.ensures.game unknown)
     c.draw_alone-drawn.ensures.refused

@@ -23,5 +23,5 @@ returns-in-Ok-clause-refused c =
     (λ refused is.
     about_as _ _ _ _ _ refused.text refused.refusal
     (λ drawn. record { game = c.in-Ok.game; judged = c.in-Ok.ensures.game; refused = drawn.refused })
-    (λ unknown. absurd (judged_known c.args.text.items c.in-Ok.game c.args.from refused.refusal c.in-Ok.ensures.game unknown)) is)
+    (λ unknown. absurd (judged_known c.args.text.now c.in-Ok.game c.args.from refused.refusal c.in-Ok.ensures.game unknown)) is)
     c.draw_with-drawn.ensures.refused

@@ -13,7 +13,7 @@ returns-in-None-clause-refused g c = search rules
 pub returns-in_err-game-clause-reported : goal.returns-in_err-game-clause-reported
 returns-in_err-game-clause-reported g c =
     observed_alike _ _ _ _ c.from_residual.result _ c.in_err-game.field-0.0 _ _ c.from_residual.ensures.1 (λ e same. same)
-    (none_observed _ _ _ _ _ _ (spares (IsReadRefusal c.args.text.items) _ c.in_err-game.ensures.refused (read_spares c.args.text.items)))
+    (none_observed _ _ _ _ _ _ (spares (IsReadRefusal c.args.text.now) _ c.in_err-game.ensures.refused (read_spares c.args.text.now)))
 
 pub returns-in-None-clause-reported : goal.returns-in-None-clause-reported
 returns-in-None-clause-reported g c =

@@ -1,22 +1,20 @@
--- the text of the file is refused, or it is that of an automaton, with which the text of the input is answered or
--- refused
-use Rattle.std.proofs.Common.{inl, refl}
+-- one of the texts is refused, or what is answered or refused is that of the automata of both
 use Rattle.omega_io.specs.declared.refused.Which.TheVariants.{File}
-use Rattle.omega_answers_inclusion.specs.Contained.{IsFileRefusal, IsOfNoText}
-use Rattle.omega_answers_inclusion.proofs.About.{of_read}
-use Rattle.omega_hoa.specs.Alone.{IsAutomatonRefusal}
-use Rattle.omega_answers_automaton.specs.Meet.{IsTextRefused}
-use Rattle.omega_answers_automaton.proofs.Refusals.{text_is_read}
+use Rattle.omega_lang_inclusion.specs.Refusing.{IsContainmentRefusal}
+use Rattle.omega_answers.specs.Choice.{IsRefusedFor}
+use Rattle.omega_answers.proofs.TwoTexts.{both_refused}
 use Rattle.omega_answers_inclusion.proofs.contained.contained_texts.Goals as goal
 
-pub returns-in-Err-clause-refused : goal.returns-in-Err-clause-refused
-returns-in-Err-clause-refused c =
-    of_read (IsOfNoText c.args.file.items c.args.input.items) (IsFileRefusal c.args.file.items c.args.input.items) (IsTextRefused c.args.file.items c.args.input.items)
-    File (IsAutomatonRefusal c.args.file.items) (λ refusal is. inl is) (text_is_read c.args.file.items) (inl refl)
-    c.in-Err.refusal c.in-Err.ensures.refused c.of.result c.of.ensures
-
 pub returns-in-Ok-clause-answer : goal.returns-in-Ok-clause-answer
-returns-in-Ok-clause-answer c = c.contained_with.ensures.answer c.args.file.items c.in-Ok.ensures.automaton
+returns-in-Ok-clause-answer c = record {
+  file = c.in_ok-read.read.file;
+  file_read = c.in_ok-read.ensures.file;
+  input = c.in_ok-read.read.input;
+  input_read = c.in_ok-read.ensures.input;
+  holds = c.in-Ok.ensures.verdict;
+}
 
-pub returns-in-Ok-clause-refused : goal.returns-in-Ok-clause-refused
-returns-in-Ok-clause-refused c = c.contained_with.ensures.refused c.args.file.items c.in-Ok.ensures.automaton
+pub returns-clause-refused : goal.returns-clause-refused
+returns-clause-refused c =
+    both_refused c.args.file.now c.args.input.now c.in_ok-read.read.file c.in_ok-read.read.input c.in_ok-read.ensures.file c.in_ok-read.ensures.input
+    (λ second first. IsRefusedFor File (IsContainmentRefusal first second)) c.refused_for.result (c.in-Err.refusal, c.in-Err.ensures.refused, c.refused_for.ensures)

@@ -1,21 +1,20 @@
--- the text of the file is refused, or it is that of an automaton, with which the text of the input is answered or
--- refused
-use Rattle.std.proofs.Common.{inl, refl}
-use Rattle.omega_io.specs.declared.refused.Which.TheVariants.{File}
-use Rattle.omega_answers_inclusion.specs.Equal.{IsFileRefusal, IsInputRefusal, IsOfNoText}
-use Rattle.omega_answers_inclusion.proofs.About.{of_read}
-use Rattle.omega_hoa.specs.Alone.{IsAutomatonRefusal}
-use Rattle.omega_answers_automaton.proofs.Refusals.{text_is_read}
+-- one of the texts is refused, or what is answered or refused is that of the automata of both
+use Rattle.std.proofs.lemmas.Result.{IfErr-weaker, IfOk-weaker}
+use Rattle.omega_answers.proofs.TwoTexts.{both_refused, of_automata}
+use Rattle.omega_answers_inclusion.specs.Equal.{IsEqualityRefused, IsEqualityVerdict}
 use Rattle.omega_answers_inclusion.proofs.equal.equal_texts.Goals as goal
 
-pub returns-in-Err-clause-refused : goal.returns-in-Err-clause-refused
-returns-in-Err-clause-refused c =
-    of_read (IsOfNoText c.args.file.items c.args.input.items) (IsFileRefusal c.args.file.items c.args.input.items) (IsInputRefusal c.args.file.items c.args.input.items)
-    File (IsAutomatonRefusal c.args.file.items) (λ refusal is. inl is) (text_is_read c.args.file.items) (inl refl)
-    c.in-Err.refusal c.in-Err.ensures.refused c.of.result c.of.ensures
+pub returns-clause-answer : goal.returns-clause-answer
+returns-clause-answer c =
+    IfOk-weaker c.equality_verdict.result _ _
+    (λ made verdict. of_automata c.args.file.now c.args.input.now c.in_ok-read.read.file c.in_ok-read.read.input
+    c.in_ok-read.ensures.file c.in_ok-read.ensures.input
+    (λ second first. IsEqualityVerdict first second c.args.explain made.0 made.1.items) verdict)
+    c.equality_verdict.ensures.verdict
 
-pub returns-in-Ok-clause-answer : goal.returns-in-Ok-clause-answer
-returns-in-Ok-clause-answer c = c.equal_with.ensures.answer c.args.file.items c.in-Ok.ensures.automaton
-
-pub returns-in-Ok-clause-refused : goal.returns-in-Ok-clause-refused
-returns-in-Ok-clause-refused c = c.equal_with.ensures.refused c.args.file.items c.in-Ok.ensures.automaton
+pub returns-clause-refused : goal.returns-clause-refused
+returns-clause-refused c =
+    IfErr-weaker c.equality_verdict.result _ _
+    (both_refused c.args.file.now c.args.input.now c.in_ok-read.read.file c.in_ok-read.read.input
+    c.in_ok-read.ensures.file c.in_ok-read.ensures.input (λ second first. IsEqualityRefused first second))
+    c.equality_verdict.ensures.refused

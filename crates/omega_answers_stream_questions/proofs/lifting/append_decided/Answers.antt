@@ -1,17 +1,15 @@
--- the decision says whether its text is `empty`
-use Rattle.std.proofs.Common.{rules, ◌∙◌}
-use Rattle.omega_answers_stream_questions.proofs.EmptyLine.{says_empty}
+-- how lifting ends says whether the answer is `no`
+use Rattle.std.proofs.Common.{◌≡◌, rules, true, sym, subst}
+use Rattle.omega_io.specs.declared.exit.Exit.{Exit}
+use Rattle.omega_answers_empty.specs.empty.Answer.{EndsDecision}
+use Rattle.omega_answers_stream_questions.specs.Items.{exit_for}
 use Rattle.omega_answers_stream_questions.proofs.lifting.append_decided.Goals as goal
 
 pub returns-clause-answer : goal.returns-clause-answer
 returns-clause-answer c =
-    let decided = c.in_ok-text.ensures.decision in
+    let same : exit_for c.eq.result ≡ c.in_ok-exit.exit = search rules in
     record {
-      text = c.in_ok-text.text.items;
+      text = c.in_ok-exit.text.items;
       appended = search rules;
-      holds = (
-        decided,
-        c.is_empty_line.ensures
-            ∙ says_empty c.args.automaton.now c.args.lines decided.verdict c.as_slice-2.result.now (c.as_slice-2.ensures.value ∙ decided.written),
-      );
+      holds = subst (λ (exit : Exit). EndsDecision c.args.automaton.now c.args.budget c.args.lines true exit c.in_ok-exit.text.items) (sym same) c.in_ok-exit.ensures.decision;
     }

@@ -8,7 +8,7 @@ returns-clause-answer c =
     (λ made decision. record {
       automaton = c.in_ok-decided.decided.question.automaton;
       read = c.in_ok-decided.ensures.decided.read;
-      decision = decision;
+      holds = decision;
     })
     c.verdict_of.ensures.decision
 

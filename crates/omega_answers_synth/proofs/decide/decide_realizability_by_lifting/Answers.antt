@@ -10,7 +10,7 @@ returns-clause-answer g c =
     (λ made decision. record {
       automaton = c.in_ok-decided.decided.question.automaton;
       read = c.in_ok-decided.ensures.decided.read;
-      decision = decision;
+      holds = decision;
     })
     c.verdict_of.ensures.decision
 
@@ -24,4 +24,4 @@ returns-in_err-decided-clause-reported g c =
 
 pub returns-clause-reported : goal.returns-clause-reported
 returns-clause-reported g c =
-    written_after c.args.text.items _ _ _ c.verdict_of.result _ _ c.verdict_of.ensures.memory (rw c.in_ok-decided.was at c.decided_by_lifting.ensures.reported)
+    written_after c.args.text.now _ _ _ c.verdict_of.result _ _ c.verdict_of.ensures.memory (rw c.in_ok-decided.was at c.decided_by_lifting.ensures.reported)

@@ -12,19 +12,19 @@ returns-clause-game c =
     (λ game is. record {
       automaton = c.in_ok-question.question.automaton;
       read = asked.read;
-      game = record { controlled = c.as_slice.result.now; stated = stated; game = is };
+      holds = record { controlled = c.as_slice.result.now; stated = stated; game = is };
     })
     c.realizability_game.ensures.game
 
 pub returns-in_err-question-clause-refused : goal.returns-in_err-question-clause-refused
 returns-in_err-question-clause-refused c =
     let p = err_from_is_err_and c.from_residual.result c.from_residual.ensures.1 in
-    rw (p.1, p.2) (unasked_ungamed c.args.text.items _ c.in_err-question.ensures.refused)
+    rw (p.1, p.2) (unasked_ungamed c.args.text.now _ c.in_err-question.ensures.refused)
 
 pub returns-clause-refused : goal.returns-clause-refused
 returns-clause-refused c =
     let asked = c.in_ok-question.ensures.question in
     let stated = stated_as _ _ _ asked c.as_slice.ensures in
     IfErr-weaker c.realizability_game.result _ _
-    (λ refusal refused. question_ungamed c.args.text.items _ _ refusal asked.read stated refused)
+    (λ refusal refused. question_ungamed c.args.text.now _ _ refusal asked.read stated refused)
     c.realizability_game.ensures.refused

@@ -11,9 +11,7 @@ returns-clause-answer c =
     (λ output written. record {
       automaton = of_text.automaton;
       read = of_text.read;
-      nodes = c.in_ok-game.game;
-      game = of_text.game;
-      written = written ∙ ap canonical_game c.forward_game.ensures;
+      holds = record { nodes = c.in_ok-game.game; game = of_text.holds; written = written ∙ ap canonical_game c.forward_game.ensures };
     })
     c.write_game.ensures.text
 

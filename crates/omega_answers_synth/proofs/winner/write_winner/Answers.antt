@@ -8,7 +8,7 @@ returns-clause-answer c =
     (λ made winning. record {
       automaton = c.in_ok-decided.decided.question.automaton;
       read = c.in_ok-decided.ensures.decided.read;
-      winning = winning;
+      holds = winning;
     })
     c.winner_of.ensures.winning
 

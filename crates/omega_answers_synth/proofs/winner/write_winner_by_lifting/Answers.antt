@@ -10,7 +10,7 @@ returns-clause-answer g c =
     (λ made winning. record {
       automaton = c.in_ok-decided.decided.question.automaton;
       read = c.in_ok-decided.ensures.decided.read;
-      winning = winning;
+      holds = winning;
     })
     c.winner_of.ensures.winning
 
@@ -24,4 +24,4 @@ returns-in_err-decided-clause-reported g c =
 
 pub returns-clause-reported : goal.returns-clause-reported
 returns-clause-reported g c =
-    written_after c.args.text.items _ _ _ c.winner_of.result _ _ c.winner_of.ensures.memory (rw c.in_ok-decided.was at c.decided_by_lifting.ensures.reported)
+    written_after c.args.text.now _ _ _ c.winner_of.result _ _ c.winner_of.ensures.memory (rw c.in_ok-decided.was at c.decided_by_lifting.ensures.reported)

@@ -9,7 +9,7 @@ returns-in-Ok-clause-refused c =
     IfErr-weaker c.draw_both.result _ _
     (λ refused is.
     drawn_as _ _ _ _ _ _ refused.text refused.refusal
-    (λ unknown. absurd (judged_known c.args.text.items c.in-Ok.game c.args.from refused.refusal c.in-Ok.ensures.game unknown))
+    (λ unknown. absurd (judged_known c.args.text.now c.in-Ok.game c.args.from refused.refusal c.in-Ok.ensures.game unknown))
     (λ solution. record { game = c.in-Ok.game; judged = c.in-Ok.ensures.game; refused = solution })
     (λ walk. record {
       game = c.in-Ok.game;

@@ -22,6 +22,6 @@ returns-in-Ok-clause-refused c =
     IfErr-weaker c.winners_judged.result _ _
     (λ refused is.
     about_as _ _ _ _ _ refused.text refused.refusal
-    (λ unsolved. inr (unsolved-text c.args.game.items c.args.from c.args.text.items c.in-Ok.game refused.refusal c.in-Ok.ensures.game unsolved))
+    (λ unsolved. inr (unsolved-text c.args.game.now c.args.from c.args.text.now c.in-Ok.game refused.refusal c.in-Ok.ensures.game unsolved))
     (λ wrong. record { game = c.in-Ok.game; judged = c.in-Ok.ensures.game; refused = wrong }) is)
     c.winners_judged.ensures.refused

@@ -1,4 +1,0 @@
--- What private contracts alone cite.
-pub mod Met
-pub mod TrimmedMet
-pub mod Joined

@@ -1,2 +1,0 @@
--- The steps between an automaton and its answer: cited by private contracts alone.
-pub mod Drawn

@@ -1,2 +1,0 @@
--- Which text a refusal is about.
-pub mod About

@@ -1,0 +1,19 @@
+-- the membership that was decided is told, or memory is wanting
+use Rattle.std.proofs.lemmas.Result.{IfErr-weaker, IfOk-weaker}
+use Rattle.omega_lang_inclusion.specs.WordRefusing.{oversized}
+use Rattle.omega_answers.proofs.Told.{told}
+use Rattle.omega_answers_inclusion.proofs.accepts.membership_reply.Goals as goal
+
+pub returns-clause-verdict : goal.returns-clause-verdict
+returns-clause-verdict c =
+    IfOk-weaker c.reply.result _ _
+    (λ made reply. record {
+      decided = c.in_ok-membership.ensures.decided;
+      answer = c.in_ok-membership.membership;
+      right = c.in_ok-membership.ensures.right;
+      reply = told c.in_ok-answer.answer _ made.0 made.1.items c.in_ok-answer.ensures.answer reply;
+    })
+    c.reply.ensures.reply
+
+pub returns-clause-refused : goal.returns-clause-refused
+returns-clause-refused c = IfErr-weaker c.reply.result _ _ (λ refusal e. oversized (rw e tt)) c.reply.ensures.memory

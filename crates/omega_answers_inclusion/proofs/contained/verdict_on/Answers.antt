@@ -1,5 +1,0 @@
--- containment is refused
-use Rattle.omega_answers_inclusion.proofs.contained.verdict_on.Goals as goal
-
-pub returns-in-Err-clause-refused : goal.returns-in-Err-clause-refused
-returns-in-Err-clause-refused c = (c.in-Err.refusal, c.in-Err.ensures.refused, c.refused_for.ensures)

@@ -1,3 +1,0 @@
--- What private contracts alone cite.
-pub mod Asked
-pub mod Undecided
