@@ -2,17 +2,17 @@
 use Rattle.std.proofs.Common.{◌≡◌, ℕ, List, [], Option, None, Some, Result, Ok, Err, IfOk, IsOkUnless, subst}
 use Rattle.omega_text.specs.declared.refusal.Refusal.{Refusal}
 use Rattle.omega_text.specs.declared.refusal.Refusal.TheVariants.{Memory}
-use Rattle.omega_cli_command.specs.declared.line.Line.{Line}
+use Rattle.omega_cli_command.specs.declared.request.Request.{Request}
 use Rattle.omega_io.specs.declared.reason.Reason.{Reason}
 use Rattle.omega_run.specs.World.{streams}
-use Rattle.omega.specs.Running.{IsAsked, IsLineOfWords, IsObeyedSomehow}
+use Rattle.omega.specs.Running.{IsAsked, IsRequestOfWords, IsObeyedSomehow}
 
 -- words that were read, or not for want of memory
-pub asked_is : (words : List ℕ) (asked : Result Line Refusal) → IfOk asked (IsLineOfWords words) → IsOkUnless asked Memory → IsAsked words asked
-asked_is words (Ok line) is memory = is
+pub asked_is : (words : List ℕ) (asked : Result Request Refusal) → IfOk asked (IsRequestOfWords words) → IsOkUnless asked Memory → IsAsked words asked
+asked_is words (Ok request) is memory = is
 asked_is words (Err refusal) is memory = memory
 
-module _ (asked : Result Line Refusal) (status : ℕ) (text file input output errors : List ℕ)
+module _ (asked : Result Request Refusal) (status : ℕ) (text file input output errors : List ℕ)
     (reported reported' unread held held' : Option (List ℕ)) (tells reads writes : ℕ) (read_reason write_reason : Option Reason) where
   -- what a run leaves, of a file, streams and tellings that are these
   abbrev Left : List ℕ → (reported reported' : Option (List ℕ)) → ℕ → (unread : Option (List ℕ)) → ℕ → Option Reason → (held : Option (List ℕ)) → ℕ → Option Reason

@@ -5,14 +5,14 @@ use Rattle.std.specs.List.{slice_split}
 use Rattle.std.specs.Str.{IsUtf8}
 use Rattle.omega_text.specs.declared.refusal.Refusal.{Refusal}
 use Rattle.omega_text.specs.declared.refusal.Refusal.TheVariants.{Memory}
-use Rattle.omega_cli_command.specs.declared.line.Line.{Line}
-use Rattle.omega_cli_command.specs.declared.line.Line.TheVariants.{Fault}
+use Rattle.omega_cli_command.specs.declared.request.Request.{Request}
+use Rattle.omega_cli_command.specs.declared.request.Request.TheVariants.{Fault}
 use Rattle.omega_io.specs.Writing.{Tells}
 use Rattle.omega_io.specs.declared.reason.Reason.{Reason}
 use Rattle.omega_io.specs.declared.unread.Unread.{Unread}
 use Rattle.omega_run.specs.Obey.{IsObeyed}
 use Rattle.omega_run.specs.World.{Streams, World, streams}
-use Rattle.omega_cli.specs.Words.{IsLineAsked}
+use Rattle.omega_cli.specs.Words.{IsRequested}
 use Rattle.omega_arrays.specs.Room.{laid_over}
 use Rattle.omega.specs.declared.running.Ran.{Ran}
 
@@ -38,25 +38,25 @@ pub record HasNoText (text : List ℕ) : Type 0 where
   pub ended : 0 < length back
   pub broken : ¬ IsUtf8 word
 
--- the line says that the command line is not UTF-8
-abbrev pub TellsNoText : Line → Type 0
+-- the request is the fault that says that the command line is not UTF-8
+abbrev pub TellsNoText : Request → Type 0
 TellsNoText (Fault text) = string_bytes text
     ≡ codes "error: the command line is not UTF-8\n\nFor more information, try '--help'.\n"
-TellsNoText line = ⊥
+TellsNoText request = ⊥
 
--- the line that the words request, or if one is not UTF-8, the fault that says so
-abbrev pub IsLineOfWords : List ℕ → Line → Type 0
-IsLineOfWords text line = ((words : List (List ℕ)) × AreWords text words × IsLineAsked words line)
-    ⊎ (HasNoText text × TellsNoText line)
+-- what the words request, or if one is not UTF-8, the fault that says so
+abbrev pub IsRequestOfWords : List ℕ → Request → Type 0
+IsRequestOfWords text request = ((words : List (List ℕ)) × AreWords text words × IsRequested words request)
+    ⊎ (HasNoText text × TellsNoText request)
 
--- the words were read as this line, or there was no memory for it
-abbrev pub IsAsked : List ℕ → Result Line Refusal → Type 0
-IsAsked words (Ok line) = IsLineOfWords words line
+-- the words were read as this request, or there was no memory for it
+abbrev pub IsAsked : List ℕ → Result Request Refusal → Type 0
+IsAsked words (Ok request) = IsRequestOfWords words request
 IsAsked words (Err refusal) = refusal ≡ Memory
 
 -- the program obeyed the command line, whatever is left of the input, however many reads and writes failed, and why
 pub record IsObeyedSomehow (reads : List ℕ → List ℕ → Type 0) (refuses : List ℕ → Unread → Type 0)
-    (asked : Result Line Refusal) (status : ℕ) (reported reported' : Option (List ℕ))
+    (asked : Result Request Refusal) (status : ℕ) (reported reported' : Option (List ℕ))
     (failed_tells : ℕ) (before : Streams) (held : Option (List ℕ)) : Type 0 where
   pub unread : Option (List ℕ)
   pub failed_reads : ℕ
@@ -75,7 +75,7 @@ pub record IsObeyedSomehow (reads : List ℕ → List ℕ → Type 0) (refuses :
 -- the program obeyed the words, with the input, while each file had the text; it wrote the output and the errors
 pub record IsProgramRun (words input file : List ℕ) (status : ℕ)
     (output errors : List ℕ) : Type 0 where
-  pub asked : Result Line Refusal
+  pub asked : Result Request Refusal
   pub read : IsAsked words asked
   pub obeyed : IsObeyedSomehow (λ name text. text ≡ file)
       (λ name unread. unread.refusal ≡ Memory) asked status (Some []) (Some errors) 0

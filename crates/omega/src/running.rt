@@ -2,8 +2,8 @@
 ghost use Rattle.std.specs.Prelude.{◌≡◌, ◌-◌, ◌^◌, ◌<◌, IfOk, IsOkUnless};
 ghost use Rattle.omega_run.specs.World.{streams_of};
 ghost use Rattle.omega_text.specs.declared.refusal.Refusal.TheVariants.{Memory};
-ghost use Rattle.omega_cli_command.specs.Line.{IsRunnable};
-ghost use Rattle.omega.specs.Running.{IsLineOfWords, IsObeyedSomehow, IsProgramRun, IsRunOutcome};
+ghost use Rattle.omega_cli_command.specs.Request.{IsRunnable};
+ghost use Rattle.omega.specs.Running.{IsRequestOfWords, IsObeyedSomehow, IsProgramRun, IsRunOutcome};
 
 mod files;
 mod words;
@@ -11,7 +11,7 @@ mod words;
 use files::OneFile;
 use omega_arrays::copy_into;
 use omega_cli::read_words;
-use omega_run::{FromRead, Input, InputFiles, Line, Output, Refusal, ToWrite, obey};
+use omega_run::{FromRead, Input, InputFiles, Output, Refusal, Request, ToWrite, obey};
 use std::alloc::Global;
 use words::words_in;
 
@@ -90,7 +90,7 @@ fn left_by(alloc: Global, words: &[u8], input: &[u8], file: &[u8]) -> Left
 /// reads and writes failed.
 fn status_of<F: InputFiles, R: Input, W: Output, E: Output>(
     alloc: Global,
-    asked: Result<Line, Refusal>,
+    asked: Result<Request, Refusal>,
     files: &F,
     input: &mut R,
     output: &mut W,
@@ -107,9 +107,9 @@ fn status_of<F: InputFiles, R: Input, W: Output, E: Output>(
     obey(alloc, asked, files, input, output, errors)
 }
 
-/// Returns the line that the words request.
-fn asked_of(alloc: Global, words: &[u8]) -> Result<Line, Refusal>
-    ensures asked { IfOk result (IsLineOfWords words.now) }
+/// Returns what the words request.
+fn asked_of(alloc: Global, words: &[u8]) -> Result<Request, Refusal>
+    ensures asked { IfOk result (IsRequestOfWords words.now) }
     ensures runnable { IfOk result IsRunnable }
     ensures memory { IsOkUnless result Memory }
 {
@@ -118,7 +118,7 @@ fn asked_of(alloc: Global, words: &[u8]) -> Result<Line, Refusal>
         None => {
             let fault =
                 "error: the command line is not UTF-8\n\nFor more information, try '--help'.\n";
-            Ok(Line::Fault(String::from_str(alloc, fault)?))
+            Ok(Request::Fault(String::from_str(alloc, fault)?))
         }
     }
 }

@@ -1,10 +1,7 @@
 -- Lemmas by theme.
-pub mod Counted
-pub mod Emptied
-pub mod Explaining
-pub mod Held
-pub mod Lifted
-pub mod Performing
+pub mod Answered
+pub mod Cut
 pub mod ProgressLines
+pub mod Reported
+pub mod ReportedLines
 pub mod Telling
-pub mod TwoTexts

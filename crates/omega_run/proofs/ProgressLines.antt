@@ -11,8 +11,8 @@ use Rattle.omega_game_values.specs.Game.{Node}
 use Rattle.omega_solve.specs.budget.Observing.{IsObserved, ReportsEach, ReportsRun, ReportsRuns, most_of, progress}
 use Rattle.omega_solve.specs.declared.budget.observing.Progress.{Progress}
 use Rattle.omega_io.specs.Writing.{Tells, WritesBeginning}
-use Rattle.omega_run.specs.Progress.{GoesOnByLine, HasReported, progress_line}
-use Rattle.omega_run.specs.private.steps.Telling.{TellsLast, TellsOn}
+use Rattle.omega_run.specs.Progress.{GoesOnByLine, progress_line}
+use Rattle.omega_run.specs.private.steps.Telling.{HasReported, TellsOn}
 
 -- ---- one text after another
 
@@ -61,13 +61,17 @@ reported_on start before after sound failed later text more fits reported on = r
   ];
 }
 
--- and so does the last part
-pub reported_at_last : (start before after : Option (List ℕ)) (sound failed later : ℕ) (text more : List ℕ)
-    → HasReported start before sound failed text → TellsLast sound before after failed later more → Tells start after sound later (text ++ more)
-reported_at_last start before after sound failed later text more reported last = elim (eq-or-lt_of_le reported.counted) [
-  | inl none ↦ tells_after start before after sound failed later text more (sym none) reported.reported (last.reported (sym none))
-  | inr some ↦ tells_nothing start before after sound failed later text more some reported.reported (last.silent some).0 (last.silent some).1
-]
+-- and so does what is written after the last
+pub told_after : (start before after : Option (List ℕ)) (sound failed later : ℕ) (text more : List ℕ) → HasReported start before sound failed text
+    → failed ≡ sound → Tells before after failed later more → Tells start after sound later (text ++ more)
+told_after start before after sound failed later text more reported none then =
+    tells_after start before after sound failed later text more none reported.reported then
+
+-- if a write failed, nothing is
+pub broken_off : (start before : Option (List ℕ)) (sound failed : ℕ) (text more : List ℕ) → HasReported start before sound failed text
+    → sound < failed → Tells start before sound failed (text ++ more)
+broken_off start before sound failed text more reported some =
+    tells_nothing start before before sound failed failed text more some reported.reported refl refl
 
 -- two parts written one after another are one text
 pub on_and_on : (before between after : Option (List ℕ)) (sound failed more later : ℕ) (text then : List ℕ)

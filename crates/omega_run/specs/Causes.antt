@@ -10,57 +10,53 @@ use Rattle.omega_pg_diagnostics.specs.GameCauses.{IsGameCause}
 use Rattle.omega_pg_diagnostics.specs.Places.{place_line}
 use Rattle.omega_pg_diagnostics.specs.SolutionCauses.{IsSolutionCause}
 use Rattle.omega_hoa_diagnostics.specs.ChoiceCauses.{IsChoiceCause}
-use Rattle.omega_cli_command.specs.declared.beside.Beside.{Beside}
-use Rattle.omega_cli_command.specs.declared.beside.Beside.TheVariants as two
 use Rattle.omega_cli_command.specs.declared.command.Command.{Command}
-use Rattle.omega_cli_command.specs.declared.command.Command.TheVariants.{Canon, CanonLeast, CanonPart, Check}
-use Rattle.omega_cli_command.specs.declared.command.Command.TheVariants.{Draw, DrawPart, Search, Show}
-use Rattle.omega_cli_command.specs.declared.command.Command.TheVariants.{ShowJson, Solve}
-use Rattle.omega_cli_command.specs.declared.command.Format.{Format}
-use Rattle.omega_cli_command.specs.declared.command.Format.TheVariants.{Hoa, Pg}
+use Rattle.omega_cli_command.specs.declared.command.Command.TheVariants as command
+use Rattle.omega_cli_command.specs.declared.one_text.OneText.{OneText}
+use Rattle.omega_cli_command.specs.declared.one_text.OneText.TheVariants.{Canon, CanonLeast, CanonPart}
+use Rattle.omega_cli_command.specs.declared.one_text.OneText.TheVariants.{Check, DrawGame, DrawPart}
+use Rattle.omega_cli_command.specs.declared.one_text.OneText.TheVariants.{Search, Show, ShowJson, Solve}
+use Rattle.omega_cli_command.specs.declared.two_texts.TwoTexts.{TwoTexts}
+use Rattle.omega_cli_command.specs.declared.two_texts.TwoTexts.TheVariants as two
 use Rattle.omega_answers_game.specs.Verify.{IsJudgedGame}
 use Rattle.omega_io.specs.declared.exit.Exit.{Exit}
 use Rattle.omega_io.specs.declared.refused.Which.{Which}
 use Rattle.omega_io.specs.declared.refused.Which.TheVariants.{File, Input}
+use Rattle.omega_run.specs.Answers.{Texts}
 use Rattle.omega_run.specs.declared.text_kind.TextKind.{TextKind}
 use Rattle.omega_run.specs.declared.text_kind.TextKind.TheVariants as kind
 
--- what a text of this format is read as
-abbrev pub kind_of_format : Format → TextKind
-kind_of_format Pg = kind.Game
-kind_of_format Hoa = kind.Automata
+-- what a command reads its one text as: an automaton, unless it is named here
+abbrev pub kind_of_one : OneText → TextKind
+kind_of_one Show = kind.Game
+kind_of_one ShowJson = kind.Game
+kind_of_one Check = kind.Game
+kind_of_one Canon = kind.Game
+kind_of_one (CanonPart from) = kind.Game
+kind_of_one (CanonLeast from) = kind.Game
+kind_of_one (Solve player from) = kind.Game
+kind_of_one (Search from) = kind.Game
+kind_of_one DrawGame = kind.Game
+kind_of_one (DrawPart from depth) = kind.Game
+kind_of_one other = kind.Automata
 
--- what a command reads its text as
-abbrev pub kind_for : Command → TextKind
-kind_for (Show format) = kind_of_format format
-kind_for (ShowJson format) = kind_of_format format
-kind_for (Check format) = kind_of_format format
-kind_for (Canon format) = kind_of_format format
-kind_for (Draw format) = kind_of_format format
-kind_for (CanonPart from) = kind.Game
-kind_for (CanonLeast from) = kind.Game
-kind_for (Solve player from) = kind.Game
-kind_for (Search from) = kind.Game
-kind_for (DrawPart from depth) = kind.Game
-kind_for other = kind.Automata
-
--- what each of two texts is read as
-abbrev pub kind_beside : Beside → Which → TextKind
-kind_beside (two.Verify from explain) File = kind.Game
-kind_beside (two.Verify from explain) Input = kind.Solution from
-kind_beside (two.VerifyNamed from) File = kind.Game
-kind_beside (two.VerifyNamed from) Input = kind.Solution from
-kind_beside (two.VerifyWinners from explain) File = kind.Game
-kind_beside (two.VerifyWinners from explain) Input = kind.Winners
-kind_beside (two.VerifyLasso explain) File = kind.Automata
-kind_beside (two.VerifyLasso explain) Input = kind.Other
-kind_beside (two.Accepts explain) File = kind.Other
-kind_beside (two.Accepts explain) Input = kind.Automata
-kind_beside (two.DrawSolution from depth legend) File = kind.Solution from
-kind_beside (two.DrawSolution from depth legend) Input = kind.Game
-kind_beside (two.DrawWalk from depth legend) File = kind.Other
-kind_beside (two.DrawWalk from depth legend) Input = kind.Game
-kind_beside asked which = kind.Automata
+-- what a command reads each of two texts as: an automaton, unless it is named here
+abbrev pub kind_of_two : TwoTexts → Which → TextKind
+kind_of_two (two.Verify from explain) File = kind.Game
+kind_of_two (two.Verify from explain) Input = kind.Solution from
+kind_of_two (two.VerifyNamed from) File = kind.Game
+kind_of_two (two.VerifyNamed from) Input = kind.Solution from
+kind_of_two (two.VerifyWinners from explain) File = kind.Game
+kind_of_two (two.VerifyWinners from explain) Input = kind.Winners
+kind_of_two (two.VerifyLasso explain) File = kind.Automata
+kind_of_two (two.VerifyLasso explain) Input = kind.Other
+kind_of_two (two.Accepts explain) File = kind.Other
+kind_of_two (two.Accepts explain) Input = kind.Automata
+kind_of_two (two.DrawSolution from depth legend) File = kind.Solution from
+kind_of_two (two.DrawSolution from depth legend) Input = kind.Game
+kind_of_two (two.DrawWalk from depth legend) File = kind.Other
+kind_of_two (two.DrawWalk from depth legend) Input = kind.Game
+kind_of_two asked which = kind.Automata
 
 -- the line that names a place of the text, or no line if there is no place
 abbrev pub line_at : List ℕ → Option ℕ → List ℕ
@@ -85,41 +81,32 @@ IsCause kind.Automata written text beside (Task (NotDeterministic state)) line =
     IsChoiceCause text line
 IsCause of written text beside refusal line = line ≡ []
 
--- no line
-abbrev pub IsNoCause : Refusal → List ℕ → Type 0
-IsNoCause refusal line = line ≡ []
-
 -- after this outcome the line is the cause of its refusal, or none if there is no memory for it, or no refusal
 abbrev pub MayExplain : (Refusal → List ℕ → Type 0) → Result Exit Refusal → List ℕ → Type 0
 MayExplain IsReason (Ok exit) line = line ≡ []
 MayExplain IsReason (Err refusal) line = IsReason refusal line ⊎ (line ≡ [])
 
--- two texts, that of a file, or of the command line, and that of the input
-pub record Texts : Type 0 where
-  pub of_file : List ℕ
-  pub of_input : List ℕ
+-- what a command reads the text as
+abbrev pub kind_of : Command → Which → TextKind
+kind_of (command.OneText one) File = kind.Other
+kind_of (command.OneText one) Input = kind_of_one one
+kind_of (command.Stream stream) File = kind.Other
+kind_of (command.Stream stream) Input = kind.Automata
+kind_of (command.TwoTexts two from) which = kind_of_two two which
 
-abbrev pub texts : (file input : List ℕ) → Texts
-texts file input = record { of_file = file; of_input = input }
-
--- the one text, and the other
+-- the one of the texts, and the one beside it
 abbrev pub text_of : Texts → Which → List ℕ
-text_of pair File = pair.of_file
-text_of pair Input = pair.of_input
+text_of read File = read.other
+text_of read Input = read.input
 
-abbrev pub other_of : Texts → Which → List ℕ
-other_of pair File = pair.of_input
-other_of pair Input = pair.of_file
+abbrev pub text_beside : Texts → Which → List ℕ
+text_beside read File = read.input
+text_beside read Input = read.other
 
--- the cause of a refusal that is about one of two texts, which are written so and read as these; of one that is about
--- none there is no line
-abbrev pub IsCauseAbout : Beside → (written read : Texts) → Option Which → Refusal → List ℕ → Type 0
-IsCauseAbout asked written read None refusal line = line ≡ []
-IsCauseAbout asked written read (Some which) refusal line = IsCause (kind_beside asked which)
-    (text_of written which) (text_of read which) (other_of read which) refusal line
-
--- with `--verbose` that cause is told, and else none
-abbrev pub IsCauseTold : (verbose : Bool) → Beside → (written read : Texts) → Option Which
+-- with `--verbose` the cause of a refusal that is about one of the texts, which are written so and read as these; of
+-- one that is about none there is no line
+abbrev pub IsCauseTold : (verbose : Bool) → Command → (written read : Texts) → Option Which
     → Refusal → List ℕ → Type 0
-IsCauseTold false asked written read which = IsNoCause
-IsCauseTold true asked written read which = IsCauseAbout asked written read which
+IsCauseTold true command written read (Some which) refusal line = IsCause (kind_of command which)
+    (text_of written which) (text_of read which) (text_beside read which) refusal line
+IsCauseTold verbose command written read about refusal line = line ≡ []

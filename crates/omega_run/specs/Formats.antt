@@ -1,7 +1,7 @@
 -- The format that the first token of a text tells.
 use Rattle.std.specs.Prelude.{◌≡◌, ◌≢◌, ◌⊎◌, List, ℕ, codes}
-use Rattle.omega_cli_command.specs.declared.command.Format.{Format}
-use Rattle.omega_cli_command.specs.declared.command.Format.TheVariants.{Hoa, Pg}
+use Rattle.omega_cli_command.specs.declared.format.Format.{Format}
+use Rattle.omega_cli_command.specs.declared.format.Format.TheVariants.{Hoa, Pg}
 use Rattle.omega_text.specs.Lexeme.{Lexeme}
 use Rattle.omega_text.specs.declared.hoa.kind.HoaKind.{HoaKind}
 use Rattle.omega_text.specs.declared.refusal.text.TextFault.{TextFault}

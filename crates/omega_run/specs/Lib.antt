@@ -1,6 +1,5 @@
--- What contracts of running commands and obeying command lines cite; in `private` what private contracts alone cite.
-pub use Rattle.omega_cli_command.specs.CommandLine
-pub use Rattle.omega_cli_command.specs.Line
+-- What contracts of obeying command lines cite; in `private` what private contracts alone cite.
+pub use Rattle.omega_cli_command.specs.Request
 pub use Rattle.omega_io.specs.Exit
 pub use Rattle.omega_io.specs.Failures
 pub use Rattle.omega_io.specs.Reading
@@ -8,16 +7,20 @@ pub use Rattle.omega_io.specs.RefusalLine
 pub use Rattle.omega_io.specs.Writing
 pub use Rattle.omega_io.specs.Lines
 pub use Rattle.omega_io.specs.Refused
-pub mod Beside
+pub mod AnswerWriting
+pub mod Answers
 pub mod Causes
+pub mod Files
 pub mod Formats
 pub mod Held
 pub mod Lenient
 pub mod Obey
-pub mod Perform
+pub mod OneText
+pub mod Pieces
 pub mod Progress
 pub mod Report
-pub mod Respond
-pub mod Run
+pub mod Results
+pub mod Streams
+pub mod TwoTexts
 pub mod World
 pub mod private

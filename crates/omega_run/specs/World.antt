@@ -1,5 +1,5 @@
 -- What the program reads and writes, as the ghost members of its files and streams say.
-use Rattle.std.specs.Prelude.{List, Option, None, ℕ}
+use Rattle.std.specs.Prelude.{◌≡◌, List, Option, None, ℕ}
 use Rattle.omega_io.specs.declared.input_files.InputFiles as file
 use Rattle.omega_io.specs.declared.input.Input as input
 use Rattle.omega_io.specs.declared.output.Output as output
@@ -9,44 +9,64 @@ use Rattle.omega_io.specs.declared.failure.Failure.{Failure}
 use Rattle.omega_io.specs.declared.reason.Reason.{Reason}
 use Rattle.omega_io.specs.declared.unread.Unread.{Unread}
 
--- the input and the output at one time: what reads will give and what was written, if they are known, how many reads
--- and writes failed, and why the last of them did, if the system tells
+-- an output at one time: what was written, if it is known, how many writes failed, and why the last of them did, if
+-- the system tells
+pub record Written : Type 0 where
+  pub held : Option (List ℕ)
+  pub failed : ℕ
+  pub reason : Option Reason
+
+-- the input and the output at one time: what reads will give, if it is known, how many reads failed, and why the last
+-- of them did, if the system tells; and what was written
 pub record Streams : Type 0 where
   pub unread : Option (List ℕ)
-  pub failed_reads : ℕ
-  pub read_reason : Option Reason
-  pub held : Option (List ℕ)
-  pub failed_writes : ℕ
-  pub write_reason : Option Reason
+  pub failed : ℕ
+  pub reason : Option Reason
+  pub written : Written
 
-abbrev pub streams : Option (List ℕ) → ℕ → Option Reason → Option (List ℕ) → ℕ
+-- the streams with these parts
+abbrev pub streams : (unread : Option (List ℕ)) → ℕ → Option Reason → (held : Option (List ℕ)) → ℕ
     → Option Reason → Streams
 streams unread failed_reads read_reason held failed_writes write_reason = record {
   unread = unread;
-  failed_reads = failed_reads;
-  read_reason = read_reason;
-  held = held;
-  failed_writes = failed_writes;
-  write_reason = write_reason;
+  failed = failed_reads;
+  reason = read_reason;
+  written = record { held = held; failed = failed_writes; reason = write_reason };
+}
+
+-- what was written to an output
+abbrev pub written_to : {W : Type 0} → output.Ghosts W → W → Written
+written_to writing to = record {
+  held = writing.contents to;
+  failed = writing.failed to;
+  reason = writing.reason to;
 }
 
 -- the streams of an input and an output
 abbrev pub streams_of : {R W : Type 0} → input.Ghosts R → output.Ghosts W → R → W → Streams
-streams_of reading writing from to = streams (reading.remaining from) (reading.failed from)
-    (reading.reason from) (writing.contents to) (writing.failed to) (writing.reason to)
-
--- the streams of an input that has this left and whose reads never failed, and an output
-abbrev pub streams_over : {W : Type 0} → output.Ghosts W → Option (List ℕ) → W → Streams
-streams_over writing unread to =
-    streams unread 0 None (writing.contents to) (writing.failed to) (writing.reason to)
-
--- the streams with an input that has this left and whose reads never failed
-abbrev pub over : Option (List ℕ) → Streams → Streams
-over unread streams = record streams { unread = unread; failed_reads = 0; read_reason = None }
+streams_of reading writing from to = record {
+  unread = reading.remaining from;
+  failed = reading.failed from;
+  reason = reading.reason from;
+  written = written_to writing to;
+}
 
 -- which stream failed, and why, if the system tells
 abbrev pub failure_in : Streams → Failure
-failure_in streams = failure_of streams.read_reason streams.failed_writes streams.write_reason
+failure_in streams = failure_of streams.reason streams.written.failed streams.written.reason
+
+-- the same of a run that reads from no stream
+abbrev pub write_failure : Written → Failure
+write_failure written = failure_of None written.failed written.reason
+
+-- nothing was written
+abbrev pub KeepsOutput : (before after : Written) → Type 0
+KeepsOutput before after = (after.held ≡ before.held) × (after.failed ≡ before.failed)
+
+-- nothing was read from standard input, and no read of it failed
+abbrev pub KeepsInput : Streams → Streams → Type 0
+KeepsInput before after = (after.unread ≡ before.unread)
+    × (after.failed ≡ before.failed) × (after.reason ≡ before.reason)
 
 -- standard error took a text, or a beginning of it if one of its writes failed
 abbrev pub tells_of : {E : Type 0} → output.Ghosts E → (before after : E) → List ℕ → Type 0

@@ -1,93 +1,58 @@
 //! What is to be mended in a refused text: the cause of its refusal, in one line.
-ghost use Rattle.std.specs.Prelude.{◌≡◌, [], IfOk, Some};
-ghost use Rattle.omega_run.specs.Causes.{IsCause, IsCauseAbout, IsCauseBeside};
-ghost use Rattle.omega_run.specs.Causes.{IsCauseTold, MayExplain, line_at, texts};
-ghost use Rattle.omega_run.specs.private.steps.Beside.{plain, text_in};
+ghost use Rattle.std.specs.Prelude.{◌≡◌, ◌⊎◌, [], IfOk};
+ghost use Rattle.omega_run.specs.Answers.{both_texts};
+ghost use Rattle.omega_run.specs.Causes.{IsCause, IsCauseBeside, IsCauseTold, line_at};
 
-use crate::text_kind::{TextKind, kind_beside};
+use crate::text_kind::{TextKind, kind_of};
+use crate::texts::Held;
 use omega_answers_game::judged_game;
-use omega_cli_command::Beside;
 use omega_hoa_diagnostics::{automaton_cause, choice_cause};
-use omega_io::{Exit, Refusal, Refused, Which};
+use omega_io::{Refusal, Refused, Which};
 use omega_pg_diagnostics::{game_cause, place_line, solution_cause};
 use omega_text::TaskFault;
 use std::alloc::Global;
 
-/// Two texts: that of a file, or of the command line, and that of the input.
-#[derive(Clone, Copy)]
-pub(crate) struct Texts<'a> {
-    pub(crate) file: &'a [u8],
-    pub(crate) input: &'a [u8],
-}
-
-/// Returns the cause of the refusal with which a run on a text of this `kind` ended, or no bytes if there is no line to
-/// write or no memory for it.
-pub(crate) fn cause_after(
-    alloc: Global,
-    kind: TextKind,
-    text: &[u8],
-    outcome: &Result<Exit, Refusal>,
-) -> Vec<u8>
-    ensures { MayExplain (IsCause kind text.now text.now []) outcome.now result.items }
-{
-    match outcome {
-        Ok(_) => Vec::new(alloc),
-        Err(refusal) => match cause_in(alloc, kind, text, text, b"", *refusal) {
-            Ok(line) => line,
-            Err(_) => Vec::new(alloc),
-        },
-    }
-}
-
-/// Returns the cause of the refusal with which a run on two texts ended, or no bytes if there is no line to write or no
-/// memory for it, or `verbose` is not set. The texts are given as they are `written`, and as they are `read`.
-pub(crate) fn cause_about(
-    alloc: Global,
-    verbose: bool,
-    asked: Beside,
-    written: Texts<'_>,
-    read: Texts<'_>,
-    outcome: &Result<Exit, Refused>,
-) -> Vec<u8>
-    ensures { MayExplain
-        (IsCauseTold verbose asked (texts written.entry.file.now written.entry.input.now)
-        (texts read.entry.file.now read.entry.input.now) (text_in outcome.now))
-        (plain outcome.now) result.items }
+/// Returns the cause of a refusal, or no bytes if there is no line to write or no memory for it, or `verbose` is not set.
+pub(crate) fn cause_about(alloc: Global, held: Held<'_>, verbose: bool, refused: Refused) -> Vec<u8>
+    ensures { IsCauseTold verbose held.entry.command.now
+        (both_texts held.entry.written.other.now held.entry.written.input.now)
+        (both_texts held.entry.read.other.now held.entry.read.input.now)
+        refused.text refused.refusal result.items
+        ⊎ (result.items ≡ []) }
 {
     if !verbose {
         return Vec::new(alloc);
     }
-    match outcome {
-        Err(
-            Refused {
-                refusal,
-                text: Some(which),
-            },
-        ) => match cause_of(alloc, asked, written, read, *which, *refusal) {
-            Ok(line) => line,
-            Err(_) => Vec::new(alloc),
-        },
-        _ => Vec::new(alloc),
-    }
-}
-
-/// Returns the cause of the refusal of one of two texts, or no bytes if there is no line to write.
-fn cause_of(
-    alloc: Global,
-    asked: Beside,
-    written: Texts<'_>,
-    read: Texts<'_>,
-    which: Which,
-    refusal: Refusal,
-) -> Result<Vec<u8>, Refusal>
-    ensures { IfOk result
-        (λ line. IsCauseAbout asked (texts written.entry.file.now written.entry.input.now)
-        (texts read.entry.file.now read.entry.input.now) (Some which) refusal line.items) }
-{
-    let kind = kind_beside(asked, which);
-    match which {
-        Which::File => cause_in(alloc, kind, written.file, read.file, read.input, refusal),
-        Which::Input => cause_in(alloc, kind, written.input, read.input, read.file, refusal),
+    let Some(which) = refused.text else {
+        return Vec::new(alloc);
+    };
+    let kind = kind_of(held.command, which);
+    let (written, read) = (held.written, held.read);
+    let found = match which {
+        Which::File => {
+            cause_in(
+                alloc,
+                kind,
+                written.other,
+                read.other,
+                read.input,
+                refused.refusal,
+            )
+        }
+        Which::Input => {
+            cause_in(
+                alloc,
+                kind,
+                written.input,
+                read.input,
+                read.other,
+                refused.refusal,
+            )
+        }
+    };
+    match found {
+        Ok(line) => line,
+        Err(_) => Vec::new(alloc),
     }
 }
 
@@ -144,6 +109,6 @@ fn cause_beside(
 ) -> Result<Vec<u8>, Refusal>
     ensures { IfOk result (λ line. IsCauseBeside game_text.now from text.now line.items) }
 {
-    let game = judged_game(alloc, Vec::from_slice(alloc, game_text)?, from)?;
+    let game = judged_game(alloc, game_text, from)?;
     solution_cause(alloc, &game, text)
 }

@@ -1,16 +1,18 @@
-ghost use Rattle.std.specs.Prelude.{◌≡◌, ◌-◌, ◌^◌, ◌<◌, ℕ, IfOk, List, Option};
-ghost use Rattle.omega_cli_command.specs.Line.{IsRunnable, IsRunnableTask};
-ghost use Rattle.omega_run.specs.Obey.{IsDone, IsDoneByText, IsDoneWithFile, IsObeyed, Prints};
-ghost use Rattle.omega_io.specs.declared.reason.Reason.{Reason};
-ghost use Rattle.omega_run.specs.World.{streams, streams_of, world_of};
+ghost use Rattle.std.specs.Prelude.{◌≡◌, ◌-◌, ◌^◌, ◌<◌, ◌≤◌, IfOk, None, option_map};
+ghost use Rattle.omega_cli_command.specs.Request.{IsRunnable};
+ghost use Rattle.omega_solve.specs.Limits.{most_lifts};
+ghost use Rattle.omega_run.specs.Files.{other_text};
+ghost use Rattle.omega_run.specs.Obey.{IsDone, IsDoneFrom, IsObeyed, Prints};
+ghost use Rattle.omega_run.specs.Pieces.{IsRunOnStream};
+ghost use Rattle.omega_run.specs.World.{streams_of, tells_of, world_of, written_to};
 
-use crate::format::format_of;
-use crate::held_text::HeldText;
-use crate::leniently::run_reading;
+use crate::files::{FileTexts, other_text, read_files};
+use crate::held::{run_texts, within_limit};
 use crate::reporting::{report, report_file};
-use crate::task::run;
-use omega_cli_command::{Line, MOST_BUDGET, OfEither, Source, Task};
-use omega_io::{Exit, Input, InputFiles, Output, Refusal, failure_of, tell, write_text};
+use crate::stream::answer_stream;
+use crate::texts::Texts;
+use omega_cli_command::{Command, Request, Stream, Task};
+use omega_io::{Exit, Input, InputFiles, Output, Refusal, failure_of, read_all, tell, write_text};
 use std::alloc::Global;
 
 /// The status after a fault of the command line.
@@ -25,7 +27,7 @@ const FAULT: u8 = 2;
 /// read before any other.
 pub fn obey<F: InputFiles, R: Input, W: Output, E: Output>(
     alloc: Global,
-    asked: Result<Line, Refusal>,
+    asked: Result<Request, Refusal>,
     files: &F,
     input: &mut R,
     output: &mut W,
@@ -40,29 +42,13 @@ pub fn obey<F: InputFiles, R: Input, W: Output, E: Output>(
         (streams_of R.Input W.Output input.new output.new)) }
 {
     match asked {
-        Ok(
-            Line::Do {
-                task,
-                source,
-                lenient,
-                verbose,
-            },
-        ) => with_input(
-            alloc, task, source, lenient, verbose, files, input, output, errors,
-        ),
-        Ok(
-            Line::ByText {
-                asked,
-                file,
-                verbose,
-            },
-        ) => by_text(alloc, asked, file.as_str(), verbose, files, output, errors),
-        Ok(Line::Help(text)) => {
+        Ok(Request::Do(task)) => do_task(alloc, &task, files, input, output, errors),
+        Ok(Request::Help(text)) => {
             let outcome = print(text.as_bytes(), output);
             let failure = failure_of(input.reason(), output);
             report(alloc, outcome, false, failure, errors)
         }
-        Ok(Line::Fault(text)) => {
+        Ok(Request::Fault(text)) => {
             tell(errors, text.as_bytes());
             FAULT
         }
@@ -73,108 +59,119 @@ pub fn obey<F: InputFiles, R: Input, W: Output, E: Output>(
     }
 }
 
-/// Does a task with the text of standard input, or of a file, and returns the status to end with.
-fn with_input<F: InputFiles, R: Input, W: Output, E: Output>(
+/// Reads the files of a task, does it, and returns the status to end with.
+fn do_task<F: InputFiles, R: Input, W: Output, E: Output>(
     alloc: Global,
-    task: Task,
-    source: Source,
-    lenient: bool,
-    verbose: bool,
+    task: &Task,
     files: &F,
     input: &mut R,
     output: &mut W,
     errors: &mut E,
 ) -> u8
-    requires runnable { IsRunnableTask task }
+    requires budget { task.now.budget ≤ most_lifts }
     requires reads { R.failed input.old < 2 ^ 64 - 1 }
     requires writes { W.failed output.old < 2 ^ 64 - 1 }
     requires tells { E.failed errors.old < 2 ^ 64 - 1 }
-    ensures { IsDone lenient verbose task source result
-        (world_of F.InputFiles E.Output files.now errors.old errors.new
+    ensures { IsDone task.now result (world_of F.InputFiles E.Output files.now errors.old errors.new
         (streams_of R.Input W.Output input.old output.old)
         (streams_of R.Input W.Output input.new output.new)) }
 {
-    match source {
-        Source::Input => run_reading(alloc, task, lenient, verbose, files, input, output, errors),
-        Source::File(name) => with_file(
-            alloc,
-            task,
-            name.as_str(),
-            lenient,
-            verbose,
-            files,
-            output,
-            errors,
-        ),
+    match read_files(alloc, task, files) {
+        Ok(read) => run_task(alloc, task, &read, input, output, errors),
+        Err(refused) => { report_file(alloc, refused.name, refused.unread, task.verbose, errors) }
     }
 }
 
-/// Does a task with the text of the file of this name as its input, and returns the status to end with.
-fn with_file<F: InputFiles, W: Output, E: Output>(
+/// Does a task after its files were read, with standard input if the operand is no file.
+fn run_task<R: Input, W: Output, E: Output>(
     alloc: Global,
-    task: Task,
-    name: &str,
-    lenient: bool,
-    verbose: bool,
-    files: &F,
+    task: &Task,
+    read: &FileTexts,
+    input: &mut R,
     output: &mut W,
     errors: &mut E,
 ) -> u8
-    requires runnable { IsRunnableTask task }
+    requires budget { task.now.budget ≤ most_lifts }
+    requires reads { R.failed input.old < 2 ^ 64 - 1 }
     requires writes { W.failed output.old < 2 ^ 64 - 1 }
     requires tells { E.failed errors.old < 2 ^ 64 - 1 }
-    ensures { (unread : Option (List ℕ)) → (failed_reads : ℕ) → (reason : Option Reason)
-        → IsDoneWithFile lenient verbose task name.now result
-        (world_of F.InputFiles E.Output files.now errors.old errors.new (streams unread failed_reads
-        reason (W.contents output.old) (W.failed output.old) (W.reason output.old)) (streams unread
-        failed_reads reason (W.contents output.new) (W.failed output.new) (W.reason output.new))) }
+    ensures { IsDoneFrom (option_map (λ text. text.items) read.now.operand) task.now
+        (other_text task.now.command (option_map (λ text. text.items) read.now.other)) result
+        (tells_of E.Output errors.old errors.new)
+        (streams_of R.Input W.Output input.old output.old)
+        (streams_of R.Input W.Output input.new output.new) }
 {
-    match files.read_file(alloc, name) {
-        Ok(text) => {
-            let mut input = HeldText::new(text.as_slice());
-            run_reading(
-                alloc, task, lenient, verbose, files, &mut input, output, errors,
-            )
+    let other = other_text(&task.command, &read.other);
+    match &read.operand {
+        Some(operand) => {
+            let input = within_limit(operand.as_slice());
+            run_texts(alloc, task, Texts { other, input }, output, errors)
         }
-        Err(unread) => report_file(alloc, name, unread, verbose, errors),
+        None => run_input(alloc, task, other, input, output, errors),
     }
 }
 
-/// Does a command with the text of the file of this name as its input, in the format that the text tells, and returns
-/// the status to end with.
-fn by_text<F: InputFiles, W: Output, E: Output>(
+/// Does a task with standard input. A stream is answered while it is read, unless its text has to be in memory.
+fn run_input<R: Input, W: Output, E: Output>(
     alloc: Global,
-    asked: OfEither,
-    file: &str,
-    verbose: bool,
-    files: &F,
+    task: &Task,
+    other: &[u8],
+    input: &mut R,
     output: &mut W,
     errors: &mut E,
 ) -> u8
+    requires budget { task.now.budget ≤ most_lifts }
+    requires reads { R.failed input.old < 2 ^ 64 - 1 }
     requires writes { W.failed output.old < 2 ^ 64 - 1 }
     requires tells { E.failed errors.old < 2 ^ 64 - 1 }
-    ensures { (unread : Option (List ℕ)) → (failed_reads : ℕ) → (reason : Option Reason)
-        → IsDoneByText verbose asked file.now result
-        (world_of F.InputFiles E.Output files.now errors.old errors.new (streams unread failed_reads
-        reason (W.contents output.old) (W.failed output.old) (W.reason output.old)) (streams unread
-        failed_reads reason (W.contents output.new) (W.failed output.new) (W.reason output.new))) }
+    ensures { IsDoneFrom None task.now other.now result (tells_of E.Output errors.old errors.new)
+        (streams_of R.Input W.Output input.old output.old)
+        (streams_of R.Input W.Output input.new output.new) }
 {
-    match files.read_file(alloc, file) {
-        Ok(text) => {
-            let command = asked.command(format_of(text.as_slice()));
-            let task = Task::Run(command, MOST_BUDGET);
-            let mut held = HeldText::new(text.as_slice());
-            run(alloc, task, verbose, files, &mut held, output, errors)
+    let is_held = task.verbose || task.lenient || task.by_text;
+    if let Command::Stream(stream) = &task.command {
+        if !is_held {
+            let outcome = write_stream(alloc, *stream, task.budget, input, output);
+            let failure = failure_of(input.reason(), output);
+            return report(alloc, outcome, false, failure, errors);
         }
-        Err(unread) => report_file(alloc, file, unread, verbose, errors),
     }
+    match read_all(alloc, input) {
+        Ok(text) => {
+            let input = text.as_slice();
+            run_texts(alloc, task, Texts { other, input }, output, errors)
+        }
+        Err(refusal) => {
+            let failure = failure_of(input.reason(), output);
+            report(alloc, Err(refusal), task.verbose, failure, errors)
+        }
+    }
+}
+
+/// Reads a stream piece by piece, makes the whole answer to it in memory, and then writes it.
+fn write_stream<R: Input, W: Output>(
+    alloc: Global,
+    stream: Stream,
+    budget: u64,
+    input: &mut R,
+    output: &mut W,
+) -> Result<Exit, Refusal>
+    requires budget { budget ≤ most_lifts }
+    requires reads { R.failed input.old < 2 ^ 64 - 1 }
+    requires writes { W.failed output.old < 2 ^ 64 - 1 }
+    ensures { IsRunOnStream stream budget result
+        (streams_of R.Input W.Output input.old output.old)
+        (streams_of R.Input W.Output input.new output.new) }
+{
+    let (exit, made) = answer_stream(alloc, stream, input, budget)?;
+    write_text(output, made.as_slice())?;
+    Ok(exit)
 }
 
 /// Writes a text of help or of the version.
 fn print<W: Output>(text: &[u8], output: &mut W) -> Result<Exit, Refusal>
     requires { W.failed output.old < 2 ^ 64 - 1 }
-    ensures { Prints text.now result
-        (W.contents output.old) (W.contents output.new) (W.failed output.old) (W.failed output.new) }
+    ensures { Prints text.now result (written_to W.Output output.old) (written_to W.Output output.new) }
 {
     write_text(output, text)?;
     Ok(Exit::Done)

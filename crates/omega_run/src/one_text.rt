@@ -1,194 +1,109 @@
-//! Commands of one input, whose refusals are written to standard error; with `--verbose` the input is held, so that the
-//! cause of a refusal of its text can be told.
-ghost use Rattle.std.specs.Prelude.{◌≡◌, ◌-◌, ◌^◌, ◌<◌, ◌≤◌, ℕ, [], true, false, List, Option, Some};
-ghost use Rattle.omega_run.specs.Causes.{IsCause, IsNoCause, kind_for};
-ghost use Rattle.omega_run.specs.Obey.{IsCommandRun, IsObservedRun, IsRunTelling};
-ghost use Rattle.omega_run.specs.World.{streams_of, streams_over, tells_of};
+//! What each command makes of its one text.
+ghost use Rattle.std.specs.Prelude.{◌≡◌, ◌≤◌, Ok, Err, IfOk, IfErr};
+ghost use Rattle.omega_text.specs.Cases.{or_memory};
+ghost use Rattle.omega_answers_synth.specs.Observing.{LiftsText};
+ghost use Rattle.omega_answers_synth.specs.Refusing.{IsRealizeRefusal};
+ghost use Rattle.omega_io.specs.Failures.{failures_of};
+ghost use Rattle.omega_solve.specs.budget.Observing.{IsObserved, refusal_in};
 ghost use Rattle.omega_solve.specs.Limits.{most_lifts};
+ghost use Rattle.omega_run.specs.OneText.{AnswersOneText, IsRealizeAnswer, asked_for};
+ghost use Rattle.omega_run.specs.Progress.{IsReportedOf};
+ghost use Rattle.omega_run.specs.Results.{with_bytes};
 
-use crate::causes::cause_after;
-use crate::held_text::HeldText;
-use crate::observing::run_observed;
-use crate::reporting::{report, report_after, report_with};
-use crate::run::run_command;
-use crate::text_kind::kind_for;
-use omega_cli_command::Command;
-use omega_io::{Input, Output, failure_of, read_all};
-use omega_solve::budget::{LIFTS_BETWEEN_REPORTS, NoObserver};
+use omega_answers_automaton::{complement_text, trim_text};
+use omega_answers_empty::{
+    Lines, decide_emptiness, draw_automaton_text, draw_lasso_text, search_emptiness,
+    write_emptiness_game,
+};
+use omega_answers_game::{
+    Asked, canon_game, canon_least, canon_part, check_game, draw_game_text, show_game, show_json,
+    solve_game,
+};
+use omega_answers_synth::{
+    decide_realizability, decide_realizability_by_lifting, write_realizability_game, write_winner,
+    write_winner_by_lifting,
+};
+use omega_cli_command::OneText;
+use omega_game_values::Player;
+use omega_io::{Exit, Refusal};
+use omega_solve::budget::Reporter;
 use std::alloc::Global;
 
-/// Runs a command, writes the lines of a refusal, and returns the status to end with. If `verbose` is set, the input is
-/// read first, and the cause of a refusal of its text is written too.
-pub(crate) fn run_telling<R: Input, W: Output, E: Output>(
+/// Returns what a command makes of its text, with how it ends, or why the text is refused. Each run of a solver makes
+/// at most `budget` lifts, and is reported to the observer.
+pub(crate) fn answer_one_text<L, T: Reporter<L>>(
     alloc: Global,
-    command: Command,
-    budget: u64,
-    verbose: bool,
-    input: &mut R,
-    output: &mut W,
-    errors: &mut E,
-) -> u8
-    requires budget { budget ≤ most_lifts }
-    requires reads { R.failed input.old < 2 ^ 64 - 1 }
-    requires writes { W.failed output.old < 2 ^ 64 - 1 }
-    requires tells { E.failed errors.old < 2 ^ 64 - 1 }
-    ensures { IsRunTelling verbose command
-        (λ IsReason. IsCommandRun verbose IsReason command budget result
-        (tells_of E.Output errors.old errors.new)) result (tells_of E.Output errors.old errors.new)
-        (streams_of R.Input W.Output input.old output.old)
-        (streams_of R.Input W.Output input.new output.new) }
-{
-    if !verbose {
-        let outcome = run_command(alloc, command, input, output, budget, &NoObserver, &mut ());
-        let failure = failure_of(input.reason(), output);
-        return report_with(alloc, outcome, false, failure, b"", errors);
-    }
-    match read_all(alloc, input) {
-        Ok(text) => run_held(alloc, command, budget, text.as_slice(), output, errors),
-        Err(refusal) => {
-            let failure = failure_of(input.reason(), output);
-            report(alloc, Err(refusal), true, failure, errors)
-        }
-    }
-}
-
-/// Runs a command on a text in memory, writes the lines of a refusal with its cause, and returns the status to end
-/// with.
-fn run_held<W: Output, E: Output>(
-    alloc: Global,
-    command: Command,
-    budget: u64,
+    command: OneText,
     text: &[u8],
-    output: &mut W,
-    errors: &mut E,
-) -> u8
-    requires budget { budget ≤ most_lifts }
-    requires writes { W.failed output.old < 2 ^ 64 - 1 }
-    requires tells { E.failed errors.old < 2 ^ 64 - 1 }
-    ensures { (rest : Option (List ℕ))
-        × IsCommandRun true (IsCause (kind_for command) text.now text.now []) command budget
-        result (tells_of E.Output errors.old errors.new)
-        (streams_over W.Output (Some text.now) output.old) (streams_over W.Output rest output.new) }
-{
-    let kind = kind_for(&command);
-    let mut held = HeldText::new(text);
-    let outcome = run_command(
-        alloc,
-        command,
-        &mut held,
-        output,
-        budget,
-        &NoObserver,
-        &mut (),
-    );
-    let cause = cause_after(alloc, kind, text, &outcome);
-    let failure = failure_of(None, output);
-    report_with(alloc, outcome, true, failure, cause.as_slice(), errors)
-}
-
-/// Runs a command that is observed, writes the lines of a refusal after the lines of its progress, and returns the
-/// status to end with. If `verbose` is set, the input is read first, and the cause of a refusal of its text is written
-/// too.
-pub(crate) fn observe<R: Input, W: Output, E: Output>(
-    alloc: Global,
-    command: Command,
     budget: u64,
-    verbose: bool,
-    input: &mut R,
-    output: &mut W,
-    errors: &mut E,
-) -> u8
+    reporter: &T,
+    observer: &mut L,
+) -> Result<(Exit, Vec<u8>), Refusal>
     requires budget { budget ≤ most_lifts }
-    requires reads { R.failed input.old < 2 ^ 64 - 1 }
-    requires writes { W.failed output.old < 2 ^ 64 - 1 }
-    requires tells { E.failed errors.old < 2 ^ 64 - 1 }
-    ensures { IsRunTelling verbose command
-        (λ IsReason. IsObservedRun verbose IsReason command budget result
-        (tells_of E.Output errors.old errors.new)) result (tells_of E.Output errors.old errors.new)
-        (streams_of R.Input W.Output input.old output.old)
-        (streams_of R.Input W.Output input.new output.new) }
+    ensures answered { IfOk result
+        (λ made. AnswersOneText command budget text.now (Ok (made.0, made.1.items))) }
+    ensures refused { IfErr result
+        (or_memory (λ refusal. AnswersOneText command budget text.now (Err refusal))) }
+    ensures unfailed { failures_of result ≡ 0 }
+    ensures reported { IsReportedOf (T.tells reporter.now) (T.pace reporter.now) command budget
+        text.now (with_bytes (λ made. made.items) result) observer.old observer.new }
 {
-    if !verbose {
-        return observe_input(alloc, command, budget, input, output, errors);
-    }
-    match read_all(alloc, input) {
-        Ok(text) => observe_held(alloc, command, budget, text.as_slice(), output, errors),
-        Err(refusal) => {
-            let failure = failure_of(input.reason(), output);
-            report(alloc, Err(refusal), true, failure, errors)
+    match command {
+        OneText::Show => Ok((Exit::Done, show_game(alloc, text)?)),
+        OneText::ShowJson => Ok((Exit::Done, show_json(alloc, text)?)),
+        OneText::Check => Ok((Exit::Done, check_game(alloc, text)?)),
+        OneText::Canon => Ok((Exit::Done, canon_game(alloc, text)?)),
+        OneText::CanonPart { from } => Ok((Exit::Done, canon_part(alloc, text, from)?)),
+        OneText::CanonLeast { from } => Ok((Exit::Done, canon_least(alloc, text, from)?)),
+        OneText::Solve { player, from } => {
+            let asked = asked_for(player);
+            let made = solve_game(alloc, text, asked, from, budget, reporter, observer)?;
+            Ok((Exit::Done, made))
         }
+        OneText::Search { from } => {
+            let made = solve_game(alloc, text, Asked::Search, from, budget, reporter, observer)?;
+            Ok((Exit::Done, made))
+        }
+        OneText::Empty {
+            word,
+            names,
+            status,
+        } => {
+            let lines = Lines { word, run: names };
+            decide_emptiness(alloc, text, lines, status, budget, reporter, observer)
+        }
+        OneText::EmptySearch {
+            word,
+            names,
+            status,
+        } => { search_emptiness(alloc, text, Lines { word, run: names }, status) }
+        OneText::Game => Ok((Exit::Done, write_emptiness_game(alloc, text)?)),
+        OneText::Complement => Ok((Exit::Done, complement_text(alloc, text)?)),
+        OneText::Trim => Ok((Exit::Done, trim_text(alloc, text)?)),
+        OneText::Realize { controller: false } => decide_realizability(alloc, text),
+        OneText::Realize { controller: true } => write_winner(alloc, text),
+        OneText::RealizeByLifting { controller: false } => {
+            decide_realizability_by_lifting(alloc, text, budget, reporter, observer)
+        }
+        OneText::RealizeByLifting { controller: true } => {
+            write_winner_by_lifting(alloc, text, budget, reporter, observer)
+        }
+        OneText::RealizabilityGame => Ok((Exit::Done, write_realizability_game(alloc, text)?)),
+        OneText::DrawGame => Ok((Exit::Done, draw_game_text(alloc, text, None, None)?)),
+        OneText::DrawPart { from, depth } => {
+            Ok((Exit::Done, draw_game_text(alloc, text, Some(from), depth)?))
+        }
+        OneText::DrawAutomaton => Ok((Exit::Done, draw_automaton_text(alloc, text)?)),
+        OneText::DrawLasso => Ok((Exit::Done, draw_lasso_text(alloc, text)?)),
     }
 }
 
-/// Runs a command that is observed on an input, and writes the line of a refusal without its cause.
-fn observe_input<R: Input, W: Output, E: Output>(
-    alloc: Global,
-    command: Command,
-    budget: u64,
-    input: &mut R,
-    output: &mut W,
-    errors: &mut E,
-) -> u8
-    requires budget { budget ≤ most_lifts }
-    requires reads { R.failed input.old < 2 ^ 64 - 1 }
-    requires writes { W.failed output.old < 2 ^ 64 - 1 }
-    requires tells { E.failed errors.old < 2 ^ 64 - 1 }
-    ensures { IsObservedRun false IsNoCause command budget result
-        (tells_of E.Output errors.old errors.new) (streams_of R.Input W.Output input.old output.old)
-        (streams_of R.Input W.Output input.new output.new) }
+/// Returns for which players a game is solved: for `player`, or for both if none is named.
+fn asked_for(player: Option<Player>) -> Asked
+    ensures { result ≡ asked_for player }
 {
-    let sound = errors.failures();
-    let outcome = run_observed(
-        alloc,
-        command,
-        input,
-        output,
-        errors,
-        budget,
-        LIFTS_BETWEEN_REPORTS,
-    );
-    let failure = failure_of(input.reason(), output);
-    report_after(alloc, outcome, false, failure, b"", sound, errors)
-}
-
-/// Runs a command that is observed on a text in memory, and writes the lines of a refusal with its cause.
-fn observe_held<W: Output, E: Output>(
-    alloc: Global,
-    command: Command,
-    budget: u64,
-    text: &[u8],
-    output: &mut W,
-    errors: &mut E,
-) -> u8
-    requires budget { budget ≤ most_lifts }
-    requires writes { W.failed output.old < 2 ^ 64 - 1 }
-    requires tells { E.failed errors.old < 2 ^ 64 - 1 }
-    ensures { (rest : Option (List ℕ))
-        × IsObservedRun true (IsCause (kind_for command) text.now text.now []) command budget
-        result (tells_of E.Output errors.old errors.new)
-        (streams_over W.Output (Some text.now) output.old) (streams_over W.Output rest output.new) }
-{
-    let kind = kind_for(&command);
-    let sound = errors.failures();
-    let mut held = HeldText::new(text);
-    let outcome = run_observed(
-        alloc,
-        command,
-        &mut held,
-        output,
-        errors,
-        budget,
-        LIFTS_BETWEEN_REPORTS,
-    );
-    let cause = cause_after(alloc, kind, text, &outcome);
-    let failure = failure_of(None, output);
-    report_after(
-        alloc,
-        outcome,
-        true,
-        failure,
-        cause.as_slice(),
-        sound,
-        errors,
-    )
+    match player {
+        Some(player) => Asked::Player(player),
+        None => Asked::Both,
+    }
 }

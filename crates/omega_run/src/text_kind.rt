@@ -1,7 +1,8 @@
 ghost use Rattle.std.specs.Prelude.{◌≡◌};
-ghost use Rattle.omega_run.specs.Causes.{kind_beside, kind_for, kind_of_format};
+ghost use Rattle.omega_io.specs.declared.refused.Which.TheVariants.{File, Input};
+ghost use Rattle.omega_run.specs.Causes.{kind_of, kind_of_one, kind_of_two};
 
-use omega_cli_command::{Beside, Command, Format};
+use omega_cli_command::{Command, OneText, TwoTexts};
 use omega_io::Which;
 
 /// What a text is read as, by which the causes of its refusals differ.
@@ -18,68 +19,58 @@ pub(crate) enum TextKind {
     Winners,
     /// One automaton, or a stream of automata.
     Automata,
-    /// A lasso, a word, or a walk.
+    /// A lasso, a word, or a walk; or no text.
     Other,
 }
 
-/// Returns what `command` reads its text as.
-pub(crate) fn kind_for(command: &Command) -> TextKind
-    ensures { result ≡ kind_for command.now }
+/// Returns what `command` reads this one of its texts as.
+pub(crate) fn kind_of(command: &Command, which: Which) -> TextKind
+    ensures { result ≡ kind_of command.now which }
+{
+    let (other, input) = match command {
+        Command::OneText(one) => (TextKind::Other, kind_of_one(*one)),
+        Command::Stream(_) => (TextKind::Other, TextKind::Automata),
+        Command::TwoTexts(two, _) => kinds_of_two(*two),
+    };
+    match which {
+        Which::File => other,
+        Which::Input => input,
+    }
+}
+
+/// Returns what `command` reads its one text as.
+fn kind_of_one(command: OneText) -> TextKind
+    ensures { result ≡ kind_of_one command }
 {
     match command {
-        Command::Show(format)
-        | Command::ShowJson(format)
-        | Command::Check(format)
-        | Command::Canon(format)
-        | Command::Draw(format) => kind_of_format(*format),
-        Command::CanonPart { .. }
-        | Command::CanonLeast { .. }
-        | Command::Solve { .. }
-        | Command::Search { .. }
-        | Command::DrawPart { .. } => TextKind::Game,
+        OneText::Show
+        | OneText::ShowJson
+        | OneText::Check
+        | OneText::Canon
+        | OneText::CanonPart { .. }
+        | OneText::CanonLeast { .. }
+        | OneText::Solve { .. }
+        | OneText::Search { .. }
+        | OneText::DrawGame
+        | OneText::DrawPart { .. } => TextKind::Game,
         _ => TextKind::Automata,
     }
 }
 
-/// Returns what a text of this format is read as.
-fn kind_of_format(format: Format) -> TextKind
-    ensures { result ≡ kind_of_format format }
+/// Returns what `command` reads the other text and that of the input as.
+fn kinds_of_two(command: TwoTexts) -> (TextKind, TextKind)
+    ensures other { result.0 ≡ kind_of_two command File }
+    ensures input { result.1 ≡ kind_of_two command Input }
 {
-    match format {
-        Format::Pg => TextKind::Game,
-        Format::Hoa => TextKind::Automata,
-    }
-}
-
-/// Returns what this one of two texts is read as.
-pub(crate) fn kind_beside(asked: Beside, which: Which) -> TextKind
-    ensures { result ≡ kind_beside asked which }
-{
-    match asked {
-        Beside::Verify { from, .. } | Beside::VerifyNamed { from } => match which {
-            Which::File => TextKind::Game,
-            Which::Input => TextKind::Solution { from },
-        },
-        Beside::VerifyWinners { .. } => match which {
-            Which::File => TextKind::Game,
-            Which::Input => TextKind::Winners,
-        },
-        Beside::VerifyLasso { .. } => match which {
-            Which::File => TextKind::Automata,
-            Which::Input => TextKind::Other,
-        },
-        Beside::Accepts { .. } => match which {
-            Which::File => TextKind::Other,
-            Which::Input => TextKind::Automata,
-        },
-        Beside::DrawSolution { from, .. } => match which {
-            Which::File => TextKind::Solution { from },
-            Which::Input => TextKind::Game,
-        },
-        Beside::DrawWalk { .. } => match which {
-            Which::File => TextKind::Other,
-            Which::Input => TextKind::Game,
-        },
-        _ => TextKind::Automata,
+    match command {
+        TwoTexts::Verify { from, .. } | TwoTexts::VerifyNamed { from } => {
+            (TextKind::Game, TextKind::Solution { from })
+        }
+        TwoTexts::VerifyWinners { .. } => (TextKind::Game, TextKind::Winners),
+        TwoTexts::VerifyLasso { .. } => (TextKind::Automata, TextKind::Other),
+        TwoTexts::Accepts { .. } => (TextKind::Other, TextKind::Automata),
+        TwoTexts::DrawSolution { from, .. } => (TextKind::Solution { from }, TextKind::Game),
+        TwoTexts::DrawWalk { .. } => (TextKind::Other, TextKind::Game),
+        _ => (TextKind::Automata, TextKind::Automata),
     }
 }

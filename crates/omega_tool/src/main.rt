@@ -3,10 +3,10 @@
 
 ghost use Rattle.std.specs.Prelude.{IfOk, IsOkUnless};
 ghost use Rattle.omega_text.specs.declared.refusal.Refusal.TheVariants.{Memory};
-ghost use Rattle.omega_cli_command.specs.Line.{IsFaultLine, IsRunnable};
+ghost use Rattle.omega_cli_command.specs.Request.{IsFault, IsRunnable};
 
 use omega_cli::read_words;
-use omega_run::{FromRead, HostFiles, Line, Refusal, ToWrite, obey};
+use omega_run::{FromRead, HostFiles, Refusal, Request, ToWrite, obey};
 use std::alloc::Global;
 use std::io;
 use std::process::ExitCode;
@@ -27,8 +27,8 @@ fn main(rt: HostRuntime) -> ExitCode {
     ))
 }
 
-/// Returns the line that the words of the command line request.
-fn asked_of(rt: &HostRuntime) -> Result<Line, Refusal>
+/// Returns what the words of the command line request.
+fn asked_of(rt: &HostRuntime) -> Result<Request, Refusal>
     ensures { IfOk result IsRunnable }
 {
     match words_of(rt) {
@@ -37,16 +37,16 @@ fn asked_of(rt: &HostRuntime) -> Result<Line, Refusal>
     }
 }
 
-/// Returns the line for words that are no text, unless there was no memory for them.
-fn no_text(alloc: Global, kind: io::ErrorKind) -> Result<Line, Refusal>
-    ensures fault { IfOk result IsFaultLine }
+/// Returns the fault for words that are no text, unless there was no memory for them.
+fn no_text(alloc: Global, kind: io::ErrorKind) -> Result<Request, Refusal>
+    ensures fault { IfOk result IsFault }
     ensures memory { IsOkUnless result Memory }
 {
     if kind == io::ErrorKind::OutOfMemory {
         return Err(Refusal::Memory);
     }
     let fault = "error: the command line is not UTF-8\n\nFor more information, try '--help'.\n";
-    Ok(Line::Fault(String::from_str(alloc, fault)?))
+    Ok(Request::Fault(String::from_str(alloc, fault)?))
 }
 
 fn words_of(rt: &HostRuntime) -> io::Result<Vec<String>> {

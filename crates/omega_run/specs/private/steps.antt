@@ -1,5 +1,2 @@
--- The steps between a command and its answer: cited by private contracts alone.
-pub mod Beside
-pub mod Emptiness
-pub mod Kinds
+-- The steps of a run: cited by private contracts alone.
 pub mod Telling

@@ -1,0 +1,99 @@
+-- What each command answers to its one text, and why it refuses it.
+use Rattle.std.specs.Prelude.{◌≡◌, Bool, false, true, List, Option, Some, None, Result, Ok, Err, ℕ}
+use Rattle.omega_text.specs.declared.refusal.Refusal.{Refusal}
+use Rattle.omega_pg.specs.game.Refusing.{IsRefusal}
+use Rattle.omega_game_values.specs.declared.player.Player.{Player}
+use Rattle.omega_cli_command.specs.declared.one_text.OneText.{OneText}
+use Rattle.omega_cli_command.specs.declared.one_text.OneText.TheVariants.{Canon, CanonLeast, CanonPart}
+use Rattle.omega_cli_command.specs.declared.one_text.OneText.TheVariants.{Check, Complement, DrawAutomaton}
+use Rattle.omega_cli_command.specs.declared.one_text.OneText.TheVariants.{DrawGame, DrawLasso, DrawPart}
+use Rattle.omega_cli_command.specs.declared.one_text.OneText.TheVariants.{Empty, EmptySearch, Game}
+use Rattle.omega_cli_command.specs.declared.one_text.OneText.TheVariants.{RealizabilityGame, Realize}
+use Rattle.omega_cli_command.specs.declared.one_text.OneText.TheVariants.{RealizeByLifting, Search, Show}
+use Rattle.omega_cli_command.specs.declared.one_text.OneText.TheVariants.{ShowJson, Solve, Trim}
+use Rattle.omega_io.specs.declared.exit.Exit.{Exit}
+use Rattle.omega_io.specs.declared.exit.Exit.TheVariants.{Done}
+use Rattle.omega_answers_automaton.specs.Complement.{IsComplementAnswer, IsComplementRefusal}
+use Rattle.omega_answers_automaton.specs.Trim.{IsTrimAnswer, IsTrimAnswerRefusal}
+use Rattle.omega_answers_empty.specs.Draw.{IsAutomatonDrawingAnswer, IsLassoDrawingAnswer}
+use Rattle.omega_answers_empty.specs.Game.{IsEmptinessGameAnswer, IsEmptinessGameRefusal}
+use Rattle.omega_answers_empty.specs.declared.lines.Lines.{Lines}
+use Rattle.omega_answers_empty.specs.empty.Answer.{EndsEmpty, EndsEmptySearch, IsEmptyRefusal}
+use Rattle.omega_answers_empty.specs.empty.Answer.{IsEmptySearchRefusal}
+use Rattle.omega_answers_game.specs.Canon.{IsCanonAnswer, IsCanonPartAnswer}
+use Rattle.omega_answers_game.specs.Check.{IsCheckAnswer}
+use Rattle.omega_answers_game.specs.Draw.{IsGameDrawingAnswer}
+use Rattle.omega_answers_game.specs.Least.{IsCanonLeastAnswer}
+use Rattle.omega_answers_game.specs.Part.{IsPartTextRefusal}
+use Rattle.omega_answers_game.specs.Show.{IsShowAnswer}
+use Rattle.omega_answers_game.specs.ShowJson.{IsShowJsonAnswer}
+use Rattle.omega_answers_game.specs.Verify.{IsJudgedGameRefusal}
+use Rattle.omega_answers_game.specs.declared.solve.asked.Asked.{Asked}
+use Rattle.omega_answers_game.specs.declared.solve.asked.Asked.TheVariants as way
+use Rattle.omega_answers_game.specs.solve.Refusing.{IsSolveRefusal}
+use Rattle.omega_answers_game.specs.solve.Solving.{IsSolveAnswer}
+use Rattle.omega_answers_synth.specs.Decide.{IsDecisionAnswer}
+use Rattle.omega_answers_synth.specs.Game.{IsGameAnswer, IsGameRefusal}
+use Rattle.omega_answers_synth.specs.Refusing.{IsRealizeRefusal}
+use Rattle.omega_answers_synth.specs.Winner.{IsWinnerAnswer}
+use Rattle.omega_hoa.specs.Alone.{IsAutomatonRefusal}
+use Rattle.omega_solve.specs.Limits.{most_lifts}
+
+-- for which players a game is solved: for one, or for both if none is named
+abbrev pub asked_for : Option Player → Asked
+asked_for None = way.Both
+asked_for (Some player) = way.Player player
+
+-- the command is done with such an output, or refuses for such a reason
+abbrev pub Replies : (List ℕ → Type 0) → (Refusal → Type 0) → Result (Exit × List ℕ) Refusal → Type 0
+Replies IsAnswer IsReason (Ok reply) = (reply.0 ≡ Done) × IsAnswer reply.1
+Replies IsAnswer IsReason (Err refusal) = IsReason refusal
+
+-- the same for a command that ends in more ways than one
+abbrev pub Concludes : (Exit → List ℕ → Type 0) → (Refusal → Type 0)
+    → Result (Exit × List ℕ) Refusal → Type 0
+Concludes IsAnswer IsReason (Ok reply) = IsAnswer reply.0 reply.1
+Concludes IsAnswer IsReason (Err refusal) = IsReason refusal
+
+-- the lines that are written of a lasso besides: its word, and its run with the names of states
+abbrev pub lines_for : (word names : Bool) → Lines
+lines_for word names = record { word = word; run = names }
+
+-- the answer of `realize`: whether the automaton is realizable, or with `controller` the winner's automaton
+abbrev pub IsRealizeAnswer : (controller : Bool) → List ℕ → Exit → List ℕ → Type 0
+IsRealizeAnswer false text = IsDecisionAnswer text
+IsRealizeAnswer true text = IsWinnerAnswer text
+
+-- what the command makes of the text, with this budget: how it ends and its output, or the refusal
+abbrev pub AnswersOneText : OneText → ℕ → List ℕ → Result (Exit × List ℕ) Refusal → Type 0
+AnswersOneText Show budget text = Replies (IsShowAnswer text) (IsRefusal text)
+AnswersOneText ShowJson budget text = Replies (IsShowJsonAnswer text) (IsRefusal text)
+AnswersOneText Check budget text = Replies (IsCheckAnswer text) (IsRefusal text)
+AnswersOneText Canon budget text = Replies (IsCanonAnswer text) (IsRefusal text)
+AnswersOneText (CanonPart from) budget text =
+    Replies (IsCanonPartAnswer text from) (IsPartTextRefusal text from)
+AnswersOneText (CanonLeast from) budget text =
+    Replies (IsCanonLeastAnswer text from) (IsJudgedGameRefusal text from)
+AnswersOneText (Solve player from) budget text =
+    Replies (IsSolveAnswer text (asked_for player) from budget)
+    (IsSolveRefusal text (asked_for player) from budget)
+AnswersOneText (Search from) budget text =
+    Replies (IsSolveAnswer text way.Search from budget) (IsSolveRefusal text way.Search from budget)
+AnswersOneText (Empty word names status) budget text =
+    Concludes (EndsEmpty text budget (lines_for word names) status) (IsEmptyRefusal text budget)
+AnswersOneText (EmptySearch word names status) budget text =
+    Concludes (EndsEmptySearch text (lines_for word names) status) (IsEmptySearchRefusal text)
+AnswersOneText Complement budget text = Replies (IsComplementAnswer text) (IsComplementRefusal text)
+AnswersOneText Trim budget text = Replies (IsTrimAnswer text) (IsTrimAnswerRefusal text)
+AnswersOneText Game budget text = Replies (IsEmptinessGameAnswer text) (IsEmptinessGameRefusal text)
+AnswersOneText (Realize controller) budget text =
+    Concludes (IsRealizeAnswer controller text) (IsRealizeRefusal text most_lifts)
+AnswersOneText (RealizeByLifting controller) budget text =
+    Concludes (IsRealizeAnswer controller text) (IsRealizeRefusal text budget)
+AnswersOneText RealizabilityGame budget text = Replies (IsGameAnswer text) (IsGameRefusal text)
+AnswersOneText DrawGame budget text = Replies (IsGameDrawingAnswer text None None) (IsRefusal text)
+AnswersOneText DrawAutomaton budget text =
+    Replies (IsAutomatonDrawingAnswer text) (IsAutomatonRefusal text)
+AnswersOneText (DrawPart from depth) budget text =
+    Replies (IsGameDrawingAnswer text (Some from) depth) (IsPartTextRefusal text from)
+AnswersOneText DrawLasso budget text = Replies (IsLassoDrawingAnswer text) (IsEmptySearchRefusal text)

@@ -1,0 +1,169 @@
+//! A task is done with texts that are in memory.
+ghost use Rattle.std.specs.Prelude.{◌≡◌, ◌+◌, ◌-◌, ◌^◌, ◌<◌, ◌≤◌, length, take};
+ghost use Rattle.omega_text.specs.Limits.{most_text};
+ghost use Rattle.omega_solve.specs.Limits.{most_lifts};
+ghost use Rattle.omega_run.specs.Answers.{both_texts};
+ghost use Rattle.omega_run.specs.Held.{IsAnswered, IsReadSo, IsReportedSo};
+ghost use Rattle.omega_run.specs.Obey.{IsDoneWithTexts};
+ghost use Rattle.omega_io.specs.Exit.{status_of};
+ghost use Rattle.omega_run.specs.Results.{plain};
+ghost use Rattle.omega_run.specs.World.{tells_of, written_to};
+
+use crate::causes::cause_about;
+use crate::format::format_of;
+use crate::lenient::strict_texts;
+use crate::reporting::{lines_about, report_lines};
+use crate::texts::{Held, Texts};
+use crate::writing::write_answer;
+use omega_cli_command::{Command, Format, Task};
+use omega_io::{Exit, Failure, Output, Refused, exit_code, failure_of};
+use omega_text::MOST_TEXT;
+use std::alloc::Global;
+
+/// Does a task with its texts, and returns the status to end with. The command is that for the format that the input's
+/// text tells, if it is to tell it.
+pub(crate) fn run_texts<W: Output, E: Output>(
+    alloc: Global,
+    task: &Task,
+    texts: Texts<'_>,
+    output: &mut W,
+    errors: &mut E,
+) -> u8
+    requires budget { task.now.budget ≤ most_lifts }
+    requires limit { length texts.input.now ≤ most_text + 1 }
+    requires writes { W.failed output.old < 2 ^ 64 - 1 }
+    requires tells { E.failed errors.old < 2 ^ 64 - 1 }
+    ensures { IsDoneWithTexts task.now texts.entry.other.now texts.entry.input.now result
+        (tells_of E.Output errors.old errors.new)
+        (written_to W.Output output.old) (written_to W.Output output.new) }
+{
+    let is_hoa = task.by_text && format_of(texts.input) == Format::Hoa;
+    match &task.command {
+        Command::OneText(one) if is_hoa => {
+            let command = Command::OneText(*one).for_automata();
+            run_reading(alloc, &command, task, texts, output, errors)
+        }
+        command => run_reading(alloc, command, task, texts, output, errors),
+    }
+}
+
+/// Does a command of a task with its texts. If they are read leniently, strict texts are read in their place.
+fn run_reading<'a, W: Output, E: Output>(
+    alloc: Global,
+    command: &'a Command,
+    task: &Task,
+    texts: Texts<'a>,
+    output: &mut W,
+    errors: &mut E,
+) -> u8
+    requires budget { task.now.budget ≤ most_lifts }
+    requires limit { length texts.input.now ≤ most_text + 1 }
+    requires writes { W.failed output.old < 2 ^ 64 - 1 }
+    requires tells { E.failed errors.old < 2 ^ 64 - 1 }
+    ensures { IsReadSo task.now.lenient task.now command.now
+        (both_texts texts.entry.other.now texts.entry.input.now) result
+        (tells_of E.Output errors.old errors.new)
+        (written_to W.Output output.old) (written_to W.Output output.new) }
+{
+    let held = Held {
+        command,
+        written: texts,
+        read: texts,
+    };
+    if !task.lenient {
+        return run_held(alloc, held, task, output, errors);
+    }
+    match strict_texts(alloc, command, texts) {
+        Ok((other, input)) => {
+            let read = Texts {
+                other: other.as_slice(),
+                input: within_limit(input.as_slice()),
+            };
+            let held = Held {
+                command,
+                written: texts,
+                read,
+            };
+            run_held(alloc, held, task, output, errors)
+        }
+        Err(refused) => {
+            let failure = failure_of(None, output);
+            report_run(alloc, Err(refused), held, task, failure, errors)
+        }
+    }
+}
+
+/// Writes the answer to the texts that are read, and the lines of a refusal.
+fn run_held<W: Output, E: Output>(
+    alloc: Global,
+    held: Held<'_>,
+    task: &Task,
+    output: &mut W,
+    errors: &mut E,
+) -> u8
+    requires budget { task.now.budget ≤ most_lifts }
+    requires limit { length held.read.input.now ≤ most_text + 1 }
+    requires writes { W.failed output.old < 2 ^ 64 - 1 }
+    requires tells { E.failed errors.old < 2 ^ 64 - 1 }
+    ensures { IsAnswered task.now held.entry.command.now
+        (both_texts held.entry.written.other.now held.entry.written.input.now)
+        (both_texts held.entry.read.other.now held.entry.read.input.now) result
+        (tells_of E.Output errors.old errors.new)
+        (written_to W.Output output.old) (written_to W.Output output.new) }
+{
+    let sound = errors.failures();
+    let outcome = write_answer(alloc, held.command, task, held.read, output, errors);
+    if errors.failures() > sound {
+        // The lines of progress broke off, and those of a refusal are of the same text.
+        return status_of(outcome);
+    }
+    let failure = failure_of(None, output);
+    report_run(alloc, outcome, held, task, failure, errors)
+}
+
+/// Writes the lines of a refusal, with its cause, and returns the status after the outcome.
+fn report_run<E: Output>(
+    alloc: Global,
+    outcome: Result<Exit, Refused>,
+    held: Held<'_>,
+    task: &Task,
+    failure: Failure,
+    errors: &mut E,
+) -> u8
+    requires { E.failed errors.old < 2 ^ 64 - 1 }
+    ensures { IsReportedSo task.now held.entry.command.now
+        (both_texts held.entry.written.other.now held.entry.written.input.now)
+        (both_texts held.entry.read.other.now held.entry.read.input.now) failure outcome result
+        (tells_of E.Output errors.old errors.new) }
+{
+    match outcome {
+        Ok(exit) => exit_code(&Ok(exit)),
+        Err(refused) => {
+            let lines = lines_about(alloc, held.command, task.verbose, failure, refused);
+            let cause = cause_about(alloc, held, task.verbose, refused);
+            report_lines(refused.refusal, lines, cause.as_slice(), errors)
+        }
+    }
+}
+
+/// Returns the status after an outcome.
+fn status_of(outcome: Result<Exit, Refused>) -> u8
+    ensures { result ≡ status_of (plain outcome) }
+{
+    match outcome {
+        Ok(exit) => exit_code(&Ok(exit)),
+        Err(refused) => exit_code(&Err(refused.refusal)),
+    }
+}
+
+/// Returns a text up to the first byte past the greatest length of a text.
+pub(crate) fn within_limit(text: &[u8]) -> &[u8]
+    ensures cut { result.now ≡ take (most_text + 1) text.now }
+    ensures limit { length result.now ≤ most_text + 1 }
+{
+    if text.len() > MOST_TEXT {
+        &text[..MOST_TEXT + 1]
+    } else {
+        text
+    }
+}
