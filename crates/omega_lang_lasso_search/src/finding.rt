@@ -1,6 +1,5 @@
 //! An accepting lasso for any acceptance formula, found by a search of the automaton itself.
 ghost use Rattle.std.specs.Prelude.{◌≡◌, false, IfErr, IfNone, IfOk, IfSome, IsOkUnless, OnOk, length};
-ghost use Rattle.std.specs.List.{range_with_len};
 ghost use Rattle.omega_hoa_automaton.specs.Automaton.{Description};
 ghost use Rattle.omega_hoa_automaton.specs.Branching.{has_universal_branching};
 ghost use Rattle.omega_graph.specs.Graph.{AreEdges};
@@ -20,6 +19,7 @@ use crate::turning::shortest_lasso;
 use crate::usable::usable_edges;
 use omega_graph::{Edge, Graph, path, reached_flags};
 use omega_graph_accepting_walk::accepting_walk;
+use omega_graph_search::numbers_below;
 use omega_hoa_acceptance::Acc;
 use omega_hoa_automaton::{Automaton, Refusal, has_universal_branching};
 use omega_lang_runs::Verdict;
@@ -66,7 +66,10 @@ pub fn lasso_in_table(
         → AllAreUsable a → IsVerdict a verdict) }
     ensures memory { IsOkUnless result Refusal.Memory }
 {
-    let edges = numbers_below(alloc, ends.len())?;
+    if ends.len() > u32::MAX as usize {
+        return Err(Refusal::Memory);
+    }
+    let edges = numbers_below(alloc, ends.len() as u32)?;
     let given = Given {
         starts,
         ends,
@@ -76,21 +79,6 @@ pub fn lasso_in_table(
     };
     let verdict = verdict_by_search(alloc, &given)?;
     Ok(verdict)
-}
-
-/// Returns the numbers below `count` in ascending order. Also fails with [Refusal::Memory] if they are over 2^32 - 1.
-fn numbers_below(alloc: Global, count: usize) -> Result<Vec<u32>, Refusal>
-    ensures numbers { IfOk result (λ numbers. numbers.items ≡ range_with_len 0 count) }
-    ensures memory { IsOkUnless result Refusal.Memory }
-{
-    if count > u32::MAX as usize {
-        return Err(Refusal::Memory);
-    }
-    let mut numbers = Vec::with_capacity(alloc, count)?;
-    for number in 0..count {
-        numbers.push(number as u32)?;
-    }
-    Ok(numbers)
 }
 
 /// Returns the verdict on `automaton`, given its usable `edges`.
