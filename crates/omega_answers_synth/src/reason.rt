@@ -9,6 +9,7 @@ use omega_hoa_automaton::{Automaton, Refusal};
 use omega_io::Exit;
 use omega_lang_inclusion::Counterexample;
 use omega_lang_lasso_text::{append_numbers, write_lasso};
+use omega_lang_lasso_word::lasso_word_text;
 use omega_synth_check::{Judgement, Lack};
 use omega_text::write_number;
 use std::alloc::Global;
@@ -92,8 +93,9 @@ fn example_lines(alloc: Global, example: &Counterexample) -> Result<Vec<u8>, Ref
     ensures memory { IsOkUnless result Refusal.Memory }
 {
     let mut out = write_lasso(alloc, example.stem.as_slice(), example.cycle.as_slice())?;
+    let word = lasso_word_text(alloc, &example.word)?;
     out.extend_from_slice(b"word ")?;
-    out.extend_from_slice(example.word.as_slice())?;
+    out.extend_from_slice(word.as_slice())?;
     out.extend_from_slice(b"\n")?;
     Ok(out)
 }

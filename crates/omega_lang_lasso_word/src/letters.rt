@@ -17,7 +17,7 @@ use omega_text::{ByteString, Refusal};
 
 /// Appends the conjunction of `conjuncts` with the `names` of their propositions, as Spot writes formulas: `&` between
 /// each two, and `1` if there is none. Linear in the conjuncts.
-pub fn write_conjuncts(
+pub(crate) fn write_conjuncts(
     names: &[ByteString],
     conjuncts: &[Label],
     out: &mut Vec<u8>,
