@@ -14,7 +14,7 @@ use crate::ends::edge_ends;
 use crate::given::Given;
 use crate::marks::edge_marks;
 use crate::numbering::{first_states, number_states};
-use crate::search::Search;
+use crate::search::LassoSearch;
 use crate::turning::shortest_lasso;
 use crate::usable::usable_edges;
 use omega_graph::{Edge, Graph, path, reached_flags};
@@ -111,7 +111,7 @@ fn verdict_by_search(alloc: Global, given: &Given<'_>) -> Result<Verdict, Refusa
     ensures memory { IsOkUnless result Refusal.Memory }
 {
     let numbered = number_states(alloc, given.starts, given.ends)?;
-    let search = Search {
+    let search = LassoSearch {
         marks: given.marks,
         graph: &numbered.graph,
         sources: numbered.sources.as_slice(),
@@ -124,7 +124,7 @@ fn verdict_by_search(alloc: Global, given: &Given<'_>) -> Result<Verdict, Refusa
 
 /// Returns the verdict of a search. Looks for a closed walk among all its edges. If no source leads to the one that is
 /// found, looks again among the edges that a source reaches.
-fn found_in(alloc: Global, search: &Search<'_>) -> Result<Verdict, Refusal>
+fn found_in(alloc: Global, search: &LassoSearch<'_>) -> Result<Verdict, Refusal>
     requires { IsSearch search.now }
     ensures verdict { IfOk result (IsVerdictOf search.now) }
     ensures memory { IsOkUnless result Refusal.Memory }
@@ -146,7 +146,7 @@ fn found_in(alloc: Global, search: &Search<'_>) -> Result<Verdict, Refusal>
 }
 
 /// Returns the verdict of a search, looking for a closed walk among its edges that a source reaches.
-fn found_among_reached(alloc: Global, search: &Search<'_>) -> Result<Verdict, Refusal>
+fn found_among_reached(alloc: Global, search: &LassoSearch<'_>) -> Result<Verdict, Refusal>
     requires { IsSearch search.now }
     ensures verdict { IfOk result (IsVerdictOf search.now) }
     ensures memory { IsOkUnless result Refusal.Memory }
@@ -170,7 +170,11 @@ fn found_among_reached(alloc: Global, search: &Search<'_>) -> Result<Verdict, Re
 
 /// Returns the lasso of `cycle` with a shortest stem to its first edge, by breadth-first search. Returns none if no
 /// source leads there.
-fn with_stem(alloc: Global, search: &Search<'_>, cycle: &[u32]) -> Result<Option<Verdict>, Refusal>
+fn with_stem(
+    alloc: Global,
+    search: &LassoSearch<'_>,
+    cycle: &[u32],
+) -> Result<Option<Verdict>, Refusal>
     requires ready { IsSearch search.now }
     requires cycle { IsAcceptingCycle search.now cycle.now }
     ensures verdict { IfOk result (λ found. IfSome found (IsVerdictOf search.now)) }

@@ -31,7 +31,7 @@ pub fn word_of(
     ensures memory { IsOkUnless result Refusal.Memory }
 {
     let places = edge_places(alloc, automaton)?;
-    let letters = Letters {
+    let letters = EdgeLetters {
         automaton,
         places: places.as_slice(),
     };
@@ -40,12 +40,12 @@ pub fn word_of(
 
 /// The letters of an automaton's edges, which are found by their places.
 #[derive(Clone, Copy)]
-struct Letters<'a> {
+struct EdgeLetters<'a> {
     automaton: &'a Automaton,
     places: &'a [EdgePlace],
 }
 
-impl<'a> ElementText<u32> for Letters<'a> {
+impl<'a> ElementText<u32> for EdgeLetters<'a> {
     ghost can_tell = { λ letters. ArePlaces letters.automaton.now letters.places.now };
 
     ghost told = { λ letters. letter_text letters.automaton.now };

@@ -9,8 +9,8 @@ ghost use Rattle.omega_synth_game.specs.Making.{AllLeave, IsLeaving};
 ghost use Rattle.omega_synth_check.specs.private.Meeting.{Extends, HasEntered, IsMetOf, state_at};
 ghost use Rattle.omega_synth_check.specs.private.Searching.{IsSearch};
 
-use crate::meeting::{Entry, Met};
-use crate::search::Search;
+use crate::meeting::{MetStates, StateEntry};
+use crate::search::ControllerSearch;
 use omega_hoa_automaton::{Automaton, Refusal};
 use omega_lang_runs::{EdgePlace, JudgedState};
 use std::alloc::Global;
@@ -19,8 +19,8 @@ use std::alloc::Global;
 /// `at`. Fails with [TaskFault::TooManyPropositions] if a label is given up.
 pub(crate) fn enter_all(
     alloc: Global,
-    search: &Search<'_>,
-    met: &mut Met,
+    search: &ControllerSearch<'_>,
+    met: &mut MetStates,
     at: usize,
     numbers: &[u32],
 ) -> Result<(), Refusal>
@@ -43,8 +43,8 @@ pub(crate) fn enter_all(
 /// Adds the state that the edge with this `number` enters, if it is usable. Fails as `enter_all` does.
 fn enter(
     alloc: Global,
-    search: &Search<'_>,
-    met: &mut Met,
+    search: &ControllerSearch<'_>,
+    met: &mut MetStates,
     at: usize,
     number: u32,
 ) -> Result<(), Refusal>
@@ -62,7 +62,7 @@ fn enter(
     match target(alloc, search, number)? {
         None => Ok(()),
         Some(state) => {
-            let entry = Entry {
+            let entry = StateEntry {
                 from: at,
                 edge: number,
             };
@@ -74,7 +74,7 @@ fn enter(
 
 /// Returns the state that the edge with this `number` enters; none if the edge is not usable. Fails as `enter_all`
 /// does.
-fn target(alloc: Global, search: &Search<'_>, number: u32) -> Result<Option<u32>, Refusal>
+fn target(alloc: Global, search: &ControllerSearch<'_>, number: u32) -> Result<Option<u32>, Refusal>
     requires search { IsSearch search.now }
     requires number { number < length search.now.leaving.now.places.items }
     ensures step { IfOk result
