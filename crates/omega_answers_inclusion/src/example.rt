@@ -4,6 +4,7 @@ ghost use Rattle.omega_answers_inclusion.specs.Example.{example_lines};
 
 use omega_lang_inclusion::Counterexample;
 use omega_lang_lasso_text::write_lasso;
+use omega_lang_lasso_word::lasso_word_text;
 use omega_text::Refusal;
 use std::alloc::Global;
 
@@ -33,8 +34,9 @@ fn append_lines(alloc: Global, example: &Counterexample, out: &mut Vec<u8>) -> R
 {
     let lasso = write_lasso(alloc, example.stem.as_slice(), example.cycle.as_slice())?;
     out.extend_from_slice(lasso.as_slice())?;
+    let word = lasso_word_text(alloc, &example.word)?;
     out.extend_from_slice(b"word ")?;
-    out.extend_from_slice(example.word.as_slice())?;
+    out.extend_from_slice(word.as_slice())?;
     out.extend_from_slice(b"\n")?;
     Ok(())
 }

@@ -68,7 +68,7 @@ fn holds(set: u32, marks: &[u32]) -> bool
 }
 
 /// Returns the priority of `edge` for a parity kind: the greater one of its marks' and of its `state`'s.
-#[tactic(auto, using(crate::proofs::making::MarkLists::priority_on, crate::proofs::making::MarkLists::priority_low))]
+#[tactic(auto, using(crate::proofs::making::MarkLists::of_joined, crate::proofs::making::MarkLists::bounded))]
 fn parity_priority(kind: ParityKind, state: &State, edge: &EdgeRef<'_>) -> u32
     requires small { kind.count ≤ most_depth }
     requires own { All (λ mark. mark < kind.count) state.now.marks }

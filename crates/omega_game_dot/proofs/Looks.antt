@@ -6,12 +6,12 @@ use Rattle.omega_game_values.specs.declared.solution.Solution.{Solution}
 use Rattle.omega_game_values.specs.Solution.{winner_at}
 use Rattle.omega_game_dot.specs.GameDrawing.{choice_in, game_drawing, solved_look, walked_look}
 use Rattle.omega_game_dot.specs.Nodes.{Look, node_text_if_drawn}
-use Rattle.omega_game_dot.specs.declared.marks.Marks.{Marks}
+use Rattle.omega_game_dot.specs.declared.marks.LassoMarks.{LassoMarks}
 use Rattle.omega_game_dot.specs.private.Looks.{look_in, unsolved_look}
 use Rattle.omega_game_dot.specs.private.Marking.{AreMarksOf}
 
 -- the look of each node without a solution is that of the lasso
-pub unsolved_looks : (stem cycle : List ℕ) (marks : Marks) → AreMarksOf stem cycle marks → unsolved_look marks ≡ walked_look stem cycle
+pub unsolved_looks : (stem cycle : List ℕ) (marks : LassoMarks) → AreMarksOf stem cycle marks → unsolved_look marks ≡ walked_look stem cycle
 unsolved_looks stem cycle marks are = λ i place. record {
   winner = None;
   choice = None;
@@ -20,7 +20,7 @@ unsolved_looks stem cycle marks are = λ i place. record {
 }
 
 -- and with a solution
-pub solved_looks : (nodes : List Node) (solution : Solution) (stem cycle : List ℕ) (marks : Marks) → AreMarksOf stem cycle marks
+pub solved_looks : (nodes : List Node) (solution : Solution) (stem cycle : List ℕ) (marks : LassoMarks) → AreMarksOf stem cycle marks
     → look_in nodes solution marks ≡ solved_look nodes solution stem cycle
 solved_looks nodes solution stem cycle marks are = λ i place. record {
   winner = Some (winner_at solution place);

@@ -13,7 +13,7 @@ ghost use Rattle.omega_game_dot.specs.private.Looks.{look_in, unsolved_look};
 
 use crate::extent::{Extent, drawn_places};
 use crate::legend::write_legend;
-use crate::marks::{Marks, marks_of};
+use crate::marks::{LassoMarks, marks_of};
 use crate::nodes::write_place;
 use omega_game_values::{ForwardGame, Refusal, Solution};
 use std::alloc::Global;
@@ -130,7 +130,7 @@ fn unsolved_drawing(
     alloc: Global,
     game: &ForwardGame,
     drawn: &[bool],
-    marks: &Marks,
+    marks: &LassoMarks,
     legend: bool,
     room: usize,
 ) -> Result<Vec<u8>, Refusal>
@@ -153,7 +153,7 @@ fn solved_drawing(
     game: &ForwardGame,
     drawn: &[bool],
     solution: &Solution,
-    marks: &Marks,
+    marks: &LassoMarks,
     legend: bool,
     walked: bool,
     room: usize,
@@ -195,7 +195,7 @@ fn room_for(extent: Extent, whole: usize) -> usize
 fn write_nodes(
     game: &ForwardGame,
     drawn: &[bool],
-    marks: &Marks,
+    marks: &LassoMarks,
     out: &mut Vec<u8>,
 ) -> Result<(), Refusal>
     requires { length drawn.now ≡ length game.now }
@@ -214,7 +214,7 @@ fn write_solved_nodes(
     game: &ForwardGame,
     drawn: &[bool],
     solution: &Solution,
-    marks: &Marks,
+    marks: &LassoMarks,
     out: &mut Vec<u8>,
 ) -> Result<(), Refusal>
     requires solution { IsSolution game.now solution.now }
@@ -235,7 +235,7 @@ fn write_solved(
     game: &ForwardGame,
     drawn: &[bool],
     solution: &Solution,
-    marks: &Marks,
+    marks: &LassoMarks,
     place: u32,
     out: &mut Vec<u8>,
 ) -> Result<(), Refusal>

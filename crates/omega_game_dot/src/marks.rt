@@ -10,18 +10,18 @@ use omega_game_values::Refusal;
 use std::alloc::Global;
 
 /// The places and the steps of a lasso. A step is a place with the one after it.
-pub(crate) struct Marks {
+pub(crate) struct LassoMarks {
     pub(crate) stem: IndexSet<u32>,
     pub(crate) cycle: IndexSet<u32>,
     pub(crate) stem_steps: IndexSet<(u32, u32)>,
     pub(crate) cycle_steps: IndexSet<(u32, u32)>,
 }
 
-impl Drop for Marks {
+impl Drop for LassoMarks {
     // Written by hand, so that each function that owns marks calls it. What a derive drops is dropped field by field at
     // each exit of such a function, and is proved there.
     fn drop(self) {
-        let Marks {
+        let LassoMarks {
             stem: _,
             cycle: _,
             stem_steps: _,
@@ -30,7 +30,7 @@ impl Drop for Marks {
     }
 }
 
-impl Marks {
+impl LassoMarks {
     ghost use Rattle.omega_game_dot.specs.private.Marking.{marked_edge, marked_node};
 
     /// Returns the role of the node at `place`.
@@ -66,12 +66,12 @@ fn role_by(on_cycle: bool, on_stem: bool) -> Role
 }
 
 /// Returns the marks of the lasso of `stem` and `cycle`. Linear in both.
-pub(crate) fn marks_of(alloc: Global, stem: &[u32], cycle: &[u32]) -> Result<Marks, Refusal>
+pub(crate) fn marks_of(alloc: Global, stem: &[u32], cycle: &[u32]) -> Result<LassoMarks, Refusal>
     ensures marks { IfOk result (AreMarksOf stem.now cycle.now) }
     ensures memory { IsOkUnless result Refusal.Memory }
 {
     let first = first_of(cycle);
-    let mut marks = Marks {
+    let mut marks = LassoMarks {
         stem: IndexSet::new(alloc),
         cycle: IndexSet::new(alloc),
         stem_steps: IndexSet::new(alloc),

@@ -9,7 +9,7 @@ ghost use Rattle.omega_game_dot.specs.Nodes.{plain_end, shape_of, shape_part, su
 ghost use Rattle.omega_game_dot.specs.private.Looks.{marked_look};
 ghost use Rattle.omega_game_dot.specs.private.Marking.{marked_edge};
 
-use crate::marks::Marks;
+use crate::marks::LassoMarks;
 use crate::role::Role;
 use omega_game_values::{ForwardGame, Player, Refusal};
 use omega_text::{write_name_line, write_number};
@@ -22,7 +22,7 @@ pub(crate) fn write_place(
     place: u32,
     winner: Option<Player>,
     choice: Option<u32>,
-    marks: &Marks,
+    marks: &LassoMarks,
     out: &mut Vec<u8>,
 ) -> Result<(), Refusal>
     requires place { place < length game.now }
@@ -134,7 +134,7 @@ fn write_edges(
     drawn: &[bool],
     place: u32,
     choice: Option<u32>,
-    marks: &Marks,
+    marks: &LassoMarks,
     out: &mut Vec<u8>,
 ) -> Result<(), Refusal>
     requires place { place < length game.now }
@@ -156,7 +156,7 @@ fn write_edge_to(
     drawn: &[bool],
     place: u32,
     choice: Option<u32>,
-    marks: &Marks,
+    marks: &LassoMarks,
     successor: u32,
     out: &mut Vec<u8>,
 ) -> Result<(), Refusal>
@@ -179,7 +179,7 @@ fn write_edge(
     game: &ForwardGame,
     place: u32,
     choice: Option<u32>,
-    marks: &Marks,
+    marks: &LassoMarks,
     successor: u32,
     out: &mut Vec<u8>,
 ) -> Result<(), Refusal>

@@ -1,5 +1,5 @@
 use crate::chains::{Chain, Chains};
-use crate::components::Components;
+use crate::components::ComponentPlaces;
 use crate::sorting::by_priority;
 use crate::suggestion::Suggestion;
 use crate::zielonka::Zielonka;
@@ -11,11 +11,11 @@ use std::alloc::{AllocError, Global};
 /// used up their `fuel`. A unit of fuel pays for about one visit to an edge. Returns an error if a request for memory
 /// is refused.
 pub fn search(alloc: Global, game: &Game, fuel: u64) -> Result<Option<Suggestion>, AllocError> {
-    let whole = Components::single_component(alloc, by_priority(alloc, game)?)?;
+    let whole = ComponentPlaces::single_component(alloc, by_priority(alloc, game)?)?;
     if let Some(suggestion) = suggestion_by_search(alloc, game, whole, fuel)? {
         return Ok(Some(suggestion));
     }
-    let components = Components::of(alloc, game, by_priority(alloc, game)?)?;
+    let components = ComponentPlaces::of(alloc, game, by_priority(alloc, game)?)?;
     suggestion_by_search(alloc, game, components, fuel)
 }
 
@@ -23,7 +23,7 @@ pub fn search(alloc: Global, game: &Game, fuel: u64) -> Result<Option<Suggestion
 fn suggestion_by_search(
     alloc: Global,
     game: &Game,
-    components: Components,
+    components: ComponentPlaces,
     fuel: u64,
 ) -> Result<Option<Suggestion>, AllocError> {
     let mut zielonka = Zielonka::new(alloc, game, components, fuel)?;

@@ -1,7 +1,7 @@
 //! The open subgames, each within the one before, and the step from one to the next.
 use crate::board::{Board, WAITING, WON};
 use crate::chains::{Chain, Chains};
-use crate::components::Components;
+use crate::components::ComponentPlaces;
 use crate::subgame::{Subgame, Won};
 use omega_game_values::{Game, Player};
 use omega_graph_search::{NONE, number_of};
@@ -24,12 +24,12 @@ impl Zielonka {
     pub(crate) fn new(
         alloc: Global,
         game: &Game,
-        components: Components,
+        components: ComponentPlaces,
         fuel: u64,
     ) -> Result<Zielonka, AllocError> {
         let board = Board::new(alloc, game, fuel)?;
         let chains = Chains::new(alloc, game.len())?;
-        let Components { places, ends } = components;
+        let ComponentPlaces { places, ends } = components;
         Ok(Zielonka {
             board,
             chains,

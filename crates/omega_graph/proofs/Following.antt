@@ -1,7 +1,7 @@
 -- A search that follows the edges which leave one state, from the last to the first.
 use Rattle.std.proofs.Common.{◌≡◌, ℕ, ◌+◌, ◌<◌, ◌≤◌, ◌⊎◌, inl, inr, IsTrue, List, length, get_or, sym, ◌∙◌, ap, subst, arith}
 use Rattle.std.proofs.lemmas.Bool.{cases_eq, cases_lt}
-use Rattle.omega_graph.specs.declared.met.Met.{Met}
+use Rattle.omega_graph.specs.declared.met.MetState.{MetState}
 use Rattle.omega_graph.specs.private.Links.{last_before}
 use Rattle.omega_graph.specs.private.Searching.{AreFollowed, Grows, IsStep, Trace, mark_at, meeting, met_at}
 use Rattle.omega_graph.proofs.Linking.{last_after, last_below, last_has}
@@ -45,7 +45,7 @@ module _ (leaves enters : List ℕ) (origin : ℕ) (before : Trace) where
       next_leaves = last_has leaves (met_at before.met origin).state so_far.bound index (sym so_far.next ∙ is)
 
       -- one edge further
-      pub following_more : (met : Met) (left' : ℕ) → met.edge ≡ left → met.origin ≡ origin → met.state ≡ get_or enters index 0 → met.state < length after.marks
+      pub following_more : (met : MetState) (left' : ℕ) → met.edge ≡ left → met.origin ≡ origin → met.state ≡ get_or enters index 0 → met.state < length after.marks
           → left' ≡ last_before leaves (get_or leaves index 0) index → IsFollowing leaves enters origin before (meeting after met) left'
       following_more met left' edge from enters_is below next = record {
         grows = grows_more (IsStep leaves enters (met_at before.met origin).state origin) before after met so_far.grows below

@@ -4,7 +4,7 @@ use Rattle.std.proofs.lemmas.Bool.{cases_eq, cases_lt, cases_Bool}
 use Rattle.std.proofs.lemmas.List.Elements.{Contains-push_cases}
 use Rattle.std.proofs.lemmas.List.{take_more, length-set, length_push, get_or_append_left, get_or_push, get_or_past, get_or-replicate, length-replicate}
 use Rattle.std.proofs.lemmas.List.Sums.{sum_by-set}
-use Rattle.omega_graph.specs.declared.met.Met.{Met}
+use Rattle.omega_graph.specs.declared.met.MetState.{MetState}
 use Rattle.omega_graph.specs.private.Searching.{Grows, Trace, mark_at, meeting, met_at}
 
 -- the mark that was set
@@ -40,18 +40,18 @@ unmarked n v = go (cases_lt v n)
     go (inr past) = get_or_past (replicate n false) v false (omega (arith, length-replicate n false))
 
 -- a state that was met stays
-pub meeting_old : (trace : Trace) (met : Met) → mark_at trace.marks met.state ≡ true → meeting trace met ≡ trace
+pub meeting_old : (trace : Trace) (met : MetState) → mark_at trace.marks met.state ≡ true → meeting trace met ≡ trace
 unfolding meeting
 meeting_old trace met old = rw old refl
 
 -- one that was not is met
-pub meeting_new : (trace : Trace) (met : Met) → mark_at trace.marks met.state ≡ false
+pub meeting_new : (trace : Trace) (met : MetState) → mark_at trace.marks met.state ≡ false
     → meeting trace met ≡ record { marks = set trace.marks met.state true; met = trace.met ++ met ∷ [] }
 unfolding meeting
 meeting_new trace met new = rw new refl
 
 -- it is marked then
-pub meeting_marks : (trace : Trace) (met : Met) → met.state < length trace.marks → IsTrue (mark_at (meeting trace met).marks met.state)
+pub meeting_marks : (trace : Trace) (met : MetState) → met.state < length trace.marks → IsTrue (mark_at (meeting trace met).marks met.state)
 meeting_marks trace met below = go (cases_Bool (mark_at trace.marks met.state))
   where
     go : (mark_at trace.marks met.state ≡ true) ⊎ (mark_at trace.marks met.state ≡ false) → IsTrue (mark_at (meeting trace met).marks met.state)
@@ -59,14 +59,14 @@ meeting_marks trace met below = go (cases_Bool (mark_at trace.marks met.state))
     go (inr new) = subst (λ (t : Trace). IsTrue (mark_at t.marks met.state)) (sym (meeting_new trace met new)) (mark_set trace.marks met.state met.state below refl)
 
 -- and other marks stay
-pub meeting_keeps : (trace : Trace) (met : Met) (v : ℕ) → met.state < length trace.marks → IsTrue (mark_at trace.marks v) → IsTrue (mark_at (meeting trace met).marks v)
+pub meeting_keeps : (trace : Trace) (met : MetState) (v : ℕ) → met.state < length trace.marks → IsTrue (mark_at trace.marks v) → IsTrue (mark_at (meeting trace met).marks v)
 meeting_keeps trace met v below mark = go (cases_Bool (mark_at trace.marks met.state))
   where
     go : (mark_at trace.marks met.state ≡ true) ⊎ (mark_at trace.marks met.state ≡ false) → IsTrue (mark_at (meeting trace met).marks v)
     go (inl old) = subst (λ (t : Trace). IsTrue (mark_at t.marks v)) (sym (meeting_old trace met old)) mark
     go (inr new) = subst (λ (t : Trace). IsTrue (mark_at t.marks v)) (sym (meeting_new trace met new)) (mark_kept trace.marks met.state v below mark)
 
-module _ (P : Met → Type 0) where
+module _ (P : MetState → Type 0) where
   -- nothing to come to
   pub grows_none : (trace : Trace) → Grows P trace trace
   grows_none trace = record {
@@ -79,7 +79,7 @@ module _ (P : Met → Type 0) where
     left = refl;
   }
 
-module _ (P : Met → Type 0) (before after : Trace) (met : Met) (so_far : Grows P before after) (below : met.state < length after.marks) (holds : P met) where
+module _ (P : MetState → Type 0) (before after : Trace) (met : MetState) (so_far : Grows P before after) (below : met.state < length after.marks) (holds : P met) where
   here : met_at (after.met ++ met ∷ []) (length after.met) ≡ met
   here = get_or_push after.met met (record { state = 0; edge = 0; origin = 0 }) (length after.met) refl
 
@@ -94,11 +94,11 @@ module _ (P : Met → Type 0) (before after : Trace) (met : Met) (so_far : Grows
   older v (inl mark) = inl mark
   older v (inr at) =
       let within : at.0 < length after.met = at.1 in
-      inr (at.0, omega (arith, count), ap (λ (m : Met). m.state) (there at.0 at.1) ∙ at.2)
+      inr (at.0, omega (arith, count), ap (λ (m : MetState). m.state) (there at.0 at.1) ∙ at.2)
 
   fresh : (v : ℕ) → IsTrue (mark_at (set after.marks met.state true) v) → (v ≡ met.state) ⊎ (v ≡ met.state → ⊥)
       → IsTrue (mark_at before.marks v) ⊎ ((i : ℕ) × (i < length (after.met ++ met ∷ [])) × ((met_at (after.met ++ met ∷ []) i).state ≡ v))
-  fresh v mark (inl same) = inr (length after.met, omega (arith, count), ap (λ (m : Met). m.state) here ∙ sym same)
+  fresh v mark (inl same) = inr (length after.met, omega (arith, count), ap (λ (m : MetState). m.state) here ∙ sym same)
   fresh v mark (inr apart) = older v (so_far.fresh v (sym (mark_other after.marks met.state v apart) ∙ mark))
 
   latest : (i : ℕ) → length before.met ≤ i → i < length (after.met ++ met ∷ []) → (i ≡ length after.met) ⊎ (i ≡ length after.met → ⊥) → P (met_at (after.met ++ met ∷ []) i)
@@ -127,7 +127,7 @@ module _ (P : Met → Type 0) (before after : Trace) (met : Met) (so_far : Grows
       go (inr new) = subst (λ (t : Trace). Grows P before t) (sym (meeting_new after met new)) (pushes new)
 
 -- the sources so far and one more are marked
-pub begun_more : (sources : List ℕ) (index : ℕ) (trace : Trace) (met : Met) → index < length sources → met.state ≡ get_or sources index 0 → met.state < length trace.marks
+pub begun_more : (sources : List ℕ) (index : ℕ) (trace : Trace) (met : MetState) → index < length sources → met.state ≡ get_or sources index 0 → met.state < length trace.marks
     → ((v : ℕ) → Contains (take index sources) v → IsTrue (mark_at trace.marks v)) → (v : ℕ) → Contains (take (index + 1) sources) v → IsTrue (mark_at (meeting trace met).marks v)
 begun_more sources index trace met within is below so_far v has =
     elim (Contains-push_cases (take index sources) (get_or sources index 0) v (subst (λ (xs : List ℕ). Contains xs v) (take_more sources index 0 within) has)) [

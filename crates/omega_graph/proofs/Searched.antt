@@ -3,7 +3,7 @@ use Rattle.std.proofs.Common.{◌≡◌, ℕ, ◌+◌, ◌<◌, ◌≤◌, ◌�
 use Rattle.std.proofs.lemmas.Bool.{cases_eq, cases_lt, false≢true}
 use Rattle.std.proofs.lemmas.List.{length-replicate}
 use Rattle.std.proofs.lemmas.List.Elements.{All-contains}
-use Rattle.omega_graph.specs.declared.met.Met.{Met}
+use Rattle.omega_graph.specs.declared.met.MetState.{MetState}
 use Rattle.omega_graph.specs.private.Searching.{AreFollowed, Grows, IsMet, IsSearched, IsStart, IsStep, LeadBack, Trace, mark_at, met_at}
 use Rattle.omega_graph.proofs.Growing.{unmarked}
 
@@ -53,12 +53,12 @@ module _ (leaves enters sources : List ℕ) (count : ℕ) where
   }
     where
       older : (i : ℕ) → i < length before.met → IsMet leaves enters sources before.met i → IsMet leaves enters sources after.met i
-      older i within (inl start) = inl (subst (λ (m : Met). IsStart sources m) (sym (grows.same i within)) start)
+      older i within (inl start) = inl (subst (λ (m : MetState). IsStart sources m) (sym (grows.same i within)) start)
       older i within (inr step) = inr (
         step.0,
         step.1,
-        subst (λ (m : Met). IsStep leaves enters (met_at after.met step.0).state step.0 m) (sym (grows.same i within))
-            (subst (λ (m : Met). IsStep leaves enters m.state step.0 (met_at before.met i)) (sym (grows.same step.0 (let below : step.0 < i = step.1 in omega arith))) step.2),
+        subst (λ (m : MetState). IsStep leaves enters (met_at after.met step.0).state step.0 m) (sym (grows.same i within))
+            (subst (λ (m : MetState). IsStep leaves enters m.state step.0 (met_at before.met i)) (sym (grows.same step.0 (let below : step.0 < i = step.1 in omega arith))) step.2),
       )
 
       tree : (i : ℕ) → i < length after.met → (i < length before.met) ⊎ (length before.met ≤ i) → IsMet leaves enters sources after.met i
@@ -66,22 +66,22 @@ module _ (leaves enters sources : List ℕ) (count : ℕ) where
       tree i within (inr past) = inr (
         index,
         omega arith,
-        subst (λ (m : Met). IsStep leaves enters m.state index (met_at after.met i)) (sym (grows.same index inside)) (grows.new i past within),
+        subst (λ (m : MetState). IsStep leaves enters m.state index (met_at after.met i)) (sym (grows.same index inside)) (grows.new i past within),
       )
 
       found : (v : ℕ) → IsTrue (mark_at before.marks v) ⊎ ((i : ℕ) × (i < length after.met) × ((met_at after.met i).state ≡ v)) → (i : ℕ) × (i < length after.met) × ((met_at after.met i).state ≡ v)
       found v (inl mark) =
           let at = so_far.found v mark in
           let below : at.0 < length before.met = at.1 in
-          (at.0, omega (arith, grows.longer), ap (λ (m : Met). m.state) (grows.same at.0 at.1) ∙ at.2)
+          (at.0, omega (arith, grows.longer), ap (λ (m : MetState). m.state) (grows.same at.0 at.1) ∙ at.2)
       found v (inr at) = at
 
       done : (k : ℕ) → k < index + 1 → (i : ℕ) → i < length leaves → get_or leaves i 0 ≡ (met_at after.met k).state → (k ≡ index) ⊎ (k ≡ index → ⊥) → IsTrue (mark_at after.marks (get_or enters i 0))
       done k below i within same (inl here) =
-          followed i within (same ∙ ap (λ (n : ℕ). (met_at after.met n).state) here ∙ ap (λ (m : Met). m.state) (grows.same index inside))
+          followed i within (same ∙ ap (λ (n : ℕ). (met_at after.met n).state) here ∙ ap (λ (m : MetState). m.state) (grows.same index inside))
       done k below i within same (inr apart) =
           let earlier : k < index = omega arith in
-          grows.kept (get_or enters i 0) (so_far.done k earlier i within (same ∙ ap (λ (m : Met). m.state) (grows.same k (omega arith))))
+          grows.kept (get_or enters i 0) (so_far.done k earlier i within (same ∙ ap (λ (m : MetState). m.state) (grows.same k (omega arith))))
 
   -- and ends if nothing is left
   pub searching_ends : (trace : Trace) (index : ℕ) → IsSearching trace index → length trace.met ≤ index → IsSearched leaves enters sources count trace
@@ -97,7 +97,7 @@ module _ (leaves enters sources : List ℕ) (count : ℕ) where
   }
 
 -- what was met leads back
-pub leads_back : (leaves enters sources : List ℕ) (met : List Met) (edges : ℕ) → length leaves ≡ edges
+pub leads_back : (leaves enters sources : List ℕ) (met : List MetState) (edges : ℕ) → length leaves ≡ edges
     → ((i : ℕ) → i < length met → IsMet leaves enters sources met i) → LeadBack edges met
 leads_back leaves enters sources met edges count tree i within = go (tree i within)
   where

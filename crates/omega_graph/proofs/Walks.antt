@@ -4,7 +4,7 @@ use Rattle.std.proofs.lemmas.Bool.{false≢true, or_cases, or_left, or_right, eq
 use Rattle.std.proofs.lemmas.List.{get_or-map, length-map, reverse-append, get_or_default}
 use Rattle.std.proofs.lemmas.List.Elements.{Contains-append_left, Contains-append_right, Contains-append_cases, Contains-get_or, Contains-push, Contains-push_cases}
 use Rattle.omega_graph.specs.Walks.{EdgeSet, IsEdgeWalk, MarkedGraph}
-use Rattle.omega_graph.specs.declared.met.Met.{Met}
+use Rattle.omega_graph.specs.declared.met.MetState.{MetState}
 use Rattle.omega_graph.specs.Graph.{listed}
 use Rattle.omega_graph.specs.Reaching.{IsReachedAlong, IsWalkFrom}
 use Rattle.omega_graph.specs.private.Ends.{AreEnds}
@@ -125,7 +125,7 @@ module _ (graph : MarkedGraph) (edges leaves enters : List ℕ) (ends : AreEnds 
   pub listed_at : (i : ℕ) → i < length edges → IsTrue (listed edges (get_or edges i 0))
   listed_at i within = listed_from edges (get_or edges i 0) (Contains-get_or edges i 0 within)
 
-  module _ (sources : List ℕ) (met : List Met) (tree : (i : ℕ) → i < length met → IsMet leaves enters sources met i) where
+  module _ (sources : List ℕ) (met : List MetState) (tree : (i : ℕ) → i < length met → IsMet leaves enters sources met i) where
     -- what was met is reached
     pub met_reached : (most i : ℕ) → i < most → i < length met → IsReachedAlong graph (listed edges) sources (met_at met i).state
     met_reached zero i below within = absurd (omega arith)

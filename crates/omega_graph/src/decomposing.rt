@@ -7,11 +7,11 @@ ghost use Rattle.omega_graph.specs.private.Ends.{AreInside, ArePaired, enters_in
 ghost use Rattle.omega_graph.specs.private.Classes.{AreComponentsBetween, AreComponentsIn, AreComponentsOf};
 
 use crate::edge_components::EdgeComponents;
-use crate::edges::Edges;
+use crate::edges::ListedEdges;
 use crate::ends::{enters_of, leaves_of};
 use crate::graph::Graph;
 use crate::judging::judged_edge_components;
-use crate::numbering::Numbering;
+use crate::numbering::StateNumbering;
 use crate::plain::plain_edge_components;
 use crate::scratch::Scratch;
 use omega_text::Refusal;
@@ -94,7 +94,7 @@ fn all_edge_components(
     requires enter { AreStates graph.now enters.now }
     ensures { IfOk result (AreComponentsIn graph.now edges.now) }
 {
-    let edges = Edges {
+    let edges = ListedEdges {
         count: graph.states() as usize,
         leaves,
         enters,
@@ -116,7 +116,7 @@ fn appended_states(mut front: Vec<u32>, behind: &[u32]) -> Result<Vec<u32>, Allo
 /// enter.
 fn numbered_edge_components(
     alloc: Global,
-    numbering: &Numbering,
+    numbering: &StateNumbering,
     edges: &[u32],
 ) -> Result<EdgeComponents, AllocError>
     requires count { length numbering.now.numbers.items ≡ length edges.now + length edges.now }
@@ -128,7 +128,7 @@ fn numbered_edge_components(
         edges.now) }
 {
     let (leaves, enters) = numbering.numbers.as_slice().split_at(edges.len());
-    let edges = Edges {
+    let edges = ListedEdges {
         count: numbering.states.len(),
         leaves,
         enters,
@@ -140,7 +140,7 @@ fn numbered_edge_components(
 
 /// Returns the components of `edges`: those of Tarjan's algorithm if the judge confirms them, else those of the plain
 /// search.
-fn edge_components_by(alloc: Global, edges: &Edges<'_>) -> Result<EdgeComponents, AllocError>
+fn edge_components_by(alloc: Global, edges: &ListedEdges<'_>) -> Result<EdgeComponents, AllocError>
     requires paired { ArePaired edges.now }
     requires inside { AreInside edges.now }
     ensures { IfOk result (AreComponentsOf edges.now) }

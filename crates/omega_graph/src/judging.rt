@@ -12,19 +12,19 @@ ghost use Rattle.omega_graph.specs.private.Judging.{IsComponentOf, IsKeptAmong, 
 ghost use Rattle.omega_graph.specs.private.Judging.{IsPicked, IsTied, JoinsComponents};
 
 use crate::edge_components::EdgeComponents;
-use crate::edges::Edges;
+use crate::edges::ListedEdges;
 use crate::entering::entered_flags;
 use crate::kept::Kept;
 use crate::links::Links;
 use crate::suggesting::suggested_components;
-use crate::suggestion::Suggestion;
+use crate::suggestion::SuggestedComponents;
 use omega_graph_search::{NONE, NumberTable, number_of};
 use std::alloc::{AllocError, Global};
 
 /// Returns the components of `edges` if the judge confirms the suggestion, else none. Linear.
 pub(crate) fn judged_edge_components(
     alloc: Global,
-    edges: &Edges<'_>,
+    edges: &ListedEdges<'_>,
 ) -> Result<Option<EdgeComponents>, AllocError>
     requires paired { ArePaired edges.now }
     ensures { IfFound result (AreComponentsOf edges.now) }
@@ -36,8 +36,8 @@ pub(crate) fn judged_edge_components(
 /// Returns the suggested components of `edges` if they are confirmed, else none.
 fn confirmed_components(
     alloc: Global,
-    suggestion: &Suggestion,
-    edges: &Edges<'_>,
+    suggestion: &SuggestedComponents,
+    edges: &ListedEdges<'_>,
 ) -> Result<Option<EdgeComponents>, AllocError>
     requires paired { ArePaired edges.now }
     ensures { IfFound result (AreComponentsOf edges.now) }
@@ -54,7 +54,7 @@ fn confirmed_components(
 /// Returns the kept edges by component, or none if the edges of some component are not shown to lead to each other.
 fn joined_edge_components(
     alloc: Global,
-    suggestion: &Suggestion,
+    suggestion: &SuggestedComponents,
     kept: &Kept,
 ) -> Result<Option<EdgeComponents>, AllocError>
     requires { IsKeptBelow (length suggestion.now.components.items) kept.now }
@@ -75,7 +75,11 @@ fn joined_edge_components(
 }
 
 /// Returns the edges that stay in a component, or none if an edge leads to a component of a greater number or to none.
-fn kept_in(alloc: Global, components: &[u32], edges: &Edges<'_>) -> Result<Option<Kept>, AllocError>
+fn kept_in(
+    alloc: Global,
+    components: &[u32],
+    edges: &ListedEdges<'_>,
+) -> Result<Option<Kept>, AllocError>
     requires paired { ArePaired edges.now }
     ensures kept { IfFound result (IsKeptAmong components.now edges.now) }
     ensures below { IfFound result (IsKeptBelow (length components.now)) }
@@ -117,7 +121,11 @@ fn component_of(components: &[u32], state: u32) -> Option<u32>
 
 /// Whether in each component one state leads to all others and all others lead to it, so that its edges lead to each
 /// other.
-fn are_joined(alloc: Global, suggestion: &Suggestion, kept: &Kept) -> Result<bool, AllocError>
+fn are_joined(
+    alloc: Global,
+    suggestion: &SuggestedComponents,
+    kept: &Kept,
+) -> Result<bool, AllocError>
     requires { IsKeptBelow (length suggestion.now.components.items) kept.now }
     ensures { IfOk result (λ joined. IsTrue joined → JoinsComponents suggestion.now kept.now) }
 {

@@ -1,6 +1,6 @@
 /// A state that a search met.
 #[derive(Clone, Copy)]
-pub(crate) struct Met {
+pub(crate) struct MetState {
     pub state: u32,
     /// One more than the index of the edge along which it was met, or 0 if the search began with it.
     pub edge: u32,

@@ -6,7 +6,7 @@ use std::alloc::{AllocError, Global};
 
 /// The number of each state of a list, and the state of each number.
 #[derive(Drop)]
-pub(crate) struct Numbering {
+pub(crate) struct StateNumbering {
     pub numbers: Vec<u32>,
     pub states: Vec<u32>,
 }
@@ -16,7 +16,7 @@ pub(crate) fn number_all(
     alloc: Global,
     numbers: &mut Vec<u32>,
     listed: &[u32],
-) -> Result<Numbering, AllocError>
+) -> Result<StateNumbering, AllocError>
     requires { All (λ state. state < length numbers.old.items) listed.now }
     ensures count { length numbers.new.items ≡ length numbers.old.items }
     ensures numbering { IfOk result (IsNumberingOf listed.now) }
@@ -27,7 +27,7 @@ pub(crate) fn number_all(
         let number = number_one(numbers, &mut states, *state)?;
         given.push(number)?;
     }
-    Ok(Numbering {
+    Ok(StateNumbering {
         numbers: given,
         states,
     })

@@ -6,15 +6,15 @@ ghost use Rattle.omega_graph.specs.private.Classes.{AreComponentsOf, IsFirstClas
 ghost use Rattle.omega_graph.specs.private.Classes.{IsFirstPassed, IsPassedBy};
 
 use crate::edge_components::EdgeComponents;
-use crate::edges::Edges;
-use crate::searching::{Search, search_from};
+use crate::edges::ListedEdges;
+use crate::searching::{BreadthSearch, search_from};
 use std::alloc::{AllocError, Global};
 use std::slice;
 
 /// Returns the components of `edges`. Makes two searches for each edge.
 pub(crate) fn plain_edge_components(
     alloc: Global,
-    edges: &Edges<'_>,
+    edges: &ListedEdges<'_>,
 ) -> Result<EdgeComponents, AllocError>
     requires paired { ArePaired edges.now }
     requires inside { AreInside edges.now }
@@ -29,7 +29,11 @@ pub(crate) fn plain_edge_components(
 }
 
 /// Returns the edges that the one at `index` leads to and that lead to it, or none if one of them comes before it.
-fn edge_component_at(alloc: Global, edges: &Edges<'_>, index: usize) -> Result<Vec<u32>, AllocError>
+fn edge_component_at(
+    alloc: Global,
+    edges: &ListedEdges<'_>,
+    index: usize,
+) -> Result<Vec<u32>, AllocError>
     requires index { index < length edges.now.numbers.now }
     requires paired { ArePaired edges.now }
     requires inside { AreInside edges.now }
@@ -58,9 +62,9 @@ fn edge_component_at(alloc: Global, edges: &Edges<'_>, index: usize) -> Result<V
 /// before `index`.
 fn passed_edges(
     alloc: Global,
-    ahead: &Search,
-    behind: &Search,
-    edges: &Edges<'_>,
+    ahead: &BreadthSearch,
+    behind: &BreadthSearch,
+    edges: &ListedEdges<'_>,
     index: usize,
 ) -> Result<Vec<u32>, AllocError>
     requires paired { ArePaired edges.now }
@@ -82,7 +86,7 @@ fn passed_edges(
 }
 
 /// Whether `ahead` met the state `leave`, and `behind` the state `enter`.
-fn is_passed(ahead: &Search, behind: &Search, leave: u32, enter: u32) -> bool
+fn is_passed(ahead: &BreadthSearch, behind: &BreadthSearch, leave: u32, enter: u32) -> bool
     requires leave { leave < length ahead.now.marks }
     requires enter { enter < length behind.now.marks }
     ensures { IsTrue result

@@ -6,7 +6,7 @@ ghost use Rattle.omega_graph.specs.private.Searching.{IsSearchOf};
 
 use crate::ends::{enters_of, leaves_of};
 use crate::graph::Graph;
-use crate::searching::{Search, search_from};
+use crate::searching::{BreadthSearch, search_from};
 use omega_text::Refusal;
 use std::alloc::{AllocError, Global};
 
@@ -35,7 +35,7 @@ fn search_edges(
     graph: &Graph,
     edges: &[u32],
     sources: &[u32],
-) -> Result<Search, AllocError>
+) -> Result<BreadthSearch, AllocError>
     requires edges { AreEdges graph.now edges.now }
     requires sources { AreStates graph.now sources.now }
     ensures { IfOk result (IsSearchOf graph.now edges.now sources.now) }

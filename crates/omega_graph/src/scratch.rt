@@ -1,7 +1,7 @@
 ghost use Rattle.std.specs.Prelude.{◌≡◌, ◌<◌, All, IfOk, IsOkUnless};
 ghost use Rattle.omega_graph.specs.private.Numbering.{IsNumberingOf};
 
-use crate::numbering::{Numbering, number_all};
+use crate::numbering::{StateNumbering, number_all};
 use omega_text::Refusal;
 use std::alloc::{AllocError, Global};
 use std::marker::Model;
@@ -33,7 +33,11 @@ impl Scratch {
     }
 
     /// Gives numbers to the states of `listed`, in the order in which they first come.
-    pub(crate) fn number(&mut self, alloc: Global, listed: &[u32]) -> Result<Numbering, AllocError>
+    pub(crate) fn number(
+        &mut self,
+        alloc: Global,
+        listed: &[u32],
+    ) -> Result<StateNumbering, AllocError>
         requires { All (λ state. state < self.old) listed.now }
         ensures scratch { self.new ≡ self.old }
         ensures numbering { IfOk result (IsNumberingOf listed.now) }

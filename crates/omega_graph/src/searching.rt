@@ -6,19 +6,19 @@ ghost use Rattle.omega_graph.specs.private.Searching.{IsSearched, IsSearchedTo, 
 ghost use Rattle.omega_graph.specs.private.Searching.{IsWalkToMet, LeadBack, mark_at, meeting, met_at};
 
 use crate::links::Links;
-use crate::met::Met;
+use crate::met::MetState;
 use std::alloc::{AllocError, Global};
 use std::marker::Model;
 
 /// The states that a search met, in its order.
 #[derive(Drop)]
-pub(crate) struct Search {
+pub(crate) struct BreadthSearch {
     // By state whether it was met.
     marks: Vec<bool>,
-    met: Vec<Met>,
+    met: Vec<MetState>,
 }
 
-impl Model for Search {
+impl Model for BreadthSearch {
     ghost use Rattle.omega_graph.specs.private.Searching.{Trace};
 
     ghost Value = { Trace };
@@ -26,14 +26,14 @@ impl Model for Search {
     ghost view = { λ s. record { marks = s.marks.items; met = s.met.items } };
 }
 
-impl Search {
+impl BreadthSearch {
     /// Returns a search among `count` states that met none.
-    fn new(alloc: Global, count: usize) -> Result<Search, AllocError>
+    fn new(alloc: Global, count: usize) -> Result<BreadthSearch, AllocError>
         ensures marks { IfOk result (λ search. search.marks ≡ replicate count false) }
         ensures met { IfOk result (λ search. search.met ≡ []) }
     {
         let marks = vec![in alloc; false; count]?;
-        Ok(Search {
+        Ok(BreadthSearch {
             marks,
             met: Vec::new(alloc),
         })
@@ -41,7 +41,7 @@ impl Search {
 
     /// Meets a state unless it was met before.
     #[tactic(auto, unfolding(crate::specs::private::Searching::meeting))]
-    fn meet(&mut self, met: Met) -> Result<(), AllocError>
+    fn meet(&mut self, met: MetState) -> Result<(), AllocError>
         requires { met.state < length self.old.marks }
         ensures { OnOk result (self.new ≡ meeting self.old met) }
     {
@@ -60,7 +60,7 @@ impl Search {
         ensures met { OnOk result (AreMarked sources.now self.new.marks) }
     {
         for source in sources {
-            self.meet(Met {
+            self.meet(MetState {
                 state: *source,
                 edge: 0,
                 origin: 0,
@@ -83,7 +83,7 @@ impl Search {
         let mut left = links.last(self.met[origin as usize].state as usize);
         while left > 0 {
             let edge = left as usize - 1;
-            self.meet(Met {
+            self.meet(MetState {
                 state: enters[edge],
                 edge: left,
                 origin,
@@ -106,7 +106,7 @@ impl Search {
         ensures marks { result.items ≡ self.marks }
         ensures count { vec_len result ≡ length self.marks }
     {
-        let Search { marks, met: _ } = self;
+        let BreadthSearch { marks, met: _ } = self;
         marks
     }
 
@@ -153,7 +153,7 @@ pub(crate) fn search_from(
     leaves: &[u32],
     enters: &[u32],
     sources: &[u32],
-) -> Result<Search, AllocError>
+) -> Result<BreadthSearch, AllocError>
     requires even { length enters.now ≡ length leaves.now }
     requires leaves { All (λ state. state < count) leaves.now }
     requires enters { All (λ state. state < count) enters.now }
@@ -161,7 +161,7 @@ pub(crate) fn search_from(
     ensures { IfOk result (IsSearched leaves.now enters.now sources.now count) }
 {
     let links = Links::new(alloc, count, leaves)?;
-    let mut search = Search::new(alloc, count)?;
+    let mut search = BreadthSearch::new(alloc, count)?;
     search.begin(sources)?;
     let mut index = 0;
     while index < search.met.len() {
@@ -183,7 +183,7 @@ pub(crate) fn search_to(
     enters: &[u32],
     sources: &[u32],
     target: u32,
-) -> Result<Search, AllocError>
+) -> Result<BreadthSearch, AllocError>
     requires even { length enters.now ≡ length leaves.now }
     requires leaves { All (λ state. state < count) leaves.now }
     requires enters { All (λ state. state < count) enters.now }
@@ -192,7 +192,7 @@ pub(crate) fn search_to(
     ensures { IfOk result (IsSearchedTo leaves.now enters.now sources.now count target) }
 {
     let links = Links::new(alloc, count, leaves)?;
-    let mut search = Search::new(alloc, count)?;
+    let mut search = BreadthSearch::new(alloc, count)?;
     search.begin(sources)?;
     let mut index = 0;
     while index < search.met.len() {

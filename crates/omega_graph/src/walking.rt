@@ -7,7 +7,7 @@ ghost use Rattle.omega_graph.specs.private.Searching.{IsSearchFor};
 
 use crate::ends::{enters_of, leaves_of};
 use crate::graph::Graph;
-use crate::searching::{Search, search_to};
+use crate::searching::{BreadthSearch, search_to};
 use omega_text::Refusal;
 use std::alloc::{AllocError, Global};
 
@@ -48,7 +48,7 @@ fn search_for(
     edges: &[u32],
     sources: &[u32],
     target: u32,
-) -> Result<Search, AllocError>
+) -> Result<BreadthSearch, AllocError>
     requires edges { AreEdges graph.now edges.now }
     requires sources { AreStates graph.now sources.now }
     requires target { target < graph.now.states }

@@ -1,7 +1,7 @@
 -- A formula's nodes leave its tree.
-use Rattle.std.proofs.Common.{◌≡◌, ℕ, ◌+◌, ◌<◌, List, [], ◌∷◌, ◌++◌, length, map, All, refl, sym, ap, ap₂, subst, ◌∙◌, arith, append-nil}
+use Rattle.std.proofs.Common.{◌≡◌, ℕ, ◌+◌, ◌<◌, List, [], ◌∷◌, ◌++◌, drop, get_or, length, All, refl, sym, ap, ap₂, subst, ◌∙◌, arith, append-nil}
 use Rattle.std.proofs.lemmas.List.Elements.{All-cons, All-head, All-tail, All-weaker}
-use Rattle.std.proofs.lemmas.List.{length_push}
+use Rattle.std.proofs.lemmas.List.{drop_more, length_push}
 use Rattle.omega_hoa_expression.specs.Joins.{regrouped}
 use Rattle.omega_hoa_acceptance.specs.Acceptance.{AccTree}
 use Rattle.omega_hoa_acceptance.specs.Acceptance as acc
@@ -9,8 +9,7 @@ use Rattle.omega_hoa_acceptance.specs.Postfix.{acc_postfix}
 use Rattle.omega_hoa_acceptance.specs.declared.formula.AccNode.{AccNode}
 use Rattle.omega_hoa_acceptance.specs.declared.formula.AccNode.TheVariants as plain
 use Rattle.omega_graph_accepting_walk.specs.declared.node.Node.{Node}
-use Rattle.omega_graph_accepting_walk.specs.private.Formulas.{ArePartsOf, IsFormula, node_tree, tree_at, trees_at, trees_left, trees_with}
-use Rattle.omega_graph_accepting_walk.specs.private.Lists.{Extends}
+use Rattle.omega_graph_accepting_walk.specs.private.Formulas.{HaveParts, node_tree, tree_at, trees_at, trees_left, trees_with}
 use Rattle.omega_graph_accepting_walk.proofs.Placing.{tree_at-append, tree_pushed}
 
 trees-postfix : (tree : AccTree) (trees : List AccTree) (rest : List AccNode) → trees_left trees (acc_postfix tree ++ rest) ≡ trees_left (tree ∷ trees) rest
@@ -23,6 +22,26 @@ trees-postfix (acc.conjunction left right) trees rest =
 trees-postfix (acc.disjunction left right) trees rest =
     ap (trees_left trees) (regrouped (acc_postfix left) (acc_postfix right) plain.Or rest)
     ∙ (trees-postfix left trees (acc_postfix right ++ plain.Or ∷ rest) ∙ trees-postfix right (left ∷ trees) (plain.Or ∷ rest))
+
+-- each of a formula's nodes finds its parts
+have-postfix : (tree : AccTree) (trees : List AccTree) (rest : List AccNode) → HaveParts (tree ∷ trees) rest → HaveParts trees (acc_postfix tree ++ rest)
+have-postfix (acc.constant value) trees rest enough = (tt, enough)
+have-postfix (acc.inf negated set) trees rest enough = (tt, enough)
+have-postfix (acc.fin negated set) trees rest enough = (tt, enough)
+have-postfix (acc.conjunction left right) trees rest enough =
+    subst (HaveParts trees) (sym (regrouped (acc_postfix left) (acc_postfix right) plain.And rest))
+    (have-postfix left trees (acc_postfix right ++ plain.And ∷ rest) (have-postfix right (left ∷ trees) (plain.And ∷ rest) (omega arith, enough)))
+have-postfix (acc.disjunction left right) trees rest enough =
+    subst (HaveParts trees) (sym (regrouped (acc_postfix left) (acc_postfix right) plain.Or rest))
+    (have-postfix left trees (acc_postfix right ++ plain.Or ∷ rest) (have-postfix right (left ∷ trees) (plain.Or ∷ rest) (omega arith, enough)))
+
+pub have_parts : (tree : AccTree) (nodes : List AccNode) → nodes ≡ acc_postfix tree → HaveParts [] nodes
+have_parts tree nodes is = subst (HaveParts []) (sym (is ∙ sym (append-nil (acc_postfix tree)))) (have-postfix tree [] [] tt)
+
+-- the next node finds its parts, and so do the nodes after it
+pub parts_next : (trees : List AccTree) (nodes : List AccNode) (index : ℕ) (node : AccNode) → index < length nodes
+    → HaveParts trees (drop index nodes) → HaveParts trees (get_or nodes index node ∷ drop (index + 1) nodes)
+parts_next trees nodes index node within enough = subst (HaveParts trees) (drop_more nodes index node within) enough
 
 -- a formula's nodes alone leave its tree alone
 pub trees_formula : (tree : AccTree) (nodes : List AccNode) → nodes ≡ acc_postfix tree → trees_left [] nodes ≡ tree ∷ []

@@ -1,7 +1,7 @@
 //! A formula as a list of nodes that name their parts.
 ghost use Rattle.std.specs.Prelude.{◌≡◌, ◌<◌, ◌++◌, [], ◌∷◌, length, All, IfOk, OnOk, IsOkUnless};
-ghost use Rattle.omega_graph_accepting_walk.specs.private.Formulas.{ArePartsOf, IsFormula, IsMade, node_tree};
-ghost use Rattle.omega_graph_accepting_walk.specs.private.Formulas.{tree_at, trees_at, trees_with};
+ghost use Rattle.omega_graph_accepting_walk.specs.private.Formulas.{ArePartsOf, HasParts, IsFormula, IsMade};
+ghost use Rattle.omega_graph_accepting_walk.specs.private.Formulas.{node_tree, tree_at, trees_at, trees_with};
 
 use crate::node::Node;
 use crate::places::Places;
@@ -27,68 +27,60 @@ pub(crate) fn add_formula(
     for node in formula.nodes() {
         add_node(nodes, &mut places, *node)?;
     }
-    match places.pop() {
-        Some(place) => Ok(place),
-        None => Err(Refusal::Memory),
-    }
+    Ok(places.pop())
 }
 
-/// Appends `node`, whose parts are at the places on top, and puts its own place in place of theirs. Also fails with
-/// [Refusal::Memory] if a part is missing, which can't happen for a formula.
+/// Appends `node`, whose parts are at the places on top, and puts its own place in place of theirs.
 fn add_node(nodes: &mut Vec<Node>, places: &mut Places, node: AccNode) -> Result<(), Refusal>
-    requires { ArePartsOf nodes.old.items places.old }
+    requires places { ArePartsOf nodes.old.items places.old }
+    requires parts { HasParts (length places.old) node }
     ensures parts { OnOk result (ArePartsOf nodes.new.items places.new) }
     ensures trees { OnOk result
         (trees_at nodes.new.items places.new ≡ trees_with (trees_at nodes.old.items places.old) node) }
     ensures memory { IsOkUnless result Refusal.Memory }
 {
-    let next = next_node(nodes.as_slice(), places, node)?;
+    let next = next_node(nodes.as_slice(), places, node);
     let place = push_node(nodes, next)?;
     places.push(place)?;
     Ok(())
 }
 
-/// Returns the node for `node`, and pops the places of its parts. Also fails with [Refusal::Memory] if one is missing.
+/// Returns the node for `node`, and pops the places of its parts.
 #[tactic(auto, using(crate::proofs::NodesPushed::and_tree, crate::proofs::NodesPushed::or_tree))]
-fn next_node(nodes: &[Node], places: &mut Places, node: AccNode) -> Result<Node, Refusal>
-    requires { All (λ place. place < length nodes.now) places.old }
-    ensures made { IfOk result (IsMade (length nodes.now)) }
-    ensures within { OnOk result (All (λ place. place < length nodes.now) places.new) }
-    ensures tree { IfOk result
-        (λ next. node_tree (tree_at nodes.now) next ∷ trees_at nodes.now places.new
-        ≡ trees_with (trees_at nodes.now places.old) node) }
-    ensures memory { IsOkUnless result Refusal.Memory }
+fn next_node(nodes: &[Node], places: &mut Places, node: AccNode) -> Node
+    requires within { All (λ place. place < length nodes.now) places.old }
+    requires parts { HasParts (length places.old) node }
+    ensures made { IsMade (length nodes.now) result }
+    ensures within { All (λ place. place < length nodes.now) places.new }
+    ensures tree { node_tree (tree_at nodes.now) result ∷ trees_at nodes.now places.new
+        ≡ trees_with (trees_at nodes.now places.old) node }
 {
     match node {
-        AccNode::Constant(value) => Ok(Node::Constant(value)),
-        AccNode::Inf(negated, set) => Ok(Node::Inf(negated, set)),
-        AccNode::Fin(negated, set) => Ok(Node::Fin(negated, set)),
+        AccNode::Constant(value) => Node::Constant(value),
+        AccNode::Inf(negated, set) => Node::Inf(negated, set),
+        AccNode::Fin(negated, set) => Node::Fin(negated, set),
         AccNode::And => {
-            let parts = parts(places)?;
-            Ok(Node::And(parts.0, parts.1))
+            let parts = top_parts(places);
+            Node::And(parts.0, parts.1)
         }
         AccNode::Or => {
-            let parts = parts(places)?;
-            Ok(Node::Or(parts.0, parts.1))
+            let parts = top_parts(places);
+            Node::Or(parts.0, parts.1)
         }
     }
 }
 
-/// Pops the places of the two parts on top, the left one first. Also fails with [Refusal::Memory] if one is missing.
-fn parts(places: &mut Places) -> Result<(u32, u32), Refusal>
-    ensures parts { IfOk result (λ parts. places.old ≡ parts.1 ∷ parts.0 ∷ places.new) }
-    ensures memory { IsOkUnless result Refusal.Memory }
+/// Pops the places of the two parts on top, and returns them, the left one first.
+fn top_parts(places: &mut Places) -> (u32, u32)
+    requires { 1 < length places.old }
+    ensures { places.old ≡ result.1 ∷ result.0 ∷ places.new }
 {
-    match places.pop() {
-        None => Err(Refusal::Memory),
-        Some(second) => match places.pop() {
-            None => Err(Refusal::Memory),
-            Some(first) => Ok((first, second)),
-        },
-    }
+    let second = places.pop();
+    let first = places.pop();
+    (first, second)
 }
 
-/// Appends `node` and returns its place. More than 2^32 - 1 nodes count as [`Refusal::Memory`].
+/// Appends `node` and returns its place. Also fails with [Refusal::Memory] if there are 2^32 - 1 nodes already.
 fn push_node(nodes: &mut Vec<Node>, node: Node) -> Result<u32, Refusal>
     requires formula { IsFormula nodes.old.items }
     requires made { IsMade (length nodes.old.items) node }

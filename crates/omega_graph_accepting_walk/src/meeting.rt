@@ -5,7 +5,7 @@ ghost use Rattle.omega_graph.specs.Marks.{meets};
 ghost use Rattle.omega_graph_accepting_walk.specs.private.Search.{HaveMarks, edges_without};
 ghost use Rattle.omega_graph_accepting_walk.specs.private.Search.{meets_at, occurs_on};
 
-use crate::search::Search;
+use crate::search::WalkSearch;
 use omega_text::{Numbers, Refusal};
 use std::alloc::Global;
 
@@ -26,7 +26,7 @@ fn holds(marks: &[u32], set: u32) -> bool
 
 /// Returns the first of `edges` that meets `set`, or none. Linear in the marks of the edges up to it.
 pub(crate) fn first_edge_meeting(
-    search: &Search<'_>,
+    search: &WalkSearch<'_>,
     edges: &[u32],
     negated: bool,
     set: u32,
@@ -45,7 +45,7 @@ pub(crate) fn first_edge_meeting(
 }
 
 /// Whether one of `edges` meets `set`. Linear in the marks of the edges up to the first that does.
-pub(crate) fn occurs(search: &Search<'_>, edges: &[u32], negated: bool, set: u32) -> bool
+pub(crate) fn occurs(search: &WalkSearch<'_>, edges: &[u32], negated: bool, set: u32) -> bool
     requires edges { HaveMarks search.now edges.now }
     ensures { result ≡ occurs_on search.now edges.now negated set }
 {
@@ -58,7 +58,7 @@ pub(crate) fn occurs(search: &Search<'_>, edges: &[u32], negated: bool, set: u32
 /// Returns those `edges` that do not meet `set`.
 pub(crate) fn without(
     alloc: Global,
-    search: &Search<'_>,
+    search: &WalkSearch<'_>,
     edges: &[u32],
     negated: bool,
     set: u32,

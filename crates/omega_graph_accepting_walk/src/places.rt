@@ -1,4 +1,4 @@
-ghost use Rattle.std.specs.Prelude.{◌≡◌, ◌∷◌, [], MatchOption, IsOkUnless, OnOk};
+ghost use Rattle.std.specs.Prelude.{◌≡◌, ◌<◌, ◌∷◌, [], IsOkUnless, OnOk, length};
 
 use omega_text::Refusal;
 use std::alloc::Global;
@@ -37,11 +37,14 @@ impl Places {
         Ok(())
     }
 
-    /// Pops the place on top, or returns none if the stack is empty.
-    pub(crate) fn pop(&mut self) -> Option<u32>
-        ensures { MatchOption result ((self.old ≡ []) × (self.new ≡ []))
-            (λ place. self.old ≡ place ∷ self.new) }
+    /// Pops the place on top.
+    pub(crate) fn pop(&mut self) -> u32
+        requires { 0 < length self.old }
+        ensures { self.old ≡ result ∷ self.new }
     {
-        self.items.pop()
+        match self.items.pop() {
+            Some(place) => place,
+            None => unreachable!(),
+        }
     }
 }

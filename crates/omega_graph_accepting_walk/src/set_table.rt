@@ -5,7 +5,7 @@ ghost use Rattle.omega_graph_accepting_walk.specs.private.Search.{HaveMarks, gra
 
 use crate::meeting::occurs;
 use crate::node::Node;
-use crate::search::Search;
+use crate::search::WalkSearch;
 use omega_text::Refusal;
 use std::alloc::Global;
 
@@ -16,7 +16,7 @@ const FEW_SETS: usize = 64;
 /// goes. Makes one pass over the marks of the edges.
 pub(crate) fn set_table(
     alloc: Global,
-    search: &Search<'_>,
+    search: &WalkSearch<'_>,
     edges: &[u32],
 ) -> Result<Vec<bool>, Refusal>
     requires edges { HaveMarks search.now edges.now }
@@ -32,7 +32,7 @@ pub(crate) fn set_table(
 /// that is less; sets past it are not in it.
 pub(crate) fn no_sets(
     alloc: Global,
-    search: &Search<'_>,
+    search: &WalkSearch<'_>,
     count: usize,
 ) -> Result<Vec<bool>, Refusal>
     ensures sets { IfOk result (λ sets. AreSetsOn (graph_of search.now) [] sets.items) }
@@ -43,7 +43,7 @@ pub(crate) fn no_sets(
 }
 
 /// Takes the `edges` from the index `from` on into the table `sets` of those before. Makes one pass over their marks.
-pub(crate) fn add_edges(sets: &mut Vec<bool>, search: &Search<'_>, edges: &[u32], from: usize)
+pub(crate) fn add_edges(sets: &mut Vec<bool>, search: &WalkSearch<'_>, edges: &[u32], from: usize)
     requires edges { HaveMarks search.now edges.now }
     requires from { from ≤ length edges.now }
     requires before { AreSetsOn (graph_of search.now) (take from edges.now) sets.old.items }
@@ -79,7 +79,7 @@ fn set_count(nodes: &[Node]) -> usize {
 
 /// Whether one of `edges` meets `set`, read from the table `sets` if that has the answer.
 pub(crate) fn occurs_by(
-    search: &Search<'_>,
+    search: &WalkSearch<'_>,
     edges: &[u32],
     sets: &[bool],
     negated: bool,

@@ -11,7 +11,7 @@ ghost use Rattle.omega_graph_accepting_walk.specs.private.Walks.{LeadOn, ShowsAt
 
 use crate::meeting::first_edge_meeting;
 use crate::node::Node;
-use crate::search::Search;
+use crate::search::WalkSearch;
 use crate::set_table::{add_edges, no_sets, occurs_by};
 use crate::walked::Walked;
 use omega_graph::{Graph, passing_walks_accept, path};
@@ -21,7 +21,7 @@ use std::alloc::Global;
 /// Returns a closed walk in the connected `edges` that satisfies each formula that holds of all of them together.
 pub(crate) fn walk_through(
     alloc: Global,
-    search: &Search<'_>,
+    search: &WalkSearch<'_>,
     edges: &[u32],
 ) -> Result<Vec<u32>, Refusal>
     requires ready { IsReady search.now }
@@ -41,7 +41,7 @@ pub(crate) fn walk_through(
 /// Returns a closed walk in the connected `edges` that meets each atom `Inf` that some edge meets. It goes by shortest
 /// paths from atom to atom, in the order of the formula, and passes over each atom that it meets already. So it goes
 /// round a ring once, whatever the order of its marks.
-fn tour(alloc: Global, search: &Search<'_>, edges: &[u32]) -> Result<Vec<u32>, Refusal>
+fn tour(alloc: Global, search: &WalkSearch<'_>, edges: &[u32]) -> Result<Vec<u32>, Refusal>
     requires edges { AreEdgesOf search.now edges.now }
     requires marks { HaveMarks search.now edges.now }
     requires some { 0 < length edges.now }
@@ -60,7 +60,11 @@ fn tour(alloc: Global, search: &Search<'_>, edges: &[u32]) -> Result<Vec<u32>, R
 }
 
 /// Returns the walk through one edge, the first that meets an atom `Inf`, if some edge meets one.
-fn walk_of_one_edge(alloc: Global, search: &Search<'_>, edges: &[u32]) -> Result<Walked, Refusal>
+fn walk_of_one_edge(
+    alloc: Global,
+    search: &WalkSearch<'_>,
+    edges: &[u32],
+) -> Result<Walked, Refusal>
     requires marks { HaveMarks search.now edges.now }
     requires some { 0 < length edges.now }
     ensures walked { IfOk result (IsWalked search.now edges.now) }
@@ -75,7 +79,7 @@ fn walk_of_one_edge(alloc: Global, search: &Search<'_>, edges: &[u32]) -> Result
 
 /// Returns the first of `edges` that meets an atom `Inf`, the first of those atoms that one meets; or else the first of
 /// `edges`.
-fn first_stop(search: &Search<'_>, edges: &[u32]) -> u32
+fn first_stop(search: &WalkSearch<'_>, edges: &[u32]) -> u32
     requires marks { HaveMarks search.now edges.now }
     requires some { 0 < length edges.now }
     ensures among { Contains edges.now result }
@@ -94,7 +98,7 @@ fn first_stop(search: &Search<'_>, edges: &[u32]) -> u32
 fn meet_node(
     alloc: Global,
     walked: &mut Walked,
-    search: &Search<'_>,
+    search: &WalkSearch<'_>,
     edges: &[u32],
     node: Node,
 ) -> Result<(), Refusal>
@@ -118,7 +122,7 @@ fn meet_node(
 fn meet_set(
     alloc: Global,
     walked: &mut Walked,
-    search: &Search<'_>,
+    search: &WalkSearch<'_>,
     edges: &[u32],
     negated: bool,
     set: u32,
@@ -151,7 +155,7 @@ fn meet_set(
 fn pass(
     alloc: Global,
     walked: &mut Walked,
-    search: &Search<'_>,
+    search: &WalkSearch<'_>,
     edges: &[u32],
     edge: u32,
 ) -> Result<(), Refusal>
@@ -178,7 +182,7 @@ fn pass(
 fn closed_walk(
     alloc: Global,
     walked: Walked,
-    search: &Search<'_>,
+    search: &WalkSearch<'_>,
     edges: &[u32],
 ) -> Result<Vec<u32>, Refusal>
     requires edges { AreEdgesOf search.now edges.now }

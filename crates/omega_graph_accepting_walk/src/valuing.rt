@@ -6,14 +6,14 @@ ghost use Rattle.omega_graph_accepting_walk.specs.private.Search.{AreValuesOn, H
 ghost use Rattle.omega_graph_accepting_walk.specs.private.Search.{formulas_of, graph_of};
 
 use crate::node::Node;
-use crate::search::Search;
+use crate::search::WalkSearch;
 use crate::set_table::{occurs_by, set_table};
 use omega_text::Refusal;
 use std::alloc::Global;
 
 /// The value of a formula on a set of edges, by their marks.
 #[derive(Clone, Copy)]
-pub(crate) struct Value {
+pub(crate) struct FormulaValue {
     /// Whether it holds of all the edges together.
     pub(crate) holds: bool,
     /// Whether it holds of them if each `Fin` counts as true. If not, it holds of no closed walk of theirs.
@@ -24,9 +24,9 @@ pub(crate) struct Value {
 /// atom with `!` or past the table of sets.
 pub(crate) fn values(
     alloc: Global,
-    search: &Search<'_>,
+    search: &WalkSearch<'_>,
     edges: &[u32],
-) -> Result<Vec<Value>, Refusal>
+) -> Result<Vec<FormulaValue>, Refusal>
     requires formula { IsFormula search.now.nodes.now }
     requires edges { HaveMarks search.now edges.now }
     ensures values { IfOk result (λ values. AreValuesOn search.now edges.now values.items) }
@@ -45,12 +45,12 @@ pub(crate) fn values(
 
 /// Returns the value of `node`, the next one, from the values of the nodes before it.
 fn node_value(
-    search: &Search<'_>,
+    search: &WalkSearch<'_>,
     edges: &[u32],
     sets: &[bool],
     node: Node,
-    before: &[Value],
-) -> Value
+    before: &[FormulaValue],
+) -> FormulaValue
     requires node { IsNode (formulas_of search.now) (length before.now) node }
     requires edges { HaveMarks search.now edges.now }
     requires sets { AreSetsOn (graph_of search.now) edges.now sets.now }
@@ -59,25 +59,25 @@ fn node_value(
         ≡ value_on (graph_of search.now) edges.now (formulas_of search.now (length before.now)) }
 {
     match node {
-        Node::Constant(value) => Value {
+        Node::Constant(value) => FormulaValue {
             holds: value,
             possible: value,
         },
         Node::Inf(negated, set) => {
             let met = occurs_by(search, edges, sets, negated, set);
-            Value {
+            FormulaValue {
                 holds: met,
                 possible: met,
             }
         }
-        Node::Fin(negated, set) => Value {
+        Node::Fin(negated, set) => FormulaValue {
             holds: !occurs_by(search, edges, sets, negated, set),
             possible: true,
         },
         Node::And(left, right) => {
             let left = before[left as usize];
             let right = before[right as usize];
-            Value {
+            FormulaValue {
                 holds: left.holds && right.holds,
                 possible: left.possible && right.possible,
             }
@@ -85,7 +85,7 @@ fn node_value(
         Node::Or(left, right) => {
             let left = before[left as usize];
             let right = before[right as usize];
-            Value {
+            FormulaValue {
                 holds: left.holds || right.holds,
                 possible: left.possible || right.possible,
             }

@@ -11,7 +11,7 @@ use crate::arrows::write_arrow;
 use crate::branches::write_branch;
 use crate::role::Role;
 use crate::shared_arrows::write_shared_arrow;
-use crate::sharing::{Sharing, sharing_of};
+use crate::sharing::{ArrowSharing, sharing_of};
 use crate::state_edges::StateEdges;
 use omega_hoa_automaton::{Automaton, EdgeRef};
 use omega_text::Refusal;
@@ -64,7 +64,7 @@ fn write_edges_of(edges: &StateEdges<'_>, out: &mut Vec<u8>) -> Result<(), Refus
 /// Appends `edge`. If it shares an arrow, that is appended for the first edge that does.
 fn write_edge(
     edges: &StateEdges<'_>,
-    sharing: &Sharing,
+    sharing: &ArrowSharing,
     index: usize,
     edge: &EdgeRef<'_>,
     out: &mut Vec<u8>,

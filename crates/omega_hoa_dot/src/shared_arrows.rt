@@ -7,14 +7,14 @@ ghost use Rattle.omega_hoa_dot.specs.private.layout.Sharing.{IsSharing, next_to,
 
 use crate::arrows::write_tail;
 use crate::edge_lines::write_lines;
-use crate::sharing::Sharing;
+use crate::sharing::ArrowSharing;
 use crate::state_edges::StateEdges;
 use omega_text::{Refusal, write_number};
 
 /// Appends the arrow to `target` that edges share, if the edge of this `index` is the first of them.
 pub(crate) fn write_shared_arrow(
     edges: &StateEdges<'_>,
-    sharing: &Sharing,
+    sharing: &ArrowSharing,
     index: usize,
     target: u32,
     out: &mut Vec<u8>,
@@ -39,7 +39,7 @@ pub(crate) fn write_shared_arrow(
 /// Appends the lines of the edges that share an arrow to `_target`, from the first one, at `index`, to the last.
 fn write_shared_lines(
     edges: &StateEdges<'_>,
-    sharing: &Sharing,
+    sharing: &ArrowSharing,
     index: usize,
     _target: u32,
     out: &mut Vec<u8>,

@@ -13,7 +13,7 @@ use std::collections::BTreeMap;
 
 /// A table of the edges of a state that share arrows.
 #[derive(Drop)]
-pub(crate) struct Sharing {
+pub(crate) struct ArrowSharing {
     /// For each edge the next that shares its arrow, if there is one.
     next: Vec<Option<usize>>,
     /// For each state the first edge that shares an arrow to it.
@@ -21,7 +21,7 @@ pub(crate) struct Sharing {
 }
 
 /// Returns the table of edges that share arrows to these `targets`. The cost is n log n in the edges.
-pub(crate) fn sharing_of(alloc: Global, targets: &[Option<u32>]) -> Result<Sharing, Refusal>
+pub(crate) fn sharing_of(alloc: Global, targets: &[Option<u32>]) -> Result<ArrowSharing, Refusal>
     ensures sharing { IfOk result (λ sharing. IsSharing targets.now sharing) }
     ensures memory { IsOkUnless result Refusal.Memory }
 {
@@ -33,10 +33,10 @@ pub(crate) fn sharing_of(alloc: Global, targets: &[Option<u32>]) -> Result<Shari
             None => {}
         }
     }
-    Ok(Sharing { next, firsts })
+    Ok(ArrowSharing { next, firsts })
 }
 
-impl Sharing {
+impl ArrowSharing {
     /// Returns the next edge that shares the arrow of the edge of this `index`.
     pub(crate) fn next(&self, index: usize) -> Option<usize>
         requires { index < length self.now.next.items }

@@ -10,7 +10,7 @@ ghost use Rattle.omega_lang_complement.specs.private.Turned.{AreTurned};
 use crate::acceptance::dual_acceptance;
 use crate::forming::{automaton_of_raw, written_complement};
 use crate::limits::exceeds_limits;
-use crate::states::{Body, turned_states};
+use crate::states::{ComplementBody, turned_states};
 use omega_hoa_acceptance::RawAcc;
 use omega_hoa_automaton::{Automaton, has_universal_branching};
 use omega_hoa_edges::check_one_start;
@@ -76,7 +76,11 @@ fn complement_with(alloc: Global, automaton: &Automaton, dual: RawAcc) -> Result
 }
 
 /// Returns the states of the complement, if there is room for it and at most one start. Fails as [`complement`] does.
-fn complement_body(alloc: Global, automaton: &Automaton, dual: &RawAcc) -> Result<Body, Refusal>
+fn complement_body(
+    alloc: Global,
+    automaton: &Automaton,
+    dual: &RawAcc,
+) -> Result<ComplementBody, Refusal>
     requires plain { has_universal_branching automaton.now ≡ false }
     requires dual { dual.now ≡ written_dual automaton.now }
     ensures start { OnOk result (HasStart automaton.now) }
@@ -98,7 +102,7 @@ fn complement_of(
     alloc: Global,
     automaton: &Automaton,
     dual: RawAcc,
-    body: Body,
+    body: ComplementBody,
 ) -> Result<Automaton, Refusal>
     requires start { HasStart automaton.now }
     requires dual { dual ≡ written_dual automaton.now }

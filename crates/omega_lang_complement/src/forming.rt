@@ -12,7 +12,7 @@ ghost use Rattle.omega_lang_complement.specs.Written.{propositions_item, sink_st
 ghost use Rattle.omega_lang_complement.specs.Written.{written_dual};
 ghost use Rattle.omega_lang_complement.specs.private.Turned.{AreTurned, IsUnformed};
 
-use crate::states::Body;
+use crate::states::ComplementBody;
 use omega_hoa_acceptance::RawAcc;
 use omega_hoa_automaton::{Automaton, RawAutomaton, StateName, automaton_of};
 use omega_hoa_label::RawLabel;
@@ -25,7 +25,7 @@ pub(crate) fn written_complement(
     alloc: Global,
     automaton: &Automaton,
     formula: RawAcc,
-    body: Body,
+    body: ComplementBody,
 ) -> Result<RawAutomaton, Refusal>
     requires limits { exceeds_limits automaton.now ≡ false }
     requires dual { formula ≡ written_dual automaton.now }

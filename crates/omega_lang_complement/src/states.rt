@@ -17,14 +17,14 @@ use std::alloc::Global;
 
 /// The states of a complement except the sink, and whether one of them has an edge to it.
 #[derive(Drop)]
-pub(crate) struct Body {
+pub(crate) struct ComplementBody {
     pub(crate) states: Vec<RawState>,
     pub(crate) lacks: bool,
 }
 
 /// Returns the states of `automaton` by their numbers, each with an edge for each letter. Fails with the refusal of the
 /// first state that has one: [TaskFault::TooManyPropositions], [TaskFault::TooLarge] or [TaskFault::NotDeterministic].
-pub(crate) fn turned_states(alloc: Global, automaton: &Automaton) -> Result<Body, Refusal>
+pub(crate) fn turned_states(alloc: Global, automaton: &Automaton) -> Result<ComplementBody, Refusal>
     ensures turned { IfOk result
         (λ body. AreTurned automaton.now automaton.now.states body.states.items body.lacks) }
     ensures err { IfErr result (AreRefused automaton.now) }
@@ -40,7 +40,7 @@ fn turned_among(
     alloc: Global,
     automaton: &Automaton,
     found: &StatesByNumber<'_>,
-) -> Result<Body, Refusal>
+) -> Result<ComplementBody, Refusal>
     requires { found.now ≡ automaton.now }
     ensures turned { IfOk result
         (λ body. AreTurned automaton.now automaton.now.states body.states.items body.lacks) }
@@ -48,7 +48,7 @@ fn turned_among(
 {
     let mut states = Vec::new(alloc);
     match push_turned(alloc, &mut states, automaton, found) {
-        Ok(lacks) => Ok(Body { states, lacks }),
+        Ok(lacks) => Ok(ComplementBody { states, lacks }),
         Err(refusal) => Err(refusal),
     }
 }

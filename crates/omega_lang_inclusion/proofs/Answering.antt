@@ -15,7 +15,9 @@ use Rattle.omega_lang_product.specs.Refusing.{HaveNoBranch}
 use Rattle.omega_lang_inclusion.specs.Refusing.{AreComparable}
 use Rattle.omega_lang_lasso_word.specs.Fitting.{Fits}
 use Rattle.omega_lang_lasso_word.specs.Laws.{HasStrings}
+use Rattle.omega_lang_lasso_word.specs.LassoWordText.{lasso_word_text}
 use Rattle.omega_lang_lasso_word.specs.WordText.{word_text}
+use Rattle.omega_lang_lasso_word.specs.declared.lasso_word.LassoWord.{LassoWord}
 use Rattle.omega_lang_lasso_word.proofs.Admitted.{admitted_words_are_accepted}
 use Rattle.omega_lang_lasso_word.proofs.Fitted.{words_fit_where_edges_can_be_taken}
 use Rattle.omega_lang_word_laws.specs.NamedWords.{AcceptsNamed, NamedWord, part_of}
@@ -134,22 +136,26 @@ module _ (one other c : Description) (graph : PairGraph) (k : IsDifference one o
     goes_along word goes =
         along_firsts one c k.is_one k.is_complement plain.0 plain.1 graph k.graph_is both of named first others stem word goes
 
-    example : IsCounterexample one other (record { word = word_text both stem (first ∷ others); stem = map taken stem; cycle = map taken (first ∷ others) })
-    example =
+    example : (words : LassoWord) → lasso_word_text words ≡ word_text both stem (first ∷ others)
+        → IsCounterexample one other (record { word = words; stem = map taken stem; cycle = map taken (first ∷ others) })
+    example words written =
+        let fit : HasStrings one → HasStrings other → (word : NamedWord) → Fits (lasso_word_text words) word ↔ GoesAlong both stem (first ∷ others) word =
+        λ a b word. subst (λ (text : List ℕ). Fits text word ↔ GoesAlong both stem (first ∷ others) word) (sym written) (fitting a b word) in
         let found = word_along both named lasso.lasso.loop_state first others lasso.lasso.cycle_leads lasso.lasso.start stem lasso.lasso.stem_leads in
         record {
           word = found.0;
           outside = outside found.0 found.1;
-          fits = λ a b. (fitting a b found.0).1 found.1;
-          all_outside = λ a b word fits. outside word ((fitting a b word).0 fits);
+          fits = λ a b. (fit a b found.0).1 found.1;
+          all_outside = λ a b word fits. outside word ((fit a b word).0 fits);
           lasso = first_lasso;
-          goes_along = λ a b word fits. goes_along word ((fitting a b word).0 fits);
+          goes_along = λ a b word fits. goes_along word ((fit a b word).0 fits);
         }
 
   pub example_right : (stem cycle : List ℕ) → IsAcceptingLasso both stem cycle
-      → IsCounterexample one other (record { word = word_text both stem cycle; stem = map taken stem; cycle = map taken cycle })
-  example_right stem [] lasso = absurd (omega (arith, lasso.lasso.longer))
-  example_right stem (first ∷ others) lasso = example stem first others lasso
+      → (words : LassoWord) → lasso_word_text words ≡ word_text both stem cycle
+      → IsCounterexample one other (record { word = words; stem = map taken stem; cycle = map taken cycle })
+  example_right stem [] lasso words written = absurd (omega (arith, lasso.lasso.longer))
+  example_right stem (first ∷ others) lasso words written = example stem first others lasso words written
 
 -- what the complement and the graph presume of two automata
 pub are_comparable : (one c other : Description) → HaveNoBranch one c → HasComplement other → AreComparable one other

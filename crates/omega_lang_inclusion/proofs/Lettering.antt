@@ -1,5 +1,5 @@
 -- The word that is written by the labels of two automata is that of their product, which is not made.
-use Rattle.std.proofs.Common.{◌≡◌, ℕ, ◌+◌, List, [], ◌∷◌, ◌++◌, length, Contains, Some, codes, refl, sym, ap, ap₂, subst, ◌∙◌, arith}
+use Rattle.std.proofs.Common.{◌≡◌, ℕ, ◌+◌, List, [], ◌∷◌, ◌++◌, length, Contains, Some, codes, map, refl, sym, ap, ap₂, subst, ◌∙◌, arith}
 use Rattle.std.proofs.lemmas.List.{length-map}
 use Rattle.std.specs.List.{position_or_len}
 use Rattle.std.specs.Str.{bytes_eq}
@@ -11,6 +11,7 @@ use Rattle.omega_lang_runs.specs.Lasso.{IsAcceptingLasso, Leads}
 use Rattle.omega_lang_runs.specs.Words.{index_in}
 use Rattle.omega_lang_lasso_word.specs.Form.{cycle_form, others_form, stem_form}
 use Rattle.omega_lang_lasso_word.specs.Letters.{conjunction_words, letter_at, letter_text, text_of_letter}
+use Rattle.omega_lang_lasso_word.specs.LassoWordText.{lasso_word_text}
 use Rattle.omega_lang_lasso_word.specs.WordText.{word_text}
 use Rattle.omega_lang_product.specs.Joining.{joined_names, places_among, relabelled}
 use Rattle.omega_lang_product.specs.JointEdges.{numbered_from}
@@ -21,7 +22,7 @@ use Rattle.omega_lang_product.specs.declared.graph.PairGraph.{PairGraph}
 use Rattle.omega_lang_product.specs.declared.transition.Transition.{Transition}
 use Rattle.omega_lang_word_laws.specs.Graphs.{IsGraphOf}
 use Rattle.omega_lang_word_laws.proofs.meeting.Transitions.{numbered_found}
-use Rattle.omega_lang_inclusion.specs.private.Letters.{joint_conjuncts, joint_letter, joint_word, label_in, moved_label}
+use Rattle.omega_lang_inclusion.specs.private.Letters.{joint_conjuncts, joint_word, label_in, moved_label}
 use Rattle.omega_lang_inclusion.proofs.Conjuncts.{joined_conjuncts}
 use Rattle.omega_lang_inclusion.proofs.Standing.{Row, first_is, label_is, row, second_is}
 
@@ -70,7 +71,11 @@ module _ (one other : Description) (graph : PairGraph) (is : IsPairGraph one oth
       (ap (label_in (places_among names other.propositions) other) (second_is one other graph is a of number edge r) ∙ second_label number edge r)
       ∙ sym (joined_conjuncts r.joint.first.transition.label r.joint.second.transition.label)
 
-  letter_alike : (number : ℕ) (edge : BodyEdge) → edge_at a number ≡ Some edge → letter_text a number ≡ joint_letter one other graph number
+  -- its letter
+  abbrev joint_letter : ℕ → List ℕ
+  joint_letter number = conjunction_words graph.propositions.items (joint_conjuncts one other graph number)
+
+  letter_alike : (number : ℕ) (edge : BodyEdge) → edge_at a number ≡ Some edge → letter_text a number ≡ joint_letter number
   letter_alike number edge at =
       let r = row one other graph is a of number edge at in
       let index : ℕ = index_in a.defined number in
@@ -81,22 +86,35 @@ module _ (one other : Description) (graph : PairGraph) (is : IsPairGraph one oth
       ∙ ap (conjunction_words graph.propositions.items) (sym (conjuncts_alike number edge r))
 
   -- the word of a lasso
-  stem_alike : (q : ℕ) (numbers : List ℕ) (q' : ℕ) → Leads a q numbers q' → stem_form (letter_text a) numbers ≡ stem_form (joint_letter one other graph) numbers
+  stem_alike : (q : ℕ) (numbers : List ℕ) (q' : ℕ) → Leads a q numbers q' → stem_form (letter_text a) numbers ≡ stem_form joint_letter numbers
   stem_alike q [] q' leads = refl
   stem_alike q (n ∷ ns) q' leads =
       ap₂ ◌++◌ (ap (λ (letter : List ℕ). letter ++ codes "; ") (letter_alike n leads.1.edge leads.1.numbered)) (stem_alike leads.0 ns q' leads.2)
 
-  others_alike : (q : ℕ) (numbers : List ℕ) (q' : ℕ) → Leads a q numbers q' → others_form (letter_text a) numbers ≡ others_form (joint_letter one other graph) numbers
+  others_alike : (q : ℕ) (numbers : List ℕ) (q' : ℕ) → Leads a q numbers q' → others_form (letter_text a) numbers ≡ others_form joint_letter numbers
   others_alike q [] q' leads = refl
   others_alike q (n ∷ ns) q' leads =
       ap₂ ◌++◌ (ap (λ (letter : List ℕ). codes "; " ++ letter) (letter_alike n leads.1.edge leads.1.numbered)) (others_alike leads.0 ns q' leads.2)
 
-  cycle_alike : (q : ℕ) (numbers : List ℕ) (q' : ℕ) → Leads a q numbers q' → cycle_form (letter_text a) numbers ≡ cycle_form (joint_letter one other graph) numbers
+  cycle_alike : (q : ℕ) (numbers : List ℕ) (q' : ℕ) → Leads a q numbers q' → cycle_form (letter_text a) numbers ≡ cycle_form joint_letter numbers
   cycle_alike q [] q' leads = refl
   cycle_alike q (n ∷ ns) q' leads = ap₂ ◌++◌ (letter_alike n leads.1.edge leads.1.numbered) (others_alike leads.0 ns q' leads.2)
 
-  pub word_alike : (stem cycle : List ℕ) → IsAcceptingLasso a stem cycle → joint_word one other graph stem cycle ≡ word_text a stem cycle
+  -- the text of the letters of edges is that of their numbers
+  stem_written : (numbers : List ℕ) → stem_form (conjunction_words graph.propositions.items) (map (joint_conjuncts one other graph) numbers) ≡ stem_form joint_letter numbers
+  stem_written [] = refl
+  stem_written (n ∷ ns) = ap (λ (rest : List ℕ). (joint_letter n ++ codes "; ") ++ rest) (stem_written ns)
+
+  others_written : (numbers : List ℕ) → others_form (conjunction_words graph.propositions.items) (map (joint_conjuncts one other graph) numbers) ≡ others_form joint_letter numbers
+  others_written [] = refl
+  others_written (n ∷ ns) = ap (λ (rest : List ℕ). (codes "; " ++ joint_letter n) ++ rest) (others_written ns)
+
+  cycle_written : (numbers : List ℕ) → cycle_form (conjunction_words graph.propositions.items) (map (joint_conjuncts one other graph) numbers) ≡ cycle_form joint_letter numbers
+  cycle_written [] = refl
+  cycle_written (n ∷ ns) = ap (λ (rest : List ℕ). joint_letter n ++ rest) (others_written ns)
+
+  pub word_alike : (stem cycle : List ℕ) → IsAcceptingLasso a stem cycle → lasso_word_text (joint_word one other graph stem cycle) ≡ word_text a stem cycle
   word_alike stem cycle lasso =
       let l = lasso.lasso in
-      sym (ap₂ (λ (before around : List ℕ). before ++ (codes "cycle{" ++ (around ++ codes "}")))
-      (stem_alike l.start stem l.loop_state l.stem_leads) (cycle_alike l.loop_state cycle l.loop_state l.cycle_leads))
+      ap₂ (λ (before around : List ℕ). before ++ (codes "cycle{" ++ (around ++ codes "}")))
+      (stem_written stem ∙ sym (stem_alike l.start stem l.loop_state l.stem_leads)) (cycle_written cycle ∙ sym (cycle_alike l.loop_state cycle l.loop_state l.cycle_leads))

@@ -2,6 +2,7 @@
 use Rattle.std.specs.Prelude.{ℕ, Bool, List, [], ◌∷◌}
 use Rattle.omega_hoa_automaton.specs.Automaton.{Description}
 use Rattle.omega_lang_lasso_word.specs.Fitting.{Fits, along}
+use Rattle.omega_lang_lasso_word.specs.LassoWordText.{lasso_word_text}
 use Rattle.omega_lang_lasso_word.specs.Laws.{HasStrings}
 use Rattle.omega_lang_runs.specs.Lasso.{IsAcceptingLasso}
 use Rattle.omega_lang_runs.specs.Words.{CanBeTaken}
@@ -26,17 +27,18 @@ GoesAlong a stem [] word = ⊥
 GoesAlong a stem (first ∷ others) word =
     (i : ℕ) → CanBeTaken a (along first others stem i) (part_of a.propositions word i)
 
--- a word is accepted by `one` and not by `other`, and fits a text, as does no word but such. `one` accepts each of them
--- along one accepting lasso. Names of propositions are strings, as in each text of an automaton
+-- a word is accepted by `one` and not by `other`, and fits the text of the words, as does no word but such. `one`
+-- accepts each of them along one accepting lasso. Names of propositions are strings, as in each text of an automaton
 pub record IsCounterexample (one other : Description) (example : Counterexample) : Type 0 where
   pub word : NamedWord
   pub outside : IsOutside one other word
-  pub fits : HasStrings one → HasStrings other → Fits example.word word
-  pub all_outside : HasStrings one → HasStrings other → (word : NamedWord) → Fits example.word word
+  pub fits : HasStrings one → HasStrings other → Fits (lasso_word_text example.word) word
+  pub all_outside :
+      HasStrings one → HasStrings other → (word : NamedWord) → Fits (lasso_word_text example.word) word
       → IsOutside one other word
   pub lasso : IsAcceptingLasso one example.stem example.cycle
   pub goes_along :
-      HasStrings one → HasStrings other → (word : NamedWord) → Fits example.word word
+      HasStrings one → HasStrings other → (word : NamedWord) → Fits (lasso_word_text example.word) word
       → GoesAlong one example.stem example.cycle word
 
 -- an answer is right: `Contained` only if `other` accepts each word that `one` accepts, where each test of numbers

@@ -1,6 +1,6 @@
 //! Membership by containment of the automaton of a word, or else as one word.
 
-ghost use Rattle.std.specs.Prelude.{◌≡◌, IfErr, IfOk, OnOk};
+ghost use Rattle.std.specs.Prelude.{◌≡◌, IfErr, IfOk, IsOkUnless, OnOk};
 ghost use Rattle.omega_hoa_automaton.specs.Automaton.{Description};
 ghost use Rattle.omega_lang_inclusion.specs.Containing.{IsContainment};
 ghost use Rattle.omega_lang_lasso_word.specs.declared.symbolic_word.SymbolicWord.{SymbolicWord};
@@ -14,8 +14,8 @@ use crate::membership::Membership;
 use crate::one_word::membership_of_one;
 use crate::{Containment, decide_containment};
 use omega_hoa_automaton::{Automaton, Refusal};
-use omega_lang_lasso_word::SymbolicWord;
-use omega_text::TaskFault;
+use omega_lang_lasso_word::{SymbolicWord, lasso_word_text};
+use omega_text::{Seq, TaskFault};
 use std::alloc::Global;
 
 /// Returns whether `automaton` accepts each word that `word` admits. If not, returns the text of words that `word`
@@ -62,7 +62,7 @@ fn membership(alloc: Global, one: &Automaton, automaton: &Automaton) -> Result<M
         IsWordAutomaton word one.now → IsMembershipRefusal word automaton.now refusal) }
 {
     match decide_containment(alloc, one, automaton) {
-        Ok(answer) => Ok(membership_of(answer)),
+        Ok(answer) => membership_of(alloc, &answer),
         Err(refusal) => match choice_in(&refusal) {
             None => Err(refusal),
             Some(state) => membership_of_one(alloc, one, automaton, state),
@@ -81,12 +81,17 @@ fn choice_in(refusal: &Refusal) -> Option<usize>
 }
 
 /// Returns what containment of the automaton of a symbolic word in another automaton says of the two.
-fn membership_of(answer: Containment) -> Membership
-    ensures { (word : SymbolicWord) (one automaton : Description) → IsWordAutomaton word one
-        → IsContainment one automaton answer → IsMembership word automaton result }
+fn membership_of(alloc: Global, answer: &Containment) -> Result<Membership, Refusal>
+    ensures right { IfOk result (λ membership. (word : SymbolicWord) (one automaton : Description) →
+        IsWordAutomaton word one → IsContainment one automaton answer.now
+        → IsMembership word automaton membership) }
+    ensures memory { IsOkUnless result Refusal.Memory }
 {
     match answer {
-        Containment::Contained => Membership::Accepted,
-        Containment::NotContained(example) => Membership::Rejected(example.word),
+        Containment::Contained => Ok(Membership::Accepted),
+        Containment::NotContained(example) => {
+            let text = lasso_word_text(alloc, &example.word)?;
+            Ok(Membership::Rejected(Seq::from_vec(text)))
+        }
     }
 }

@@ -4,7 +4,7 @@ ghost use Rattle.std.specs.Prelude.{◌≡◌, ◌<◌, ◌^◌, get_or, length,
 ghost use Rattle.omega_hoa_automaton.specs.Automaton.{Description};
 ghost use Rattle.omega_lang_inclusion.specs.Containing.{IsContainment, IsCounterexample};
 ghost use Rattle.omega_lang_inclusion.specs.Refusing.{AreComparable, IsContainmentRefusal};
-ghost use Rattle.omega_lang_inclusion.specs.private.Letters.{joint_word};
+ghost use Rattle.omega_lang_inclusion.specs.private.Letters.{joint_word as word_of_joints};
 ghost use Rattle.omega_lang_inclusion.specs.private.Telling.{IsComplemented, IsDifference};
 ghost use Rattle.omega_lang_inclusion.specs.private.Telling.{IsLassoOn, IsVerdictOn};
 ghost use Rattle.omega_lang_product.specs.PairGraph.{IsPairGraph};
@@ -12,22 +12,22 @@ ghost use Rattle.omega_lang_product.specs.Refusing.{HaveNoBranch};
 
 use crate::containment::{Containment, Counterexample};
 use crate::joints::Joints;
-use crate::letters::number_at;
+use crate::letters::{joint_word, number_at};
 use omega_hoa_automaton::{Automaton, Refusal};
 use omega_lang_complement::complement;
 use omega_lang_lasso_search::lasso_in_table;
-use omega_lang_lasso_word::lasso_form;
+use omega_lang_lasso_word::LassoWord;
 use omega_lang_product::{PairGraph, pair_graph, places_among};
 use omega_lang_runs::{Verdict, edge_places};
 use omega_text::Seq;
 use std::alloc::Global;
 
-/// Returns whether `other` accepts each word that `one` accepts. If not, returns the text of words that `one` accepts
-/// and `other` does not, and an accepting lasso of `one` along which it accepts them. Propositions that have one name
-/// are the same, whatever their numbers are (HOA v1, AP).
+/// Returns whether `other` accepts each word that `one` accepts. If not, returns words that `one` accepts and `other`
+/// does not, and an accepting lasso of `one` along which it accepts them. Propositions that have one name are the same,
+/// whatever their numbers are (HOA v1, AP).
 ///
 /// `other` is to be deterministic. Looks for an accepting lasso in the graph of the product of `one` with the
-/// complement of `other`, and writes its word. The product itself is not made: labels are joined for the edges of the
+/// complement of `other`, and takes its word. The product itself is not made: labels are joined for the edges of the
 /// lasso alone, and none is too deep or too large for a letter.
 ///
 /// Refusals, the first of these steps that has one:
@@ -147,7 +147,7 @@ fn example_of(
     let before = numbers_at(alloc, firsts, stem)?;
     let around = numbers_at(alloc, firsts, cycle)?;
     Ok(Counterexample {
-        word: Seq::from_vec(word),
+        word,
         stem: Seq::from_vec(before),
         cycle: Seq::from_vec(around),
     })
@@ -161,10 +161,10 @@ fn word_along(
     graph: &PairGraph,
     stem: &[u32],
     cycle: &[u32],
-) -> Result<Vec<u8>, Refusal>
+) -> Result<LassoWord, Refusal>
     requires { length graph.now.propositions.items < 2 ^ 32 }
-    ensures text { IfOk result
-        (λ text. text.items ≡ joint_word one.now other.now graph.now stem.now cycle.now) }
+    ensures word { IfOk result
+        (λ word. word ≡ word_of_joints one.now other.now graph.now stem.now cycle.now) }
     ensures memory { IsOkUnless result Refusal.Memory }
 {
     let names = graph.propositions.as_slice();
@@ -181,7 +181,7 @@ fn word_along(
         numbers: numbers.as_slice(),
         other_numbers: other_numbers.as_slice(),
     };
-    lasso_form(alloc, &joints, stem, cycle)
+    joint_word(alloc, &joints, stem, cycle)
 }
 
 /// Returns the number at each of `places`, 0 past the last.

@@ -1,3 +1,4 @@
+use omega_lang_lasso_word::LassoWord;
 use omega_text::Seq;
 
 /// Whether an automaton accepts only words that another accepts.
@@ -12,8 +13,8 @@ pub enum Containment {
 /// Words that an automaton accepts and another does not, and the accepting lasso along which it accepts them.
 #[derive(Debug, Drop, PartialEq, Eq)]
 pub struct Counterexample {
-    /// The text of the words, as Spot writes words. Its letters are formulas over the names of both automata.
-    pub word: Seq<u8>,
+    /// The words. Their letters are over the names of both automata.
+    pub word: LassoWord,
     /// The edges from a start to the cycle, by their numbers in the automaton that accepts. There may be none.
     pub stem: Seq<u32>,
     /// The edges of the cycle, likewise, at least one.

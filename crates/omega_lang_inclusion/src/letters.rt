@@ -1,32 +1,55 @@
 //! The letters of the edges of a product, of which only the graph is made.
 
-ghost use Rattle.std.specs.Prelude.{◌≡◌, get_or, IfOk, IsOkUnless};
+ghost use Rattle.std.specs.Prelude.{◌≡◌, false, get_or, map, IfOk, IsOkUnless};
+ghost use Rattle.omega_hoa_label.specs.Label.{constant};
 ghost use Rattle.omega_lang_runs.specs.Places.{ArePlaces};
-ghost use Rattle.omega_lang_inclusion.specs.private.Letters.{FindsLabels};
+ghost use Rattle.omega_lang_inclusion.specs.private.Letters.{FindsLabels, label_in};
 ghost use Rattle.omega_lang_inclusion.specs.private.Letters.{joint_conjuncts as conjuncts_of_joint};
-ghost use Rattle.omega_lang_inclusion.specs.private.Letters.{joint_letter, label_in};
+ghost use Rattle.omega_lang_inclusion.specs.private.Letters.{joint_word as word_of_joints};
 
 use crate::joints::Joints;
 use omega_hoa_automaton::{Automaton, Refusal};
 use omega_hoa_edges::{conjuncts_of_both, edge_label};
-use omega_hoa_label::Label;
-use omega_lang_lasso_word::{EdgeText, write_conjuncts};
+use omega_hoa_label::{Label, LabelNode};
+use omega_lang_lasso_word::LassoWord;
 use omega_lang_runs::{EdgePlace, edge_of};
+use omega_text::Seq;
 use std::alloc::Global;
 
-impl<'a> EdgeText for Joints<'a> {
-    ghost can_tell = { FindsLabels };
+/// Returns the words along the edges `stem` and `cycle` of the product.
+pub(crate) fn joint_word(
+    alloc: Global,
+    joints: &Joints<'_>,
+    stem: &[u32],
+    cycle: &[u32],
+) -> Result<LassoWord, Refusal>
+    requires { FindsLabels joints.now }
+    ensures word { IfOk result (λ word. word ≡ word_of_joints
+        joints.now.one.now joints.now.other.now joints.now.graph.now stem.now cycle.now) }
+    ensures memory { IsOkUnless result Refusal.Memory }
+{
+    let before = letters_along(alloc, joints, stem)?;
+    let around = letters_along(alloc, joints, cycle)?;
+    LassoWord::over(alloc, joints.graph.propositions.as_slice(), before, around)
+}
 
-    ghost told = { λ joints. joint_letter joints.one.now joints.other.now joints.graph.now };
-
-    fn tell(&self, number: u32, out: &mut Vec<u8>) -> Result<(), Refusal> {
-        let conjuncts = joint_conjuncts(*out.allocator(), self, number)?;
-        write_conjuncts(
-            self.graph.propositions.as_slice(),
-            conjuncts.as_slice(),
-            out,
-        )
+/// Returns the letters of the edges of the product with these `numbers`, each as its conjuncts.
+fn letters_along(
+    alloc: Global,
+    joints: &Joints<'_>,
+    numbers: &[u32],
+) -> Result<Vec<Seq<Label>>, Refusal>
+    requires { FindsLabels joints.now }
+    ensures letters { IfOk result (λ letters. letters.items ≡ map (conjuncts_of_joint
+        joints.now.one.now joints.now.other.now joints.now.graph.now) numbers.now) }
+    ensures memory { IsOkUnless result Refusal.Memory }
+{
+    let mut letters = Vec::with_capacity(alloc, numbers.len())?;
+    for number in numbers {
+        let conjuncts = joint_conjuncts(alloc, joints, *number)?;
+        letters.push(Seq::from_vec(conjuncts))?;
     }
+    Ok(letters)
 }
 
 /// Returns the conjuncts of the labels of the two edges that the edge `number` of the product takes, each once.
@@ -49,8 +72,8 @@ fn joint_conjuncts(alloc: Global, joints: &Joints<'_>, number: u32) -> Result<Ve
     conjuncts_of_both(alloc, &one, &other)
 }
 
-/// Returns the label of the edge `number` of `automaton`, whose propositions have these `numbers` among those of both.
-/// Also fails with [Refusal::Memory] if there is no such edge, which can't happen for an edge that a product takes.
+/// Returns the label of the edge `number` of `automaton`, whose propositions have these `numbers` among those of both,
+/// or `f` if there is no such edge.
 fn moved_label(
     alloc: Global,
     automaton: &Automaton,
@@ -69,8 +92,18 @@ fn moved_label(
             let moved = label.get().over_propositions(alloc, numbers)?;
             Ok(moved)
         }
-        None => Err(Refusal::Memory),
+        None => false_label(alloc),
     }
+}
+
+/// Returns the label `f`.
+fn false_label(alloc: Global) -> Result<Label, Refusal>
+    ensures label { IfOk result (λ label. label ≡ constant false) }
+    ensures memory { IsOkUnless result Refusal.Memory }
+{
+    let mut nodes = Vec::new(alloc);
+    nodes.push(LabelNode::Constant(false))?;
+    Label::from_postfix(alloc, nodes)
 }
 
 /// Returns the number at `place`, 0 past the last.

@@ -1,11 +1,9 @@
 //! Whether one automaton accepts only words that another accepts, and if not, words that show it.
 //!
 //! A counterexample is a lasso of the product with a complement, of which only the graph is made. Each edge of the
-//! graph has the numbers of the two edges that it takes together. By these the word is written (`letters`).
+//! graph has the numbers of the two edges that it takes together. By these its letters are found (`letters`).
 //!
-//! docs/formats.md says when each refusal comes.
-//!
-//! Whether an automaton accepts each word that a symbolic word admits, and if not, words that show it.
+//! Whether an automaton accepts each word that a symbolic word admits is decided so too, by the automaton of the word.
 //!
 //! docs/formats.md says when each refusal comes.
 #![tactic(auto)]

@@ -2,7 +2,7 @@
 
 ghost use Rattle.std.specs.Prelude.{◌≡◌, ◌↔◌, ◌<◌, ◌^◌, length, IfErr, IfOk, IsOkUnless, IsTrue};
 ghost use Rattle.std.specs.Option.{option_copied};
-ghost use Rattle.omega_hoa_label.specs.Shape.{label_tree_of_shape};
+ghost use Rattle.omega_hoa_label.specs.Postfix.{postfix};
 ghost use Rattle.omega_lang_inclusion.specs.Opening.{CanBeBoth, HasOpenName, HasOpenState, HasUnjudgedName};
 ghost use Rattle.omega_lang_inclusion.specs.Opening.{HasUnjudgedState, IsOpenName, IsUnjudgedName};
 ghost use Rattle.omega_lang_inclusion.specs.Opening.{IsUnjudgedWith, first_label, literal_of, number_among};
@@ -10,7 +10,7 @@ ghost use Rattle.std.specs.Prelude.{Some};
 
 use omega_hoa_automaton::{Automaton, State};
 use omega_hoa_edges::can_hold_together;
-use omega_hoa_label::{Label, LabelShape};
+use omega_hoa_label::{Label, LabelNode};
 use omega_text::{ByteString, Refusal};
 use std::alloc::Global;
 
@@ -62,25 +62,22 @@ fn literal(alloc: Global, number: u32, value: bool) -> Result<Label, Refusal>
     ensures label { IfOk result (λ label. label ≡ literal_of number value) }
     ensures memory { IsOkUnless result Refusal.Memory }
 {
-    let shape = literal_shape(alloc, number, value)?;
-    // A literal is within all limits of labels.
-    match Label::of_shape(alloc, &shape) {
-        Ok(label) => Ok(label),
-        Err(_) => Err(Refusal::Memory),
-    }
+    let nodes = literal_nodes(alloc, number, value)?;
+    Label::from_postfix(alloc, nodes)
 }
 
-/// Returns the tree of a literal.
-fn literal_shape(alloc: Global, number: u32, value: bool) -> Result<LabelShape, Refusal>
-    ensures shape { IfOk result (λ shape. label_tree_of_shape shape ≡ literal_of number value) }
+/// Returns the nodes of a literal.
+fn literal_nodes(alloc: Global, number: u32, value: bool) -> Result<Vec<LabelNode>, Refusal>
+    ensures nodes { IfOk result (λ nodes. nodes.items ≡ postfix (literal_of number value)) }
     ensures memory { IsOkUnless result Refusal.Memory }
 {
-    let atom = LabelShape::Proposition(number);
+    let mut nodes = Vec::new(alloc);
+    nodes.push(LabelNode::Proposition(number))?;
     if value {
-        Ok(atom)
-    } else {
-        Ok(LabelShape::Not(Box::new(alloc, atom)?))
+        return Ok(nodes);
     }
+    nodes.push(LabelNode::Not)?;
+    Ok(nodes)
 }
 
 /// Whether the label of the first edge of one of `states` can be true with `held` and with `unheld`.

@@ -11,7 +11,7 @@ use std::alloc::Global;
 
 /// The states of a word that come one after another: how many there are, and which follows the last.
 #[derive(Clone, Copy)]
-pub(crate) struct Row {
+pub(crate) struct LetterRow {
     pub(crate) count: u32,
     pub(crate) back: u32,
 }
@@ -39,7 +39,7 @@ pub(crate) fn letter_states(
 /// of the letters before.
 fn append_all(
     alloc: Global,
-    row: Row,
+    row: LetterRow,
     stem: Vec<RawLabel>,
     first: RawLabel,
     others: Vec<RawLabel>,
@@ -59,7 +59,7 @@ fn append_all(
 /// Appends the states of the first letter and the others of a cycle to `states`, those of the letters before.
 fn append_cycle(
     alloc: Global,
-    row: Row,
+    row: LetterRow,
     first: RawLabel,
     others: Vec<RawLabel>,
     states: &mut Vec<RawState>,
@@ -76,12 +76,12 @@ fn append_cycle(
 }
 
 /// Returns the row of the letters of a stem, of the first letter of a cycle and of the others, by their counts.
-fn row_of(stem: usize, others: usize) -> Row
+fn row_of(stem: usize, others: usize) -> LetterRow
     requires { stem + others < most_states }
     ensures count { result.count ≡ stem + others + 1 }
     ensures back { result.back ≡ stem }
 {
-    Row {
+    LetterRow {
         count: (stem + others + 1) as u32,
         back: stem as u32,
     }
@@ -90,7 +90,7 @@ fn row_of(stem: usize, others: usize) -> Row
 /// Appends the states of `letters` to `states`, those of the letters before.
 fn append_states(
     alloc: Global,
-    row: Row,
+    row: LetterRow,
     letters: Vec<RawLabel>,
     states: &mut Vec<RawState>,
 ) -> Result<(), Refusal>
@@ -108,7 +108,7 @@ fn append_states(
 /// Appends the state of `letter` to `states`, those of the letters before.
 fn append_state(
     alloc: Global,
-    row: Row,
+    row: LetterRow,
     letter: RawLabel,
     states: &mut Vec<RawState>,
 ) -> Result<(), Refusal>
@@ -124,7 +124,12 @@ fn append_state(
 }
 
 /// Returns the state of `letter` with this `number`, whose one edge leads to the state that follows.
-fn letter_state(alloc: Global, row: Row, number: u32, letter: RawLabel) -> Result<RawState, Refusal>
+fn letter_state(
+    alloc: Global,
+    row: LetterRow,
+    number: u32,
+    letter: RawLabel,
+) -> Result<RawState, Refusal>
     requires { number < most_states }
     ensures state { IfOk result
         (λ state. state ≡ letter_state number (next_state row.count row.back number) letter) }

@@ -12,7 +12,7 @@ pub(crate) struct EdgeTable<'a> {
 
 /// An edge, and the state that it leaves.
 #[derive(Drop)]
-pub(crate) struct Found<'a> {
+pub(crate) struct TableEdge<'a> {
     pub(crate) source: &'a State,
     pub(crate) edge: EdgeRef<'a>,
 }
@@ -22,13 +22,13 @@ impl<'a> EdgeTable<'a> {
     ghost use Rattle.omega_lang_lasso_check.specs.private.EdgeTable.{IsEdgeAt, IsTable, automaton_of};
 
     /// Returns the edge with this `number`.
-    pub(crate) fn find(&self, number: u32) -> Found<'a>
+    pub(crate) fn find(&self, number: u32) -> TableEdge<'a>
         requires places { IsTable self.now }
         requires there { IsNumber (automaton_of self.now) number }
         ensures { IsEdgeAt self.now number result }
     {
         match edge_of(self.automaton, self.places, number) {
-            Some(found) => Found {
+            Some(found) => TableEdge {
                 source: found.state,
                 edge: found.state.edges.edge(found.index),
             },

@@ -7,7 +7,7 @@ ghost use Rattle.omega_lang_lasso_check.specs.private.EdgeTable.{IsTable, automa
 
 use crate::edge_table::EdgeTable;
 use omega_hoa_automaton::Refusal;
-use omega_hoa_satisfiable::can_hold;
+use omega_lang_runs::JudgedState;
 use std::alloc::Global;
 
 /// Returns the first of the edges in `numbers` whose label is never true. Fails with [TaskFault::TooManyPropositions]
@@ -43,8 +43,6 @@ fn is_usable(alloc: Global, table: &EdgeTable<'_>, number: u32) -> Result<bool, 
     ensures refused { IfErr result (GivesUpOn (IsHardEdge (automaton_of table.now) number)) }
 {
     let found = table.find(number);
-    match &found.source.label {
-        Some(label) => can_hold(alloc, Some(label)),
-        None => can_hold(alloc, found.edge.label()),
-    }
+    let judged_state = JudgedState::of(alloc, found.source)?;
+    judged_state.is_usable(alloc, &found.edge)
 }

@@ -17,7 +17,7 @@ use Rattle.omega_lang_runs.specs.Lasso.{IsAcceptingLasso, IsStart, marks_at}
 use Rattle.omega_lang_runs.proofs.SingleTargets.{enters_one}
 use Rattle.omega_lang_lasso_search.specs.Tabled.{ListsOne}
 use Rattle.omega_lang_lasso_search.specs.private.Numbering.{AreNumbered, first_of, name_in}
-use Rattle.omega_lang_lasso_search.specs.declared.search.Search.{Search}
+use Rattle.omega_lang_lasso_search.specs.declared.search.LassoSearch.{LassoSearch}
 use Rattle.omega_lang_lasso_search.specs.private.Searched.{IsAcceptingCycle, IsSearch, IsSearchIn, Reaches, beginning, edges_leaving, graph_of, usable_of}
 use Rattle.omega_lang_lasso_search.proofs.Walks.{TracedWalk, leads_from, leads_to, same_acceptance, walk_reached}
 
@@ -95,11 +95,11 @@ module _ (a : Description) (single : ListsOne a) (names sources : List ℕ) (gra
       }
 
 -- the flags are those of the states that the edges reach
-abbrev pub AreReached : Search → List Bool → Type 0
+abbrev pub AreReached : LassoSearch → List Bool → Type 0
 AreReached search states = (state : ℕ) → IsTrue (get_or states state false) ↔ Reaches search state
 
 -- the usable edges that leave a state with a flag
-abbrev pub kept : List Bool → Search → List ℕ
+abbrev pub kept : List Bool → LassoSearch → List ℕ
 kept states search = edges_leaving states search.graph.now search.edges.now
 
 -- a closed walk begins where its first edge does
@@ -111,7 +111,7 @@ first_leaves graph edges walk closed = go walk closed.loop_state closed.longer c
     go (number ∷ walk) loop_state longer leads = leads.1
 
 -- an edge of a closed walk of the edges that are kept is kept
-kept_on : (search : Search) (states : List Bool) (cycle : List ℕ) → IsClosedEdgeWalk (graph_of search) (listed (kept states search)) cycle
+kept_on : (search : LassoSearch) (states : List Bool) (cycle : List ℕ) → IsClosedEdgeWalk (graph_of search) (listed (kept states search)) cycle
     → (number : ℕ) → Contains cycle number → Contains search.edges.now number × (get_or states (ends_at search.graph.now number).from false ≡ true)
 kept_on search states cycle closed number has =
     filter_has (λ n. get_or states (ends_at search.graph.now n).from false) search.edges.now number
@@ -119,7 +119,7 @@ kept_on search states cycle closed number has =
     (on_edges (graph_of search) (listed (kept states search)) closed.loop_state cycle closed.loop_state closed.leads number has))
 
 -- an accepting closed walk of usable edges, and a walk to it from a source
-record CycleOf (search : Search) (cycle : List ℕ) : Type 0 where
+record CycleOf (search : LassoSearch) (cycle : List ℕ) : Type 0 where
   pub loop_state : ℕ
   pub come : Reaches search loop_state
   pub leads : IsEdgeWalk (graph_of search) (usable_of search) loop_state cycle loop_state
@@ -127,11 +127,11 @@ record CycleOf (search : Search) (cycle : List ℕ) : Type 0 where
   pub accepted : IsTrue (accepts (marks_on (graph_of search) cycle) search.formula.now)
 
 -- an accepting closed walk of usable edges, which lead to its beginning from a source
-pub record IsReachedCycle (search : Search) (cycle : List ℕ) : Type 0 where
+pub record IsReachedCycle (search : LassoSearch) (cycle : List ℕ) : Type 0 where
   pub accepting : IsAcceptingCycle search cycle
   pub reached : Reaches search (beginning search cycle)
 
-module _ (search : Search) where
+module _ (search : LassoSearch) where
   abbrev rows : List (List ℕ)
   rows = search.marks.now
 

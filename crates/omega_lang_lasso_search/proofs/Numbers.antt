@@ -1,23 +1,10 @@
 -- The numbers below a count.
-use Rattle.std.proofs.Common.{◌≡◌, ℕ, zero, suc, ◌+◌, ◌<◌, List, [], ◌∷◌, ◌++◌, length, get_or, All, Contains, sym, ap, subst, ◌∙◌, arith}
+use Rattle.std.proofs.Common.{◌≡◌, ℕ, ◌+◌, ◌<◌, length, get_or, All, Contains, sym, subst, ◌∙◌, arith}
 use Rattle.std.specs.List.{range_with_len}
 use Rattle.std.proofs.lemmas.List.FromFn.{get_or-range_with_len, length-range_with_len}
 use Rattle.std.proofs.lemmas.Option.{slice_get_within}
 use Rattle.omega_hoa_automaton.specs.Automaton.{Description, edges_of}
 use Rattle.omega_lang_lasso_search.specs.Tabled.{AllAreUsable, AreUsableEdges}
-
--- one number more
-more_from : (a n : ℕ) → range_with_len a (suc n) ≡ range_with_len a n ++ (a + n) ∷ []
-more_from a zero = let e : a ≡ a + 0 = omega arith in ap (λ m. m ∷ []) e
-more_from a (suc n) =
-    let e : (a + 1) + n ≡ a + suc n = omega arith in
-    ap (λ (rest : List ℕ). a ∷ rest) (more_from (a + 1) n ∙ ap (λ m. range_with_len (a + 1) n ++ m ∷ []) e)
-
-pub number_more : (n : ℕ) → range_with_len 0 n ++ n ∷ [] ≡ range_with_len 0 (n + 1)
-number_more n =
-    let zero_first : 0 + n ≡ n = omega arith in
-    let next : n + 1 ≡ suc n = omega arith in
-    ap (λ m. range_with_len 0 n ++ m ∷ []) (sym zero_first) ∙ sym (more_from 0 n) ∙ ap (range_with_len 0) (sym next)
 
 -- each of them is below the count, and each number below it is one of them
 pub numbers_inside : (n : ℕ) → All (λ number. number < n) (range_with_len 0 n)

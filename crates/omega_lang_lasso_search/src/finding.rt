@@ -1,6 +1,5 @@
 //! An accepting lasso for any acceptance formula, found by a search of the automaton itself.
 ghost use Rattle.std.specs.Prelude.{◌≡◌, false, IfErr, IfNone, IfOk, IfSome, IsOkUnless, OnOk, length};
-ghost use Rattle.std.specs.List.{range_with_len};
 ghost use Rattle.omega_hoa_automaton.specs.Automaton.{Description};
 ghost use Rattle.omega_hoa_automaton.specs.Branching.{has_universal_branching};
 ghost use Rattle.omega_graph.specs.Graph.{AreEdges};
@@ -15,11 +14,12 @@ use crate::ends::edge_ends;
 use crate::given::Given;
 use crate::marks::edge_marks;
 use crate::numbering::{first_states, number_states};
-use crate::search::Search;
+use crate::search::LassoSearch;
 use crate::turning::shortest_lasso;
 use crate::usable::usable_edges;
 use omega_graph::{Edge, Graph, path, reached_flags};
 use omega_graph_accepting_walk::accepting_walk;
+use omega_graph_search::numbers_below;
 use omega_hoa_acceptance::Acc;
 use omega_hoa_automaton::{Automaton, Refusal, has_universal_branching};
 use omega_lang_runs::Verdict;
@@ -66,7 +66,10 @@ pub fn lasso_in_table(
         → AllAreUsable a → IsVerdict a verdict) }
     ensures memory { IsOkUnless result Refusal.Memory }
 {
-    let edges = numbers_below(alloc, ends.len())?;
+    if ends.len() > u32::MAX as usize {
+        return Err(Refusal::Memory);
+    }
+    let edges = numbers_below(alloc, ends.len() as u32)?;
     let given = Given {
         starts,
         ends,
@@ -76,21 +79,6 @@ pub fn lasso_in_table(
     };
     let verdict = verdict_by_search(alloc, &given)?;
     Ok(verdict)
-}
-
-/// Returns the numbers below `count` in ascending order. Also fails with [Refusal::Memory] if they are over 2^32 - 1.
-fn numbers_below(alloc: Global, count: usize) -> Result<Vec<u32>, Refusal>
-    ensures numbers { IfOk result (λ numbers. numbers.items ≡ range_with_len 0 count) }
-    ensures memory { IsOkUnless result Refusal.Memory }
-{
-    if count > u32::MAX as usize {
-        return Err(Refusal::Memory);
-    }
-    let mut numbers = Vec::with_capacity(alloc, count)?;
-    for number in 0..count {
-        numbers.push(number as u32)?;
-    }
-    Ok(numbers)
 }
 
 /// Returns the verdict on `automaton`, given its usable `edges`.
@@ -123,7 +111,7 @@ fn verdict_by_search(alloc: Global, given: &Given<'_>) -> Result<Verdict, Refusa
     ensures memory { IsOkUnless result Refusal.Memory }
 {
     let numbered = number_states(alloc, given.starts, given.ends)?;
-    let search = Search {
+    let search = LassoSearch {
         marks: given.marks,
         graph: &numbered.graph,
         sources: numbered.sources.as_slice(),
@@ -136,7 +124,7 @@ fn verdict_by_search(alloc: Global, given: &Given<'_>) -> Result<Verdict, Refusa
 
 /// Returns the verdict of a search. Looks for a closed walk among all its edges. If no source leads to the one that is
 /// found, looks again among the edges that a source reaches.
-fn found_in(alloc: Global, search: &Search<'_>) -> Result<Verdict, Refusal>
+fn found_in(alloc: Global, search: &LassoSearch<'_>) -> Result<Verdict, Refusal>
     requires { IsSearch search.now }
     ensures verdict { IfOk result (IsVerdictOf search.now) }
     ensures memory { IsOkUnless result Refusal.Memory }
@@ -158,7 +146,7 @@ fn found_in(alloc: Global, search: &Search<'_>) -> Result<Verdict, Refusal>
 }
 
 /// Returns the verdict of a search, looking for a closed walk among its edges that a source reaches.
-fn found_among_reached(alloc: Global, search: &Search<'_>) -> Result<Verdict, Refusal>
+fn found_among_reached(alloc: Global, search: &LassoSearch<'_>) -> Result<Verdict, Refusal>
     requires { IsSearch search.now }
     ensures verdict { IfOk result (IsVerdictOf search.now) }
     ensures memory { IsOkUnless result Refusal.Memory }
@@ -182,7 +170,11 @@ fn found_among_reached(alloc: Global, search: &Search<'_>) -> Result<Verdict, Re
 
 /// Returns the lasso of `cycle` with a shortest stem to its first edge, by breadth-first search. Returns none if no
 /// source leads there.
-fn with_stem(alloc: Global, search: &Search<'_>, cycle: &[u32]) -> Result<Option<Verdict>, Refusal>
+fn with_stem(
+    alloc: Global,
+    search: &LassoSearch<'_>,
+    cycle: &[u32],
+) -> Result<Option<Verdict>, Refusal>
     requires ready { IsSearch search.now }
     requires cycle { IsAcceptingCycle search.now cycle.now }
     ensures verdict { IfOk result (λ found. IfSome found (IsVerdictOf search.now)) }

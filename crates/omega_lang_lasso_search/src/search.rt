@@ -4,7 +4,7 @@ use omega_text::Numbers;
 
 /// A search for an accepting lasso: the usable edges of an automaton, in a graph of all its edges in their order.
 #[derive(Clone, Copy)]
-pub(crate) struct Search<'a> {
+pub(crate) struct LassoSearch<'a> {
     /// The marks of each edge.
     pub(crate) marks: &'a [Numbers],
     pub(crate) graph: &'a Graph,

@@ -9,7 +9,7 @@ use Rattle.omega_lang_lasso_text.specs.Grammar.{SpellsLasso, lasso_syntax}
 use Rattle.omega_lang_lasso_text.specs.Symbols.{LassoSymbol, lasso_symbol_of}
 use Rattle.omega_lang_lasso_text.specs.declared.kind.LassoKind.{LassoKind}
 use Rattle.omega_lang_lasso_text.specs.declared.lasso.LassoText.{LassoText}
-use Rattle.omega_lang_lasso_text.specs.declared.stage.Stage.TheVariants.{Cycle}
+use Rattle.omega_lang_lasso_text.specs.declared.stage.LassoStage.TheVariants.{Cycle}
 use Rattle.omega_lang_lasso_text.specs.private.Reading.{IsEnded, LassoState, initial, kept, run, step}
 use Rattle.omega_lang_lasso_text.proofs.Runs.{completes, ends, lasso_in, run_on, run_push, run_stopped, run_text, text_run}
 

@@ -5,8 +5,8 @@ use Rattle.std.proofs.lemmas.List.{map-append}
 use Rattle.omega_lang_lasso_text.specs.Grammar.{SpellsLasso, lasso_symbols}
 use Rattle.omega_lang_lasso_text.specs.Symbols.{LassoSymbol, cycle, number, stem}
 use Rattle.omega_lang_lasso_text.specs.declared.lasso.LassoText.{LassoText}
-use Rattle.omega_lang_lasso_text.specs.declared.stage.Stage.{Stage}
-use Rattle.omega_lang_lasso_text.specs.declared.stage.Stage.TheVariants.{Cycle, Start, Stem}
+use Rattle.omega_lang_lasso_text.specs.declared.stage.LassoStage.{LassoStage}
+use Rattle.omega_lang_lasso_text.specs.declared.stage.LassoStage.TheVariants.{Cycle, Start, Stem}
 use Rattle.omega_lang_lasso_text.specs.private.Reading.{IsEnded, LassoState, initial, kept, run, step}
 
 -- a run over two joined lists is a run over the first and then over the second
@@ -48,7 +48,7 @@ pub run_text : (symbols : List LassoSymbol) (lasso : LassoText) → SpellsLasso 
 run_text symbols lasso spells = ap (run initial) spells.spelled ∙ run_before [] lasso.stem (cycle ∷ map number lasso.cycle) ∙ run_around lasso.stem [] lasso.cycle
 
 -- the symbols that led to a stage with these numbers
-abbrev IsReached : List LassoSymbol → Stage → List ℕ → List ℕ → Type 0
+abbrev IsReached : List LassoSymbol → LassoStage → List ℕ → List ℕ → Type 0
 IsReached front Start before around = (front ≡ []) × (before ≡ []) × (around ≡ [])
 IsReached front Stem before around = (front ≡ stem ∷ map number before) × (around ≡ [])
 IsReached front Cycle before around = front ≡ lasso_symbols before around
@@ -58,7 +58,7 @@ numbers_push : (numbers : List ℕ) (n : ℕ) → map number numbers ++ number n
 numbers_push numbers n = sym (map-append number numbers (n ∷ []))
 
 -- one symbol more leads to the next stage
-reached_step : (front : List LassoSymbol) (stage : Stage) (before around : List ℕ) (symbol : LassoSymbol) (next : LassoState)
+reached_step : (front : List LassoSymbol) (stage : LassoStage) (before around : List ℕ) (symbol : LassoSymbol) (next : LassoState)
     → IsReached front stage before around → step (kept stage before around) symbol ≡ Some next → IsReached (front ++ symbol ∷ []) next.stage next.before next.around
 reached_step front Start before around (number n) next reached e = absurd cc
 reached_step front Start before around stem next reached e =
@@ -120,7 +120,7 @@ pub record Completes (from : LassoState) : Type 0 where
   pub ended : IsEnded state
 
 -- there are such from each state
-completes_at : (stage : Stage) (before around : List ℕ) → Completes (kept stage before around)
+completes_at : (stage : LassoStage) (before around : List ℕ) → Completes (kept stage before around)
 completes_at Start before around = record {
   more = stem ∷ cycle ∷ number 0 ∷ [];
   state = kept Cycle before (around ++ 0 ∷ []);
@@ -144,7 +144,7 @@ pub completes : (state : LassoState) → Completes state
 completes state = completes_at state.stage state.before state.around
 
 -- a state is one of a whole text or not
-ends_at : (stage : Stage) (before around : List ℕ) → IsEnded (kept stage before around) ⊎ (IsEnded (kept stage before around) → ⊥)
+ends_at : (stage : LassoStage) (before around : List ℕ) → IsEnded (kept stage before around) ⊎ (IsEnded (kept stage before around) → ⊥)
 ends_at Start before around = inr (λ ended. let clash : Start ≡ Cycle = ended.0 in cc)
 ends_at Stem before around = inr (λ ended. let clash : Stem ≡ Cycle = ended.0 in cc)
 ends_at Cycle before [] = inr (λ ended. omega (arith, ended.1))

@@ -2,20 +2,20 @@ ghost use Rattle.std.specs.Prelude.{◌≡◌, ◌↔◌, IfOk, IsOkUnless, IsTr
 
 use crate::kind::LassoKind;
 use crate::lasso::LassoText;
-use crate::stage::Stage;
+use crate::stage::LassoStage;
 use omega_text::{Refusal, Seq, Token, TokenReader};
 use std::alloc::Global;
 use std::marker::Model;
 
 /// A reader of lasso texts: what it has read so far.
 #[derive(Drop)]
-pub(crate) struct Reader {
-    pub(crate) stage: Stage,
+pub(crate) struct LassoReader {
+    pub(crate) stage: LassoStage,
     pub(crate) stem: Vec<u32>,
     pub(crate) cycle: Vec<u32>,
 }
 
-impl Model for Reader {
+impl Model for LassoReader {
     ghost use Rattle.omega_lang_lasso_text.specs.private.Reading.{LassoState, kept};
 
     ghost Value = { LassoState };
@@ -23,7 +23,7 @@ impl Model for Reader {
     ghost view = { λ reader. kept reader.stage reader.stem.items reader.cycle.items };
 }
 
-impl Reader {
+impl LassoReader {
     ghost use Rattle.omega_lang_lasso_text.specs.private.Reading.{Goes, cycle_at, initial};
     ghost use Rattle.omega_lang_lasso_text.specs.private.Reading.{number_at, stem_at};
 
@@ -31,8 +31,8 @@ impl Reader {
     pub(crate) fn new(alloc: Global) -> Self
         ensures { result ≡ initial }
     {
-        Reader {
-            stage: Stage::Start,
+        LassoReader {
+            stage: LassoStage::Start,
             stem: Vec::new(alloc),
             cycle: Vec::new(alloc),
         }
@@ -56,12 +56,12 @@ impl Reader {
         ensures memory { IsOkUnless result Refusal.Memory }
     {
         match self.stage {
-            Stage::Start => Ok(false),
-            Stage::Stem => {
+            LassoStage::Start => Ok(false),
+            LassoStage::Stem => {
                 self.stem.push(number)?;
                 Ok(true)
             }
-            Stage::Cycle => {
+            LassoStage::Cycle => {
                 self.cycle.push(number)?;
                 Ok(true)
             }
@@ -73,11 +73,11 @@ impl Reader {
         ensures { Goes result (stem_at self.old.stage self.old) self.new }
     {
         match self.stage {
-            Stage::Start => {
-                self.stage = Stage::Stem;
+            LassoStage::Start => {
+                self.stage = LassoStage::Stem;
                 true
             }
-            Stage::Stem | Stage::Cycle => false,
+            LassoStage::Stem | LassoStage::Cycle => false,
         }
     }
 
@@ -86,16 +86,16 @@ impl Reader {
         ensures { Goes result (cycle_at self.old.stage self.old) self.new }
     {
         match self.stage {
-            Stage::Stem => {
-                self.stage = Stage::Cycle;
+            LassoStage::Stem => {
+                self.stage = LassoStage::Cycle;
                 true
             }
-            Stage::Start | Stage::Cycle => false,
+            LassoStage::Start | LassoStage::Cycle => false,
         }
     }
 }
 
-impl TokenReader<LassoKind> for Reader {
+impl TokenReader<LassoKind> for LassoReader {
     ghost use Rattle.omega_lang_lasso_text.specs.Symbols.{lasso_symbol_of};
     ghost use Rattle.omega_lang_lasso_text.specs.Grammar.{lasso_syntax};
     ghost use Rattle.omega_lang_lasso_text.specs.private.Reader.{HasBecome};
@@ -124,6 +124,6 @@ impl TokenReader<LassoKind> for Reader {
     fn is_complete(&self) -> bool
         ensures { IsTrue result ↔ IsEnded self.now }
     {
-        matches!(self.stage, Stage::Cycle) && !self.cycle.is_empty()
+        matches!(self.stage, LassoStage::Cycle) && !self.cycle.is_empty()
     }
 }

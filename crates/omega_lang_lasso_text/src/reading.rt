@@ -4,7 +4,7 @@ ghost use Rattle.omega_lang_lasso_text.specs.Text.{IsLassoText};
 
 use crate::kind::LassoKind;
 use crate::lasso::LassoText;
-use crate::reader::Reader;
+use crate::reader::LassoReader;
 use omega_text::{Refusal, read_text};
 use std::alloc::Global;
 
@@ -24,6 +24,6 @@ pub fn read_lasso(alloc: Global, bytes: &[u8]) -> Result<LassoText, Refusal>
     ensures lasso { IfOk result (IsLassoText bytes.now) }
     ensures refused { IfErr result (IsReadLassoRefusal bytes.now) }
 {
-    let reader = read_text::<LassoKind, Reader>(Reader::new(alloc), bytes)?;
+    let reader = read_text::<LassoKind, LassoReader>(LassoReader::new(alloc), bytes)?;
     Ok(reader.into_lasso())
 }

@@ -10,8 +10,8 @@ use Rattle.omega_lang_lasso_word.specs.Names.{name_text}
 use Rattle.omega_lang_lasso_word.specs.declared.signs.Above.{Above}
 use Rattle.omega_lang_lasso_word.specs.declared.signs.Above.TheVariants as above
 use Rattle.omega_lang_lasso_word.specs.declared.signs.Infix.{Infix}
-use Rattle.omega_lang_lasso_word.specs.declared.signs.Sign.{Sign}
-use Rattle.omega_lang_lasso_word.specs.declared.signs.Sign.TheVariants as sign
+use Rattle.omega_lang_lasso_word.specs.declared.signs.FormulaSign.{FormulaSign}
+use Rattle.omega_lang_lasso_word.specs.declared.signs.FormulaSign.TheVariants as sign
 use Rattle.omega_lang_lasso_word.specs.declared.signs.Waiting.{Waiting}
 use Rattle.omega_lang_lasso_word.specs.declared.signs.Waiting.TheVariants.{Part, Written}
 
@@ -76,7 +76,7 @@ words_after names parts [] = parts
 words_after names parts (next ∷ nodes) = words_after names (words_with names parts next) nodes
 
 -- how a sign is written
-abbrev pub sign_words : List (List ℕ) → Sign → List ℕ
+abbrev pub sign_words : List (List ℕ) → FormulaSign → List ℕ
 sign_words names (sign.Constant value) = if value then codes "1" else codes "0"
 sign_words names (sign.Name number) = name_text (get_or names number [])
 sign_words names sign.Not = codes "!"
@@ -86,7 +86,7 @@ sign_words names sign.Open = codes "("
 sign_words names sign.Close = codes ")"
 
 -- how signs are written
-abbrev pub signs_words : List (List ℕ) → List Sign → List ℕ
+abbrev pub signs_words : List (List ℕ) → List FormulaSign → List ℕ
 signs_words names [] = []
 signs_words names (next ∷ signs) = sign_words names next ++ signs_words names signs
 

@@ -6,6 +6,7 @@ pub mod Names
 pub mod Letters
 pub mod Infix
 pub mod WordText
+pub mod LassoWordText
 pub mod Formulas
 pub mod Fitting
 pub mod Laws

@@ -10,14 +10,14 @@ ghost use Rattle.omega_lang_lasso_word.specs.Letters.{literal_text, valuation_te
 ghost use Rattle.omega_lang_lasso_word.specs.Names.{name_text};
 
 use crate::names::write_name;
-use crate::signs::{Above, Infix, Sign, Signs};
+use crate::signs::{Above, FormulaSign, FormulaSigns, Infix};
 use omega_hoa_edges::{conjuncts_of, has_bit};
 use omega_hoa_label::{Label, LabelNode, ROOM};
 use omega_text::{ByteString, Refusal};
 
 /// Appends the conjunction of `conjuncts` with the `names` of their propositions, as Spot writes formulas: `&` between
 /// each two, and `1` if there is none. Linear in the conjuncts.
-pub fn write_conjuncts(
+pub(crate) fn write_conjuncts(
     names: &[ByteString],
     conjuncts: &[Label],
     out: &mut Vec<u8>,
@@ -128,7 +128,11 @@ fn put_all(text: &mut Infix, nodes: &[LabelNode]) -> Result<(), Refusal>
 }
 
 /// Appends `signs` with the `names` of their propositions.
-fn write_signs(names: &[ByteString], signs: &mut Signs, out: &mut Vec<u8>) -> Result<(), Refusal>
+fn write_signs(
+    names: &[ByteString],
+    signs: &mut FormulaSigns,
+    out: &mut Vec<u8>,
+) -> Result<(), Refusal>
     ensures text { OnOk result (out.new.items ≡ out.old.items ++ signs_words names.now signs.old) }
     ensures memory { IsOkUnless result Refusal.Memory }
 {
@@ -139,18 +143,18 @@ fn write_signs(names: &[ByteString], signs: &mut Signs, out: &mut Vec<u8>) -> Re
 }
 
 /// Appends `sign` with the `names` of its proposition.
-fn write_sign(names: &[ByteString], sign: Sign, out: &mut Vec<u8>) -> Result<(), Refusal>
+fn write_sign(names: &[ByteString], sign: FormulaSign, out: &mut Vec<u8>) -> Result<(), Refusal>
     ensures text { OnOk result (out.new.items ≡ out.old.items ++ sign_words names.now sign) }
     ensures memory { IsOkUnless result Refusal.Memory }
 {
     match sign {
-        Sign::Constant(value) => out.push(if value { b'1' } else { b'0' })?,
-        Sign::Name(number) => write_proposition(names, number as usize, out)?,
-        Sign::Not => out.push(b'!')?,
-        Sign::And => out.extend_from_slice(b" & ")?,
-        Sign::Or => out.extend_from_slice(b" | ")?,
-        Sign::Open => out.push(b'(')?,
-        Sign::Close => out.push(b')')?,
+        FormulaSign::Constant(value) => out.push(if value { b'1' } else { b'0' })?,
+        FormulaSign::Name(number) => write_proposition(names, number as usize, out)?,
+        FormulaSign::Not => out.push(b'!')?,
+        FormulaSign::And => out.extend_from_slice(b" & ")?,
+        FormulaSign::Or => out.extend_from_slice(b" | ")?,
+        FormulaSign::Open => out.push(b'(')?,
+        FormulaSign::Close => out.push(b')')?,
     }
     Ok(())
 }

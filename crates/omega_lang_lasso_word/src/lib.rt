@@ -1,20 +1,16 @@
-//! The word of a lasso: what each of its edges demands of the propositions, by their names.
+//! Words and runs of lassos. The word of a lasso is what each of its edges demands of the propositions, by their names;
+//! its run is the states that its edges leave. Both are texts in the form in which Spot writes words: a text for each
+//! edge, with semicolons between, and braces around the cycle.
+//!
+//! Words are values too: [`LassoWord`], whose letters are conjunctions of labels, and [`SymbolicWord`], whose letters
+//! are formulas over names, with the infinite words that such a word admits.
 //!
 //! docs/formats.md says when each refusal comes.
-//!
-//! Lassos in the form of words: a text for each edge, with semicolons between, and braces around the cycle.
-//!
-//! docs/formats.md says when each refusal comes.
-//!
-//! The run of a lasso: the states that its edges leave, by their numbers and names.
-//!
-//! docs/formats.md says when each refusal comes.
-//!
-//! Words whose letters are formulas over names, and which infinite words such a word admits.
 #![tactic(auto)]
 
-mod edge_text;
+mod element_text;
 mod form;
+mod lasso_word;
 pub mod laws;
 mod letters;
 mod names;
@@ -23,9 +19,7 @@ mod signs;
 mod symbolic_word;
 mod word;
 
-pub use edge_text::EdgeText;
-pub use form::lasso_form;
-pub use letters::write_conjuncts;
+pub use lasso_word::{LassoWord, lasso_word_text};
 pub use names::{stands_bare, write_name};
 pub use omega_hoa_automaton::{Automaton, Refusal};
 pub use omega_hoa_label::RawLabel;

@@ -2,7 +2,8 @@ ghost use Rattle.std.specs.Prelude.{◌≡◌, ◌++◌, IfOk, IsOkUnless, OnOk,
 ghost use Rattle.omega_lang_runs.specs.Places.{ArePlaces};
 ghost use Rattle.omega_lang_lasso_word.specs.RunText.{name_after, run_text, state_text, visit_text};
 
-use crate::{EdgeText, lasso_form};
+use crate::element_text::ElementText;
+use crate::form::lasso_form;
 use omega_hoa_automaton::{Automaton, State};
 use omega_lang_runs::{EdgePlace, edge_of, edge_places};
 use omega_text::{Refusal, write_number};
@@ -40,13 +41,13 @@ struct Visits<'a> {
     places: &'a [EdgePlace],
 }
 
-impl<'a> EdgeText for Visits<'a> {
+impl<'a> ElementText<u32> for Visits<'a> {
     ghost can_tell = { λ visits. ArePlaces visits.automaton.now visits.places.now };
 
     ghost told = { λ visits. visit_text visits.automaton.now };
 
-    fn tell(&self, number: u32, out: &mut Vec<u8>) -> Result<(), Refusal> {
-        match edge_of(self.automaton, self.places, number) {
+    fn tell(&self, number: &u32, out: &mut Vec<u8>) -> Result<(), Refusal> {
+        match edge_of(self.automaton, self.places, *number) {
             None => Ok(()),
             Some(found) => write_state(found.state, out),
         }

@@ -11,7 +11,7 @@ use std::marker::Model;
 
 /// A sign of the text of a label.
 #[derive(Clone, Copy)]
-pub(crate) enum Sign {
+pub(crate) enum FormulaSign {
     Constant(bool),
     /// The name of the proposition with a number.
     Name(u32),
@@ -25,7 +25,7 @@ pub(crate) enum Sign {
 /// What is waiting to be written before the signs so far.
 #[derive(Clone, Copy)]
 pub(crate) enum Waiting {
-    Written(Sign),
+    Written(FormulaSign),
     Part(Above),
 }
 
@@ -51,32 +51,32 @@ fn tightness(above: Above) -> u32
 
 /// Signs that grow to the left. Contracts see them in their order.
 #[derive(Drop)]
-pub(crate) struct Signs {
+pub(crate) struct FormulaSigns {
     /// The last first.
-    items: Vec<Sign>,
+    items: Vec<FormulaSign>,
 }
 
-impl Model for Signs {
+impl Model for FormulaSigns {
     ghost use Rattle.std.specs.Prelude.{List, reverse};
-    ghost use Rattle.omega_lang_lasso_word.specs.declared.signs.Sign.{Sign};
+    ghost use Rattle.omega_lang_lasso_word.specs.declared.signs.FormulaSign.{FormulaSign};
 
-    ghost Value = { List Sign };
+    ghost Value = { List FormulaSign };
 
     ghost view = { λ s. reverse s.items.items };
 }
 
-impl Signs {
+impl FormulaSigns {
     /// Makes an empty list of signs.
     fn new(alloc: Global) -> Self
         ensures { result ≡ [] }
     {
-        Signs {
+        FormulaSigns {
             items: Vec::new(alloc),
         }
     }
 
     /// Puts `sign` before the others.
-    fn put(&mut self, sign: Sign) -> Result<(), Refusal>
+    fn put(&mut self, sign: FormulaSign) -> Result<(), Refusal>
         ensures ok { OnOk result (self.new ≡ sign ∷ self.old) }
         ensures memory { IsOkUnless result Refusal.Memory }
     {
@@ -85,7 +85,7 @@ impl Signs {
     }
 
     /// Takes the first sign.
-    pub(crate) fn take(&mut self) -> Option<Sign>
+    pub(crate) fn take(&mut self) -> Option<FormulaSign>
         ensures { MatchOption result ((self.old ≡ []) × (self.new ≡ []))
             (λ sign. self.old ≡ sign ∷ self.new) }
     {
@@ -140,7 +140,7 @@ impl Waitings {
 /// operator, which comes before it.
 #[derive(Drop)]
 pub(crate) struct Infix {
-    pub(crate) signs: Signs,
+    pub(crate) signs: FormulaSigns,
     waiting: Waitings,
 }
 
@@ -154,7 +154,7 @@ impl Infix {
         let mut waiting = Waitings::new(alloc);
         waiting.push(Waiting::Part(above))?;
         Ok(Infix {
-            signs: Signs::new(alloc),
+            signs: FormulaSigns::new(alloc),
             waiting,
         })
     }
@@ -170,21 +170,21 @@ impl Infix {
             return Ok(());
         };
         match node {
-            LabelNode::Constant(value) => self.signs.put(Sign::Constant(value)),
-            LabelNode::Proposition(number) => self.signs.put(Sign::Name(number)),
+            LabelNode::Constant(value) => self.signs.put(FormulaSign::Constant(value)),
+            LabelNode::Proposition(number) => self.signs.put(FormulaSign::Name(number)),
             LabelNode::Not => {
-                self.waiting.push(Waiting::Written(Sign::Not))?;
+                self.waiting.push(Waiting::Written(FormulaSign::Not))?;
                 self.waiting.push(Waiting::Part(Above::Not))
             }
-            LabelNode::And => self.join(Sign::And, Above::And, above),
-            LabelNode::Or => self.join(Sign::Or, Above::Loose, above),
+            LabelNode::And => self.join(FormulaSign::And, Above::And, above),
+            LabelNode::Or => self.join(FormulaSign::Or, Above::Loose, above),
             LabelNode::Alias(_) | LabelNode::Group => Ok(()),
         }
     }
 
     /// Makes two parts below `level` and `operator` between them wanted, in parentheses if the operator `above` them
     /// binds more tightly.
-    fn join(&mut self, operator: Sign, level: Above, above: Above) -> Result<(), Refusal>
+    fn join(&mut self, operator: FormulaSign, level: Above, above: Above) -> Result<(), Refusal>
         ensures ok { OnOk result ((names : List (List ℕ)) (parts : List Words) →
             whole_words names self.new parts ≡
             words_before names (Part above ∷ self.old.waiting)
@@ -193,8 +193,8 @@ impl Infix {
         ensures memory { IsOkUnless result Refusal.Memory }
     {
         if tightness(level) < tightness(above) {
-            self.signs.put(Sign::Close)?;
-            self.waiting.push(Waiting::Written(Sign::Open))?;
+            self.signs.put(FormulaSign::Close)?;
+            self.waiting.push(Waiting::Written(FormulaSign::Open))?;
         }
         self.waiting.push(Waiting::Part(level))?;
         self.waiting.push(Waiting::Written(operator))?;

@@ -4,8 +4,9 @@ ghost use Rattle.omega_lang_runs.specs.Places.{ArePlaces};
 ghost use Rattle.omega_lang_lasso_word.specs.Letters.{letter_text, text_of_letter};
 ghost use Rattle.omega_lang_lasso_word.specs.WordText.{word_text};
 
+use crate::element_text::ElementText;
+use crate::form::lasso_form;
 use crate::letters::{write_label, write_valuation};
-use crate::{EdgeText, lasso_form};
 use omega_hoa_automaton::{Automaton, EdgeRef, State};
 use omega_lang_runs::{EdgePlace, edge_of, edge_places};
 use omega_text::{ByteString, Refusal};
@@ -30,7 +31,7 @@ pub fn word_of(
     ensures memory { IsOkUnless result Refusal.Memory }
 {
     let places = edge_places(alloc, automaton)?;
-    let letters = Letters {
+    let letters = EdgeLetters {
         automaton,
         places: places.as_slice(),
     };
@@ -39,18 +40,18 @@ pub fn word_of(
 
 /// The letters of an automaton's edges, which are found by their places.
 #[derive(Clone, Copy)]
-struct Letters<'a> {
+struct EdgeLetters<'a> {
     automaton: &'a Automaton,
     places: &'a [EdgePlace],
 }
 
-impl<'a> EdgeText for Letters<'a> {
+impl<'a> ElementText<u32> for EdgeLetters<'a> {
     ghost can_tell = { λ letters. ArePlaces letters.automaton.now letters.places.now };
 
     ghost told = { λ letters. letter_text letters.automaton.now };
 
-    fn tell(&self, number: u32, out: &mut Vec<u8>) -> Result<(), Refusal> {
-        match edge_of(self.automaton, self.places, number) {
+    fn tell(&self, number: &u32, out: &mut Vec<u8>) -> Result<(), Refusal> {
+        match edge_of(self.automaton, self.places, *number) {
             None => Ok(()),
             Some(found) => {
                 let edge = found.state.edges.edge(found.index);

@@ -82,7 +82,7 @@ fn label_of<'a>(
 }
 
 /// Returns the marks of a state and of an edge, each after `before` other sets. Also fails with [Refusal::Memory] if a
-/// number does not fit, which can't happen for an automaton within the limits.
+/// number is over 2^32 - 1, as `number_of_set` does.
 fn marks_after(
     alloc: Global,
     of_state: &[u32],

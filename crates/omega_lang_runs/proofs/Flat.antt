@@ -2,10 +2,8 @@
 use Rattle.std.proofs.Common.{◌≡◌, ℕ, zero, suc, ◌<◌, ◌≤◌, inl, inr, List, [], ◌∷◌, ◌++◌, length, map, get_or, Contains, Option, Some, sym, ap, subst, arith}
 use Rattle.std.specs.List.{flat_map}
 use Rattle.std.proofs.lemmas.List.Elements.{Contains-append_cases, Contains-append_left, Contains-append_right}
-use Rattle.omega_text.specs.Cases.{never, or_task}
 use Rattle.omega_text.specs.declared.refusal.Refusal.{Refusal}
 use Rattle.omega_text.specs.declared.refusal.Refusal.TheVariants.{Automaton, Game, Io, Memory, Task, Text}
-use Rattle.omega_text.specs.declared.refusal.task.TaskFault.TheVariants.{TooManyPropositions}
 use Rattle.omega_hoa_label.specs.Label.{LabelTree}
 use Rattle.omega_hoa_expression.specs.Limits.{most_mentioned}
 use Rattle.omega_hoa_satisfiable.specs.Satisfiable.{mentioned}
@@ -13,7 +11,7 @@ use Rattle.omega_hoa_satisfiable.specs.Undecided.{IsHardLabel}
 use Rattle.omega_hoa_automaton.specs.Automaton.{BodyEdge, Description, edges_from}
 use Rattle.omega_hoa_automaton.specs.declared.edge.Edge.{Edge}
 use Rattle.omega_hoa_automaton.specs.declared.state.State.{State}
-use Rattle.omega_lang_runs.specs.Judging.{GivesUpOn, HasHard, HasHardLabel, HasLabelWith, HasNarrow, HasNarrowLabels, HasWide, HasWideLabel, IsLabelIn, IsNarrow, IsWide, IsWideLabel}
+use Rattle.omega_lang_runs.specs.Judging.{GivesUpOn, HasHard, HasHardLabel, HasLabelWith, HasNarrow, HasNarrowLabels, HasWide, HasWideLabel, IsLabelIn, IsNarrow, IsWideLabel}
 
 -- an edge that a state lists, as an edge of the body
 contains_from : (state : State) (edges : List Edge) (k : ℕ) (edge : Edge) → k < length edges → edge ≡ get_or edges k edge
@@ -98,13 +96,3 @@ narrow_labels a narrow label is_label = go is_label
         let P : State → Type 0 = λ s. HasNarrow s in
         let own : HasNarrow edge.source = subst P (sym from.here) (narrow from.place from.below edge.source) in
         at edge.edge.label (own.edges edge.edge from.contained) same
-
--- a wide label of one of a state's edges is one of the state's
-pub wide_edge_refused : (state : State) (k : ℕ) (edge : Edge) → k < length state.edges → edge ≡ get_or state.edges k edge → (e : Refusal)
-    → or_task (λ fault. (fault ≡ TooManyPropositions) × IsWide edge.label) never e → GivesUpOn (HasWide state) e
-wide_edge_refused state k edge below here (Text fault) refused = absurd refused
-wide_edge_refused state k edge below here (Game fault) refused = absurd refused
-wide_edge_refused state k edge below here (Automaton fault) refused = absurd refused
-wide_edge_refused state k edge below here (Task fault) refused = (refused.0, inr (edge, (k, below, sym here), refused.1))
-wide_edge_refused state k edge below here Memory refused = absurd refused
-wide_edge_refused state k edge below here Io refused = absurd refused

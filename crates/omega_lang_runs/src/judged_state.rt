@@ -1,4 +1,4 @@
-ghost use Rattle.std.specs.Prelude.{◌≡◌, ◌↔◌, IfErr, IfOk, IsTrue};
+ghost use Rattle.std.specs.Prelude.{◌≡◌, ◌↔◌, IfErr, IfOk, IsTrue, None, OnErr};
 ghost use Rattle.omega_hoa_satisfiable.specs.Undecided.{GivesUpOn, IsHard};
 
 use omega_hoa_automaton::{EdgeRef, Refusal, State};
@@ -42,11 +42,12 @@ impl<'a> JudgedState<'a> {
     }
 
     /// Whether `edge` of the state is usable: its label can be true, which is that of the state if there is one. Fails
-    /// with [TaskFault::TooManyPropositions] if the label of `edge` is to be judged and is given up.
+    /// with [TaskFault::TooManyPropositions] if the state has no label and that of `edge` is given up.
     pub fn is_usable(&self, alloc: Global, edge: &EdgeRef<'_>) -> Result<bool, Refusal>
         ensures judged { IfOk result (λ usable.
             IsTrue usable ↔ IsUsable (record { source = self.now; edge = edge.now })) }
         ensures refused { IfErr result (GivesUpOn (IsHard edge.now.label)) }
+        ensures unlabelled { OnErr result (self.now.label ≡ None) }
     {
         match &self.state.label {
             Some(_) => Ok(self.possible),

@@ -6,5 +6,5 @@ mod reader;
 pub(crate) mod reading;
 mod runs;
 mod stage;
-mod syntax;
+pub(crate) mod syntax;
 pub(crate) mod writing;

@@ -6,7 +6,7 @@ mod reader;
 pub(crate) mod reading;
 mod solution_lines;
 mod stage;
-mod syntax;
+pub(crate) mod syntax;
 mod winner_lines;
 pub(crate) mod winner_reading;
 pub(crate) mod writing;

@@ -10,12 +10,11 @@ ghost use Rattle.omega_pg.specs.game.Grammar.{RawGame, game_syntax};
 ghost use Rattle.omega_text.specs.Syntax.{IsTextOf};
 
 use crate::any_syntax::AnySyntax;
-use crate::game_syntax::GameSyntax;
 use crate::grammar::is_in_grammar;
 use crate::lines::{with_number, with_two_numbers};
 use crate::written_game::WrittenGame;
 use indexmap::IndexSet;
-use omega_pg::read_forward_game;
+use omega_pg::{GameSyntax, read_forward_game};
 use omega_text::laws::{cuts_are_one, texts_have_no_fault};
 use omega_text::{PgKind, Refusal, read_text};
 use std::alloc::Global;

@@ -5,13 +5,11 @@
 
 mod any_syntax;
 mod game_causes;
-mod game_syntax;
 mod grammar;
 pub mod laws;
 mod lines;
 mod places;
 mod solution_causes;
-mod solution_syntax;
 mod written_game;
 mod written_solution;
 

@@ -17,9 +17,8 @@ use crate::any_syntax::AnySyntax;
 use crate::game_causes::twice_line;
 use crate::grammar::is_in_grammar;
 use crate::lines::{with_number, with_two_numbers};
-use crate::solution_syntax::SolutionSyntax;
-use crate::written_solution::{Line, WrittenSolution};
-use omega_pg::{ForwardGame, Player, read_solution};
+use crate::written_solution::{WrittenLine, WrittenSolution};
+use omega_pg::{ForwardGame, Player, SolutionSyntax, read_solution};
 use omega_text::laws::{cuts_are_one, texts_have_no_fault};
 use omega_text::{PgKind, Refusal, read_text};
 use std::alloc::Global;
@@ -43,7 +42,7 @@ pub fn solution_cause(alloc: Global, game: &ForwardGame, text: &[u8]) -> Result<
 }
 
 /// Whether a text is in the grammar of solutions, whatever it says of the game.
-#[tactic(auto, using(crate::proofs::solutions::Texts::solution_tells, crate::proofs::solutions::Texts::refusal_tells))]
+#[tactic(auto, using(crate::proofs::solutions::Texts::tells, crate::proofs::solutions::Texts::refusal_tells))]
 fn is_written(alloc: Global, game: &ForwardGame, text: &[u8]) -> Result<bool, Refusal>
     ensures written { IfOk result (λ written. IsTrue written ↔ WritesSolution text.now) }
     ensures memory { IsOkUnless result Refusal.Memory }
@@ -72,7 +71,7 @@ fn first_fault(
     alloc: Global,
     game: &ForwardGame,
     greatest: u32,
-    lines: &[Line],
+    lines: &[WrittenLine],
 ) -> Result<Vec<u8>, Refusal>
     ensures first { IfOk result (λ line. line.items ≡ first_of
         (faults_in game.now (record { greatest = greatest; lines = map as_written lines.now }))) }
@@ -87,8 +86,12 @@ fn first_fault(
 }
 
 /// Returns the line about what is at fault first behind the header, or no bytes.
-#[tactic(auto, using(crate::proofs::solutions::Faults::none_there, crate::proofs::solutions::Faults::none_left))]
-fn first_fault_behind(alloc: Global, game: &ForwardGame, lines: &[Line]) -> Result<Vec<u8>, Refusal>
+#[tactic(auto, using(crate::proofs::solutions::Faults::absent, crate::proofs::solutions::Faults::none_left))]
+fn first_fault_behind(
+    alloc: Global,
+    game: &ForwardGame,
+    lines: &[WrittenLine],
+) -> Result<Vec<u8>, Refusal>
     ensures first { IfOk result (λ line. line.items ≡ first_of (line_faults game.now 0
         (map as_written lines.now) ++ missing_nodes game.now (length lines.now))) }
     ensures memory { IsOkUnless result Refusal.Memory }
@@ -102,7 +105,7 @@ fn first_fault_behind(alloc: Global, game: &ForwardGame, lines: &[Line]) -> Resu
 }
 
 /// Returns the line about the first node behind the last of `count` lines, or no bytes.
-#[tactic(auto, using(crate::proofs::solutions::Faults::missing_there, crate::proofs::solutions::Faults::none_missing))]
+#[tactic(auto, using(crate::proofs::solutions::Faults::missing, crate::proofs::solutions::Faults::all_there))]
 fn first_missing(alloc: Global, game: &ForwardGame, count: usize) -> Result<Vec<u8>, Refusal>
     ensures first { IfOk result (λ line. line.items ≡ first_of (missing_nodes game.now count)) }
     ensures memory { IsOkUnless result Refusal.Memory }
@@ -119,7 +122,7 @@ fn line_fault(
     alloc: Global,
     game: &ForwardGame,
     place: usize,
-    line: Line,
+    line: WrittenLine,
 ) -> Result<Option<Vec<u8>>, Refusal>
     ensures fault { IfOk result (λ fault.
         option_map (λ fault. fault.items) fault ≡ line_fault game.now place (as_written line)) }

@@ -11,7 +11,7 @@ use std::marker::Model;
 
 /// Which number of a game text is next, with the identifier of its node.
 #[derive(Clone, Copy)]
-pub(crate) enum Next {
+pub(crate) enum NextGameNumber {
     /// The number of the header.
     Header,
     /// The identifier of a node.
@@ -25,7 +25,7 @@ pub(crate) enum Next {
 /// The numbers of a game text that may be at fault, in the order of the text.
 #[derive(Drop)]
 pub(crate) struct WrittenGame {
-    next: Next,
+    next: NextGameNumber,
     /// The number of the header, if there is one.
     header: Option<u32>,
     /// The identifiers of the nodes.
@@ -74,7 +74,7 @@ impl WrittenGame {
         ensures { result ≡ nothing }
     {
         WrittenGame {
-            next: Next::Identifier,
+            next: NextGameNumber::Identifier,
             header: None,
             ids: Vec::new(alloc),
             listed: Vec::new(alloc),
@@ -89,11 +89,11 @@ impl WrittenGame {
         match token.kind {
             PgKind::Number => self.take_number(token.value),
             PgKind::Parity => {
-                self.next = Next::Header;
+                self.next = NextGameNumber::Header;
                 Ok(())
             }
             PgKind::Semicolon => {
-                self.next = Next::Identifier;
+                self.next = NextGameNumber::Identifier;
                 Ok(())
             }
             PgKind::ParitySol | PgKind::Comma | PgKind::Name => Ok(()),
@@ -106,14 +106,14 @@ impl WrittenGame {
         ensures memory { IsOkUnless result Refusal.Memory }
     {
         match self.next {
-            Next::Header => self.header = Some(number),
-            Next::Identifier => {
+            NextGameNumber::Header => self.header = Some(number),
+            NextGameNumber::Identifier => {
                 self.ids.push(number)?;
-                self.next = Next::Priority { node: number };
+                self.next = NextGameNumber::Priority { node: number };
             }
-            Next::Priority { node } => self.next = Next::Owner { node },
-            Next::Owner { node } => self.next = Next::Successor { node },
-            Next::Successor { node } => self.listed.push((node, number))?,
+            NextGameNumber::Priority { node } => self.next = NextGameNumber::Owner { node },
+            NextGameNumber::Owner { node } => self.next = NextGameNumber::Successor { node },
+            NextGameNumber::Successor { node } => self.listed.push((node, number))?,
         }
         Ok(())
     }

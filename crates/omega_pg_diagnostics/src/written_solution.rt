@@ -14,7 +14,7 @@ use std::marker::Model;
 
 /// Which number of a solution text is next, with what was read of its line.
 #[derive(Clone, Copy)]
-pub(crate) enum Next {
+pub(crate) enum NextSolutionNumber {
     /// The number of the header.
     Greatest,
     /// The identifier of a line.
@@ -28,7 +28,7 @@ pub(crate) enum Next {
 
 /// What a line says of a node.
 #[derive(Clone, Copy)]
-pub(crate) struct Line {
+pub(crate) struct WrittenLine {
     pub(crate) id: u32,
     pub(crate) winner: Player,
     /// The identifier of the successor that the owner chooses, if there is one.
@@ -38,9 +38,9 @@ pub(crate) struct Line {
 /// The number of the header and the lines of a solution text, in the order of the text.
 #[derive(Drop)]
 pub(crate) struct WrittenSolution {
-    next: Next,
+    next: NextSolutionNumber,
     greatest: u32,
-    lines: Vec<Line>,
+    lines: Vec<WrittenLine>,
 }
 
 impl Model for WrittenSolution {
@@ -65,7 +65,7 @@ impl WrittenSolution {
     }
 
     /// Returns the lines, in the order of the text.
-    pub(crate) fn lines(&self) -> &[Line]
+    pub(crate) fn lines(&self) -> &[WrittenLine]
         ensures { map as_written result.now ≡ self.now.lines }
     {
         &self.lines
@@ -76,7 +76,7 @@ impl WrittenSolution {
         ensures { result ≡ nothing }
     {
         WrittenSolution {
-            next: Next::Greatest,
+            next: NextSolutionNumber::Greatest,
             greatest: 0,
             lines: Vec::new(alloc),
         }
@@ -100,20 +100,20 @@ impl WrittenSolution {
         ensures memory { IsOkUnless result Refusal.Memory }
     {
         match self.next {
-            Next::Greatest => {
+            NextSolutionNumber::Greatest => {
                 self.greatest = number;
-                self.next = Next::End;
+                self.next = NextSolutionNumber::End;
             }
-            Next::Identifier => self.next = Next::Winner { id: number },
-            Next::Winner { id } => {
+            NextSolutionNumber::Identifier => self.next = NextSolutionNumber::Winner { id: number },
+            NextSolutionNumber::Winner { id } => {
                 let winner = player_with(number);
-                self.next = Next::Choice { id, winner };
+                self.next = NextSolutionNumber::Choice { id, winner };
             }
-            Next::Choice { id, winner } => {
+            NextSolutionNumber::Choice { id, winner } => {
                 self.add_line(id, winner, Some(number))?;
-                self.next = Next::End;
+                self.next = NextSolutionNumber::End;
             }
-            Next::End => {}
+            NextSolutionNumber::End => {}
         }
         Ok(())
     }
@@ -123,10 +123,10 @@ impl WrittenSolution {
         ensures taken { OnOk result (self.new ≡ after_semicolon self.old.next self.old) }
         ensures memory { IsOkUnless result Refusal.Memory }
     {
-        if let Next::Choice { id, winner } = self.next {
+        if let NextSolutionNumber::Choice { id, winner } = self.next {
             self.add_line(id, winner, None)?;
         }
-        self.next = Next::Identifier;
+        self.next = NextSolutionNumber::Identifier;
         Ok(())
     }
 
@@ -136,7 +136,7 @@ impl WrittenSolution {
         ensures added { OnOk result (self.new ≡ with_line self.old.next id winner choice self.old) }
         ensures memory { IsOkUnless result Refusal.Memory }
     {
-        self.lines.push(Line { id, winner, choice })?;
+        self.lines.push(WrittenLine { id, winner, choice })?;
         Ok(())
     }
 }

@@ -7,7 +7,7 @@ ghost use Rattle.omega_pg_lenient.specs.DeadEnds.{losing_priority};
 ghost use Rattle.omega_pg_lenient.specs.private.Automaton.{dead_end};
 
 use crate::kind::LenientKind;
-use crate::stage::Stage;
+use crate::stage::LenientStage;
 use omega_game_values::{GameBuilder, Player, Refusal};
 use omega_text::{PgKind, Token, TokenReader};
 use std::alloc::Global;
@@ -15,14 +15,14 @@ use std::marker::Model;
 
 /// A reader of lenient texts, which contracts see as a state of the automaton over their symbols.
 #[derive(Drop)]
-pub(crate) struct Reader {
-    stage: Stage,
+pub(crate) struct LenientReader {
+    stage: LenientStage,
     /// The specifications, where dead ends are completed. The last one is open at the stages `Listed`, `Comma` and
     /// `Named`.
     specs: GameBuilder,
 }
 
-impl Model for Reader {
+impl Model for LenientReader {
     ghost use Rattle.omega_pg_lenient.specs.private.Automaton.{LenientState};
 
     ghost Value = { LenientState };
@@ -32,20 +32,20 @@ impl Model for Reader {
     ghost view = { reader_state };
 }
 
-impl Reader {
+impl LenientReader {
     ghost use Rattle.std.specs.Prelude.{OnOk, [], ◌∷◌};
     ghost use Rattle.omega_game_values.specs.Building.{unnamed_spec};
     ghost use Rattle.omega_pg_lenient.specs.Symbols.{comma, name, number, parity, semicolon, start};
     ghost use Rattle.omega_pg_lenient.specs.private.Automaton.{IsReady, MayEnd, Takes, after_owner, dead_end};
     ghost use Rattle.omega_pg_lenient.specs.private.Automaton.{ended_specs, initial, step, with_node};
-    ghost use Rattle.omega_pg_lenient.specs.declared.stage.Stage.TheVariants.{Listed};
+    ghost use Rattle.omega_pg_lenient.specs.declared.stage.LenientStage.TheVariants.{Listed};
 
     /// Makes a reader before the first token.
     pub(crate) fn new(alloc: Global) -> Self
         ensures { result ≡ initial }
     {
-        Reader {
-            stage: Stage::Opening {
+        LenientReader {
+            stage: LenientStage::Opening {
                 headed: false,
                 started: false,
             },
@@ -62,47 +62,49 @@ impl Reader {
         ensures memory { IsOkUnless result Refusal.Memory }
     {
         match self.stage {
-            Stage::Opening { .. } | Stage::Ended => {
-                self.stage = Stage::Identifier { id: value };
+            LenientStage::Opening { .. } | LenientStage::Ended => {
+                self.stage = LenientStage::Identifier { id: value };
                 Ok(true)
             }
-            Stage::HeaderWord { started } => {
-                self.stage = Stage::HeaderNumber { started };
+            LenientStage::HeaderWord { started } => {
+                self.stage = LenientStage::HeaderNumber { started };
                 Ok(true)
             }
-            Stage::StartWord { headed } => {
-                self.stage = Stage::StartNumber { headed };
+            LenientStage::StartWord { headed } => {
+                self.stage = LenientStage::StartNumber { headed };
                 Ok(true)
             }
-            Stage::Identifier { id } => {
-                self.stage = Stage::Priority {
+            LenientStage::Identifier { id } => {
+                self.stage = LenientStage::Priority {
                     id,
                     priority: value,
                 };
                 Ok(true)
             }
-            Stage::Priority { id, priority } => Ok(self.take_owner(id, priority, value)),
-            Stage::Owner {
+            LenientStage::Priority { id, priority } => Ok(self.take_owner(id, priority, value)),
+            LenientStage::Owner {
                 id,
                 priority,
                 owner,
             } => {
                 self.specs.add_node(id, priority, owner, value)?;
-                self.stage = Stage::Listed;
+                self.stage = LenientStage::Listed;
                 Ok(true)
             }
-            Stage::Comma => {
+            LenientStage::Comma => {
                 self.specs.add_successor(value)?;
-                self.stage = Stage::Listed;
+                self.stage = LenientStage::Listed;
                 Ok(true)
             }
-            Stage::HeaderNumber { .. } | Stage::StartNumber { .. } | Stage::Listed | Stage::Named =>
-                { Ok(false) }
+            LenientStage::HeaderNumber { .. }
+            | LenientStage::StartNumber { .. }
+            | LenientStage::Listed
+            | LenientStage::Named => { Ok(false) }
         }
     }
 
     /// Takes the number of an owner after `id` and `priority`, and returns false if no player has it.
-    #[tactic(auto, using(crate::proofs::grammar::Players::player_found, crate::proofs::grammar::Players::no_player_found))]
+    #[tactic(auto, using(crate::proofs::grammar::Players::found, crate::proofs::grammar::Players::not_found))]
     fn take_owner(&mut self, id: u32, priority: u32, number: u32) -> bool
         requires id { id ≤ most_number }
         requires priority { priority ≤ most_number }
@@ -111,7 +113,7 @@ impl Reader {
         match Player::of_number(number) {
             None => false,
             Some(owner) => {
-                self.stage = Stage::Owner {
+                self.stage = LenientStage::Owner {
                     id,
                     priority,
                     owner,
@@ -126,11 +128,11 @@ impl Reader {
         ensures { Takes result (step self.old parity) self.new }
     {
         match self.stage {
-            Stage::Opening {
+            LenientStage::Opening {
                 headed: false,
                 started,
             } => {
-                self.stage = Stage::HeaderWord { started };
+                self.stage = LenientStage::HeaderWord { started };
                 true
             }
             _ => false,
@@ -142,11 +144,11 @@ impl Reader {
         ensures { Takes result (step self.old start) self.new }
     {
         match self.stage {
-            Stage::Opening {
+            LenientStage::Opening {
                 headed,
                 started: false,
             } => {
-                self.stage = Stage::StartWord { headed };
+                self.stage = LenientStage::StartWord { headed };
                 true
             }
             _ => false,
@@ -160,27 +162,27 @@ impl Reader {
         ensures memory { IsOkUnless result Refusal.Memory }
     {
         match self.stage {
-            Stage::HeaderNumber { started } => {
-                self.stage = Stage::Opening {
+            LenientStage::HeaderNumber { started } => {
+                self.stage = LenientStage::Opening {
                     headed: true,
                     started,
                 };
                 Ok(true)
             }
-            Stage::StartNumber { headed } => {
-                self.stage = Stage::Opening {
+            LenientStage::StartNumber { headed } => {
+                self.stage = LenientStage::Opening {
                     headed,
                     started: true,
                 };
                 Ok(true)
             }
-            Stage::Owner { id, owner, .. } => {
+            LenientStage::Owner { id, owner, .. } => {
                 add_dead_end(&mut self.specs, id, owner)?;
-                self.stage = Stage::Ended;
+                self.stage = LenientStage::Ended;
                 Ok(true)
             }
-            Stage::Listed | Stage::Named => {
-                self.stage = Stage::Ended;
+            LenientStage::Listed | LenientStage::Named => {
+                self.stage = LenientStage::Ended;
                 Ok(true)
             }
             _ => Ok(false),
@@ -193,8 +195,8 @@ impl Reader {
         ensures { Takes result (step self.old comma) self.new }
     {
         match self.stage {
-            Stage::Listed => {
-                self.stage = Stage::Comma;
+            LenientStage::Listed => {
+                self.stage = LenientStage::Comma;
                 true
             }
             _ => false,
@@ -210,15 +212,15 @@ impl Reader {
         ensures memory { IsOkUnless result Refusal.Memory }
     {
         match self.stage {
-            Stage::Owner { id, owner, .. } => {
+            LenientStage::Owner { id, owner, .. } => {
                 add_dead_end(&mut self.specs, id, owner)?;
                 self.specs.set_name(bytes)?;
-                self.stage = Stage::Named;
+                self.stage = LenientStage::Named;
                 Ok(true)
             }
-            Stage::Listed => {
+            LenientStage::Listed => {
                 self.specs.set_name(bytes)?;
-                self.stage = Stage::Named;
+                self.stage = LenientStage::Named;
                 Ok(true)
             }
             _ => Ok(false),
@@ -231,8 +233,8 @@ impl Reader {
         ensures specs { IfOk result (λ specs. specs ≡ ended_specs self.stage self.specs) }
         ensures memory { IsOkUnless result Refusal.Memory }
     {
-        let Reader { stage, mut specs } = self;
-        if let Stage::Owner { id, owner, .. } = stage {
+        let LenientReader { stage, mut specs } = self;
+        if let LenientStage::Owner { id, owner, .. } = stage {
             add_dead_end(&mut specs, id, owner)?;
         }
         Ok(specs)
@@ -258,7 +260,7 @@ fn losing_priority(player: Player) -> u32
     }
 }
 
-impl TokenReader<LenientKind> for Reader {
+impl TokenReader<LenientKind> for LenientReader {
     ghost use Rattle.std.specs.Prelude.{map, ◌↔◌, IsTrue};
     ghost use Rattle.omega_pg_lenient.specs.Symbols.{symbol_of};
     ghost use Rattle.omega_pg_lenient.specs.Grammar.{lenient_syntax};
@@ -296,7 +298,10 @@ impl TokenReader<LenientKind> for Reader {
     {
         matches!(
             self.stage,
-            Stage::Owner { .. } | Stage::Listed | Stage::Named | Stage::Ended
+            LenientStage::Owner { .. }
+                | LenientStage::Listed
+                | LenientStage::Named
+                | LenientStage::Ended
         )
     }
 }

@@ -9,7 +9,7 @@ ghost use Rattle.omega_pg_lenient.specs.Text.{IsLenientGameText};
 use crate::kind::LenientKind;
 use crate::laws::plain_texts_keep_places;
 use crate::plain::plain_text;
-use crate::reader::Reader;
+use crate::reader::LenientReader;
 use omega_game_values::{ForwardGame, Game, GameBuilder, Refusal};
 use omega_text::{MOST_TEXT, TextFault, read_text};
 use std::alloc::Global;
@@ -37,7 +37,10 @@ pub fn read_lenient_forward_game(alloc: Global, text: &[u8]) -> Result<ForwardGa
     ensures refused { IfErr result (IsLenientReadRefusal text.now) }
 {
     let plain = plain_within_limit(alloc, text)?;
-    let reader = read_text::<LenientKind, Reader>(Reader::new(alloc), plain.as_slice())?;
+    let reader = read_text::<LenientKind, LenientReader>(
+        LenientReader::new(alloc),
+        plain.as_slice(),
+    )?;
     let specs = reader.specs_at_end()?;
     game_of_specs(specs)
 }

@@ -2,7 +2,7 @@ use omega_game_values::Player;
 
 /// A place between two tokens of a lenient text, by what was read last, with the parts of a node that has begun.
 #[derive(Clone, Copy)]
-pub(crate) enum Stage {
+pub(crate) enum LenientStage {
     /// Statements before the nodes, or nothing: whether a header was read, and whether a first node was.
     Opening {
         headed: bool,

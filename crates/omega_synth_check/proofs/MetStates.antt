@@ -13,7 +13,7 @@ use Rattle.omega_hoa_automaton.specs.Automaton.{AreTargets, Description, IsAutom
 use Rattle.omega_hoa_automaton.specs.Branching.{has_universal_branching, state_branches}
 use Rattle.omega_lang_runs.specs.Lasso.{IsStart, IsStep}
 use Rattle.omega_lang_runs.proofs.SingleTargets.{none_passes}
-use Rattle.omega_synth_check.specs.declared.meeting.Entry.{Entry}
+use Rattle.omega_synth_check.specs.declared.meeting.StateEntry.{StateEntry}
 use Rattle.omega_synth_check.specs.private.Meeting.{AreMet, Extends, HasEntered, IsEntered, entry_at, state_at}
 
 -- nothing more, and more and more
@@ -41,7 +41,7 @@ has_kept states more state extends has =
     (has.0, omega (arith, has.1, length-append states extends.extra), get_or_append_left states extends.extra state has.0 has.1 ∙ has.2)
 
 -- how a state was entered stays so
-pub entered_kept : (a : Description) (states extra : List ℕ) (place : ℕ) (entry : Option Entry) (state : ℕ) → place ≤ length states
+pub entered_kept : (a : Description) (states extra : List ℕ) (place : ℕ) (entry : Option StateEntry) (state : ℕ) → place ≤ length states
     → IsEntered a states place entry state → IsEntered a (states ++ extra) place entry state
 entered_kept a states extra place None state within entered = entered
 entered_kept a states extra place (Some entry) state within entered =
@@ -49,7 +49,7 @@ entered_kept a states extra place (Some entry) state within entered =
     (entered.0, subst (λ (s : ℕ). IsStep a s entry.edge state) (sym (get_or_append_left states extra 0 entry.from low)) entered.1)
 
 -- no state yet
-pub met_none : (a : Description) (states : List ℕ) (entries : List (Option Entry)) → states ≡ [] → entries ≡ [] → AreMet a states entries
+pub met_none : (a : Description) (states : List ℕ) (entries : List (Option StateEntry)) → states ≡ [] → entries ≡ [] → AreMet a states entries
 met_none a states entries none no_entries =
     let empty : length states ≡ 0 = ap length none in
     record {
@@ -58,7 +58,7 @@ met_none a states entries none no_entries =
       each = λ place below. absurd (omega arith);
     }
 
-module _ (a : Description) (states : List ℕ) (entries : List (Option Entry)) (state : ℕ) (entry : Option Entry) (met : AreMet a states entries)
+module _ (a : Description) (states : List ℕ) (entries : List (Option StateEntry)) (state : ℕ) (entry : Option StateEntry) (met : AreMet a states entries)
     (entered : IsEntered a states (length states) entry state) where
   -- one state more
   met_more : IsDistinct nat_eq (states ++ state ∷ []) → AreMet a (states ++ state ∷ []) (entries ++ entry ∷ [])
@@ -74,19 +74,19 @@ module _ (a : Description) (states : List ℕ) (entries : List (Option Entry)) (
               ap (entry_at (entries ++ entry ∷ [])) (sym met.paired) ∙ get_or-append_seam entries entry [] None in
               subst (λ (p : ℕ). IsEntered a more p (entry_at (entries ++ entry ∷ []) p) (state_at more p)) (sym last)
               (subst (λ (s : ℕ). IsEntered a more (length states) (entry_at (entries ++ entry ∷ []) (length states)) s) (sym here)
-              (subst (λ (e : Option Entry). IsEntered a more (length states) e state) (sym this)
+              (subst (λ (e : Option StateEntry). IsEntered a more (length states) e state) (sym this)
               (entered_kept a states (state ∷ []) (length states) entry state (omega arith) entered)))
           | inr before ↦
               let low : place < length states = omega (arith, below, before, length-append states (state ∷ [])) in
               subst (λ (s : ℕ). IsEntered a more place (entry_at (entries ++ entry ∷ []) place) s) (sym (get_or_append_left states (state ∷ []) 0 place low))
-              (subst (λ (e : Option Entry). IsEntered a more place e (state_at states place))
+              (subst (λ (e : Option StateEntry). IsEntered a more place e (state_at states place))
               (sym (get_or_append_left entries (entry ∷ []) None place (omega (arith, low, met.paired))))
               (entered_kept a states (state ∷ []) place (entry_at entries place) (state_at states place) (omega arith) (met.each place low)))
         ];
   }
 
   -- a state that is inserted
-  pub added : (more : List ℕ) (after : List (Option Entry)) (new : Bool) → new ≡ not (list_any (nat_eq state) states)
+  pub added : (more : List ℕ) (after : List (Option StateEntry)) (new : Bool) → new ≡ not (list_any (nat_eq state) states)
       → more ≡ insert_key nat_eq states state → after ≡ (if new then entries ++ entry ∷ [] else entries) → IsDistinct nat_eq more
       → AreMet a more after × Extends states more
   added more after new says put pushed distinct = go (list_any (nat_eq state) states) refl
@@ -95,14 +95,14 @@ module _ (a : Description) (states : List ℕ) (entries : List (Option Entry)) (
       go true found =
           let same : more ≡ states = put ∙ ap (λ b. if b then states else states ++ state ∷ []) found in
           let unpushed : after ≡ entries = pushed ∙ ap (λ b. if b then entries ++ entry ∷ [] else entries) (says ∙ ap not found) in (
-            subst (λ (list : List ℕ). AreMet a list after) (sym same) (subst (λ (list : List (Option Entry)). AreMet a states list) (sym unpushed) met),
+            subst (λ (list : List ℕ). AreMet a list after) (sym same) (subst (λ (list : List (Option StateEntry)). AreMet a states list) (sym unpushed) met),
             subst (Extends states) (sym same) (extends_not states),
           )
       go false new_one =
           let longer : more ≡ states ++ state ∷ [] = put ∙ ap (λ b. if b then states else states ++ state ∷ []) new_one in
           let one_more : after ≡ entries ++ entry ∷ [] = pushed ∙ ap (λ b. if b then entries ++ entry ∷ [] else entries) (says ∙ ap not new_one) in (
             subst (λ (list : List ℕ). AreMet a list after) (sym longer)
-                (subst (λ (list : List (Option Entry)). AreMet a (states ++ state ∷ []) list) (sym one_more) (met_more (subst (IsDistinct nat_eq) longer distinct))),
+                (subst (λ (list : List (Option StateEntry)). AreMet a (states ++ state ∷ []) list) (sym one_more) (met_more (subst (IsDistinct nat_eq) longer distinct))),
             record { extra = state ∷ []; is = longer },
           )
 

@@ -7,7 +7,7 @@ use Rattle.omega_hoa_automaton.specs.Automaton.{Description}
 use Rattle.omega_hoa_edges.specs.Limits.{most_states}
 use Rattle.omega_synth_check.specs.Judging.{IsAnswered}
 use Rattle.omega_synth_check.specs.Refusing.{IsLetterFault, many_states}
-use Rattle.omega_synth_check.specs.declared.meeting.Entry.{Entry}
+use Rattle.omega_synth_check.specs.declared.meeting.StateEntry.{StateEntry}
 use Rattle.omega_synth_check.specs.private.Meeting.{AreMet, Extends, HasNext, HasStarts, state_at}
 use Rattle.omega_synth_check.specs.private.Searching.{AnswersEach, ReachedAnswer}
 use Rattle.omega_synth_check.proofs.MetStates.{has_kept, state_kept}
@@ -53,7 +53,7 @@ reached_answer a controlled states at past starts next answered state given reac
     subst (λ (s : ℕ). IsAnswered a controlled s given) (get_or_default states has.0 0 state has.1 ∙ has.2) (answered has.0 (omega (arith, has.1, past)) given)
 
 -- too many states
-pub too_many : (a : Description) (controlled states : List ℕ) (entries : List (Option Entry)) → AreMet a states entries → most_states < length states
+pub too_many : (a : Description) (controlled states : List ℕ) (entries : List (Option StateEntry)) → AreMet a states entries → most_states < length states
     → IsLetterFault a controlled TooLarge
 too_many a controlled states entries met many =
     many_states (record { states = states; distinct = met.distinct; reached = all_reached a states entries met; many = many })

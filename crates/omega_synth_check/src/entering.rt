@@ -1,29 +1,26 @@
 //! The states that usable edges enter.
 
-ghost use Rattle.std.specs.Prelude.{◌≡◌, ◌↔◌, ◌<◌, ℕ, Contains, IfErr, IfNone};
-ghost use Rattle.std.specs.Prelude.{IfOk, IfSome, IsTrue, OnOk, false, length};
+ghost use Rattle.std.specs.Prelude.{◌≡◌, ◌<◌, ℕ, Contains, IfErr, IfNone, IfOk, IfSome, OnOk, false, length};
 ghost use Rattle.omega_hoa_automaton.specs.Branching.{has_universal_branching};
-ghost use Rattle.omega_lang_runs.specs.Judging.{GivesUpOn, HasHardLabel, IsHard};
-ghost use Rattle.omega_lang_runs.specs.Lasso.{IsStep, IsUsable};
+ghost use Rattle.omega_lang_runs.specs.Judging.{GivesUpOn, HasHardLabel};
+ghost use Rattle.omega_lang_runs.specs.Lasso.{IsStep};
 ghost use Rattle.omega_lang_runs.specs.Places.{EdgeStandsAt};
-ghost use Rattle.omega_hoa_satisfiable.specs.Satisfiable.{IsSatisfiable};
 ghost use Rattle.omega_synth_game.specs.Making.{AllLeave, IsLeaving};
 ghost use Rattle.omega_synth_check.specs.private.Meeting.{Extends, HasEntered, IsMetOf, state_at};
 ghost use Rattle.omega_synth_check.specs.private.Searching.{IsSearch};
 
-use crate::meeting::{Entry, Met};
-use crate::search::Search;
-use omega_hoa_automaton::{Automaton, EdgeRef, Refusal, State};
-use omega_hoa_satisfiable::can_hold;
-use omega_lang_runs::EdgePlace;
+use crate::meeting::{MetStates, StateEntry};
+use crate::search::ControllerSearch;
+use omega_hoa_automaton::{Automaton, Refusal};
+use omega_lang_runs::{EdgePlace, JudgedState};
 use std::alloc::Global;
 
 /// Adds the states that the usable ones of the edges with these `numbers` enter. The edges leave the state at the place
 /// `at`. Fails with [TaskFault::TooManyPropositions] if a label is given up.
 pub(crate) fn enter_all(
     alloc: Global,
-    search: &Search<'_>,
-    met: &mut Met,
+    search: &ControllerSearch<'_>,
+    met: &mut MetStates,
     at: usize,
     numbers: &[u32],
 ) -> Result<(), Refusal>
@@ -46,8 +43,8 @@ pub(crate) fn enter_all(
 /// Adds the state that the edge with this `number` enters, if it is usable. Fails as `enter_all` does.
 fn enter(
     alloc: Global,
-    search: &Search<'_>,
-    met: &mut Met,
+    search: &ControllerSearch<'_>,
+    met: &mut MetStates,
     at: usize,
     number: u32,
 ) -> Result<(), Refusal>
@@ -65,7 +62,7 @@ fn enter(
     match target(alloc, search, number)? {
         None => Ok(()),
         Some(state) => {
-            let entry = Entry {
+            let entry = StateEntry {
                 from: at,
                 edge: number,
             };
@@ -77,7 +74,7 @@ fn enter(
 
 /// Returns the state that the edge with this `number` enters; none if the edge is not usable. Fails as `enter_all`
 /// does.
-fn target(alloc: Global, search: &Search<'_>, number: u32) -> Result<Option<u32>, Refusal>
+fn target(alloc: Global, search: &ControllerSearch<'_>, number: u32) -> Result<Option<u32>, Refusal>
     requires search { IsSearch search.now }
     requires number { number < length search.now.leaving.now.places.items }
     ensures step { IfOk result
@@ -110,40 +107,11 @@ fn target_at(
     automaton.keeps_limits();
     let state = &automaton.defined()[place.state];
     let edge = state.edges.edge(place.index);
-    let possible = may_leave(alloc, state)?;
-    let usable = is_usable(alloc, state, possible, &edge)?;
+    let judged_state = JudgedState::of(alloc, state)?;
+    let usable = judged_state.is_usable(alloc, &edge)?;
     if usable {
         Ok(Some(edge.targets()[0]))
     } else {
         Ok(None)
-    }
-}
-
-/// Whether the label of `state`, if it has one, can be true. Fails with [TaskFault::TooManyPropositions] if it is given
-/// up.
-fn may_leave(alloc: Global, state: &State) -> Result<bool, Refusal>
-    ensures judged { IfOk result (λ possible. IsTrue possible ↔ IfSome state.now.label IsSatisfiable) }
-    ensures refused { IfErr result (GivesUpOn (IsHard state.now.label)) }
-{
-    let possible = can_hold(alloc, state.label.as_ref())?;
-    Ok(possible)
-}
-
-/// Whether `edge` of `state` is usable, given in `possible` whether the label of `state` can be true. Fails with
-/// [TaskFault::TooManyPropositions] if the label of `edge` is given up.
-fn is_usable(
-    alloc: Global,
-    state: &State,
-    possible: bool,
-    edge: &EdgeRef<'_>,
-) -> Result<bool, Refusal>
-    requires { IsTrue possible ↔ IfSome state.now.label IsSatisfiable }
-    ensures judged { IfOk result
-        (λ judged. IsTrue judged ↔ IsUsable (record { source = state.now; edge = edge.now })) }
-    ensures refused { IfErr result (GivesUpOn (IsHard edge.now.label)) }
-{
-    match &state.label {
-        Some(_) => Ok(possible),
-        None => can_hold(alloc, edge.label()),
     }
 }

@@ -13,7 +13,7 @@ use std::alloc::Global;
 
 /// How a state was entered: from a state that was met before, and by an edge.
 #[derive(Clone, Copy)]
-pub(crate) struct Entry {
+pub(crate) struct StateEntry {
     /// The place of the state among those that were met.
     pub(crate) from: usize,
     /// The number of the edge.
@@ -22,23 +22,23 @@ pub(crate) struct Entry {
 
 /// The states that a search has met, each once.
 #[derive(Drop)]
-pub(crate) struct Met {
+pub(crate) struct MetStates {
     /// The states in the order in which they were met.
     pub(crate) states: IndexSet<u32>,
     /// For each of them how it was entered; none for a start.
-    pub(crate) entries: Vec<Option<Entry>>,
+    pub(crate) entries: Vec<Option<StateEntry>>,
 }
 
-impl Met {
+impl MetStates {
     /// Returns the starts of `automaton` as the states that were met.
-    pub(crate) fn starts(alloc: Global, automaton: &Automaton) -> Result<Met, Refusal>
+    pub(crate) fn starts(alloc: Global, automaton: &Automaton) -> Result<MetStates, Refusal>
         requires { has_universal_branching automaton.now ≡ false }
         ensures met { IfOk result (IsMetOf automaton.now) }
         ensures starts { IfOk result (λ met. HasStarts automaton.now met.states.keys) }
         ensures memory { IsOkUnless result Refusal.Memory }
     {
         automaton.keeps_limits();
-        let mut met = Met {
+        let mut met = MetStates {
             states: IndexSet::new(alloc),
             entries: Vec::new(alloc),
         };
@@ -53,7 +53,7 @@ impl Met {
         &mut self,
         _automaton: &Automaton,
         state: u32,
-        entry: Option<Entry>,
+        entry: Option<StateEntry>,
     ) -> Result<(), Refusal>
         requires met { IsMetOf _automaton.now self.old }
         requires entered { IsEntered _automaton.now self.old.states.keys
@@ -108,7 +108,11 @@ impl Met {
 }
 
 /// Appends `entry` if it is that of a `new` state.
-fn note(entries: &mut Vec<Option<Entry>>, new: bool, entry: Option<Entry>) -> Result<(), Refusal>
+fn note(
+    entries: &mut Vec<Option<StateEntry>>,
+    new: bool,
+    entry: Option<StateEntry>,
+) -> Result<(), Refusal>
     ensures noted { OnOk result
         (entries.new.items ≡ (if new then entries.old.items ++ entry ∷ [] else entries.old.items)) }
     ensures memory { IsOkUnless result Refusal.Memory }

@@ -10,8 +10,8 @@ use crate::entering::enter_all;
 use crate::judgement::Lack;
 use crate::leaving::Leaving;
 use crate::letters::unanswered_letter;
-use crate::meeting::Met;
-use crate::search::Search;
+use crate::meeting::MetStates;
+use crate::search::ControllerSearch;
 use omega_hoa_automaton::{Automaton, Refusal};
 use omega_hoa_edges::MOST_STATES;
 use omega_text::{Numbers, TaskFault};
@@ -41,12 +41,12 @@ pub(crate) fn lack_of(
 {
     controller.keeps_limits();
     let leaving = Leaving::of(alloc, controller)?;
-    let search = Search {
+    let search = ControllerSearch {
         automaton: controller,
         leaving: &leaving,
         controlled,
     };
-    let mut met = Met::starts(alloc, controller)?;
+    let mut met = MetStates::starts(alloc, controller)?;
     let lacking = first_lacking(alloc, &search, &mut met)?;
     let lack = with_stem(alloc, controller, controlled, &met, lacking)?;
     Ok(lack)
@@ -56,8 +56,8 @@ pub(crate) fn lack_of(
 /// that is reached answers each letter. Adds the states that are met. Fails as `lack_of` does.
 fn first_lacking(
     alloc: Global,
-    search: &Search<'_>,
-    met: &mut Met,
+    search: &ControllerSearch<'_>,
+    met: &mut MetStates,
 ) -> Result<Option<Lacking>, Refusal>
     requires search { IsSearch search.now }
     requires met { IsMetOf search.now.automaton.now met.old }
@@ -86,8 +86,8 @@ fn first_lacking(
 /// answer, if there is one. Fails as `enter_all` and `unanswered_letter` do.
 fn visit(
     alloc: Global,
-    search: &Search<'_>,
-    met: &mut Met,
+    search: &ControllerSearch<'_>,
+    met: &mut MetStates,
     at: usize,
 ) -> Result<Option<Numbers>, Refusal>
     requires search { IsSearch search.now }
@@ -115,7 +115,7 @@ fn with_stem(
     alloc: Global,
     automaton: &Automaton,
     _controlled: &[u32],
-    met: &Met,
+    met: &MetStates,
     lacking: Option<Lacking>,
 ) -> Result<Option<Lack>, Refusal>
     requires met { IsMetOf automaton.now met.now }

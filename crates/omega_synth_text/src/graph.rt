@@ -1,7 +1,6 @@
 //! The kept edges as a graph.
 
 ghost use Rattle.std.specs.Prelude.{◌≡◌, false, IfNone, IfOk, IfSome, IsOkUnless};
-ghost use Rattle.std.specs.List.{range_with_len};
 ghost use Rattle.omega_hoa_automaton.specs.Branching.{has_universal_branching};
 ghost use Rattle.omega_lang_runs.specs.Places.{ArePlaces};
 ghost use Rattle.omega_synth_text.specs.private.Reached.{HasNoEnds, IsEndsOf, IsKeptGraph};
@@ -45,16 +44,4 @@ fn ends_of(automaton: &Automaton, places: &[EdgePlace], number: u32) -> Option<(
     let found = edge_of(automaton, places, number)?;
     let edge = found.state.edges.edge(found.index);
     Some((found.state.number, edge.targets()[0]))
-}
-
-/// Returns the numbers below `count`.
-pub(crate) fn numbers_below(alloc: Global, count: u32) -> Result<Vec<u32>, Refusal>
-    ensures numbers { IfOk result (λ numbers. numbers.items ≡ range_with_len 0 count) }
-    ensures memory { IsOkUnless result Refusal.Memory }
-{
-    let mut numbers = Vec::with_capacity(alloc, count as usize)?;
-    for number in 0..count {
-        numbers.push(number)?;
-    }
-    Ok(numbers)
 }

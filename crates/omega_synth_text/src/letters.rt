@@ -9,22 +9,18 @@ ghost use Rattle.omega_synth_text.specs.private.Texts.{bytes_of, literal_bytes};
 use omega_text::{Numbers, Refusal, write_number};
 use std::alloc::Global;
 
-/// Returns the inputs: those of `count` propositions that are not `controlled`. Fails with [Refusal::Memory] also if
-/// the number of a proposition does not fit, which can't happen for an automaton.
+/// Returns the inputs: those of `count` propositions that are not `controlled`.
 pub(crate) fn inputs_of(
     alloc: Global,
-    count: usize,
+    count: u32,
     controlled: &[u32],
 ) -> Result<Vec<u32>, Refusal>
     ensures inputs { IfOk result
         (λ inputs. inputs.items ≡ filter (λ p. not (listed controlled.now p)) (range_with_len 0 count)) }
     ensures memory { IsOkUnless result Refusal.Memory }
 {
-    if count > u32::MAX as usize {
-        return Err(Refusal::Memory);
-    }
     let mut inputs = Vec::new(alloc);
-    for p in 0..count as u32 {
+    for p in 0..count {
         push_if(&mut inputs, !is_listed(controlled, p), p)?;
     }
     Ok(inputs)

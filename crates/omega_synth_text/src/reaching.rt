@@ -6,8 +6,9 @@ ghost use Rattle.omega_synth_text.specs.Reaching.{TellsReached};
 ghost use Rattle.omega_synth_text.specs.private.Parts.{flag};
 ghost use Rattle.omega_synth_text.specs.private.Reached.{AreStarts};
 
-use crate::graph::{kept_graph, numbers_below};
+use crate::graph::kept_graph;
 use omega_graph::reached_flags;
+use omega_graph_search::numbers_below;
 use omega_hoa_automaton::Automaton;
 use omega_text::Refusal;
 use std::alloc::Global;

@@ -77,9 +77,10 @@ fn winner_text(
     let numbers = numbering.numbers.as_slice();
     let edges = kept_flags(alloc, automaton.edge_count(), kept)?;
     let flags = edges.as_slice();
-    let uncontrolled = inputs_of(alloc, automaton.propositions().len(), controlled)?;
-    let inputs = uncontrolled.as_slice();
     automaton.keeps_limits();
+    let propositions = automaton.propositions().len() as u32;
+    let uncontrolled = inputs_of(alloc, propositions, controlled)?;
+    let inputs = uncontrolled.as_slice();
     let winner = Winner {
         automaton,
         controlled,

@@ -28,8 +28,8 @@ least_on count [] ys = omega (arith, least_low count ys)
 least_on count (x ∷ xs) ys = omega (arith, least_on count xs ys)
 
 -- the priority of marks together is the greater one
-pub priority_on : (kind : ParityKind) (xs ys : List ℕ) → priority_of kind (xs ++ ys) ≡ max (priority_of kind xs) (priority_of kind ys)
-priority_on kind xs ys = go kind.order kind.parity
+pub of_joined : (kind : ParityKind) (xs ys : List ℕ) → priority_of kind (xs ++ ys) ≡ max (priority_of kind xs) (priority_of kind ys)
+of_joined kind xs ys = go kind.order kind.parity
   where
     go : (order : Order) (parity : Parity) → priority_by order parity kind.count (xs ++ ys)
         ≡ max (priority_by order parity kind.count xs) (priority_by order parity kind.count ys)
@@ -55,8 +55,8 @@ least_from_low parity count = go (has_parity parity count)
     go false = omega arith
 
 -- it is at most one more than the count of sets
-pub priority_low : (kind : ParityKind) (xs : List ℕ) → All (λ mark. mark < kind.count) xs → priority_of kind xs ≤ kind.count + 1
-priority_low kind xs below = go kind.order kind.parity
+pub bounded : (kind : ParityKind) (xs : List ℕ) → All (λ mark. mark < kind.count) xs → priority_of kind xs ≤ kind.count + 1
+bounded kind xs below = go kind.order kind.parity
   where
     go : (order : Order) (parity : Parity) → priority_by order parity kind.count xs ≤ kind.count + 1
     go Max Even = omega (arith, beyond_low kind.count xs below)

@@ -5,7 +5,7 @@ ghost use Rattle.omega_game_reaching.specs.Reaching.{LeadsInside};
 ghost use Rattle.omega_game.specs.private.checking.Decision.{IsLosingPlace, IsRightDecision};
 ghost use Rattle.omega_game.specs.private.checking.Following.{AreClosed};
 
-use crate::checking::components::Edge;
+use crate::checking::components::PlaceEdge;
 use crate::checking::decision::Decision;
 use crate::checking::finding::Finding;
 use crate::checking::nesting::search_nested;
@@ -136,9 +136,9 @@ fn suggest(
 }
 
 /// Adds the edges from a place.
-fn add_edges(from: u32, left: &[u32], edges: &mut Vec<Edge>) -> Result<(), AllocError> {
+fn add_edges(from: u32, left: &[u32], edges: &mut Vec<PlaceEdge>) -> Result<(), AllocError> {
     for to in left {
-        edges.push(Edge { from, to: *to })?;
+        edges.push(PlaceEdge { from, to: *to })?;
     }
     Ok(())
 }

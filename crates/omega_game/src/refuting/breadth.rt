@@ -10,7 +10,7 @@ use std::alloc::{AllocError, Global};
 /// The places that a search met, in its order, and for each the index of the one from which it was met. Those that the
 /// search began with have none.
 #[derive(Drop)]
-pub(crate) struct Met {
+pub(crate) struct MetPlaces {
     pub places: Vec<u32>,
     pub origins: Vec<Option<usize>>,
 }
@@ -22,7 +22,7 @@ pub(crate) fn met_from(
     choices: &[Option<u32>],
     most: u32,
     places: &[u32],
-) -> Result<Met, AllocError>
+) -> Result<MetPlaces, AllocError>
     requires inside { All (λ place. place < length game.now) places.now }
     requires choices { LeadsInside game.now choices.now }
     ensures tree { IfOk result
@@ -47,7 +47,7 @@ pub(crate) fn met_from(
         )?;
         index += 1;
     }
-    Ok(Met {
+    Ok(MetPlaces {
         places: met,
         origins,
     })

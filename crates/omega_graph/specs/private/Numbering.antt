@@ -1,6 +1,6 @@
 -- States numbered in the order in which they first come.
 use Rattle.std.specs.Prelude.{◌≡◌, ℕ, ◌<◌, List, length, map, All, slice_index}
-use Rattle.omega_graph.specs.declared.numbering.Numbering.{Numbering}
+use Rattle.omega_graph.specs.declared.numbering.StateNumbering.{StateNumbering}
 
 -- a state has a number so far: the state of its number is itself
 abbrev pub IsKnown : List ℕ → List ℕ → ℕ → Type 0
@@ -23,5 +23,5 @@ pub record IsNumbering (listed numbers states : List ℕ) : Type 0 where
       (λ state. (number state < length states) × (slice_index states (number state) ≡ state)) listed
 
 -- so it is with a numbering of the states of a list
-abbrev pub IsNumberingOf : List ℕ → Numbering → Type 0
+abbrev pub IsNumberingOf : List ℕ → StateNumbering → Type 0
 IsNumberingOf listed numbering = IsNumbering listed numbering.numbers.items numbering.states.items

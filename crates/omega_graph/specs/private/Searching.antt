@@ -5,13 +5,13 @@ use Rattle.std.specs.Prelude.{count_by, slice_index, slice_index_or, slice_set}
 use Rattle.omega_graph.specs.Walks.{MarkedGraph}
 use Rattle.omega_graph.specs.Graph.{Shape, listed, marked}
 use Rattle.omega_graph.specs.Reaching.{IsWalkFrom}
-use Rattle.omega_graph.specs.declared.met.Met.{Met}
+use Rattle.omega_graph.specs.declared.met.MetState.{MetState}
 use Rattle.omega_graph.specs.private.Ends.{AreEnds}
 
 -- by state whether it was met, and those met, in order
 pub record Trace : Type 0 where
   pub marks : List Bool
-  pub met : List Met
+  pub met : List MetState
 
 -- the mark at a state
 abbrev pub mark_at : List Bool → ℕ → Bool
@@ -22,25 +22,25 @@ abbrev pub AreMarked : List ℕ → List Bool → Type 0
 AreMarked states marks = (v : ℕ) → Contains states v → IsTrue (mark_at marks v)
 
 -- what was met at an index
-abbrev pub met_at : List Met → ℕ → Met
+abbrev pub met_at : List MetState → ℕ → MetState
 met_at met i = slice_index_or met i (record { state = 0; edge = 0; origin = 0 })
 
 -- a state was met at an index
-abbrev pub IsMetAt : List Met → ℕ → ℕ → Type 0
+abbrev pub IsMetAt : List MetState → ℕ → ℕ → Type 0
 IsMetAt met state i = (i < length met) × ((met_at met i).state ≡ state)
 
 -- it was met at none
-abbrev pub IsUnmet : List Met → ℕ → Type 0
+abbrev pub IsUnmet : List MetState → ℕ → Type 0
 IsUnmet met state = (i : ℕ) → i < length met → (met_at met i).state ≡ state → ⊥
 
 -- the search once it came to a state, which is met if it was not
-unfoldable pub meeting : Trace → Met → Trace
+unfoldable pub meeting : Trace → MetState → Trace
 meeting trace met =
     if mark_at trace.marks met.state then trace
     else record { marks = slice_set trace.marks met.state true; met = trace.met ++ met ∷ [] }
 
 -- what is met is marked, and what is new was met in one way
-pub record Grows (P : Met → Type 0) (before after : Trace) : Type 0 where
+pub record Grows (P : MetState → Type 0) (before after : Trace) : Type 0 where
   pub count : length after.marks ≡ length before.marks
   pub kept : (v : ℕ) → IsTrue (mark_at before.marks v) → IsTrue (mark_at after.marks v)
   pub fresh : (v : ℕ) → IsTrue (mark_at after.marks v) → IsTrue (mark_at before.marks v)
@@ -52,11 +52,11 @@ pub record Grows (P : Met → Type 0) (before after : Trace) : Type 0 where
       ≡ count_by not before.marks + length before.met
 
 -- met as one of the states with which the search began
-abbrev pub IsStart : List ℕ → Met → Type 0
+abbrev pub IsStart : List ℕ → MetState → Type 0
 IsStart sources met = (met.edge ≡ 0) × Contains sources met.state
 
 -- met along an edge from a state that was met at an index
-pub record IsStep (leaves enters : List ℕ) (state origin : ℕ) (met : Met) : Type 0 where
+pub record IsStep (leaves enters : List ℕ) (state origin : ℕ) (met : MetState) : Type 0 where
   pub index : ℕ
   pub within : index < length leaves
   pub edge : met.edge ≡ index + 1
@@ -75,7 +75,7 @@ GrowsFrom leaves enters origin before after =
     Grows (IsStep leaves enters (met_at before.met origin).state origin) before after
 
 -- what is met at an index is one of the sources, or an edge leads to it from what was met before
-abbrev pub IsMet : List ℕ → List ℕ → List ℕ → List Met → ℕ → Type 0
+abbrev pub IsMet : List ℕ → List ℕ → List ℕ → List MetState → ℕ → Type 0
 IsMet leaves enters sources met i =
     IsStart sources (met_at met i)
     ⊎ ((o : ℕ) × (o < i) × IsStep leaves enters (met_at met o).state o (met_at met i))
@@ -100,7 +100,7 @@ pub record IsSearchedTo (leaves enters sources : List ℕ) (count target : ℕ)
       → IsSearched leaves enters sources count trace
 
 -- at each index is a state with which the search began, or one met along an edge of the list from one met before
-abbrev pub LeadBack : ℕ → List Met → Type 0
+abbrev pub LeadBack : ℕ → List MetState → Type 0
 LeadBack edges met = (i : ℕ) → i < length met
     → ((met_at met i).edge ≡ 0) ⊎ (((met_at met i).edge ≤ edges) × ((met_at met i).origin < i))
 
@@ -121,7 +121,7 @@ pub record IsSearchFor (shape : Shape) (edges sources : List ℕ) (target : ℕ)
 
 -- in each graph and search in which the edges of a list led to what was met, a walk leads from a source to what was met
 -- at an index
-abbrev pub IsWalkToMet : List Met → List ℕ → ℕ → List ℕ → Type 0
+abbrev pub IsWalkToMet : List MetState → List ℕ → ℕ → List ℕ → Type 0
 IsWalkToMet met edges index walk =
     (graph : MarkedGraph) (leaves enters sources : List ℕ) → AreEnds graph edges leaves enters
     → ((i : ℕ) → i < length met → IsMet leaves enters sources met i)

@@ -60,7 +60,7 @@ pub record ArePartsOf (nodes : List Node) (places : List ℕ) : Type 0 where
 abbrev pub trees_at : List Node → List ℕ → List AccTree
 trees_at nodes places = map (tree_at nodes) places
 
--- formulas with that of a node in place of its parts, which are the last ones; they are as before if one is missing
+-- formulas with that of a node in place of its parts, which are the first ones; they are as before if one is missing
 abbrev pub trees_with : List AccTree → AccNode → List AccTree
 trees_with trees (plain.Constant value) = constant value ∷ trees
 trees_with trees (plain.Inf negated set) = inf negated set ∷ trees
@@ -68,6 +68,17 @@ trees_with trees (plain.Fin negated set) = fin negated set ∷ trees
 trees_with (right ∷ left ∷ trees) plain.And = conjunction left right ∷ trees
 trees_with (right ∷ left ∷ trees) plain.Or = disjunction left right ∷ trees
 trees_with trees operator = trees
+
+-- `count` formulas are enough for the parts of a node
+abbrev pub HasParts : ℕ → AccNode → Type 0
+HasParts count plain.And = 1 < count
+HasParts count plain.Or = 1 < count
+HasParts count atom = Unit {0}
+
+-- formulas are enough for the parts of the first of these nodes, and with its own in place of them for the others
+abbrev pub HaveParts : List AccTree → List AccNode → Type 0
+HaveParts trees [] = Unit {0}
+HaveParts trees (node ∷ nodes) = HasParts (length trees) node × HaveParts (trees_with trees node) nodes
 
 -- formulas with those of nodes in place of their parts
 abbrev pub trees_left : List AccTree → List AccNode → List AccTree

@@ -12,7 +12,7 @@ use Rattle.omega_hoa_diagnostics.specs.ChoiceCauses.{HasNoChoiceToTell, TellsCho
 use Rattle.omega_hoa_diagnostics.specs.Choices.{AreAllPassedOver, CanBeTakenTogether}
 use Rattle.omega_hoa_diagnostics.specs.Choices.{IsFirstChoice, IsPassedOver, edges_before}
 use Rattle.omega_hoa_diagnostics.specs.declared.choosing.Choice.{Choice}
-use Rattle.omega_hoa_diagnostics.specs.declared.rows.Row.{Row}
+use Rattle.omega_hoa_diagnostics.specs.declared.rows.StateRow.{StateRow}
 
 -- the line is about a choice, or there is none to tell and no line
 abbrev pub IsStatesLine : Description → List ℕ → Type 0
@@ -49,7 +49,7 @@ IsSecondFound labels first found =
     MatchOption found ((second : ℕ) → IsPassedOver labels first second) (IsSecond labels first)
 
 -- the state with a number and the number of its first edge, or none if the body does not define it
-abbrev pub IsRowFound : Description → ℕ → Option Row → Type 0
+abbrev pub IsRowFound : Description → ℕ → Option StateRow → Type 0
 IsRowFound a number found =
     MatchOption found (labels_at a number ≡ [])
     (λ row. (row.state.now ≡ state_at a number) × (row.before ≡ edges_before a.defined number))

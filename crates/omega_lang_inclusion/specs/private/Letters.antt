@@ -1,12 +1,12 @@
 -- The words along a lasso of a product, of which only the graph is made.
-use Rattle.std.specs.Prelude.{◌≡◌, ℕ, false, List, ◌++◌, length, get_or, Option, None, Some}
+use Rattle.std.specs.Prelude.{◌≡◌, ℕ, false, List, ◌++◌, length, map, get_or, Option, None, Some}
 use Rattle.omega_hoa_automaton.specs.Automaton.{BodyEdge, Description, edge_at}
 use Rattle.omega_hoa_edges.specs.Labels.{label_at}
 use Rattle.omega_hoa_edges.specs.Conjuncts.{conjuncts, each_once}
 use Rattle.omega_hoa_label.specs.Label.{LabelTree, constant}
 use Rattle.omega_hoa_label.specs.Renumbering.{relabelled}
-use Rattle.omega_lang_lasso_word.specs.Form.{word_form}
-use Rattle.omega_lang_lasso_word.specs.Letters.{conjunction_words}
+use Rattle.omega_lang_lasso_word.specs.LassoWordText.{words_over}
+use Rattle.omega_lang_lasso_word.specs.declared.lasso_word.LassoWord.{LassoWord}
 use Rattle.omega_lang_product.specs.Joining.{places_among}
 use Rattle.omega_lang_product.specs.declared.graph.PairGraph.{PairGraph}
 use Rattle.omega_lang_runs.specs.Places.{ArePlaces}
@@ -41,11 +41,7 @@ joint_conjuncts one other graph number =
     ++ conjuncts (label_in (places_among names other.propositions) other
     (get_or graph.edges.seconds.items number 0)))
 
--- its letter
-abbrev pub joint_letter : Description → Description → PairGraph → ℕ → List ℕ
-joint_letter one other graph number =
-    conjunction_words graph.propositions.items (joint_conjuncts one other graph number)
-
--- the word of a lasso
-abbrev pub joint_word : Description → Description → PairGraph → List ℕ → List ℕ → List ℕ
-joint_word one other graph stem cycle = word_form (joint_letter one other graph) stem cycle
+-- the words of a lasso
+abbrev pub joint_word : Description → Description → PairGraph → List ℕ → List ℕ → LassoWord
+joint_word one other graph stem cycle = words_over graph.propositions.items
+    (map (joint_conjuncts one other graph) stem) (map (joint_conjuncts one other graph) cycle)

@@ -9,7 +9,7 @@ use Rattle.omega_lang_runs.specs.Verdict.{IsVerdict}
 use Rattle.omega_lang_runs.specs.declared.verdict.Verdict.{Verdict}
 pub use Rattle.omega_lang_lasso_search.specs.Tabled.{AreUsableEdges}
 use Rattle.omega_lang_lasso_search.specs.Tabled.{HasMarks, IsTabled, ListsOne}
-use Rattle.omega_lang_lasso_search.specs.declared.search.Search.{Search}
+use Rattle.omega_lang_lasso_search.specs.declared.search.LassoSearch.{LassoSearch}
 use Rattle.omega_lang_lasso_search.specs.declared.given.Given.{Given}
 use Rattle.omega_lang_lasso_search.specs.private.Numbering.{AreNumbered}
 
@@ -24,14 +24,14 @@ pub record IsGivenOf (a : Description) (given : Given) : Type 0 where
   pub usable : AreUsableEdges a given.edges.now
 
 -- the parts of a search fit together: the marks are as many as the edges, and numbers are below their counts
-pub record IsSearch (search : Search) : Type 0 where
+pub record IsSearch (search : LassoSearch) : Type 0 where
   pub marks : length search.marks.now ≡ length search.graph.now.edges
   pub edges : AreEdges search.graph.now search.edges.now
   pub sources : AreStates search.graph.now search.sources.now
 
 -- a search is one in this automaton, whose starts and edges list one state each: the marks of each edge, the graph of
 -- all edges, the starts as its sources, the usable edges and the formula
-pub record IsSearchIn (a : Description) (search : Search) : Type 0 where
+pub record IsSearchIn (a : Description) (search : LassoSearch) : Type 0 where
   pub single : ListsOne a
   pub marks_are : HasMarks a search.marks.now
   pub names : List ℕ
@@ -40,28 +40,28 @@ pub record IsSearchIn (a : Description) (search : Search) : Type 0 where
   pub formula_is : a.acceptance ≡ search.formula.now
 
 -- a verdict is right of each automaton that the search is in
-abbrev pub IsVerdictOf : Search → Verdict → Type 0
+abbrev pub IsVerdictOf : LassoSearch → Verdict → Type 0
 IsVerdictOf search verdict = (a : Description) → IsSearchIn a search → IsVerdict a verdict
 
 -- the graph of a search, whose edges have their marks
-abbrev pub graph_of : Search → MarkedGraph
+abbrev pub graph_of : LassoSearch → MarkedGraph
 graph_of search = marked search.graph.now (row_at search.marks.now)
 
 -- the set of its usable edges
-abbrev pub usable_of : Search → EdgeSet
+abbrev pub usable_of : LassoSearch → EdgeSet
 usable_of search = listed search.edges.now
 
 -- an accepting closed walk in the usable edges
-abbrev pub IsAcceptingCycle : Search → List ℕ → Type 0
+abbrev pub IsAcceptingCycle : LassoSearch → List ℕ → Type 0
 IsAcceptingCycle search cycle =
     IsAccepting (graph_of search) (usable_of search) search.formula.now cycle
 
 -- the usable edges reach the state from a source
-abbrev pub Reaches : Search → ℕ → Type 0
+abbrev pub Reaches : LassoSearch → ℕ → Type 0
 Reaches search state = IsReachedAlong (graph_of search) (usable_of search) search.sources.now state
 
 -- the state that the first edge of a cycle leaves
-abbrev pub beginning : Search → List ℕ → ℕ
+abbrev pub beginning : LassoSearch → List ℕ → ℕ
 beginning search cycle = (ends_at search.graph.now (slice_index_or cycle 0 0)).from
 
 -- the edges of a list that leave a state with a flag

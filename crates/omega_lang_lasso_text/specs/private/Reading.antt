@@ -2,17 +2,17 @@
 use Rattle.std.specs.Prelude.{◌≡◌, ℕ, ◌<◌, Bool, true, false, Option, Some, None}
 use Rattle.std.specs.Prelude.{List, [], ◌∷◌, ◌++◌, length, option_and_then}
 use Rattle.omega_lang_lasso_text.specs.Symbols.{LassoSymbol, cycle, number, stem}
-use Rattle.omega_lang_lasso_text.specs.declared.stage.Stage.{Stage}
-use Rattle.omega_lang_lasso_text.specs.declared.stage.Stage.TheVariants.{Cycle, Start, Stem}
+use Rattle.omega_lang_lasso_text.specs.declared.stage.LassoStage.{LassoStage}
+use Rattle.omega_lang_lasso_text.specs.declared.stage.LassoStage.TheVariants.{Cycle, Start, Stem}
 
 -- what was read so far: the stage, and the numbers of the stem and of the cycle
 pub record LassoState : Type 0 where
-  pub stage : Stage
+  pub stage : LassoStage
   pub before : List ℕ
   pub around : List ℕ
 
 -- the state of these parts
-abbrev pub kept : Stage → List ℕ → List ℕ → LassoState
+abbrev pub kept : LassoStage → List ℕ → List ℕ → LassoState
 kept stage before around = record { stage = stage; before = before; around = around }
 
 -- the state before the first symbol
@@ -20,19 +20,19 @@ abbrev pub initial : LassoState
 initial = kept Start [] []
 
 -- the state after the number `n`, if a number may come at this stage
-abbrev pub number_at : Stage → ℕ → LassoState → Option LassoState
+abbrev pub number_at : LassoStage → ℕ → LassoState → Option LassoState
 number_at Start n state = None
 number_at Stem n state = Some (kept Stem (state.before ++ n ∷ []) state.around)
 number_at Cycle n state = Some (kept Cycle state.before (state.around ++ n ∷ []))
 
 -- the state after the word `stem`, if it may come at this stage
-abbrev pub stem_at : Stage → LassoState → Option LassoState
+abbrev pub stem_at : LassoStage → LassoState → Option LassoState
 stem_at Start state = Some (kept Stem state.before state.around)
 stem_at Stem state = None
 stem_at Cycle state = None
 
 -- the state after the word `cycle`, if it may come at this stage
-abbrev pub cycle_at : Stage → LassoState → Option LassoState
+abbrev pub cycle_at : LassoStage → LassoState → Option LassoState
 cycle_at Start state = None
 cycle_at Stem state = Some (kept Cycle state.before state.around)
 cycle_at Cycle state = None

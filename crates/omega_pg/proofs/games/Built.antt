@@ -20,7 +20,7 @@ use Rattle.omega_pg.specs.game.Refusing.{IsReadRefusal, is_header_small}
 use Rattle.omega_pg.specs.private.reader.Symbols.{symbols_of}
 use Rattle.omega_text.specs.Syntax.{IsTextFault, IsTextOf, TokensComplete}
 use Rattle.omega_pg.specs.game.Text.{Covers, IsGameText}
-use Rattle.omega_pg.specs.declared.game.stage.Stage.TheVariants.{Ended}
+use Rattle.omega_pg.specs.declared.game.stage.GameStage.TheVariants.{Ended}
 use Rattle.omega_pg.proofs.reader.Deciding.{ended_from_run}
 use Rattle.omega_pg.proofs.games.Grammar.{SpellsGame-from_run, decides_games, raw_of, small_from_run}
 

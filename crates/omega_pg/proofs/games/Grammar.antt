@@ -12,8 +12,8 @@ use Rattle.omega_text.specs.Syntax.{TokensBegin, TokensComplete}
 use Rattle.omega_text.specs.Lexeme.{Lexeme}
 use Rattle.omega_text.specs.declared.pg.kind.PgKind.{PgKind}
 use Rattle.std.specs.Prelude.{◌↔◌, IsTrue}
-use Rattle.omega_pg.specs.declared.game.stage.Stage.{Stage}
-use Rattle.omega_pg.specs.declared.game.stage.Stage.TheVariants.{Comma, Ended, Headed, Identifier, Listed, Named, Number, Owner, Priority, Start, Word}
+use Rattle.omega_pg.specs.declared.game.stage.GameStage.{GameStage}
+use Rattle.omega_pg.specs.declared.game.stage.GameStage.TheVariants.{Comma, Ended, Headed, Identifier, Listed, Named, Number, Owner, Priority, Start, Word}
 use Rattle.omega_pg.proofs.reader.Deciding.{Completes, Decides, Reads, refused_from_run, run_taken, unfinished_from_run}
 use Rattle.omega_pg.proofs.reader.Runs.{run_by_shown}
 use Rattle.omega_pg.proofs.games.Shown.{Shows, ShowsAt, spelled, step_shown}
@@ -46,7 +46,7 @@ pub small_from_run : (symbols : List PgSymbol) (state : GameReaderState) → run
 small_from_run symbols state e = (shown_by_run symbols state e).small
 
 -- what completes a text from a stage
-abbrev completion : Stage → List PgSymbol
+abbrev completion : GameStage → List PgSymbol
 completion Start = number 0 ∷ number 0 ∷ number 0 ∷ number 0 ∷ semicolon ∷ []
 completion Word = number 0 ∷ semicolon ∷ number 0 ∷ number 0 ∷ number 0 ∷ number 0 ∷ semicolon ∷ []
 completion (Number n) = semicolon ∷ number 0 ∷ number 0 ∷ number 0 ∷ number 0 ∷ semicolon ∷ []
@@ -64,7 +64,7 @@ abbrev pub IsEnded : GameReaderState → Type 0
 IsEnded state = state.stage ≡ Ended
 
 -- the completion leads to the end of a node
-completes : (stage : Stage) (header : Option ℕ) (specs : List NodeSpec) (small : Bool) → Completes step IsEnded (at stage header specs small)
+completes : (stage : GameStage) (header : Option ℕ) (specs : List NodeSpec) (small : Bool) → Completes step IsEnded (at stage header specs small)
 completes Start header specs small = record { more = completion Start; state = _; runs = refl; ended = refl }
 completes Word header specs small = record { more = completion Word; state = _; runs = refl; ended = refl }
 completes (Number n) header specs small = record { more = completion (Number n); state = _; runs = refl; ended = refl }
@@ -84,7 +84,7 @@ reads symbols raw text =
     record { state = at Ended raw.header raw.specs found.small; runs = found.runs; ended = refl; kept = refl }
 
 -- it has ended after a node, or has not
-ended_or_open : (stage : Stage) → (stage ≡ Ended) ⊎ (stage ≡ Ended → ⊥)
+ended_or_open : (stage : GameStage) → (stage ≡ Ended) ⊎ (stage ≡ Ended → ⊥)
 ended_or_open Ended = inl refl
 ended_or_open _ = inr (λ e. cc)
 

@@ -22,8 +22,8 @@ use Rattle.omega_pg.specs.Symbols.{PgSymbol, comma, number, semicolon, pg_symbol
 use Rattle.omega_pg.specs.private.reader.Symbols.{symbols_of}
 use Rattle.omega_pg.specs.private.game.reader.Automaton.{GameReaderState, IsReachedBy, IsReady, IsReadyAt, begun, initial, run, step, to_stage, with_node}
 use Rattle.omega_pg.specs.private.game.reader.Pieces.{BeginsNode, IsPiece, LeadsOn}
-use Rattle.omega_pg.specs.declared.game.stage.Stage.{Stage}
-use Rattle.omega_pg.specs.declared.game.stage.Stage.TheVariants.{Comma as CommaStage, Ended, Headed, Identifier, Listed, Named, Number as NumberStage, Owner, Priority, Start, Word}
+use Rattle.omega_pg.specs.declared.game.stage.GameStage.{GameStage}
+use Rattle.omega_pg.specs.declared.game.stage.GameStage.TheVariants.{Comma as CommaStage, Ended, Headed, Identifier, Listed, Named, Number as NumberStage, Owner, Priority, Start, Word}
 use Rattle.omega_pg.proofs.games.Changes.{length_with_last}
 use Rattle.omega_pg.proofs.reader.Runs.{run_by_on}
 
@@ -140,7 +140,7 @@ semicolon_leads source from to state listed ready piece = record {
 }
 
 -- from where a node may begin, they add it
-run_head : (stage : Stage) (state : GameReaderState) (id priority : ℕ) (owner : Player) (first : ℕ) → BeginsNode stage
+run_head : (stage : GameStage) (state : GameReaderState) (id priority : ℕ) (owner : Player) (first : ℕ) → BeginsNode stage
     → run (to_stage stage state) (head_symbols id priority owner first) ≡ Some (with_node (begun id priority owner first) state)
 run_head Start state id priority Zero first begins = refl
 run_head Start state id priority One first begins = refl

@@ -14,8 +14,8 @@ use Rattle.omega_pg.specs.game.Grammar.{header_symbols, name_symbols, node_symbo
 use Rattle.omega_pg.specs.game.Refusing.{is_header_small}
 use Rattle.omega_pg.specs.Symbols.{PgSymbol, comma, name, number, parity, paritysol, semicolon}
 use Rattle.omega_game_values.specs.Player.{player_number}
-use Rattle.omega_pg.specs.declared.game.stage.Stage.{Stage}
-use Rattle.omega_pg.specs.declared.game.stage.Stage.TheVariants.{Comma, Ended, Headed, Identifier, Listed, Named, Number, Owner, Priority, Start, Word}
+use Rattle.omega_pg.specs.declared.game.stage.GameStage.{GameStage}
+use Rattle.omega_pg.specs.declared.game.stage.GameStage.TheVariants.{Comma, Ended, Headed, Identifier, Listed, Named, Number, Owner, Priority, Start, Word}
 use Rattle.omega_pg.proofs.games.Changes.{with_last_push}
 use Rattle.omega_pg.proofs.games.Spelled.{at}
 
@@ -56,7 +56,7 @@ pub record IsHeader (header : Option ℕ) (specs : List NodeSpec) (begun symbols
   pub empty : specs ≡ []
   pub shown : symbols ≡ begun
 
-abbrev pub ShowsAt : Stage → Option ℕ → List NodeSpec → List PgSymbol → Type 0
+abbrev pub ShowsAt : GameStage → Option ℕ → List NodeSpec → List PgSymbol → Type 0
 ShowsAt Start header specs symbols = IsHeader header specs [] symbols
 ShowsAt Word header specs symbols = IsHeader header specs (parity ∷ []) symbols
 ShowsAt (Number n) header specs symbols = IsHeader header specs (parity ∷ number n ∷ []) symbols
@@ -115,7 +115,7 @@ is_header_small-change header specs done last change split same =
     ∙ sym (ap (is_header_small header) (ap (with_last change) split ∙ with_last_push change done last))
 
 -- what a number leads to is shown
-number_shown : (stage : Stage) (header : Option ℕ) (specs : List NodeSpec) (small : Bool) (symbols : List PgSymbol) (n : ℕ)
+number_shown : (stage : GameStage) (header : Option ℕ) (specs : List NodeSpec) (small : Bool) (symbols : List PgSymbol) (n : ℕ)
     → Shows (at stage header specs small) symbols
     → IfSome (after_number stage (at stage header specs small) n) (λ next. Shows next (symbols ++ number n ∷ []))
 number_shown Start header specs small symbols n shows = record {
@@ -192,7 +192,7 @@ number_shown Comma header specs small symbols n shows =
 number_shown Named header specs small symbols n shows = tt
 
 -- what the word `parity` leads to is shown
-word_shown : (stage : Stage) (header : Option ℕ) (specs : List NodeSpec) (small : Bool) (symbols : List PgSymbol)
+word_shown : (stage : GameStage) (header : Option ℕ) (specs : List NodeSpec) (small : Bool) (symbols : List PgSymbol)
     → Shows (at stage header specs small) symbols
     → IfSome (after_word stage (at stage header specs small)) (λ next. Shows next (symbols ++ parity ∷ []))
 word_shown Start header specs small symbols shows = record {
@@ -219,7 +219,7 @@ ended_shown header specs shows symbols opened ends = (
 )
 
 -- what a semicolon leads to is shown
-semicolon_shown : (stage : Stage) (header : Option ℕ) (specs : List NodeSpec) (small : Bool) (symbols : List PgSymbol)
+semicolon_shown : (stage : GameStage) (header : Option ℕ) (specs : List NodeSpec) (small : Bool) (symbols : List PgSymbol)
     → Shows (at stage header specs small) symbols
     → IfSome (after_semicolon stage (at stage header specs small)) (λ next. Shows next (symbols ++ semicolon ∷ []))
 semicolon_shown Start header specs small symbols shows = tt
@@ -257,7 +257,7 @@ semicolon_shown Named header specs small symbols shows =
     }
 
 -- what a comma leads to is shown
-comma_shown : (stage : Stage) (header : Option ℕ) (specs : List NodeSpec) (small : Bool) (symbols : List PgSymbol)
+comma_shown : (stage : GameStage) (header : Option ℕ) (specs : List NodeSpec) (small : Bool) (symbols : List PgSymbol)
     → Shows (at stage header specs small) symbols
     → IfSome (after_comma stage (at stage header specs small)) (λ next. Shows next (symbols ++ comma ∷ []))
 comma_shown Listed header specs small symbols shows =
@@ -279,7 +279,7 @@ comma_shown Listed header specs small symbols shows =
 comma_shown _ header specs small symbols shows = tt
 
 -- what a name leads to is shown
-name_shown : (stage : Stage) (header : Option ℕ) (specs : List NodeSpec) (small : Bool) (symbols : List PgSymbol) (bytes : List ℕ)
+name_shown : (stage : GameStage) (header : Option ℕ) (specs : List NodeSpec) (small : Bool) (symbols : List PgSymbol) (bytes : List ℕ)
     → Shows (at stage header specs small) symbols
     → IfSome (after_name stage (at stage header specs small) bytes) (λ next. Shows next (symbols ++ name bytes ∷ []))
 name_shown Listed header specs small symbols bytes shows =

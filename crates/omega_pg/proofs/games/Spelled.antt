@@ -10,12 +10,12 @@ use Rattle.omega_pg.specs.private.game.reader.Automaton.{GameReaderState, begun,
 use Rattle.omega_pg.specs.game.Grammar.{RawGame, SpellsGame, header_symbols, name_symbols, node_symbols, successor_symbols}
 use Rattle.omega_pg.specs.Symbols.{PgSymbol, comma, number, semicolon}
 use Rattle.omega_game_values.specs.Player.{player_number}
-use Rattle.omega_pg.specs.declared.game.stage.Stage.{Stage}
-use Rattle.omega_pg.specs.declared.game.stage.Stage.TheVariants.{Ended, Identifier, Listed, Owner, Priority}
+use Rattle.omega_pg.specs.declared.game.stage.GameStage.{GameStage}
+use Rattle.omega_pg.specs.declared.game.stage.GameStage.TheVariants.{Ended, Identifier, Listed, Owner, Priority}
 use Rattle.omega_pg.proofs.games.Changes.{with_last_push}
 
 -- a state with these parts
-abbrev pub at : Stage → Option ℕ → List NodeSpec → Bool → GameReaderState
+abbrev pub at : GameStage → Option ℕ → List NodeSpec → Bool → GameReaderState
 at stage header specs small = record { stage = stage; header = header; specs = specs; header_too_small = small }
 
 -- further successors are added to the last specification

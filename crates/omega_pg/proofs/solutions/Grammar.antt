@@ -10,14 +10,14 @@ use Rattle.omega_pg.specs.solution.Grammar.{SolutionLine, RawSolution, SpellsSol
 use Rattle.omega_pg.specs.private.solution.reader.Automaton.{SolutionReaderState, after_number, after_semicolon, after_word, initial, run, step, to_stage}
 use Rattle.omega_pg.specs.Symbols.{PgSymbol, comma, name, number, parity, paritysol, semicolon}
 use Rattle.omega_game_values.specs.Player.{player_number}
-use Rattle.omega_pg.specs.declared.solution.stage.Stage.{Stage}
-use Rattle.omega_pg.specs.declared.solution.stage.Stage.TheVariants.{Chosen, Ended, Identifier, Number, Start, Winner, Word}
+use Rattle.omega_pg.specs.declared.solution.stage.SolutionStage.{SolutionStage}
+use Rattle.omega_pg.specs.declared.solution.stage.SolutionStage.TheVariants.{Chosen, Ended, Identifier, Number, Start, Winner, Word}
 use Rattle.omega_pg.proofs.reader.Deciding.{Completes, Decides, Reads}
 use Rattle.omega_pg.proofs.reader.Runs.{run_by_shown}
 use Rattle.omega_pg.proofs.games.Players.{player_of-number}
 
 -- a state with these parts
-abbrev at : Stage → ℕ → List SolutionLine → SolutionReaderState
+abbrev at : SolutionStage → ℕ → List SolutionLine → SolutionReaderState
 at stage greatest lines = record { stage = stage; greatest = greatest; lines = lines }
 
 -- the raw text that a state has kept
@@ -29,7 +29,7 @@ abbrev spelled : ℕ → List SolutionLine → List PgSymbol
 spelled greatest lines = paritysol ∷ number greatest ∷ semicolon ∷ flat_map line_symbols lines
 
 -- what completes a text from a stage
-abbrev completion : Stage → List PgSymbol
+abbrev completion : SolutionStage → List PgSymbol
 completion Start = paritysol ∷ number 0 ∷ semicolon ∷ []
 completion Word = number 0 ∷ semicolon ∷ []
 completion (Number greatest) = semicolon ∷ []
@@ -43,7 +43,7 @@ abbrev pub IsEnded : SolutionReaderState → Type 0
 IsEnded state = state.stage ≡ Ended
 
 -- the completion leads to the end of the header or of a line
-completes : (stage : Stage) (greatest : ℕ) (lines : List SolutionLine) → Completes step IsEnded (at stage greatest lines)
+completes : (stage : SolutionStage) (greatest : ℕ) (lines : List SolutionLine) → Completes step IsEnded (at stage greatest lines)
 completes Start greatest lines = record { more = completion Start; state = _; runs = refl; ended = refl }
 completes Word greatest lines = record { more = completion Word; state = _; runs = refl; ended = refl }
 completes (Number n) greatest lines = record { more = completion (Number n); state = _; runs = refl; ended = refl }
@@ -80,7 +80,7 @@ record IsHeader (lines : List SolutionLine) (begun symbols : List PgSymbol) : Ty
   pub shown : symbols ≡ begun
 
 -- the symbols that lead to a state
-abbrev Shows : Stage → ℕ → List SolutionLine → List PgSymbol → Type 0
+abbrev Shows : SolutionStage → ℕ → List SolutionLine → List PgSymbol → Type 0
 Shows Start greatest lines symbols = IsHeader lines [] symbols
 Shows Word greatest lines symbols = IsHeader lines (paritysol ∷ []) symbols
 Shows (Number n) greatest lines symbols = IsHeader lines (paritysol ∷ number n ∷ []) symbols
@@ -95,7 +95,7 @@ abbrev IsShown : SolutionReaderState → List PgSymbol → Type 0
 IsShown state symbols = Shows state.stage state.greatest state.lines symbols
 
 -- what a number leads to is shown
-number_shown : (stage : Stage) (greatest : ℕ) (lines : List SolutionLine) (symbols : List PgSymbol) (n : ℕ) → Shows stage greatest lines symbols
+number_shown : (stage : SolutionStage) (greatest : ℕ) (lines : List SolutionLine) (symbols : List PgSymbol) (n : ℕ) → Shows stage greatest lines symbols
     → IfSome (after_number stage (at stage greatest lines) n) (λ next. IsShown next (symbols ++ number n ∷ []))
 number_shown Start greatest lines symbols n shows = tt
 number_shown Word greatest lines symbols n shows = record { empty = shows.empty; shown = ap (λ list. list ++ number n ∷ []) shows.shown }
@@ -115,7 +115,7 @@ number_shown (Winner id winner) greatest lines symbols n shows =
 number_shown (Chosen id winner successor) greatest lines symbols n shows = tt
 
 -- what the word `paritysol` leads to is shown
-word_shown : (stage : Stage) (greatest : ℕ) (lines : List SolutionLine) (symbols : List PgSymbol) → Shows stage greatest lines symbols
+word_shown : (stage : SolutionStage) (greatest : ℕ) (lines : List SolutionLine) (symbols : List PgSymbol) → Shows stage greatest lines symbols
     → IfSome (after_word stage (at stage greatest lines)) (λ next. IsShown next (symbols ++ paritysol ∷ []))
 word_shown Start greatest lines symbols shows = record { empty = shows.empty; shown = ap (λ list. list ++ paritysol ∷ []) shows.shown }
 word_shown _ greatest lines symbols shows = tt
@@ -127,7 +127,7 @@ spelled-push greatest lines line =
     (flat_map-append line_symbols lines (line ∷ []) ∙ ap (λ list. flat_map line_symbols lines ++ list) (append-nil (line_symbols line)))
 
 -- what a semicolon leads to is shown
-semicolon_shown : (stage : Stage) (greatest : ℕ) (lines : List SolutionLine) (symbols : List PgSymbol) → Shows stage greatest lines symbols
+semicolon_shown : (stage : SolutionStage) (greatest : ℕ) (lines : List SolutionLine) (symbols : List PgSymbol) → Shows stage greatest lines symbols
     → IfSome (after_semicolon stage (at stage greatest lines)) (λ next. IsShown next (symbols ++ semicolon ∷ []))
 semicolon_shown (Number n) greatest lines symbols shows =
     ap (λ list. list ++ semicolon ∷ []) shows.shown ∙ ap (λ list. paritysol ∷ number n ∷ semicolon ∷ flat_map line_symbols list) (sym shows.empty)
@@ -160,7 +160,7 @@ SpellsSolution-from_run symbols state e ended =
     subst (λ stage. Shows stage state.greatest state.lines symbols) ended there
 
 -- it has ended after the header or a line, or has not
-ended_or_open : (stage : Stage) → (stage ≡ Ended) ⊎ (stage ≡ Ended → ⊥)
+ended_or_open : (stage : SolutionStage) → (stage ≡ Ended) ⊎ (stage ≡ Ended → ⊥)
 ended_or_open Ended = inl refl
 ended_or_open _ = inr (λ e. cc)
 

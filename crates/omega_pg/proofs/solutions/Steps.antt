@@ -14,15 +14,15 @@ use Rattle.omega_text.specs.declared.pg.kind.PgKind.{PgKind}
 use Rattle.omega_pg.specs.Symbols.{pg_symbol_of}
 use Rattle.omega_pg.specs.private.reader.Symbols.{symbols_of}
 use Rattle.omega_pg.specs.private.solution.reader.Reader.{HasBecome}
-use Rattle.omega_pg.specs.declared.solution.reader.Reader.{Reader}
-use Rattle.omega_pg.specs.declared.solution.stage.Stage.{Stage}
-use Rattle.omega_pg.specs.declared.solution.stage.Stage.TheVariants.{Ended, Number}
+use Rattle.omega_pg.specs.declared.solution.reader.SolutionReader.{SolutionReader}
+use Rattle.omega_pg.specs.declared.solution.stage.SolutionStage.{SolutionStage}
+use Rattle.omega_pg.specs.declared.solution.stage.SolutionStage.TheVariants.{Ended, Number}
 use Rattle.omega_pg.proofs.reader.Deciding.{refused_from_run, run_taken, unfinished_from_run}
 use Rattle.omega_pg.proofs.solutions.Grammar.{SpellsSolution-from_run, decides_solutions, raw_of}
 
 module _ {L : Type 0} (KeepsLines : List Node → List SolutionLine → L → Type 0) where
   -- the header ends
-  pub header_ends : (nodes : List Node) (state : SolutionReaderState) (stage : Stage) (greatest n : ℕ) (lines : L)
+  pub header_ends : (nodes : List Node) (state : SolutionReaderState) (stage : SolutionStage) (greatest n : ℕ) (lines : L)
       → stage ≡ Number n → Keeps KeepsLines nodes state stage greatest lines
       → KeepsNext KeepsLines true nodes (after_semicolon state.stage state) Ended n lines
   header_ends nodes state stage greatest n lines is keeps = (
@@ -32,7 +32,7 @@ module _ {L : Type 0} (KeepsLines : List Node → List SolutionLine → L → Ty
   )
 
   -- a line ends
-  pub line_ends : (nodes : List Node) (state : SolutionReaderState) (stage : Stage) (greatest id : ℕ) (winner : Player) (successor : Option ℕ) (lines lines' : L)
+  pub line_ends : (nodes : List Node) (state : SolutionReaderState) (stage : SolutionStage) (greatest id : ℕ) (winner : Player) (successor : Option ℕ) (lines lines' : L)
       → after_semicolon stage state ≡ Some (with_line id winner successor state) → Keeps KeepsLines nodes state stage greatest lines
       → ((before : List SolutionLine) → KeepsLines nodes before lines
       → KeepsLines nodes (before ++ line_for id winner successor ∷ []) lines')
@@ -44,7 +44,7 @@ module _ {L : Type 0} (KeepsLines : List Node → List SolutionLine → L → Ty
   )
 
   -- a token that is taken leads on, and one that is refused ends what begins a text
-  taken_on : (taken : Bool) (nodes : List Node) (lexemes : List (Lexeme PgKind)) (lexeme : Lexeme PgKind) (stage stage' : Stage) (greatest greatest' : ℕ) (lines lines' : L)
+  taken_on : (taken : Bool) (nodes : List Node) (lexemes : List (Lexeme PgKind)) (lexeme : Lexeme PgKind) (stage stage' : SolutionStage) (greatest greatest' : ℕ) (lines lines' : L)
       → ((state : SolutionReaderState) → Keeps KeepsLines nodes state stage greatest lines → KeepsNext KeepsLines taken nodes (step state (pg_symbol_of lexeme)) stage' greatest' lines')
       → HasTaken KeepsLines nodes (symbols_of lexemes) stage greatest lines
       → TakesOrRefuses taken (TokensBegin solution_syntax) (λ all. HasTaken KeepsLines nodes (symbols_of all) stage' greatest' lines') lexemes lexeme
@@ -55,10 +55,10 @@ module _ {L : Type 0} (KeepsLines : List Node → List SolutionLine → L → Ty
       refused_from_run decides_solutions lexemes lexeme has.state has.runs (takes has.state has.keeps)
 
   -- the same of a call, which keeps the game
-  pub taken_on_all : (result : Result Bool Refusal) (reader next : Reader L) (lexeme : Lexeme PgKind) → next.game.now ≡ reader.game.now
+  pub taken_on_all : (result : Result Bool Refusal) (reader next : SolutionReader L) (lexeme : Lexeme PgKind) → next.game.now ≡ reader.game.now
       → IfOk result (λ taken. (state : SolutionReaderState) → Keeps KeepsLines reader.game.now state reader.stage reader.greatest reader.lines
       → KeepsNext KeepsLines taken reader.game.now (step state (pg_symbol_of lexeme)) next.stage next.greatest next.lines)
-      → IfOk result (λ taken. (start : Reader L) (lexemes : List (Lexeme PgKind)) → HasBecome KeepsLines start lexemes reader
+      → IfOk result (λ taken. (start : SolutionReader L) (lexemes : List (Lexeme PgKind)) → HasBecome KeepsLines start lexemes reader
       → TakesOrRefuses taken (TokensBegin solution_syntax) (λ all. HasBecome KeepsLines start all next) lexemes lexeme)
   taken_on_all (Err refusal) reader next lexeme same takes = tt
   taken_on_all (Ok true) reader next lexeme same takes = λ start lexemes has. (
@@ -72,7 +72,7 @@ module _ {L : Type 0} (KeepsLines : List Node → List SolutionLine → L → Ty
       (subst (λ nodes. HasTaken KeepsLines nodes (symbols_of lexemes) reader.stage reader.greatest reader.lines) (sym has.0) has.1)
 
   -- tokens that lead after the header or a line are a text, and others are unfinished
-  pub judged_end : (done : Bool) (start reader : Reader L) (lexemes : List (Lexeme PgKind)) → IsTrue done ↔ (reader.stage ≡ Ended) → HasBecome KeepsLines start lexemes reader
+  pub judged_end : (done : Bool) (start reader : SolutionReader L) (lexemes : List (Lexeme PgKind)) → IsTrue done ↔ (reader.stage ≡ Ended) → HasBecome KeepsLines start lexemes reader
       → IsWholeOrUnfinished done (TokensBegin solution_syntax) (TokensComplete solution_syntax) lexemes
   judged_end true start reader lexemes ended has =
       (raw_of has.1.state, SpellsSolution-from_run (symbols_of lexemes) has.1.state has.1.runs (sym has.1.keeps.same_stage ∙ ended.0 refl))

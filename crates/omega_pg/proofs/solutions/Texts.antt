@@ -13,20 +13,20 @@ use Rattle.omega_pg.specs.private.solution.reader.Lines.{IsOutcome, KeepsLines}
 use Rattle.omega_pg.specs.private.solution.reader.Reader.{HasBecome}
 use Rattle.omega_pg.specs.private.solution.reader.Reading.{HasTaken}
 use Rattle.omega_game_values.specs.declared.solution.Solution.{Solution}
-use Rattle.omega_pg.specs.declared.solution.lines.Lines.{Lines}
-use Rattle.omega_pg.specs.declared.solution.reader.Reader.{Reader}
-use Rattle.omega_pg.specs.declared.solution.stage.Stage.{Stage}
+use Rattle.omega_pg.specs.declared.solution.lines.ChoiceLines.{ChoiceLines}
+use Rattle.omega_pg.specs.declared.solution.reader.SolutionReader.{SolutionReader}
+use Rattle.omega_pg.specs.declared.solution.stage.SolutionStage.{SolutionStage}
 use Rattle.omega_pg.proofs.reader.Deciding.{ended_from_run}
 use Rattle.omega_pg.proofs.solutions.Grammar.{SpellsSolution-from_run, decides_solutions}
 
 -- the text was read, and a reader for the game keeps what it says
-abbrev pub LeadsTo : {L : Type 0} → (List Node → List SolutionLine → L → Type 0) → List ℕ → List Node → Stage → ℕ → L → Type 0
+abbrev pub LeadsTo : {L : Type 0} → (List Node → List SolutionLine → L → Type 0) → List ℕ → List Node → SolutionStage → ℕ → L → Type 0
 LeadsTo Keeps source nodes stage greatest lines =
     IsReadText pg_format (λ lexemes. HasTaken Keeps nodes (symbols_of lexemes) stage greatest lines) (TokensComplete solution_syntax) source
 
 module _ {L : Type 0} (Keeps : List Node → List SolutionLine → L → Type 0) (source : List ℕ) (nodes : List Node) where
   -- what a new reader of the game became is what the text says of the game
-  pub read_for : (start reader : Reader L) → start.game.now ≡ nodes
+  pub read_for : (start reader : SolutionReader L) → start.game.now ≡ nodes
       → IsReadText pg_format (λ lexemes. HasBecome Keeps start lexemes reader) (TokensComplete solution_syntax) source
       → LeadsTo Keeps source nodes reader.stage reader.greatest reader.lines
   read_for start reader e read = record {
@@ -38,7 +38,7 @@ module _ {L : Type 0} (Keeps : List Node → List SolutionLine → L → Type 0)
   }
 
   -- the raw text that was read
-  pub text_read : (stage : Stage) (greatest : ℕ) (lines : L) (read : LeadsTo Keeps source nodes stage greatest lines)
+  pub text_read : (stage : SolutionStage) (greatest : ℕ) (lines : L) (read : LeadsTo Keeps source nodes stage greatest lines)
       → IsTextOf solution_syntax source (record { greatest = greatest; lines = read.all_taken.state.lines })
   text_read stage greatest lines read = record {
     lexemes = read.lexemes;
@@ -49,7 +49,7 @@ module _ {L : Type 0} (Keeps : List Node → List SolutionLine → L → Type 0)
   }
 
 -- the outcome of the lines is what the text describes
-module _ (source : List ℕ) (nodes : List Node) (stage : Stage) (greatest : ℕ) (lines : Lines) (read : LeadsTo KeepsLines source nodes stage greatest lines) where
+module _ (source : List ℕ) (nodes : List Node) (stage : SolutionStage) (greatest : ℕ) (lines : ChoiceLines) (read : LeadsTo KeepsLines source nodes stage greatest lines) where
   pub solution_read : (result : Result Solution Refusal) → IsOutcome nodes (record { greatest = greatest; lines = read.all_taken.state.lines }) result
       → IfOk result (IsSolutionText nodes source)
   solution_read (Ok solution) outcome = record {

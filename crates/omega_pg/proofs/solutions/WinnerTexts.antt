@@ -9,11 +9,11 @@ use Rattle.omega_game_values.specs.declared.player.Player.{Player}
 use Rattle.omega_pg.specs.solution.Grammar.{RawSolution, solution_syntax}
 use Rattle.omega_pg.specs.solution.Winners.{IsReadWinnersRefusal, IsWinnersText, NamesNodes, NamesOthers, winners_of}
 use Rattle.omega_pg.specs.private.solution.winners.Lines.{KeepsWinners}
-use Rattle.omega_pg.specs.declared.solution.stage.Stage.{Stage}
+use Rattle.omega_pg.specs.declared.solution.stage.SolutionStage.{SolutionStage}
 use Rattle.omega_pg.specs.declared.solution.winner_lines.WinnerLines.{WinnerLines}
 use Rattle.omega_pg.proofs.solutions.Texts.{LeadsTo, text_read}
 
-module _ (source : List ℕ) (nodes : List Node) (stage : Stage) (greatest : ℕ) (lines : WinnerLines) (read : LeadsTo KeepsWinners source nodes stage greatest lines) where
+module _ (source : List ℕ) (nodes : List Node) (stage : SolutionStage) (greatest : ℕ) (lines : WinnerLines) (read : LeadsTo KeepsWinners source nodes stage greatest lines) where
   -- what was read
   abbrev written : RawSolution
   written = record { greatest = greatest; lines = read.all_taken.state.lines }

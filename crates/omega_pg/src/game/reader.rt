@@ -5,7 +5,7 @@ ghost use Rattle.omega_game_values.specs.Game.{IsNameByte};
 ghost use Rattle.omega_text.specs.Forms.{between_quotes};
 ghost use Rattle.omega_pg.specs.private.game.reader.Automaton.{is_above};
 
-use crate::game::stage::Stage;
+use crate::game::stage::GameStage;
 use omega_game_values::{GameBuilder, Player, Refusal};
 use omega_text::{PgKind, Token, TokenReader};
 use std::alloc::Global;
@@ -13,8 +13,8 @@ use std::marker::Model;
 
 /// A reader of game texts, which contracts see as a state of the automaton over their symbols.
 #[derive(Drop)]
-pub(crate) struct Reader {
-    pub(crate) stage: Stage,
+pub(crate) struct GameReader {
+    pub(crate) stage: GameStage,
     /// The number of the header, once it has ended.
     pub(crate) header: Option<u32>,
     /// The specifications. The last one is open at the stages `Listed`, `Comma` and `Named`.
@@ -23,7 +23,7 @@ pub(crate) struct Reader {
     pub(crate) header_too_small: bool,
 }
 
-impl Model for Reader {
+impl Model for GameReader {
     ghost use Rattle.omega_pg.specs.private.game.reader.Automaton.{GameReaderState};
 
     ghost Value = { GameReaderState };
@@ -33,7 +33,7 @@ impl Model for Reader {
     ghost view = { game_reader_state };
 }
 
-impl Reader {
+impl GameReader {
     ghost use Rattle.omega_game_values.specs.Game.{IsNameByte};
     ghost use Rattle.omega_pg.specs.Symbols.{comma, name, number, parity, semicolon};
     ghost use Rattle.omega_pg.specs.private.game.reader.Automaton.{IsReady, Takes, after_owner};
@@ -43,8 +43,8 @@ impl Reader {
     pub(crate) fn new(alloc: Global) -> Self
         ensures { result ≡ initial }
     {
-        Reader {
-            stage: Stage::Start,
+        GameReader {
+            stage: GameStage::Start,
             header: None,
             specs: GameBuilder::new(alloc),
             header_too_small: false,
@@ -60,23 +60,23 @@ impl Reader {
         ensures memory { IsOkUnless result Refusal.Memory }
     {
         match self.stage {
-            Stage::Start | Stage::Headed | Stage::Ended => {
-                self.stage = Stage::Identifier { id: value };
+            GameStage::Start | GameStage::Headed | GameStage::Ended => {
+                self.stage = GameStage::Identifier { id: value };
                 Ok(true)
             }
-            Stage::Word => {
-                self.stage = Stage::Number { header: value };
+            GameStage::Word => {
+                self.stage = GameStage::Number { header: value };
                 Ok(true)
             }
-            Stage::Identifier { id } => {
-                self.stage = Stage::Priority {
+            GameStage::Identifier { id } => {
+                self.stage = GameStage::Priority {
                     id,
                     priority: value,
                 };
                 Ok(true)
             }
-            Stage::Priority { id, priority } => Ok(self.take_owner(id, priority, value)),
-            Stage::Owner {
+            GameStage::Priority { id, priority } => Ok(self.take_owner(id, priority, value)),
+            GameStage::Owner {
                 id,
                 priority,
                 owner,
@@ -84,17 +84,17 @@ impl Reader {
                 self.begin_node(id, priority, owner, value)?;
                 Ok(true)
             }
-            Stage::Comma => {
+            GameStage::Comma => {
                 self.specs.add_successor(value)?;
-                self.stage = Stage::Listed;
+                self.stage = GameStage::Listed;
                 Ok(true)
             }
-            Stage::Number { .. } | Stage::Listed | Stage::Named => Ok(false),
+            GameStage::Number { .. } | GameStage::Listed | GameStage::Named => Ok(false),
         }
     }
 
     /// Takes the number of an owner after `id` and `priority`, and returns false if no player has it.
-    #[tactic(auto, using(crate::proofs::games::Players::player_found, crate::proofs::games::Players::no_player_found))]
+    #[tactic(auto, using(crate::proofs::games::Players::found, crate::proofs::games::Players::not_found))]
     fn take_owner(&mut self, id: u32, priority: u32, number: u32) -> bool
         requires id { id ≤ most_number }
         requires priority { priority ≤ most_number }
@@ -103,7 +103,7 @@ impl Reader {
         match Player::of_number(number) {
             None => false,
             Some(owner) => {
-                self.stage = Stage::Owner {
+                self.stage = GameStage::Owner {
                     id,
                     priority,
                     owner,
@@ -129,7 +129,7 @@ impl Reader {
     {
         self.specs.add_node(id, priority, owner, first)?;
         self.header_too_small = self.header_too_small || is_above(self.header, id);
-        self.stage = Stage::Listed;
+        self.stage = GameStage::Listed;
         Ok(())
     }
 
@@ -138,8 +138,8 @@ impl Reader {
         ensures { Takes result (step self.old parity) self.new }
     {
         match self.stage {
-            Stage::Start => {
-                self.stage = Stage::Word;
+            GameStage::Start => {
+                self.stage = GameStage::Word;
                 true
             }
             _ => false,
@@ -152,13 +152,13 @@ impl Reader {
         ensures { Takes result (step self.old semicolon) self.new }
     {
         match self.stage {
-            Stage::Number { header } => {
+            GameStage::Number { header } => {
                 self.header = Some(header);
-                self.stage = Stage::Headed;
+                self.stage = GameStage::Headed;
                 true
             }
-            Stage::Listed | Stage::Named => {
-                self.stage = Stage::Ended;
+            GameStage::Listed | GameStage::Named => {
+                self.stage = GameStage::Ended;
                 true
             }
             _ => false,
@@ -171,8 +171,8 @@ impl Reader {
         ensures { Takes result (step self.old comma) self.new }
     {
         match self.stage {
-            Stage::Listed => {
-                self.stage = Stage::Comma;
+            GameStage::Listed => {
+                self.stage = GameStage::Comma;
                 true
             }
             _ => false,
@@ -188,9 +188,9 @@ impl Reader {
         ensures memory { IsOkUnless result Refusal.Memory }
     {
         match self.stage {
-            Stage::Listed => {
+            GameStage::Listed => {
                 self.specs.set_name(bytes)?;
-                self.stage = Stage::Named;
+                self.stage = GameStage::Named;
                 Ok(true)
             }
             _ => Ok(false),
@@ -198,13 +198,13 @@ impl Reader {
     }
 }
 
-impl TokenReader<PgKind> for Reader {
+impl TokenReader<PgKind> for GameReader {
     ghost use Rattle.omega_pg.specs.Symbols.{pg_symbol_of};
     ghost use Rattle.omega_pg.specs.private.reader.Symbols.{symbols_of};
     ghost use Rattle.omega_pg.specs.game.Grammar.{game_syntax};
     ghost use Rattle.omega_pg.specs.private.game.reader.Automaton.{IsReachedBy, IsReady, Takes, step};
     ghost use Rattle.omega_pg.specs.private.game.reader.Pieces.{LeadsOn};
-    ghost use Rattle.omega_pg.specs.declared.game.stage.Stage.TheVariants.{Ended};
+    ghost use Rattle.omega_pg.specs.declared.game.stage.GameStage.TheVariants.{Ended};
     ghost use Rattle.omega_text.specs.Lexeme.{lexeme_of};
     ghost use Rattle.omega_text.specs.Syntax.{TokensBegin, TokensComplete};
     ghost use Rattle.omega_text.specs.pg.Forms.{Spells};
@@ -239,8 +239,10 @@ impl TokenReader<PgKind> for Reader {
         ensures memory { IsOkUnless result Refusal.Memory }
     {
         match self.stage {
-            Stage::Start | Stage::Headed | Stage::Ended => self.take_nodes(source, from),
-            Stage::Listed => self.take_successors(source, from),
+            GameStage::Start | GameStage::Headed | GameStage::Ended => self.take_nodes(
+                source, from,
+            ),
+            GameStage::Listed => self.take_successors(source, from),
             _ => Ok(from),
         }
     }
@@ -248,7 +250,7 @@ impl TokenReader<PgKind> for Reader {
     fn is_complete(&self) -> bool
         ensures { IsTrue result ↔ (self.now.stage ≡ Ended) }
     {
-        matches!(self.stage, Stage::Ended)
+        matches!(self.stage, GameStage::Ended)
     }
 }
 

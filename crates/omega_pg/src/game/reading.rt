@@ -6,7 +6,7 @@ ghost use Rattle.omega_pg.specs.private.game.reader.Built.{IsBuiltRefusal};
 ghost use Rattle.omega_pg.specs.game.Refusing.{IsReadRefusal};
 ghost use Rattle.omega_pg.specs.game.Text.{IsGameText};
 
-use crate::game::reader::Reader;
+use crate::game::reader::GameReader;
 use omega_game_values::{ForwardGame, Game, GameBuilder, GameFault, Refusal};
 use omega_text::{PgKind, read_text};
 use std::alloc::Global;
@@ -32,8 +32,8 @@ pub fn read_forward_game(alloc: Global, bytes: &[u8]) -> Result<ForwardGame, Ref
     ensures game { IfOk result (IsGameText bytes.now) }
     ensures refused { IfErr result (IsReadRefusal bytes.now) }
 {
-    let reader = read_text::<PgKind, Reader>(Reader::new(alloc), bytes)?;
-    let Reader {
+    let reader = read_text::<PgKind, GameReader>(GameReader::new(alloc), bytes)?;
+    let GameReader {
         specs,
         header_too_small,
         ..

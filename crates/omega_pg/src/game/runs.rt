@@ -1,16 +1,16 @@
 //! Runs of tokens that the reader of game texts takes at once.
 
 ghost use Rattle.std.specs.Prelude.{◌≡◌, ◌≤◌, length, IfOk, IsOkUnless, OnOk};
-ghost use Rattle.omega_pg.specs.declared.game.stage.Stage.TheVariants.{Listed};
+ghost use Rattle.omega_pg.specs.declared.game.stage.GameStage.TheVariants.{Listed};
 ghost use Rattle.omega_pg.specs.private.game.reader.Automaton.{IsReady};
 ghost use Rattle.omega_pg.specs.private.game.reader.Pieces.{BeginsNode, LeadsOn};
 
 use crate::game::pieces::{has_semicolon, next_head, next_successor};
-use crate::game::reader::Reader;
-use crate::game::stage::Stage;
+use crate::game::reader::GameReader;
+use crate::game::stage::GameStage;
 use omega_game_values::Refusal;
 
-impl Reader {
+impl GameReader {
     /// Takes as many nodes from `from` on as can be taken at once, and returns the place after them. The last one may
     /// be taken in part.
     pub(crate) fn take_nodes(&mut self, source: &[u8], from: usize) -> Result<usize, Refusal>
@@ -27,7 +27,7 @@ impl Reader {
             if !has_semicolon(source, at) {
                 return Ok(at);
             }
-            self.stage = Stage::Ended;
+            self.stage = GameStage::Ended;
             at += 1;
         }
         Ok(at)

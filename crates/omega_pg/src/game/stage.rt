@@ -2,7 +2,7 @@ use omega_game_values::Player;
 
 /// A place between two tokens of a game text, by what was read last, with the parts of a node that has begun.
 #[derive(Clone, Copy)]
-pub(crate) enum Stage {
+pub(crate) enum GameStage {
     /// Nothing.
     Start,
     /// The word `parity`.

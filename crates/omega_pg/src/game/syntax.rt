@@ -1,7 +1,7 @@
 use omega_text::{PgKind, TextSyntax, TokenKind};
 
 /// The syntax of game texts, for their laws.
-pub(crate) struct GameSyntax;
+pub struct GameSyntax;
 
 impl TextSyntax for GameSyntax {
     ghost use Rattle.omega_pg.specs.Symbols.{PgSymbol};

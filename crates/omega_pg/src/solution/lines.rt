@@ -10,7 +10,7 @@ use std::alloc::Global;
 
 /// The lines of a solution text: for each a winner and two choices, by place.
 #[derive(Drop)]
-pub(crate) struct Lines {
+pub(crate) struct ChoiceLines {
     /// Whether each line is one of a solution. If not, no further line is kept.
     pub(crate) good: bool,
     pub(crate) winners: Vec<Player>,
@@ -18,7 +18,7 @@ pub(crate) struct Lines {
     pub(crate) one: Vec<Option<u32>>,
 }
 
-impl Lines {
+impl ChoiceLines {
     ghost use Rattle.std.specs.Prelude.{List};
     ghost use Rattle.omega_pg.specs.solution.Grammar.{SolutionLine};
     ghost use Rattle.omega_pg.specs.private.solution.reader.Lines.{IsOutcome, KeepsLines, entry_of};
@@ -31,7 +31,7 @@ impl Lines {
         ensures zero { result.zero.items ≡ [] }
         ensures one { result.one.items ≡ [] }
     {
-        Lines {
+        ChoiceLines {
             good: true,
             winners: Vec::new(alloc),
             zero: Vec::new(alloc),
@@ -82,7 +82,7 @@ impl Lines {
     }
 }
 
-impl SolutionLines for Lines {
+impl SolutionLines for ChoiceLines {
     ghost use Rattle.omega_pg.specs.private.solution.reader.Lines.{KeepsLines};
 
     ghost keeps = { KeepsLines };

@@ -2,21 +2,21 @@ ghost use Rattle.std.specs.Prelude.{◌≡◌, ◌↔◌, [], IfOk, IsOkUnless, 
 ghost use Rattle.omega_pg.specs.private.solution.reader.Automaton.{stage_after_number, stage_after_word};
 
 use crate::solution::solution_lines::SolutionLines;
-use crate::solution::stage::Stage;
+use crate::solution::stage::SolutionStage;
 use omega_game_values::{ForwardGame, Player, Refusal};
 use omega_text::{PgKind, Token, TokenReader};
 
 /// A reader of texts of a game's solution, which keeps of their lines what `L` keeps.
 #[derive(Drop)]
-pub(crate) struct Reader<'g, L> {
+pub(crate) struct SolutionReader<'g, L> {
     pub(crate) game: &'g ForwardGame,
-    pub(crate) stage: Stage,
+    pub(crate) stage: SolutionStage,
     /// The number of the header, once it has ended.
     pub(crate) greatest: u32,
     pub(crate) lines: L,
 }
 
-impl<'g, L: SolutionLines> Reader<'g, L> {
+impl<'g, L: SolutionLines> SolutionReader<'g, L> {
     ghost use Rattle.omega_pg.specs.Symbols.{semicolon};
     ghost use Rattle.omega_pg.specs.private.solution.reader.Automaton.{initial};
     ghost use Rattle.omega_pg.specs.private.solution.reader.Reader.{GoesOn, Takes};
@@ -28,16 +28,16 @@ impl<'g, L: SolutionLines> Reader<'g, L> {
         ensures game { result.game.now ≡ game.now }
         ensures keeps { Keeps L.keeps game.now initial result.stage result.greatest result.lines }
     {
-        Reader {
+        SolutionReader {
             game,
-            stage: Stage::Start,
+            stage: SolutionStage::Start,
             greatest: 0,
             lines,
         }
     }
 
     /// Goes on to the stage `next`, and returns false without one.
-    fn go_on(&mut self, next: Option<Stage>) -> bool
+    fn go_on(&mut self, next: Option<SolutionStage>) -> bool
         ensures goes { GoesOn next self.old result self.new }
         ensures game { self.new.game.now ≡ self.old.game.now }
     {
@@ -57,23 +57,23 @@ impl<'g, L: SolutionLines> Reader<'g, L> {
         ensures memory { IsOkUnless result Refusal.Memory }
     {
         match self.stage {
-            Stage::Number { greatest } => {
+            SolutionStage::Number { greatest } => {
                 self.greatest = greatest;
-                self.stage = Stage::Ended;
+                self.stage = SolutionStage::Ended;
                 Ok(true)
             }
-            Stage::Winner { id, winner } => {
+            SolutionStage::Winner { id, winner } => {
                 self.lines.add(self.game, id, winner, None)?;
-                self.stage = Stage::Ended;
+                self.stage = SolutionStage::Ended;
                 Ok(true)
             }
-            Stage::Chosen {
+            SolutionStage::Chosen {
                 id,
                 winner,
                 successor,
             } => {
                 self.lines.add(self.game, id, winner, Some(successor))?;
-                self.stage = Stage::Ended;
+                self.stage = SolutionStage::Ended;
                 Ok(true)
             }
             _ => Ok(false),
@@ -81,11 +81,11 @@ impl<'g, L: SolutionLines> Reader<'g, L> {
     }
 }
 
-impl<L: SolutionLines> TokenReader<PgKind> for Reader<'_, L> {
+impl<L: SolutionLines> TokenReader<PgKind> for SolutionReader<'_, L> {
     ghost use Rattle.omega_pg.specs.Symbols.{pg_symbol_of};
     ghost use Rattle.omega_pg.specs.solution.Grammar.{solution_syntax};
     ghost use Rattle.omega_pg.specs.private.solution.reader.Reader.{HasBecome, Takes};
-    ghost use Rattle.omega_pg.specs.declared.solution.stage.Stage.TheVariants.{Ended};
+    ghost use Rattle.omega_pg.specs.declared.solution.stage.SolutionStage.TheVariants.{Ended};
     ghost use Rattle.omega_text.specs.Lexeme.{lexeme_of};
     ghost use Rattle.omega_text.specs.Syntax.{TokensBegin, TokensComplete};
 
@@ -114,36 +114,36 @@ impl<L: SolutionLines> TokenReader<PgKind> for Reader<'_, L> {
     fn is_complete(&self) -> bool
         ensures { IsTrue result ↔ (self.now.stage ≡ Ended) }
     {
-        matches!(self.stage, Stage::Ended)
+        matches!(self.stage, SolutionStage::Ended)
     }
 }
 
 /// Returns the stage after a `number`, if a text goes on so.
-#[tactic(auto, using(crate::proofs::games::Players::player_found, crate::proofs::games::Players::no_player_found))]
-pub(crate) fn after_number(stage: Stage, number: u32) -> Option<Stage>
+#[tactic(auto, using(crate::proofs::games::Players::found, crate::proofs::games::Players::not_found))]
+pub(crate) fn after_number(stage: SolutionStage, number: u32) -> Option<SolutionStage>
     ensures { result ≡ stage_after_number stage number }
 {
     match stage {
-        Stage::Word => Some(Stage::Number { greatest: number }),
-        Stage::Ended => Some(Stage::Identifier { id: number }),
-        Stage::Identifier { id } => {
-            Player::of_number(number).map(|winner| Stage::Winner { id, winner })
+        SolutionStage::Word => Some(SolutionStage::Number { greatest: number }),
+        SolutionStage::Ended => Some(SolutionStage::Identifier { id: number }),
+        SolutionStage::Identifier { id } => {
+            Player::of_number(number).map(|winner| SolutionStage::Winner { id, winner })
         }
-        Stage::Winner { id, winner } => Some(Stage::Chosen {
+        SolutionStage::Winner { id, winner } => Some(SolutionStage::Chosen {
             id,
             winner,
             successor: number,
         }),
-        Stage::Start | Stage::Number { .. } | Stage::Chosen { .. } => None,
+        SolutionStage::Start | SolutionStage::Number { .. } | SolutionStage::Chosen { .. } => None,
     }
 }
 
 /// Returns the stage after the word `paritysol`, if a text goes on so.
-pub(crate) fn after_word(stage: Stage) -> Option<Stage>
+pub(crate) fn after_word(stage: SolutionStage) -> Option<SolutionStage>
     ensures { result ≡ stage_after_word stage }
 {
     match stage {
-        Stage::Start => Some(Stage::Word),
+        SolutionStage::Start => Some(SolutionStage::Word),
         _ => None,
     }
 }

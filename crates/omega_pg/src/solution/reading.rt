@@ -2,8 +2,8 @@ ghost use Rattle.std.specs.Prelude.{IfErr, IfOk};
 ghost use Rattle.omega_pg.specs.solution.Refusing.{IsReadSolutionRefusal};
 ghost use Rattle.omega_pg.specs.solution.Text.{IsSolutionText};
 
-use crate::solution::lines::Lines;
-use crate::solution::reader::Reader;
+use crate::solution::lines::ChoiceLines;
+use crate::solution::reader::SolutionReader;
 use omega_game_values::{ForwardGame, Refusal, Solution};
 use omega_text::{PgKind, read_text};
 use std::alloc::Global;
@@ -23,10 +23,13 @@ pub fn read_solution(alloc: Global, game: &ForwardGame, bytes: &[u8]) -> Result<
     ensures solution { IfOk result (IsSolutionText game.now bytes.now) }
     ensures refused { IfErr result (IsReadSolutionRefusal game.now bytes.now) }
 {
-    let Reader {
+    let SolutionReader {
         greatest,
         lines,
         ..
-    } = read_text::<PgKind, Reader<Lines>>(Reader::new(game, Lines::new(alloc)), bytes)?;
+    } = read_text::<PgKind, SolutionReader<ChoiceLines>>(
+        SolutionReader::new(game, ChoiceLines::new(alloc)),
+        bytes,
+    )?;
     lines.finish(game, greatest)
 }

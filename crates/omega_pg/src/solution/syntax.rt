@@ -1,7 +1,7 @@
 use omega_text::{PgKind, TextSyntax, TokenKind};
 
 /// The syntax of solution texts, for their laws.
-pub(crate) struct SolutionSyntax;
+pub struct SolutionSyntax;
 
 impl TextSyntax for SolutionSyntax {
     ghost use Rattle.omega_pg.specs.Symbols.{PgSymbol};

@@ -1,7 +1,7 @@
 ghost use Rattle.std.specs.Prelude.{IfErr, IfOk};
 ghost use Rattle.omega_pg.specs.solution.Winners.{IsReadWinnersRefusal, IsWinnersText};
 
-use crate::solution::reader::Reader;
+use crate::solution::reader::SolutionReader;
 use crate::solution::winner_lines::WinnerLines;
 use omega_game_values::{ForwardGame, Player, Refusal};
 use omega_text::{PgKind, read_text};
@@ -17,12 +17,12 @@ pub fn read_winners(alloc: Global, game: &ForwardGame, bytes: &[u8]) -> Result<V
     ensures winners { IfOk result (λ winners. IsWinnersText game.now bytes.now winners.items) }
     ensures refused { IfErr result (IsReadWinnersRefusal game.now bytes.now) }
 {
-    let Reader {
+    let SolutionReader {
         greatest,
         lines,
         ..
-    } = read_text::<PgKind, Reader<WinnerLines>>(
-        Reader::new(game, WinnerLines::new(alloc)),
+    } = read_text::<PgKind, SolutionReader<WinnerLines>>(
+        SolutionReader::new(game, WinnerLines::new(alloc)),
         bytes,
     )?;
     lines.finish(game, greatest)

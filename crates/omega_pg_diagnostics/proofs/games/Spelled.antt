@@ -3,14 +3,14 @@ use Rattle.std.proofs.Common.{◌≡◌, ℕ, append-nil, Option, Some, None, Li
 use Rattle.std.specs.List.{flat_map}
 use Rattle.omega_pg_diagnostics.specs.GameCauses.{listed_pairs, specified_ids}
 use Rattle.omega_pg_diagnostics.specs.private.WrittenGame.{Keeps, Written, nothing, run}
-use Rattle.omega_pg_diagnostics.specs.declared.written_game.Next.{Next}
-use Rattle.omega_pg_diagnostics.specs.declared.written_game.Next.TheVariants.{Identifier, Successor}
+use Rattle.omega_pg_diagnostics.specs.declared.written_game.NextGameNumber.{NextGameNumber}
+use Rattle.omega_pg_diagnostics.specs.declared.written_game.NextGameNumber.TheVariants.{Identifier, Successor}
 use Rattle.omega_game_values.specs.declared.node_spec.NodeSpec.{NodeSpec}
 use Rattle.omega_pg.specs.Symbols.{PgSymbol, comma, number, semicolon}
 use Rattle.omega_pg.specs.game.Grammar.{RawGame, game_symbols, header_symbols, name_symbols, node_symbols, successor_symbols}
 
 -- what was read, by its parts
-abbrev pub at : Next → Option ℕ → List ℕ → List (ℕ × ℕ) → Written
+abbrev pub at : NextGameNumber → Option ℕ → List ℕ → List (ℕ × ℕ) → Written
 at next header ids listed = record { next = next; header = header; ids = ids; listed = listed }
 
 -- each successor after a node

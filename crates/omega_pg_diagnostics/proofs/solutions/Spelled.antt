@@ -2,21 +2,21 @@
 use Rattle.std.proofs.Common.{◌≡◌, ℕ, append-nil, Option, Some, None, List, [], ◌∷◌, ◌++◌, map, refl, ap, sym, ◌∙◌, append_assoc}
 use Rattle.std.specs.List.{flat_map}
 use Rattle.omega_pg_diagnostics.specs.private.WrittenSolution.{Keeps, Written, as_written, nothing, run}
-use Rattle.omega_pg_diagnostics.specs.declared.written_solution.Line.{Line}
-use Rattle.omega_pg_diagnostics.specs.declared.written_solution.Next.{Next}
-use Rattle.omega_pg_diagnostics.specs.declared.written_solution.Next.TheVariants.{Identifier}
+use Rattle.omega_pg_diagnostics.specs.declared.written_solution.WrittenLine.{WrittenLine}
+use Rattle.omega_pg_diagnostics.specs.declared.written_solution.NextSolutionNumber.{NextSolutionNumber}
+use Rattle.omega_pg_diagnostics.specs.declared.written_solution.NextSolutionNumber.TheVariants.{Identifier}
 use Rattle.omega_game_values.specs.declared.player.Player.{Player}
 use Rattle.omega_game_values.specs.declared.player.Player.TheVariants.{One, Zero}
 use Rattle.omega_pg.specs.Symbols.{PgSymbol, number, paritysol, semicolon}
 use Rattle.omega_pg.specs.solution.Grammar.{RawSolution, SolutionLine, line_for, line_symbols}
 
 -- one line more, as the grammar has it
-pub one_line_more : (lines : List Line) (line : Line) → map as_written (lines ++ line ∷ []) ≡ map as_written lines ++ as_written line ∷ []
+pub one_line_more : (lines : List WrittenLine) (line : WrittenLine) → map as_written (lines ++ line ∷ []) ≡ map as_written lines ++ as_written line ∷ []
 one_line_more [] line = refl
 one_line_more (first ∷ lines) line = ap (λ list. as_written first ∷ list) (one_line_more lines line)
 
 -- what was read, by its parts
-abbrev pub at : Next → ℕ → List SolutionLine → Written
+abbrev pub at : NextSolutionNumber → ℕ → List SolutionLine → Written
 at next greatest lines = record { next = next; greatest = greatest; lines = lines }
 
 -- a line is read

@@ -41,8 +41,8 @@ pub cut_into_tokens : (source : List ℕ) → WritesSolution source → IsTextOf
 cut_into_tokens source text = record { lexemes = text.writes.lexemes; cut = text.writes.cut; text = tt }
 
 -- a text of a solution is in the grammar
-pub solution_tells : (nodes : List Node) (source : List ℕ) (solution : Solution) → IsSolutionText nodes source solution → IsTrue true ↔ WritesSolution source
-solution_tells nodes source solution text =
+pub tells : (nodes : List Node) (source : List ℕ) (solution : Solution) → IsSolutionText nodes source solution → IsTrue true ↔ WritesSolution source
+tells nodes source solution text =
     (λ t. record { short = text.short; raw = raw_solution nodes solution; writes = text.writes }, λ w. refl)
 
 -- a refusal of a text tells whether it is in the grammar

@@ -1,16 +1,17 @@
 -- What is read of a game text to find what is at fault in it, symbol by symbol.
 use Rattle.std.specs.Prelude.{◌≡◌, ℕ, Option, Some, None, List, [], ◌∷◌, ◌++◌, fold}
 use Rattle.omega_pg_diagnostics.specs.GameCauses.{listed_pairs, specified_ids}
-use Rattle.omega_pg_diagnostics.specs.declared.written_game.Next.{Next}
-use Rattle.omega_pg_diagnostics.specs.declared.written_game.Next.TheVariants.{Header, Identifier, Owner}
-use Rattle.omega_pg_diagnostics.specs.declared.written_game.Next.TheVariants.{Priority, Successor}
+use Rattle.omega_pg_diagnostics.specs.declared.written_game.NextGameNumber.{NextGameNumber}
+use Rattle.omega_pg_diagnostics.specs.declared.written_game.NextGameNumber.TheVariants.{Header, Identifier}
+use Rattle.omega_pg_diagnostics.specs.declared.written_game.NextGameNumber.TheVariants.{Owner}
+use Rattle.omega_pg_diagnostics.specs.declared.written_game.NextGameNumber.TheVariants.{Priority, Successor}
 use Rattle.omega_pg.specs.Symbols.{PgSymbol, comma, name, number, parity, paritysol, semicolon}
 use Rattle.omega_pg.specs.game.Grammar.{RawGame}
 
 -- what was read so far: which number is next, the header's number, the identifiers, and the successors after the
 -- identifiers of their nodes
 pub record Written : Type 0 where
-  pub next : Next
+  pub next : NextGameNumber
   pub header : Option ℕ
   pub ids : List ℕ
   pub listed : List (ℕ × ℕ)
@@ -20,7 +21,7 @@ abbrev pub nothing : Written
 nothing = record { next = Identifier; header = None; ids = []; listed = [] }
 
 -- what was read after one more number
-abbrev pub after_number : Next → Written → ℕ → Written
+abbrev pub after_number : NextGameNumber → Written → ℕ → Written
 after_number Header written n = record written { header = Some n }
 after_number Identifier written n = record written { next = Priority n; ids = written.ids ++ n ∷ [] }
 after_number (Priority node) written n = record written { next = Owner node }

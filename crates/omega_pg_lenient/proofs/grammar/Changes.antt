@@ -4,8 +4,8 @@ use Rattle.omega_game_values.specs.Building.{with_last, with_name}
 use Rattle.omega_game_values.specs.declared.node_spec.NodeSpec.{NodeSpec}
 use Rattle.omega_game_values.specs.declared.player.Player.{Player}
 use Rattle.omega_pg_lenient.specs.private.Automaton.{LenientState, after_name, dead_end}
-use Rattle.omega_pg_lenient.specs.declared.stage.Stage.{Stage}
-use Rattle.omega_pg_lenient.specs.declared.stage.Stage.TheVariants.{Named, Owner}
+use Rattle.omega_pg_lenient.specs.declared.stage.LenientStage.{LenientStage}
+use Rattle.omega_pg_lenient.specs.declared.stage.LenientStage.TheVariants.{Named, Owner}
 
 -- a change keeps how many there are
 pub length_with_last : (change : NodeSpec → NodeSpec) (specs : List NodeSpec) → length (with_last change specs) ≡ length specs
@@ -21,7 +21,7 @@ with_last_push change (one ∷ []) spec = refl
 with_last_push change (one ∷ next ∷ specs) spec = ap (λ list. one ∷ list) (with_last_push change (next ∷ specs) spec)
 
 -- a dead end that was added and named
-pub dead_end_named : (state : LenientState) (stage : Stage) (specs added named : List NodeSpec) (id priority : ℕ) (owner : Player) (bytes : List ℕ)
+pub dead_end_named : (state : LenientState) (stage : LenientStage) (specs added named : List NodeSpec) (id priority : ℕ) (owner : Player) (bytes : List ℕ)
     → state ≡ record { stage = stage; specs = specs } → stage ≡ Owner id priority owner
     → added ≡ specs ++ dead_end id owner ∷ [] → named ≡ with_last (with_name bytes) added
     → (after_name state.stage state bytes ≡ Some (record { stage = Named; specs = named })) × (0 < length named)

@@ -12,8 +12,8 @@ use Rattle.omega_pg_lenient.specs.Grammar.{SpellsLenient, lenient_syntax, nothin
 use Rattle.omega_pg_lenient.specs.Symbols.{LenientSymbol, number, semicolon, symbol_of}
 use Rattle.omega_pg_lenient.specs.declared.kind.LenientKind.{LenientKind}
 use Rattle.omega_pg_lenient.specs.private.Automaton.{IsReachedBy, LenientState, MayEnd, Takes, after_semicolon, ended_specs, initial, run, step}
-use Rattle.omega_pg_lenient.specs.declared.stage.Stage.{Stage}
-use Rattle.omega_pg_lenient.specs.declared.stage.Stage.TheVariants.{Comma, Ended, HeaderNumber, HeaderWord, Identifier, Listed, Named, Opening, Owner, Priority, StartNumber, StartWord}
+use Rattle.omega_pg_lenient.specs.declared.stage.LenientStage.{LenientStage}
+use Rattle.omega_pg_lenient.specs.declared.stage.LenientStage.TheVariants.{Comma, Ended, HeaderNumber, HeaderWord, Identifier, Listed, Named, Opening, Owner, Priority, StartNumber, StartWord}
 use Rattle.omega_pg.proofs.reader.Deciding.{Completes, Decides, Reads, refused_from_run, run_taken, unfinished_from_run}
 use Rattle.omega_pg_lenient.proofs.grammar.Symbols.{symbols_of}
 use Rattle.omega_pg.proofs.reader.Runs.{run_by_push, run_by_shown, run_by_stopped}
@@ -65,7 +65,7 @@ spelled_openly specs symbols nodes = record {
 }
 
 -- what is shown where a text may end is a text
-spelled_at : (stage : Stage) (specs : List NodeSpec) (symbols : List LenientSymbol) → ShowsAt stage specs symbols → MayEnd stage
+spelled_at : (stage : LenientStage) (specs : List NodeSpec) (symbols : List LenientSymbol) → ShowsAt stage specs symbols → MayEnd stage
     → SpellsLenient symbols (ended_specs stage specs)
 spelled_at (Opening headed started) specs symbols shows ended = absurd ended
 spelled_at (HeaderWord started) specs symbols shows ended = absurd ended
@@ -86,7 +86,7 @@ pub SpellsLenient-from_run : (symbols : List LenientSymbol) (state : LenientStat
 SpellsLenient-from_run symbols state e ended = spelled_at state.stage state.specs symbols (shown_by_run symbols state e) ended
 
 -- what completes a text from a stage
-abbrev completion : Stage → List LenientSymbol
+abbrev completion : LenientStage → List LenientSymbol
 completion (Opening headed started) = number 0 ∷ number 0 ∷ number 0 ∷ []
 completion (HeaderWord started) = number 0 ∷ semicolon ∷ number 0 ∷ number 0 ∷ number 0 ∷ []
 completion (HeaderNumber started) = semicolon ∷ number 0 ∷ number 0 ∷ number 0 ∷ []
@@ -101,7 +101,7 @@ completion Comma = number 0 ∷ []
 completion Named = []
 
 -- the completion leads to where a text may end
-completes : (stage : Stage) (specs : List NodeSpec) → Completes step IsEnded (at stage specs)
+completes : (stage : LenientStage) (specs : List NodeSpec) → Completes step IsEnded (at stage specs)
 completes (Opening headed started) specs = record { more = completion (Opening headed started); state = _; runs = refl; ended = tt }
 completes (HeaderWord started) specs = record { more = completion (HeaderWord started); state = _; runs = refl; ended = tt }
 completes (HeaderNumber started) specs = record { more = completion (HeaderNumber started); state = _; runs = refl; ended = tt }
@@ -116,7 +116,7 @@ completes Comma specs = record { more = completion Comma; state = _; runs = refl
 completes Named specs = record { more = completion Named; state = _; runs = refl; ended = tt }
 
 -- the stage and the specifications of a state that may be none
-abbrev stage_in : Option LenientState → Stage
+abbrev stage_in : Option LenientState → LenientStage
 stage_in None = Ended
 stage_in (Some state) = state.stage
 
@@ -125,7 +125,7 @@ specs_in None = []
 specs_in (Some state) = state.specs
 
 -- where a semicolon ends a node, a text may end before it
-open_end : (stage : Stage) (specs all : List NodeSpec) → after_semicolon stage (at stage specs) ≡ Some (at Ended all)
+open_end : (stage : LenientStage) (specs all : List NodeSpec) → after_semicolon stage (at stage specs) ≡ Some (at Ended all)
     → MayEnd stage × (ended_specs stage specs ≡ all)
 open_end (Opening headed started) specs all e = cc
 open_end (HeaderWord started) specs all e = cc
@@ -169,7 +169,7 @@ reads symbols specs text =
     ]
 
 -- a text may end at a stage, or may not
-ended_or_open : (stage : Stage) → MayEnd stage ⊎ (MayEnd stage → ⊥)
+ended_or_open : (stage : LenientStage) → MayEnd stage ⊎ (MayEnd stage → ⊥)
 ended_or_open (Owner id priority owner) = inl tt
 ended_or_open Listed = inl tt
 ended_or_open Named = inl tt

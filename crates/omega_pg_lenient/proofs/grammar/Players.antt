@@ -15,17 +15,17 @@ player_of-number n =
     (λ _. cond_both (n == 1) (Some One) None (λ o. IfSome o (λ owner. player_number owner ≡ n)) (λ e. sym (eqb-true n 1 e)) (λ _. tt))
 
 -- the player that has a number is the one with this number
-pub player_found : (player : Player) (n : ℕ) → player_number player ≡ n → player_of n ≡ Some player
-player_found Zero n e = subst (λ m. player_of m ≡ Some Zero) e refl
-player_found One n e = subst (λ m. player_of m ≡ Some One) e refl
+pub found : (player : Player) (n : ℕ) → player_number player ≡ n → player_of n ≡ Some player
+found Zero n e = subst (λ m. player_of m ≡ Some Zero) e refl
+found One n e = subst (λ m. player_of m ≡ Some One) e refl
 
 -- no player has a number from 2 on
 too_great : (player : Player) (n : ℕ) → player_number player ≡ n → 2 ≤ n → ⊥
 too_great Zero n e two = (let zero : 0 ≡ n = e in omega arith)
 too_great One n e two = (let one : 1 ≡ n = e in omega arith)
 
-pub no_player_found : (n : ℕ) → 2 ≤ n → player_of n ≡ None
-no_player_found n two =
+pub not_found : (n : ℕ) → 2 ≤ n → player_of n ≡ None
+not_found n two =
     elim (player_of n) as (λ o. IfSome o (λ owner. player_number owner ≡ n) → o ≡ None)
     [ None ↦ λ _. refl | Some player ↦ λ e. absurd (too_great player n e two) ]
     (player_of-number n)

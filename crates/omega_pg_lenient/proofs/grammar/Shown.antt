@@ -11,13 +11,13 @@ use Rattle.omega_pg_lenient.specs.DeadEnds.{completed, completed_by}
 use Rattle.omega_pg_lenient.specs.Grammar.{IsOpening, first_node, header, name_symbols, node_symbols, successor_symbols}
 use Rattle.omega_pg_lenient.specs.Symbols.{LenientSymbol, comma, name, number, parity, paritysol, semicolon, start}
 use Rattle.omega_pg_lenient.specs.private.Automaton.{LenientState, after_comma, after_name, after_number, after_parity, after_semicolon, after_start, dead_end, player_of, step, to_stage}
-use Rattle.omega_pg_lenient.specs.declared.stage.Stage.{Stage}
-use Rattle.omega_pg_lenient.specs.declared.stage.Stage.TheVariants.{Comma, Ended, HeaderNumber, HeaderWord, Identifier, Listed, Named, Opening, Owner, Priority, StartNumber, StartWord}
+use Rattle.omega_pg_lenient.specs.declared.stage.LenientStage.{LenientStage}
+use Rattle.omega_pg_lenient.specs.declared.stage.LenientStage.TheVariants.{Comma, Ended, HeaderNumber, HeaderWord, Identifier, Listed, Named, Opening, Owner, Priority, StartNumber, StartWord}
 use Rattle.omega_pg_lenient.proofs.grammar.Changes.{with_last_push}
 use Rattle.omega_pg_lenient.proofs.grammar.Players.{player_of-number}
 
 -- a state with these parts
-abbrev pub at : Stage → List NodeSpec → LenientState
+abbrev pub at : LenientStage → List NodeSpec → LenientState
 at stage specs = record { stage = stage; specs = specs }
 
 -- the symbols are an opening and whole nodes, which are completed to these
@@ -63,7 +63,7 @@ abbrev pub AreNodes : List NodeSpec → List LenientSymbol → Type 0
 AreNodes specs symbols = (0 < length specs) × IsWhole specs symbols
 
 -- the symbols lead to a stage with these specifications
-abbrev pub ShowsAt : Stage → List NodeSpec → List LenientSymbol → Type 0
+abbrev pub ShowsAt : LenientStage → List NodeSpec → List LenientSymbol → Type 0
 ShowsAt (Opening headed started) specs symbols = (specs ≡ []) × IsOpening headed started symbols
 ShowsAt (HeaderWord started) specs symbols = IsStatement false started specs (parity ∷ []) symbols
 ShowsAt (HeaderNumber started) specs symbols = (n : ℕ) × IsStatement false started specs (parity ∷ number n ∷ []) symbols
@@ -155,7 +155,7 @@ successor_symbols-push [] id h = absurd (omega (arith, h))
 successor_symbols-push (first ∷ others) id h = ap (λ list. number first ∷ list) (flat_map-append (λ id. comma ∷ number id ∷ []) others (id ∷ []))
 
 -- what a number leads to is shown
-number_shown : (stage : Stage) (specs : List NodeSpec) (symbols : List LenientSymbol) (n : ℕ) → ShowsAt stage specs symbols
+number_shown : (stage : LenientStage) (specs : List NodeSpec) (symbols : List LenientSymbol) (n : ℕ) → ShowsAt stage specs symbols
     → IfSome (after_number stage (at stage specs) n) (λ next. Shows next (symbols ++ number n ∷ []))
 number_shown (Opening headed started) specs symbols n shows = begun_first specs symbols n (whole_opening headed started specs symbols shows.0 shows.1)
 number_shown (HeaderWord started) specs symbols n shows = (n, statement_push false started specs (parity ∷ []) symbols (number n) shows)
@@ -203,21 +203,21 @@ number_shown Comma specs symbols n shows =
 number_shown Named specs symbols n shows = tt
 
 -- what the word `parity` leads to is shown
-parity_shown : (stage : Stage) (specs : List NodeSpec) (symbols : List LenientSymbol) → ShowsAt stage specs symbols
+parity_shown : (stage : LenientStage) (specs : List NodeSpec) (symbols : List LenientSymbol) → ShowsAt stage specs symbols
     → IfSome (after_parity stage (at stage specs)) (λ next. Shows next (symbols ++ parity ∷ []))
 parity_shown (Opening false started) specs symbols shows = record { empty = shows.0; before = symbols; opens = shows.1; shown = refl }
 parity_shown (Opening true started) specs symbols shows = tt
 parity_shown _ specs symbols shows = tt
 
 -- what the word `start` leads to is shown
-start_shown : (stage : Stage) (specs : List NodeSpec) (symbols : List LenientSymbol) → ShowsAt stage specs symbols
+start_shown : (stage : LenientStage) (specs : List NodeSpec) (symbols : List LenientSymbol) → ShowsAt stage specs symbols
     → IfSome (after_start stage (at stage specs)) (λ next. Shows next (symbols ++ start ∷ []))
 start_shown (Opening headed false) specs symbols shows = record { empty = shows.0; before = symbols; opens = shows.1; shown = refl }
 start_shown (Opening headed true) specs symbols shows = tt
 start_shown _ specs symbols shows = tt
 
 -- what a semicolon leads to is shown
-pub semicolon_shown : (stage : Stage) (specs : List NodeSpec) (symbols : List LenientSymbol) → ShowsAt stage specs symbols
+pub semicolon_shown : (stage : LenientStage) (specs : List NodeSpec) (symbols : List LenientSymbol) → ShowsAt stage specs symbols
     → IfSome (after_semicolon stage (at stage specs)) (λ next. Shows next (symbols ++ semicolon ∷ []))
 semicolon_shown (Opening headed started) specs symbols shows = tt
 semicolon_shown (HeaderWord started) specs symbols shows = tt
@@ -251,7 +251,7 @@ semicolon_shown Comma specs symbols shows = tt
 semicolon_shown Named specs symbols shows = shows
 
 -- what a comma leads to is shown
-comma_shown : (stage : Stage) (specs : List NodeSpec) (symbols : List LenientSymbol) → ShowsAt stage specs symbols
+comma_shown : (stage : LenientStage) (specs : List NodeSpec) (symbols : List LenientSymbol) → ShowsAt stage specs symbols
     → IfSome (after_comma stage (at stage specs)) (λ next. Shows next (symbols ++ comma ∷ []))
 comma_shown Listed specs symbols shows = record {
   done = shows.done;
@@ -275,7 +275,7 @@ shown_twice before begun symbols one other shown =
     ∙ append_assoc before begun (one ∷ other ∷ [])
 
 -- what a name leads to is shown
-name_shown : (stage : Stage) (specs : List NodeSpec) (symbols : List LenientSymbol) (bytes : List ℕ) → ShowsAt stage specs symbols
+name_shown : (stage : LenientStage) (specs : List NodeSpec) (symbols : List LenientSymbol) (bytes : List ℕ) → ShowsAt stage specs symbols
     → IfSome (after_name stage (at stage specs) bytes) (λ next. Shows next (symbols ++ name bytes ∷ []))
 name_shown (Owner id priority owner) specs symbols bytes shows =
     nodes_push specs (with_last (with_name bytes) (specs ++ dead_end id owner ∷ [])) shows.before ((symbols ++ name bytes ∷ []) ++ semicolon ∷ [])

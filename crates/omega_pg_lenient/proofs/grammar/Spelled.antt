@@ -10,7 +10,7 @@ use Rattle.omega_pg_lenient.specs.DeadEnds.{completed}
 use Rattle.omega_pg_lenient.specs.Grammar.{IsOpening, first_node, header, name_symbols, node_symbols, nothing, successor_symbols}
 use Rattle.omega_pg_lenient.specs.Symbols.{LenientSymbol, comma, number, parity, semicolon, start}
 use Rattle.omega_pg_lenient.specs.private.Automaton.{dead_end, initial, run}
-use Rattle.omega_pg_lenient.specs.declared.stage.Stage.TheVariants.{Ended, Listed, Opening, Owner, Priority}
+use Rattle.omega_pg_lenient.specs.declared.stage.LenientStage.TheVariants.{Ended, Listed, Opening, Owner, Priority}
 use Rattle.omega_pg_lenient.proofs.grammar.Changes.{with_last_push}
 use Rattle.omega_pg_lenient.proofs.grammar.Shown.{at}
 

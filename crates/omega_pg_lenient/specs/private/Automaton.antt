@@ -10,14 +10,15 @@ use Rattle.omega_pg_lenient.specs.DeadEnds.{losing_priority}
 use Rattle.omega_pg_lenient.specs.Symbols.{LenientSymbol, comma, name, number}
 use Rattle.omega_pg_lenient.specs.Symbols.{parity, paritysol, semicolon, start}
 use Rattle.omega_pg.specs.private.reader.Run.{run_by}
-use Rattle.omega_pg_lenient.specs.declared.stage.Stage.{Stage}
-use Rattle.omega_pg_lenient.specs.declared.stage.Stage.TheVariants.{Comma, Ended, HeaderNumber, HeaderWord}
-use Rattle.omega_pg_lenient.specs.declared.stage.Stage.TheVariants.{Identifier, Listed, Named, Opening, Owner}
-use Rattle.omega_pg_lenient.specs.declared.stage.Stage.TheVariants.{Priority, StartNumber, StartWord}
+use Rattle.omega_pg_lenient.specs.declared.stage.LenientStage.{LenientStage}
+use Rattle.omega_pg_lenient.specs.declared.stage.LenientStage.TheVariants.{Comma, Ended, HeaderNumber}
+use Rattle.omega_pg_lenient.specs.declared.stage.LenientStage.TheVariants.{HeaderWord, Identifier, Listed}
+use Rattle.omega_pg_lenient.specs.declared.stage.LenientStage.TheVariants.{Named, Opening, Owner}
+use Rattle.omega_pg_lenient.specs.declared.stage.LenientStage.TheVariants.{Priority, StartNumber, StartWord}
 
 -- what was read so far: the stage and the completed specifications
 pub record LenientState : Type 0 where
-  pub stage : Stage
+  pub stage : LenientStage
   pub specs : List NodeSpec
 
 -- the state before the first symbol
@@ -25,7 +26,7 @@ abbrev pub initial : LenientState
 initial = record { stage = Opening false false; specs = [] }
 
 -- the state at another stage
-abbrev pub to_stage : Stage → LenientState → LenientState
+abbrev pub to_stage : LenientStage → LenientState → LenientState
 to_stage stage state = record state { stage = stage }
 
 -- the player that has a number, if there is one
@@ -37,11 +38,11 @@ abbrev pub dead_end : ℕ → Player → NodeSpec
 dead_end id owner = unnamed_spec id (losing_priority owner) owner (id ∷ [])
 
 -- the state with one specification more
-abbrev pub with_node : Stage → NodeSpec → LenientState → LenientState
+abbrev pub with_node : LenientStage → NodeSpec → LenientState → LenientState
 with_node stage spec state = record { stage = stage; specs = state.specs ++ spec ∷ [] }
 
 -- the state with its last specification changed
-abbrev pub with_change : Stage → (NodeSpec → NodeSpec) → LenientState → LenientState
+abbrev pub with_change : LenientStage → (NodeSpec → NodeSpec) → LenientState → LenientState
 with_change stage change state = record { stage = stage; specs = with_last change state.specs }
 
 -- the state after the number of an owner, if a player has it
@@ -50,7 +51,7 @@ after_owner state id priority n =
     option_map (λ owner. to_stage (Owner id priority owner) state) (player_of n)
 
 -- the state after a number
-abbrev pub after_number : Stage → LenientState → ℕ → Option LenientState
+abbrev pub after_number : LenientStage → LenientState → ℕ → Option LenientState
 after_number (Opening headed started) state n = Some (to_stage (Identifier n) state)
 after_number (HeaderWord started) state n = Some (to_stage (HeaderNumber started) state)
 after_number (HeaderNumber started) state n = None
@@ -66,17 +67,17 @@ after_number Comma state n = Some (with_change Listed (with_successor n) state)
 after_number Named state n = None
 
 -- the state after the word `parity`
-abbrev pub after_parity : Stage → LenientState → Option LenientState
+abbrev pub after_parity : LenientStage → LenientState → Option LenientState
 after_parity (Opening false started) state = Some (to_stage (HeaderWord started) state)
 after_parity _ state = None
 
 -- the state after the word `start`
-abbrev pub after_start : Stage → LenientState → Option LenientState
+abbrev pub after_start : LenientStage → LenientState → Option LenientState
 after_start (Opening headed false) state = Some (to_stage (StartWord headed) state)
 after_start _ state = None
 
 -- the state after a semicolon
-abbrev pub after_semicolon : Stage → LenientState → Option LenientState
+abbrev pub after_semicolon : LenientStage → LenientState → Option LenientState
 after_semicolon (HeaderNumber started) state = Some (to_stage (Opening true started) state)
 after_semicolon (StartNumber headed) state = Some (to_stage (Opening headed true) state)
 after_semicolon (Owner id priority owner) state = Some (with_node Ended (dead_end id owner) state)
@@ -85,12 +86,12 @@ after_semicolon Named state = Some (to_stage Ended state)
 after_semicolon _ state = None
 
 -- the state after a comma
-abbrev pub after_comma : Stage → LenientState → Option LenientState
+abbrev pub after_comma : LenientStage → LenientState → Option LenientState
 after_comma Listed state = Some (to_stage Comma state)
 after_comma _ state = None
 
 -- the state after a name
-abbrev pub after_name : Stage → LenientState → List ℕ → Option LenientState
+abbrev pub after_name : LenientStage → LenientState → List ℕ → Option LenientState
 after_name (Owner id priority owner) state bytes =
     Some (with_change Named (with_name bytes) (with_node Named (dead_end id owner) state))
 after_name Listed state bytes = Some (with_change Named (with_name bytes) state)
@@ -111,7 +112,7 @@ abbrev pub run : LenientState → List LenientSymbol → Option LenientState
 run = run_by step
 
 -- a text may end here
-abbrev pub MayEnd : Stage → Type 0
+abbrev pub MayEnd : LenientStage → Type 0
 MayEnd (Owner id priority owner) = Unit {0}
 MayEnd Listed = Unit {0}
 MayEnd Named = Unit {0}
@@ -119,12 +120,12 @@ MayEnd Ended = Unit {0}
 MayEnd _ = ⊥
 
 -- the specifications of a text that ends at a stage, where a last dead end may be open
-abbrev pub ended_specs : Stage → List NodeSpec → List NodeSpec
+abbrev pub ended_specs : LenientStage → List NodeSpec → List NodeSpec
 ended_specs (Owner id priority owner) specs = specs ++ dead_end id owner ∷ []
 ended_specs _ specs = specs
 
 -- at a stage the numbers that it keeps are within the limit, and an open specification is there
-abbrev pub IsReadyAt : Stage → List NodeSpec → Type 0
+abbrev pub IsReadyAt : LenientStage → List NodeSpec → Type 0
 IsReadyAt (Opening headed started) specs = Unit {0}
 IsReadyAt (HeaderWord started) specs = Unit {0}
 IsReadyAt (HeaderNumber started) specs = Unit {0}

@@ -4,7 +4,7 @@ use Rattle.omega_text.specs.pg.Forms.{Spells}
 use Rattle.omega_pg_lenient.specs.declared.kind.LenientKind.{LenientKind}
 use Rattle.omega_pg_lenient.specs.declared.kind.LenientKind.TheVariants.{Start, Strict}
 use Rattle.omega_pg_lenient.specs.private.Automaton.{LenientState}
-use Rattle.omega_pg_lenient.specs.declared.reader.Reader.TheInside.{Inside}
+use Rattle.omega_pg_lenient.specs.declared.reader.LenientReader.TheInside.{Inside}
 
 -- the state that a reader keeps
 abbrev pub reader_state : Inside → LenientState

@@ -12,12 +12,12 @@ use Rattle.omega_synth_check.specs.Judging.{IsAnswered, IsLack, IsReached}
 use Rattle.omega_synth_check.specs.Refusing.{AcceptsAll}
 use Rattle.omega_synth_check.specs.declared.judgement.Lack.{Lack}
 use Rattle.omega_synth_check.specs.declared.searching.Lacking.{Lacking}
-use Rattle.omega_synth_check.specs.declared.search.Search.{Search}
+use Rattle.omega_synth_check.specs.declared.search.ControllerSearch.{ControllerSearch}
 use Rattle.omega_synth_check.specs.private.Leaving.{IsLeavingOf}
 use Rattle.omega_synth_check.specs.private.Meeting.{state_at}
 
 -- the parts of a search
-pub record IsSearch (search : Search) : Type 0 where
+pub record IsSearch (search : ControllerSearch) : Type 0 where
   pub automaton : IsAutomaton search.automaton.now
   pub plain : has_universal_branching search.automaton.now ≡ false
   pub leaving : IsLeavingOf search.automaton.now search.leaving.now

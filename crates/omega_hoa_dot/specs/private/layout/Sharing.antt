@@ -4,7 +4,7 @@ use Rattle.std.specs.BTreeMap.{get}
 use Rattle.std.specs.List.{position_from}
 use Rattle.std.specs.Ordering.{nat_cmp}
 use Rattle.omega_hoa_dot.specs.Arrows.{Drawn, is_to, shared_target}
-use Rattle.omega_hoa_dot.specs.declared.sharing.Sharing.{Sharing}
+use Rattle.omega_hoa_dot.specs.declared.sharing.ArrowSharing.{ArrowSharing}
 
 -- the states that edges share arrows to
 abbrev pub targets_of : List Drawn → List (Option ℕ)
@@ -16,7 +16,7 @@ next_to targets index target = position_from (is_to target) index (drop index ta
 
 -- a table has for each edge the next that shares its arrow, and for each state the first edge that shares an arrow to
 -- it
-pub record IsSharing (targets : List (Option ℕ)) (sharing : Sharing) : Type 0 where
+pub record IsSharing (targets : List (Option ℕ)) (sharing : ArrowSharing) : Type 0 where
   pub entries : length sharing.next.items ≡ length targets
   pub next : (index target : ℕ) → index < length targets
       → slice_index_or targets index None ≡ Some target

@@ -5,14 +5,14 @@ use Rattle.omega_hoa_acceptance.specs.Acceptance.{AccTree}
 use Rattle.omega_graph.specs.Graph.{ends_at, listed}
 use Rattle.omega_graph.specs.Walks.{HasAccepting, IsAccepting}
 use Rattle.omega_graph_accepting_walk.specs.Rows.{row_at}
-use Rattle.omega_lang_lasso_search.specs.declared.search.Search.{Search}
+use Rattle.omega_lang_lasso_search.specs.declared.search.LassoSearch.{LassoSearch}
 use Rattle.omega_lang_lasso_search.specs.private.Searched.{Reaches, beginning, graph_of}
 use Rattle.omega_lang_lasso_search.proofs.Lassos.{AreReached, IsReachedCycle, cycle_reached, kept, no_lasso_reached}
 use Rattle.omega_lang_lasso_search.proofs.finding.found_among_reached.Goals as goal
 
 pub accepting_walk-requires-clause-edges : goal.accepting_walk-requires-clause-edges
 accepting_walk-requires-clause-edges c =
-    let search : Search = c.args.search.now in
+    let search : LassoSearch = c.args.search.now in
     let states : List Bool = c.as_slice-flags.result.now in
     subst (λ (edges : List ℕ). All (λ number. number < length search.graph.now.edges) edges) (sym (c.as_slice-kept.ensures.value ∙ c.in_ok-edges.ensures.left))
     (All-filter (λ number. get_or states (ends_at search.graph.now number).from false) (λ number. number < length search.graph.now.edges) search.edges.now
@@ -20,7 +20,7 @@ accepting_walk-requires-clause-edges c =
 
 pub returns-in-None-clause-verdict : goal.returns-in-None-clause-verdict
 returns-in-None-clause-verdict c =
-    let search : Search = c.args.search.now in
+    let search : LassoSearch = c.args.search.now in
     let states : List Bool = c.as_slice-flags.result.now in
     let same_edges : c.as_slice-kept.result.now ≡ kept states search = c.as_slice-kept.ensures.value ∙ c.in_ok-edges.ensures.left in
     let reached : AreReached search states =
@@ -31,7 +31,7 @@ returns-in-None-clause-verdict c =
 
 pub with_stem-requires-clause-cycle : goal.with_stem-requires-clause-cycle
 with_stem-requires-clause-cycle c =
-    let search : Search = c.args.search.now in
+    let search : LassoSearch = c.args.search.now in
     let states : List Bool = c.as_slice-flags.result.now in
     let tree : AccTree = search.formula.now in
     let same_edges : c.as_slice-kept.result.now ≡ kept states search = c.as_slice-kept.ensures.value ∙ c.in_ok-edges.ensures.left in
@@ -46,7 +46,7 @@ with_stem-requires-clause-cycle c =
 
 pub unreachable-requires : goal.unreachable-requires
 unreachable-requires c =
-    let search : Search = c.args.search.now in
+    let search : LassoSearch = c.args.search.now in
     let states : List Bool = c.as_slice-flags.result.now in
     let tree : AccTree = search.formula.now in
     let same_edges : c.as_slice-kept.result.now ≡ kept states search = c.as_slice-kept.ensures.value ∙ c.in_ok-edges.ensures.left in

@@ -1,6 +1,6 @@
 -- no closed walk accepts, or one does and perhaps a stem leads to it
 use Rattle.std.proofs.Common.{ℕ, List, sym, subst}
-use Rattle.omega_lang_lasso_search.specs.declared.search.Search.{Search}
+use Rattle.omega_lang_lasso_search.specs.declared.search.LassoSearch.{LassoSearch}
 use Rattle.omega_lang_lasso_search.specs.private.Searched.{IsAcceptingCycle}
 use Rattle.omega_lang_lasso_search.proofs.Lassos.{no_lasso}
 use Rattle.omega_lang_lasso_search.proofs.finding.found_in.Goals as goal
@@ -12,6 +12,6 @@ returns-in-None-clause-verdict c =
 
 pub with_stem-requires-clause-cycle : goal.with_stem-requires-clause-cycle
 with_stem-requires-clause-cycle c =
-    let search : Search = c.args.search.now in
+    let search : LassoSearch = c.args.search.now in
     let walk = rw c.in-Some.is at c.in_ok-found.ensures.walk in
     subst (λ (cycle : List ℕ). IsAcceptingCycle search cycle) (sym c.as_slice.ensures.value) walk

@@ -10,7 +10,7 @@ use Rattle.omega_lang_lasso_search.proofs.finding.lasso_in_table.Goals as goal
 pub verdict_by_search-requires : goal.verdict_by_search-requires
 verdict_by_search-requires c = record {
   marks = c.requires;
-  edges = subst (λ (numbers : List ℕ). All (λ number. number < length c.args.ends.now) numbers) (sym (c.as_slice.ensures.value ∙ c.in_ok-edges.ensures.numbers))
+  edges = subst (λ (numbers : List ℕ). All (λ number. number < length c.args.ends.now) numbers) (sym (c.as_slice.ensures.value ∙ c.in_ok-edges.ensures))
       (numbers_inside (length c.args.ends.now));
 }
 
@@ -20,5 +20,5 @@ returns-clause-verdict c = λ a tabled usable.
     sym (length-map (edges_of a) ends_of) ∙ ap (λ (list : List Edge). length list) tabled.ends_are in
     c.in_ok-verdict.ensures.verdict a (record {
       tabled = tabled;
-      usable = subst (AreUsableEdges a) (sym (c.as_slice.ensures.value ∙ c.in_ok-edges.ensures.numbers)) (all_usable a (length c.args.ends.now) count usable);
+      usable = subst (AreUsableEdges a) (sym (c.as_slice.ensures.value ∙ c.in_ok-edges.ensures)) (all_usable a (length c.args.ends.now) count usable);
     }))

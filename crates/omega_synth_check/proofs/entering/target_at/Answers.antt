@@ -55,7 +55,8 @@ returns-then-usable-clause-step c =
     c.index-defined-place.is ∙ ap (λ (list : List State). get_or list place.state state) c.defined.ensures ∙ state_is a c.args._number place stands state in
     let edge_same : edge ≡ stands.edge =
     c.edge-edge.ensures ∙ ap (λ (s : State). get_or s.edges place.index edge) state_same ∙ edge_is a c.args._number place stands edge in
-    let usable : IsUsable (record { source = state; edge = edge }) = c.in_ok-usable.ensures.judged.0 c.if-usable.true in
+    let usable : IsUsable (record { source = state; edge = edge }) =
+    subst (λ (s : State). IsUsable (record { source = s; edge = edge })) c.in_ok-judged_state.ensures.state (c.in_ok-usable.ensures.judged.0 c.if-usable.true) in
     λ from leaver.
     step_of a c.keeps_limits.ensures c.requires.plain c.args._number place stands
     (subst (λ (e : Edge). IsUsable (record { source = stands.state; edge = e })) edge_same
@@ -78,10 +79,11 @@ returns-else-usable-clause-none c =
     subst (λ (s : State). IsUsable (record { source = s; edge = edge })) (sym state_same)
     (subst (λ (e : Edge). IsUsable (record { source = stands.state; edge = e })) (sym edge_same)
     (usable_of a c.keeps_limits.ensures c.requires.plain c.args._number place stands from next step)) in
-    false≢true (sym c.if-usable.false ∙ c.in_ok-usable.ensures.judged.1 usable))
+    false≢true (sym c.if-usable.false
+    ∙ c.in_ok-usable.ensures.judged.1 (subst (λ (s : State). IsUsable (record { source = s; edge = edge })) (sym c.in_ok-judged_state.ensures.state) usable)))
 
-pub returns-in_err-possible-clause-refused : goal.returns-in_err-possible-clause-refused
-returns-in_err-possible-clause-refused c =
+pub returns-in_err-judged_state-clause-refused : goal.returns-in_err-judged_state-clause-refused
+returns-in_err-judged_state-clause-refused c =
     let a = c.args.automaton.now in
     let place : EdgePlace = c.args.place in
     let stands : EdgeStandsAt a c.args._number place = c.requires.stands in
@@ -90,7 +92,7 @@ returns-in_err-possible-clause-refused c =
     c.index-defined-place.is ∙ ap (λ (list : List State). get_or list place.state state) c.defined.ensures in
     passed_on c.from_residual.result _ _ c.from_residual.ensures.1
     (wide_refused (IsHard state.label) (HasHardLabel a) (λ hard. hard_label a place.state state (state_within a c.args._number place stands) here (inl hard))
-    _ c.in_err-possible.ensures.refused)
+    _ c.in_err-judged_state.ensures.refused)
 
 pub returns-in_err-usable-clause-refused : goal.returns-in_err-usable-clause-refused
 returns-in_err-usable-clause-refused c =

@@ -8,14 +8,15 @@ use Rattle.omega_game_values.specs.declared.player.Player.{Player}
 use Rattle.omega_game_values.specs.declared.player.Player.TheVariants.{One, Zero}
 use Rattle.omega_pg.specs.private.reader.Run.{run_by}
 use Rattle.omega_pg.specs.Symbols.{PgSymbol, comma, name, number, parity, paritysol, semicolon}
-use Rattle.omega_pg.specs.declared.game.stage.Stage.{Stage}
-use Rattle.omega_pg.specs.declared.game.stage.Stage.TheVariants.{Comma, Ended, Headed, Identifier, Listed}
-use Rattle.omega_pg.specs.declared.game.stage.Stage.TheVariants.{Named, Number, Owner, Priority, Start, Word}
+use Rattle.omega_pg.specs.declared.game.stage.GameStage.{GameStage}
+use Rattle.omega_pg.specs.declared.game.stage.GameStage.TheVariants.{Comma, Ended, Headed, Identifier, Listed}
+use Rattle.omega_pg.specs.declared.game.stage.GameStage.TheVariants.{Named, Number, Owner}
+use Rattle.omega_pg.specs.declared.game.stage.GameStage.TheVariants.{Priority, Start, Word}
 
 -- what was read so far: the stage, the header's number, the specifications, and whether an identifier is above that
 -- number
 pub record GameReaderState : Type 0 where
-  pub stage : Stage
+  pub stage : GameStage
   pub header : Option ℕ
   pub specs : List NodeSpec
   pub header_too_small : Bool
@@ -25,7 +26,7 @@ abbrev pub initial : GameReaderState
 initial = record { stage = Start; header = None; specs = []; header_too_small = false }
 
 -- the state at another stage
-abbrev pub to_stage : Stage → GameReaderState → GameReaderState
+abbrev pub to_stage : GameStage → GameReaderState → GameReaderState
 to_stage stage state = record state { stage = stage }
 
 -- the player that has a number, if there is one
@@ -57,7 +58,7 @@ with_node spec state = record {
 }
 
 -- the state with its last specification changed
-abbrev pub with_change : Stage → (NodeSpec → NodeSpec) → GameReaderState → GameReaderState
+abbrev pub with_change : GameStage → (NodeSpec → NodeSpec) → GameReaderState → GameReaderState
 with_change stage change state = record state { stage = stage; specs = with_last change state.specs }
 
 -- the state after the number of an owner, if a player has it
@@ -66,7 +67,7 @@ after_owner state id priority n =
     option_map (λ owner. to_stage (Owner id priority owner) state) (player_of n)
 
 -- the state after a number
-abbrev pub after_number : Stage → GameReaderState → ℕ → Option GameReaderState
+abbrev pub after_number : GameStage → GameReaderState → ℕ → Option GameReaderState
 after_number Start state n = Some (to_stage (Identifier n) state)
 after_number Word state n = Some (to_stage (Number n) state)
 after_number (Number header) state n = None
@@ -80,24 +81,24 @@ after_number Comma state n = Some (with_change Listed (with_successor n) state)
 after_number Named state n = None
 
 -- the state after the word `parity`
-abbrev pub after_word : Stage → GameReaderState → Option GameReaderState
+abbrev pub after_word : GameStage → GameReaderState → Option GameReaderState
 after_word Start state = Some (to_stage Word state)
 after_word _ state = None
 
 -- the state after a semicolon
-abbrev pub after_semicolon : Stage → GameReaderState → Option GameReaderState
+abbrev pub after_semicolon : GameStage → GameReaderState → Option GameReaderState
 after_semicolon (Number n) state = Some (record state { stage = Headed; header = Some n })
 after_semicolon Listed state = Some (to_stage Ended state)
 after_semicolon Named state = Some (to_stage Ended state)
 after_semicolon _ state = None
 
 -- the state after a comma
-abbrev pub after_comma : Stage → GameReaderState → Option GameReaderState
+abbrev pub after_comma : GameStage → GameReaderState → Option GameReaderState
 after_comma Listed state = Some (to_stage Comma state)
 after_comma _ state = None
 
 -- the state after a name
-abbrev pub after_name : Stage → GameReaderState → List ℕ → Option GameReaderState
+abbrev pub after_name : GameStage → GameReaderState → List ℕ → Option GameReaderState
 after_name Listed state bytes = Some (with_change Named (with_name bytes) state)
 after_name _ state bytes = None
 
@@ -115,7 +116,7 @@ abbrev pub run : GameReaderState → List PgSymbol → Option GameReaderState
 run = run_by step
 
 -- at a stage the numbers that it keeps are within the limit, and an open specification is there
-abbrev pub IsReadyAt : Stage → List NodeSpec → Type 0
+abbrev pub IsReadyAt : GameStage → List NodeSpec → Type 0
 IsReadyAt Start specs = Unit {0}
 IsReadyAt Word specs = Unit {0}
 IsReadyAt (Number n) specs = Unit {0}

@@ -7,8 +7,8 @@ use Rattle.omega_text.specs.declared.pg.kind.PgKind.{PgKind}
 use Rattle.omega_pg.specs.Symbols.{PgSymbol}
 use Rattle.omega_pg.specs.private.reader.Symbols.{symbols_of}
 use Rattle.omega_pg.specs.private.game.reader.Automaton.{GameReaderState, IsReady, run}
-use Rattle.omega_pg.specs.declared.game.stage.Stage.{Stage}
-use Rattle.omega_pg.specs.declared.game.stage.Stage.TheVariants.{Ended, Headed, Start}
+use Rattle.omega_pg.specs.declared.game.stage.GameStage.{GameStage}
+use Rattle.omega_pg.specs.declared.game.stage.GameStage.TheVariants.{Ended, Headed, Start}
 
 -- the text between two places is cut into tokens with these symbols
 pub record IsPiece (source : List ℕ) (from to : ℕ) (symbols : List PgSymbol) : Type 0 where
@@ -26,7 +26,7 @@ pub record LeadsOn (source : List ℕ) (from to : ℕ) (old new : GameReaderStat
   pub ready : IsReady new
 
 -- a node may begin here
-abbrev pub BeginsNode : Stage → Type 0
+abbrev pub BeginsNode : GameStage → Type 0
 BeginsNode Start = Unit {0}
 BeginsNode Headed = Unit {0}
 BeginsNode Ended = Unit {0}

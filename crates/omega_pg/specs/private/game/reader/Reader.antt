@@ -1,6 +1,6 @@
 -- A reader as the state of the automaton.
 use Rattle.omega_pg.specs.private.game.reader.Automaton.{GameReaderState}
-use Rattle.omega_pg.specs.declared.game.reader.Reader.TheInside.{Inside}
+use Rattle.omega_pg.specs.declared.game.reader.GameReader.TheInside.{Inside}
 
 -- the state that a reader keeps
 abbrev pub game_reader_state : Inside → GameReaderState

@@ -5,13 +5,13 @@ use Rattle.omega_pg.specs.private.game.reader.Automaton.{player_of}
 use Rattle.omega_pg.specs.solution.Grammar.{SolutionLine, line_for}
 use Rattle.omega_pg.specs.private.reader.Run.{run_by}
 use Rattle.omega_pg.specs.Symbols.{PgSymbol, comma, name, number, parity, paritysol, semicolon}
-use Rattle.omega_pg.specs.declared.solution.stage.Stage.{Stage}
-use Rattle.omega_pg.specs.declared.solution.stage.Stage.TheVariants.{Chosen, Ended, Identifier}
-use Rattle.omega_pg.specs.declared.solution.stage.Stage.TheVariants.{Number, Start, Winner, Word}
+use Rattle.omega_pg.specs.declared.solution.stage.SolutionStage.{SolutionStage}
+use Rattle.omega_pg.specs.declared.solution.stage.SolutionStage.TheVariants.{Chosen, Ended, Identifier}
+use Rattle.omega_pg.specs.declared.solution.stage.SolutionStage.TheVariants.{Number, Start, Winner, Word}
 
 -- what was read so far: the stage, the header's number and the lines
 pub record SolutionReaderState : Type 0 where
-  pub stage : Stage
+  pub stage : SolutionStage
   pub greatest : ℕ
   pub lines : List SolutionLine
 
@@ -20,7 +20,7 @@ abbrev pub initial : SolutionReaderState
 initial = record { stage = Start; greatest = 0; lines = [] }
 
 -- the state at another stage
-abbrev pub to_stage : Stage → SolutionReaderState → SolutionReaderState
+abbrev pub to_stage : SolutionStage → SolutionReaderState → SolutionReaderState
 to_stage stage state = record state { stage = stage }
 
 -- the state with one line more
@@ -32,7 +32,7 @@ with_line id winner successor state = record {
 }
 
 -- the stage after a number, if a text goes on so
-abbrev pub stage_after_number : Stage → ℕ → Option Stage
+abbrev pub stage_after_number : SolutionStage → ℕ → Option SolutionStage
 stage_after_number Start n = None
 stage_after_number Word n = Some (Number n)
 stage_after_number (Number greatest) n = None
@@ -42,20 +42,20 @@ stage_after_number (Winner id winner) n = Some (Chosen id winner n)
 stage_after_number (Chosen id winner successor) n = None
 
 -- the stage after the word `paritysol`, if a text goes on so
-abbrev pub stage_after_word : Stage → Option Stage
+abbrev pub stage_after_word : SolutionStage → Option SolutionStage
 stage_after_word Start = Some Word
 stage_after_word _ = None
 
 -- the state after a number
-abbrev pub after_number : Stage → SolutionReaderState → ℕ → Option SolutionReaderState
+abbrev pub after_number : SolutionStage → SolutionReaderState → ℕ → Option SolutionReaderState
 after_number stage state n = option_map (λ next. to_stage next state) (stage_after_number stage n)
 
 -- the state after the word `paritysol`
-abbrev pub after_word : Stage → SolutionReaderState → Option SolutionReaderState
+abbrev pub after_word : SolutionStage → SolutionReaderState → Option SolutionReaderState
 after_word stage state = option_map (λ next. to_stage next state) (stage_after_word stage)
 
 -- the state after a semicolon
-abbrev pub after_semicolon : Stage → SolutionReaderState → Option SolutionReaderState
+abbrev pub after_semicolon : SolutionStage → SolutionReaderState → Option SolutionReaderState
 after_semicolon (Number greatest) state =
     Some (record { stage = Ended; greatest = greatest; lines = state.lines })
 after_semicolon (Winner id winner) state = Some (with_line id winner None state)

@@ -12,7 +12,7 @@ use Rattle.omega_pg.specs.solution.Grammar.{SolutionLine, RawSolution, no_line}
 use Rattle.omega_game_values.specs.Solution.{IsSolution}
 use Rattle.omega_pg.specs.solution.Text.{raw_solution}
 use Rattle.omega_game_values.specs.declared.solution.Solution.{Solution}
-use Rattle.omega_pg.specs.declared.solution.lines.Lines.{Lines}
+use Rattle.omega_pg.specs.declared.solution.lines.ChoiceLines.{ChoiceLines}
 
 -- a line says this choice of the node at a place
 pub record Says (nodes : List Node) (v : ℕ) (line : SolutionLine) (choice : Option ℕ) : Type 0 where
@@ -65,7 +65,7 @@ AreJudged nodes lines true winners zero one = AreSaid nodes lines winners zero o
 AreJudged nodes lines false winners zero one = HasWrongLine nodes lines
 
 -- the lines so far are judged, by what is kept of them
-abbrev pub KeepsLines : List Node → List SolutionLine → Lines → Type 0
+abbrev pub KeepsLines : List Node → List SolutionLine → ChoiceLines → Type 0
 KeepsLines nodes lines kept =
     AreJudged nodes lines kept.good kept.winners.items kept.zero.items kept.one.items
 

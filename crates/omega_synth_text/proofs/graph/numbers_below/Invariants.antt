@@ -1,7 +1,0 @@
--- the numbers before
-use Rattle.std.proofs.Common.{◌≡◌}
-use Rattle.std.specs.List.{range_with_len}
-use Rattle.omega_synth_text.proofs.graph.numbers_below.Given as goal
-
-abbrev pub invariant-loop-number : goal.invariant-loop-number
-invariant-loop-number l = l.numbers.items ≡ range_with_len 0 l.number
