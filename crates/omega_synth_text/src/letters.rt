@@ -10,11 +10,7 @@ use omega_text::{Numbers, Refusal, write_number};
 use std::alloc::Global;
 
 /// Returns the inputs: those of `count` propositions that are not `controlled`.
-pub(crate) fn inputs_of(
-    alloc: Global,
-    count: u32,
-    controlled: &[u32],
-) -> Result<Vec<u32>, Refusal>
+pub(crate) fn inputs_of(alloc: Global, count: u32, controlled: &[u32]) -> Result<Vec<u32>, Refusal>
     ensures inputs { IfOk result
         (λ inputs. inputs.items ≡ filter (λ p. not (listed controlled.now p)) (range_with_len 0 count)) }
     ensures memory { IsOkUnless result Refusal.Memory }
