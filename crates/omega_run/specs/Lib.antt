@@ -20,6 +20,7 @@ pub mod Pieces
 pub mod Progress
 pub mod Report
 pub mod Results
+pub mod Run
 pub mod Streams
 pub mod TwoTexts
 pub mod World

@@ -27,30 +27,11 @@ pub(crate) fn cause_about(alloc: Global, held: Held<'_>, verbose: bool, refused:
         return Vec::new(alloc);
     };
     let kind = kind_of(held.command, which);
-    let (written, read) = (held.written, held.read);
-    let found = match which {
-        Which::File => {
-            cause_in(
-                alloc,
-                kind,
-                written.other,
-                read.other,
-                read.input,
-                refused.refusal,
-            )
-        }
-        Which::Input => {
-            cause_in(
-                alloc,
-                kind,
-                written.input,
-                read.input,
-                read.other,
-                refused.refusal,
-            )
-        }
+    let (written, text, beside) = match which {
+        Which::File => (held.written.other, held.read.other, held.read.input),
+        Which::Input => (held.written.input, held.read.input, held.read.other),
     };
-    match found {
+    match cause_in(alloc, kind, written, text, beside, refused.refusal) {
         Ok(line) => line,
         Err(_) => Vec::new(alloc),
     }

@@ -15,6 +15,7 @@ mod obeying;
 mod one_text;
 mod progress;
 mod reporting;
+mod running;
 mod stream;
 mod text_kind;
 mod texts;
@@ -27,7 +28,7 @@ pub use omega_cli_command::{
     Command, Format, OneText, Other, Player, Request, Source, Stream, Task, TwoTexts,
 };
 pub use omega_io::{
-    Exit, FromRead, HostFiles, Input, InputFiles, Output, Reason, Refusal, ToWrite, Unread,
-    exit_code, refusal_line,
+    Exit, FromRead, HostFiles, Input, InputFiles, Output, Reason, Refusal, Refused, ToWrite,
+    Unread, exit_code, refusal_line,
 };
-pub use omega_solve::budget::{Progress, Reporter};
+pub use running::run_command;

@@ -149,7 +149,7 @@ fn run_input<R: Input, W: Output, E: Output>(
 }
 
 /// Reads a stream piece by piece, makes the whole answer to it in memory, and then writes it.
-fn write_stream<R: Input, W: Output>(
+pub(crate) fn write_stream<R: Input, W: Output>(
     alloc: Global,
     stream: Stream,
     budget: u64,

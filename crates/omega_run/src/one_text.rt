@@ -76,7 +76,10 @@ pub(crate) fn answer_one_text<L, T: Reporter<L>>(
             word,
             names,
             status,
-        } => { search_emptiness(alloc, text, Lines { word, run: names }, status) }
+        } => {
+            let lines = Lines { word, run: names };
+            search_emptiness(alloc, text, lines, status)
+        }
         OneText::Game => Ok((Exit::Done, write_emptiness_game(alloc, text)?)),
         OneText::Complement => Ok((Exit::Done, complement_text(alloc, text)?)),
         OneText::Trim => Ok((Exit::Done, trim_text(alloc, text)?)),

@@ -53,7 +53,7 @@ pub(crate) fn write_answer<W: Output, E: Output>(
 }
 
 /// Writes an answer that was made in memory.
-fn write_made<W: Output>(
+pub(crate) fn write_made<W: Output>(
     made: Result<(Exit, Vec<u8>), Refused>,
     output: &mut W,
 ) -> Result<Exit, Refused>
