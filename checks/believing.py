@@ -5,8 +5,8 @@
     checks/believing.py --whole                  prints for each promise its files, in the order of reading
     checks/believing.py check --format pg        prints the definitions of that promise, in the order of reading
 
-A promise of a subcommand is the rows of the tables in crates/omega_run/specs/Respond.antt for what the subcommand asks
-for. From the words of these rows the definitions are followed, each to the words of its body, as the
+A promise of a subcommand is the rows of the tables in OneText.antt, Streams.antt and TwoTexts.antt of
+crates/omega_run/specs for what the subcommand asks for. From the words of these rows the definitions are followed, each to the words of its body, as the
 `use` lines of its file lead. A file stands after the files that it cites. A line of a specs file that has none of the
 forms below is an error, with its file and number.
 """
@@ -22,11 +22,9 @@ from program import ROOT, Cases
 
 PAGE = os.path.join("docs", "believe.md")
 MOST_LINES = 400
-RESPOND = "omega_run.specs.Respond"
-# What one text is answered, each automaton of a stream, and the texts of a file and of the input; and the row of the
-# first that hands on to the second.
-TABLES = ("Answers", "AnswersEach", "AnswersBeside")
-HANDED_ON = ("Each",)
+# What one text is answered, a stream, and the other text and that of the input; and how these two are refused.
+TABLES = (("omega_run.specs.OneText", "AnswersOneText"), ("omega_run.specs.Streams", "AnswersStream"),
+          ("omega_run.specs.TwoTexts", "AnswersTwoTexts"), ("omega_run.specs.TwoTexts", "RefusesTwoTexts"))
 HEADLINE = ("omega_solve.specs.Headline", "Headline")
 # The row of the headline, and what stands beside it.
 HEADLINE_ROW = "the headline, `Headline` of `omega_solve`"
@@ -53,25 +51,25 @@ CALLS = {
 
 # Each promise, with the beginnings of the rows that are its own.
 COMMANDS = {
-    "check --format pg": ("Check Pg",),
-    "canon --format pg": ("Canon Pg", "CanonPart"),
+    "check --format pg": ("AnswersOneText: Check",),
+    "canon --format pg": ("AnswersOneText: Canon", "CanonPart"),
     "canon --format pg --min": ("CanonLeast",),
-    "show --format pg": ("Show Pg",),
-    "show --format pg --json": ("ShowJson Pg",),
+    "show --format pg": ("AnswersOneText: Show",),
+    "show --format pg --json": ("AnswersOneText: ShowJson",),
     "solve": ("Solve",),
     "solve --search": ("Search",),
     "verify": ("Verify",),
     "verify --explain --names": ("VerifyNamed",),
     "verify --winners": ("VerifyWinners",),
-    "draw --format pg": ("Draw Pg", "DrawPart", "DrawSolution", "DrawWalk"),
-    "check --format hoa": ("Check Hoa",),
-    "canon --format hoa": ("Canon Hoa",),
-    "show --format hoa": ("Show Hoa",),
-    "show --format hoa --json": ("ShowJson Hoa",),
-    "empty": ("Empty",),
-    "empty --search": ("EmptySearch",),
-    "empty --stream": ("each.Empty",),
-    "empty --search --stream": ("each.EmptySearch",),
+    "draw --format pg": ("DrawGame", "DrawPart", "DrawSolution", "DrawWalk"),
+    "check --format hoa": ("AnswersStream: Check",),
+    "canon --format hoa": ("AnswersStream: Canon",),
+    "show --format hoa": ("AnswersStream: Show",),
+    "show --format hoa --json": ("AnswersStream: ShowJson",),
+    "empty": ("AnswersOneText: Empty",),
+    "empty --search": ("AnswersOneText: EmptySearch",),
+    "empty --stream": ("AnswersStream: Empty",),
+    "empty --search --stream": ("AnswersStream: EmptySearch",),
     "verify --automaton": ("VerifyLasso",),
     "verify --specification": ("VerifyController",),
     "accepts": ("Accepts",),
@@ -81,15 +79,15 @@ COMMANDS = {
     "meet": ("Meet false",),
     "meet --trim": ("Meet true",),
     "join": ("Join",),
-    "complement": ("Complement",),
-    "complement --stream": ("each.Complement",),
-    "trim": ("Trim",),
-    "trim --stream": ("each.Trim",),
+    "complement": ("AnswersOneText: Complement",),
+    "complement --stream": ("AnswersStream: Complement",),
+    "trim": ("AnswersOneText: Trim",),
+    "trim --stream": ("AnswersStream: Trim",),
     "realize": ("Realize",),
     "realize --lift": ("RealizeByLifting",),
     "realize --game": ("RealizabilityGame",),
     "game": ("Game",),
-    "draw --format hoa": ("Draw Hoa", "DrawLasso"),
+    "draw --format hoa": ("DrawAutomaton", "DrawLasso"),
 }
 
 # The exports of the library for C, each with its file.
@@ -128,9 +126,9 @@ A proof shows that the code does what the definitions say. It does not show that
 that is for a reader to judge. This page says for each promise with which definitions to begin, and counts what has to
 be read. It is made from the sources by `checks/believing.py`, and `checks/run pages` fails where it is no longer true.
 
-The promise of a subcommand is its rows of the tables in `crates/omega_run/specs/Respond.antt`, of which there is one
-for each kind: what reads one text, a stream, or the texts of a file and of the input. A row says what is
-written, and when nothing is written and which refusal comes. The definitions that these rows cite are those to begin
+The promise of a subcommand is its rows of the tables in `OneText.antt`, `Streams.antt` and `TwoTexts.antt` of
+`crates/omega_run/specs`, one for each kind: what reads one text, a stream, or another text and that of the input. A row
+says what is written, or which refusal comes; of two texts there is a row for each of the two. The definitions that these rows cite are those to begin
 with. They, and those that they cite in turn, are all that the promise rests on. A line is a line of a definition or of
 its comment; `use` lines are not counted. The promises share most of their definitions: whoever has read one of them has
 read the greater part of the next.
@@ -395,9 +393,9 @@ class Sources:
 
     def rows_cite(self, arguments: Rows) -> list[Believed]:
         """What the rows of the tables cite for these commands."""
-        cited = [one for table in TABLES for one in self.cited(self.held[RESPOND, table], arguments)]
+        cited = [one for table in TABLES for one in self.cited(self.held[table], arguments)]
         if not cited:
-            raise ValueError(f"{RESPOND} has no row for {arguments}")
+            raise ValueError(f"no table has a row for {arguments}")
         return cited
 
 
@@ -483,7 +481,7 @@ def clause_words(path: str, function: str) -> Definition:
 
 def check_rows(answers: Definition) -> None:
     """Each row of a table is one of a promise."""
-    known = (*HANDED_ON, *(one for arguments in COMMANDS.values() for one in arguments))
+    known = tuple(one for arguments in COMMANDS.values() for one in arguments)
     for index in range(len(answers.lines)):
         row = answers.row_at(index)
         if row and not answers.is_chosen(row[0], known):
@@ -498,7 +496,7 @@ def promises(sources: Sources) -> Iterator[Promise]:
         return Promise(label, begun, sources.reached(begun, without))
 
     for table in TABLES:
-        check_rows(sources.held[RESPOND, table])
+        check_rows(sources.held[table])
     yield promise(HEADLINE_ROW, [sources.held[HEADLINE]])
     for label, arguments in COMMANDS.items():
         yield promise(f"`omega {label}`", sources.rows_cite(arguments))
