@@ -3,6 +3,7 @@ use Rattle.std.specs.Prelude.{◌≡◌, ◌⊎◌, Bool, true, false, List, [],
 use Rattle.omega_text.specs.Refusal.{place_of}
 use Rattle.omega_text.specs.declared.refusal.Refusal.{Refusal}
 use Rattle.omega_text.specs.declared.refusal.Refusal.TheVariants.{Automaton, Game, Task, Text}
+use Rattle.omega_text.specs.declared.refusal.game.GameFault.TheVariants.{TooManyEdges, TooManyNodes}
 use Rattle.omega_text.specs.declared.refusal.task.TaskFault.TheVariants.{BadSolution, NotDeterministic}
 use Rattle.omega_game_values.specs.Game.{Node}
 use Rattle.omega_hoa_diagnostics.specs.AutomatonCauses.{IsAutomatonCause}
@@ -69,10 +70,12 @@ IsCauseBeside game_text from text line = (nodes : List Node) × IsJudgedGame gam
     × IsSolutionCause nodes text line
 
 -- the cause of a refusal of a text of this kind, which is written so and read as this text, beside another text: the
--- place of 1, 2 and 3 as the text is written; why a game text makes no game, or a solution text is none of the game
--- beside it; what is at fault in an automaton, or why it is not deterministic; of other refusals there is no line
+-- place of 1, 2 and 3 as the text is written; why a game text within the limits makes no game, or a solution text is
+-- none of the game beside it; what is at fault in an automaton, or why it is not deterministic; of other refusals there is no line
 abbrev pub IsCause : TextKind → (written text beside : List ℕ) → Refusal → List ℕ → Type 0
 IsCause of written text beside (Text fault) line = line ≡ line_at written (place_of (Text fault))
+IsCause of written text beside (Game TooManyNodes) line = line ≡ []
+IsCause of written text beside (Game TooManyEdges) line = line ≡ []
 IsCause kind.Game written text beside (Game fault) line = IsGameCause text line
 IsCause (kind.Solution from) written text beside (Task BadSolution) line =
     IsCauseBeside beside from text line

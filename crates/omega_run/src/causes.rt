@@ -9,7 +9,7 @@ use omega_answers_game::judged_game;
 use omega_hoa_diagnostics::{automaton_cause, choice_cause};
 use omega_io::{Refusal, Refused, Which};
 use omega_pg_diagnostics::{game_cause, place_line, solution_cause};
-use omega_text::TaskFault;
+use omega_text::{GameFault, TaskFault};
 use std::alloc::Global;
 
 /// Returns the cause of a refusal, or no bytes if there is no line to write or no memory for it, or `verbose` is not set.
@@ -51,6 +51,7 @@ fn cause_in(
 {
     match refusal {
         Refusal::Text(_) => line_at(alloc, written, refusal.at()),
+        Refusal::Game(GameFault::TooManyNodes | GameFault::TooManyEdges) => Ok(Vec::new(alloc)),
         Refusal::Game(_) => match kind {
             TextKind::Game => game_cause(alloc, text),
             _ => Ok(Vec::new(alloc)),
