@@ -77,13 +77,13 @@ fn do_task<F: InputFiles, R: Input, W: Output, E: Output>(
         (streams_of R.Input W.Output input.new output.new)) }
 {
     match read_files(alloc, task, files) {
-        Ok(read) => run_task(alloc, task, &read, input, output, errors),
+        Ok(read) => do_with_files(alloc, task, &read, input, output, errors),
         Err(refused) => { report_file(alloc, refused.name, refused.unread, task.verbose, errors) }
     }
 }
 
 /// Does a task after its files were read, with standard input if the operand is no file.
-fn run_task<R: Input, W: Output, E: Output>(
+fn do_with_files<R: Input, W: Output, E: Output>(
     alloc: Global,
     task: &Task,
     read: &FileTexts,
@@ -107,12 +107,12 @@ fn run_task<R: Input, W: Output, E: Output>(
             let input = within_limit(operand.as_slice());
             run_texts(alloc, task, Texts { other, input }, output, errors)
         }
-        None => run_input(alloc, task, other, input, output, errors),
+        None => do_with_input(alloc, task, other, input, output, errors),
     }
 }
 
 /// Does a task with standard input. A stream is answered while it is read, unless its text has to be in memory.
-fn run_input<R: Input, W: Output, E: Output>(
+fn do_with_input<R: Input, W: Output, E: Output>(
     alloc: Global,
     task: &Task,
     other: &[u8],
