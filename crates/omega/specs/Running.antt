@@ -8,7 +8,6 @@ use Rattle.omega_text.specs.declared.refusal.Refusal.TheVariants.{Memory}
 use Rattle.omega_cli_command.specs.declared.request.Request.{Request}
 use Rattle.omega_cli_command.specs.declared.request.Request.TheVariants.{Fault}
 use Rattle.omega_io.specs.Writing.{Tells}
-use Rattle.omega_io.specs.declared.reason.Reason.{Reason}
 use Rattle.omega_io.specs.declared.unread.Unread.{Unread}
 use Rattle.omega_run.specs.Obey.{IsObeyed}
 use Rattle.omega_run.specs.World.{Streams, World, streams}
@@ -54,21 +53,19 @@ abbrev pub IsAsked : List ℕ → Result Request Refusal → Type 0
 IsAsked words (Ok request) = IsRequestOfWords words request
 IsAsked words (Err refusal) = refusal ≡ Memory
 
--- the program obeyed the command line, whatever is left of the input, however many reads and writes failed, and why
+-- the program obeyed the command line over texts in memory, whatever is left of the input, and however many writes
+-- found no memory: no read fails, and the system has no reason for a failure
 pub record IsObeyedSomehow (reads : List ℕ → List ℕ → Type 0) (refuses : List ℕ → Unread → Type 0)
     (asked : Result Request Refusal) (status : ℕ) (reported reported' : Option (List ℕ))
     (failed_tells : ℕ) (before : Streams) (held : Option (List ℕ)) : Type 0 where
   pub unread : Option (List ℕ)
-  pub failed_reads : ℕ
-  pub read_reason : Option Reason
   pub failed_writes : ℕ
-  pub write_reason : Option Reason
   pub failed_tells' : ℕ
   pub obeyed : IsObeyed asked status (record {
     reads = reads;
     refuses = refuses;
     before = before;
-    after = streams unread failed_reads read_reason held failed_writes write_reason;
+    after = streams unread 0 None held failed_writes None;
     tells = Tells reported reported' failed_tells failed_tells';
   })
 

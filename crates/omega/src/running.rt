@@ -6,12 +6,14 @@ ghost use Rattle.omega_cli_command.specs.Request.{IsRunnable};
 ghost use Rattle.omega.specs.Running.{IsRequestOfWords, IsObeyedSomehow, IsProgramRun, IsRunOutcome};
 
 mod files;
+mod memory_output;
 mod words;
 
 use files::OneFile;
+use memory_output::MemoryOutput;
 use omega_arrays::copy_into;
 use omega_cli::read_words;
-use omega_run::{FromRead, Input, InputFiles, Output, Refusal, Request, ToWrite, obey};
+use omega_run::{HeldText, Input, InputFiles, Output, Refusal, Request, obey};
 use std::alloc::Global;
 use words::words_in;
 
@@ -68,9 +70,9 @@ fn left_by(alloc: Global, words: &[u8], input: &[u8], file: &[u8]) -> Left
 {
     let asked = asked_of(alloc, words);
     let files = OneFile::new(file);
-    let mut reading = FromRead::new(input);
-    let mut writing = ToWrite::new(Vec::new(alloc));
-    let mut telling = ToWrite::new(Vec::new(alloc));
+    let mut reading = HeldText::new(input);
+    let mut writing = MemoryOutput::new(alloc);
+    let mut telling = MemoryOutput::new(alloc);
     let status = status_of(
         alloc,
         asked,
@@ -81,28 +83,30 @@ fn left_by(alloc: Global, words: &[u8], input: &[u8], file: &[u8]) -> Left
     );
     Left {
         status,
-        output: writing.into_inner(),
-        errors: telling.into_inner(),
+        output: writing.into_bytes(),
+        errors: telling.into_bytes(),
     }
 }
 
-/// Obeys a command line and returns its status. The contract leaves out the rest of the input, and how often and why
-/// reads and writes failed.
-fn status_of<F: InputFiles, R: Input, W: Output, E: Output>(
+/// Obeys a command line over texts in memory, and returns its status. The contract leaves out the rest of the input,
+/// and how many writes found no memory.
+fn status_of<'f, 'i>(
     alloc: Global,
     asked: Result<Request, Refusal>,
-    files: &F,
-    input: &mut R,
-    output: &mut W,
-    errors: &mut E,
+    files: &OneFile<'f>,
+    input: &mut HeldText<'i>,
+    output: &mut MemoryOutput,
+    errors: &mut MemoryOutput,
 ) -> u8
     requires runnable { IfOk asked IsRunnable }
-    requires reads { R.failed input.old < 2 ^ 64 - 1 }
-    requires writes { W.failed output.old < 2 ^ 64 - 1 }
-    requires tells { E.failed errors.old < 2 ^ 64 - 1 }
-    ensures { IsObeyedSomehow (F.reads files.now) (F.refuses files.now) asked result
-        (E.contents errors.old) (E.contents errors.new) (E.failed errors.old)
-        (streams_of R.Input W.Output input.old output.old) (W.contents output.new) }
+    requires writes { ⟦<MemoryOutput as Output>⟧.failed output.old < 2 ^ 64 - 1 }
+    requires tells { ⟦<MemoryOutput as Output>⟧.failed errors.old < 2 ^ 64 - 1 }
+    ensures { IsObeyedSomehow (⟦<OneFile<'f> as InputFiles>⟧.reads files.now)
+        (⟦<OneFile<'f> as InputFiles>⟧.refuses files.now) asked result
+        (⟦<MemoryOutput as Output>⟧.contents errors.old) (⟦<MemoryOutput as Output>⟧.contents errors.new)
+        (⟦<MemoryOutput as Output>⟧.failed errors.old)
+        (streams_of ⟦<HeldText<'i> as Input>⟧ ⟦<MemoryOutput as Output>⟧ input.old output.old)
+        (⟦<MemoryOutput as Output>⟧.contents output.new) }
 {
     obey(alloc, asked, files, input, output, errors)
 }

@@ -6,9 +6,9 @@ use Rattle.omega_cli.specs.Program.{program}
 use Rattle.omega_cli.specs.Found.{IsPrinted, IsRequestFound}
 use Rattle.omega_cli_command.specs.declared.request.Request.{Request}
 
--- the words, the program's name first, request this. If `clap` finds no fault in them, it is what the subcommand and the
--- options request that it finds. Else it is a text of one of the kinds that `clap` finds: help, the version, or what is
--- wrong
+-- the words, the program's name first, request this. If `clap` finds no fault in them, it is what the subcommand and
+-- the options request that it finds. Else it is a text of one of the kinds that `clap` finds: help, the version, or
+-- what is wrong
 abbrev pub IsRequested : List Text → Request → Type 0
 IsRequested words request =
     ((fault_of program words ≡ []) × IsRequestFound (subcommand_of program words) request)

@@ -71,7 +71,8 @@ IsCauseBeside game_text from text line = (nodes : List Node) × IsJudgedGame gam
 
 -- the cause of a refusal of a text of this kind, which is written so and read as this text, beside another text: the
 -- place of 1, 2 and 3 as the text is written; why a game text within the limits makes no game, or a solution text is
--- none of the game beside it; what is at fault in an automaton, or why it is not deterministic; of other refusals there is no line
+-- none of the game beside it; what is at fault in an automaton, or why it is not deterministic; of other refusals
+-- there is no line
 abbrev pub IsCause : TextKind → (written text beside : List ℕ) → Refusal → List ℕ → Type 0
 IsCause of written text beside (Text fault) line = line ≡ line_at written (place_of (Text fault))
 IsCause of written text beside (Game TooManyNodes) line = line ≡ []

@@ -12,7 +12,8 @@ use omega_pg_diagnostics::{game_cause, place_line, solution_cause};
 use omega_text::{GameFault, TaskFault};
 use std::alloc::Global;
 
-/// Returns the cause of a refusal, or no bytes if there is no line to write or no memory for it, or `verbose` is not set.
+/// Returns the cause of a refusal, or no bytes if there is no line to write or no memory for it, or `verbose` is not
+/// set.
 pub(crate) fn cause_about(alloc: Global, held: Held<'_>, verbose: bool, refused: Refused) -> Vec<u8>
     ensures { IsCauseTold verbose held.entry.command.now
         (both_texts held.entry.written.other.now held.entry.written.input.now)

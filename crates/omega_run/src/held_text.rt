@@ -5,12 +5,13 @@ use std::io::Read;
 
 /// A text in memory as an input. Its reads do not fail.
 #[derive(Drop)]
-pub(crate) struct HeldText<'a> {
+pub struct HeldText<'a> {
     rest: &'a [u8],
 }
 
 impl<'a> HeldText<'a> {
-    pub(crate) fn new(text: &'a [u8]) -> HeldText<'a>
+    /// Takes `text` as the text that reads will give.
+    pub fn new(text: &'a [u8]) -> HeldText<'a>
         ensures bytes { ⟦<HeldText<'a> as Input>⟧.remaining result ≡ Some text.now }
         ensures failures { ⟦<HeldText<'a> as Input>⟧.failed result ≡ 0 }
         ensures reason { ⟦<HeldText<'a> as Input>⟧.reason result ≡ None }

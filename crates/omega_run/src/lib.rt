@@ -22,6 +22,7 @@ mod texts;
 mod two_texts;
 mod writing;
 
+pub use held_text::HeldText;
 pub use laws::budgets_are_of_solvers;
 pub use obeying::obey;
 pub use omega_cli_command::{

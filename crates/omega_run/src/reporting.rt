@@ -59,8 +59,8 @@ pub(crate) fn report_file<E: Output>(
     report_lines(refusal, lines, b"", errors)
 }
 
-/// Returns the lines for a refusal of one of the texts of a command. If `verbose` is set, a line names the text that the
-/// refusal is about, if it is one of two, or says what the `failure` was of [Refusal::Io].
+/// Returns the lines for a refusal of one of the texts of a command. If `verbose` is set, a line names the text that
+/// the refusal is about, if it is one of two, or says what the `failure` was of [Refusal::Io].
 pub(crate) fn lines_about(
     alloc: Global,
     command: &Command,

@@ -1,4 +1,5 @@
--- the lasso is one of the product, whose words are those of the example, and whose edges take edges of the one automaton
+-- the lasso is one of the product, whose words are those of the example, and whose edges take edges of the one
+-- automaton
 use Rattle.std.proofs.Common.{◌≡◌, ℕ, List, map, get_or, sym, ap, subst, ◌∙◌}
 use Rattle.omega_lang_lasso_word.specs.LassoWordText.{lasso_word_text}
 use Rattle.omega_lang_lasso_word.specs.WordText.{word_text}
