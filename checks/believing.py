@@ -153,7 +153,7 @@ or is refuted. That the one or the other is there is what `realize` answers, and
 two are. No row of these has a definition of a game. Whoever has read what lassos, runs and words are needs in addition,
 of `omega_synth_controllers`, `AgreeOnInputs`, `Answers`, `IsMet`, `IsKeptCycle`, `is_accepted`, `HasAnswer`, `IsController`
 and `IsCounterStrategy`. For the laws there are also `System`, `so_far`, `is_controlled`, `joined`, `word_of`,
-`RealizesBy`, `IsRefuted` and `RecursOrCeases`, and what a deterministic automaton is. Which of the letters that win a
+`RealizesBy`, `IsRefuted` and `LimitedPrincipleOfOmniscience`, and what a deterministic automaton is. Which of the letters that win a
 counter-strategy has is said by definitions of letters alone, in `omega_synth_game`. Games are read in the row
 `omega realize` for its refusals alone, such as a game that is too large or a budget that is used up.
 

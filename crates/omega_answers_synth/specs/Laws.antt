@@ -11,15 +11,15 @@ use Rattle.omega_lang_lasso_word.specs.Laws.{HasStrings, by_number}
 use Rattle.omega_synth_game.specs.RoundsOf.{holds_in}
 use Rattle.omega_synth_text.specs.Reaching.{TellsReached}
 use Rattle.omega_synth_text.specs.Winner.{winner}
-use Rattle.omega_lang_word_laws.specs.Complements.{RecursOrCeases}
+use Rattle.omega_text.specs.Omniscience.{LimitedPrincipleOfOmniscience}
 use Rattle.omega_answers.specs.Answer.{IsYes}
 use Rattle.omega_answers_synth.specs.Letter.{letter_text}
 use Rattle.omega_answers_synth.specs.Verify.{IsControllerAnswer}
 
--- if each test recurs or ceases, as it does by the excluded middle, `yes` is written exactly if the one text is that of
--- a controller for the specification of the other
+-- by the limited principle of omniscience, `yes` is written exactly if the one text is that of a controller for the
+-- specification of the other
 abbrev pub ControllerAnswersAreExact : Type 0
-ControllerAnswersAreExact = ((test : ℕ → Bool) → RecursOrCeases test) → (file input output : List ℕ)
+ControllerAnswersAreExact = LimitedPrincipleOfOmniscience → (file input output : List ℕ)
     (explain : Bool) (exit : Exit) (specification controller : Description)
     → (controlled : List ℕ)
     → IsControllerAnswer file input explain exit output → IsAutomatonText file specification

@@ -8,7 +8,8 @@ use Rattle.omega_game_values.specs.Game.{Node, IsGame, HasEdge, owner_at, succes
 use Rattle.omega_game_values.specs.Player.{loses, opponent_of}
 use Rattle.omega_game_values.specs.Winning.{IsStrategy, Leaves, InRegion}
 use Rattle.omega_game_region_laws.specs.Histories.{history, IsMemoryStrategy, IsMemoryPlay, MemoryWinsAllPlays}
-use Rattle.omega_game_region_laws.specs.Plays.{IsPlay, IsLimit, LimitedPrincipleOfOmniscience}
+use Rattle.omega_game_region_laws.specs.Plays.{IsPlay, IsLimit}
+use Rattle.omega_text.specs.Omniscience.{LimitedPrincipleOfOmniscience}
 use Rattle.omega_game_region_laws.proofs.Apart.{left_to_other}
 use Rattle.omega_game_region_laws.proofs.Determinacy.{covered}
 use Rattle.omega_game_region_laws.proofs.Following.{choice_at, first_listed, some_left}

@@ -1,23 +1,16 @@
 -- With the limited principle of omniscience each play has a limit.
-use Rattle.std.proofs.Common.{◌≡◌, ◌≢◌, ◌==◌, ℕ, zero, suc, ◌+◌, ◌-◌, ◌<◌, ◌≤◌, ◌⊎◌, inl, inr, Bool, true, false, List, length, max, Option, sym, ◌∙◌, arith, eq-eqb, eqb-true}
+use Rattle.std.proofs.Common.{◌≡◌, ◌≢◌, ◌==◌, ℕ, zero, suc, ◌-◌, ◌<◌, ◌≤◌, ◌⊎◌, inl, inr, true, false, List, length, max, Option, sym, ◌∙◌, arith, eq-eqb, eqb-true}
 use Rattle.std.proofs.lemmas.Bool.{cases_lt, false≢true}
 use Rattle.omega_game_values.specs.declared.player.Player.{Player}
 use Rattle.omega_game_values.specs.Game.{Node, priority_at}
-use Rattle.omega_game_region_laws.specs.Plays.{IsPlay, IsLimit, LimitedPrincipleOfOmniscience}
+use Rattle.omega_game_region_laws.specs.Plays.{IsPlay, IsLimit}
+use Rattle.omega_text.specs.Omniscience.{LimitedPrincipleOfOmniscience}
+use Rattle.omega_text.proofs.Omniscience.{RecursOrCeases, recurs_or_ceases}
 use Rattle.omega_game_region_laws.proofs.Stretches.{inside}
 
 -- the number comes at or after every index, or from some index on it does not come
 abbrev Settled : (ℕ → ℕ) → ℕ → Type 0
 Settled f p = ((i : ℕ) → (j : ℕ) × (i ≤ j) × (f j ≡ p)) ⊎ ((i : ℕ) × ((j : ℕ) → i ≤ j → f j ≢ p))
-
--- the number comes at or after the index, or not
-abbrev Coming : (ℕ → ℕ) → ℕ → ℕ → Type 0
-Coming f p i = ((j : ℕ) × (i ≤ j) × (f j ≡ p)) ⊎ ((j : ℕ) → i ≤ j → f j ≢ p)
-
--- which of the two
-abbrev stops : {f : ℕ → ℕ} {p i : ℕ} → Coming f p i → Bool
-stops (inl found) = false
-stops (inr none) = true
 
 -- a greatest number among those that recur, from some index on the greatest of all
 record Greatest (f : ℕ → ℕ) : Type 0 where
@@ -27,31 +20,12 @@ record Greatest (f : ℕ → ℕ) : Type 0 where
   none_greater : (i : ℕ) → from ≤ i → f i ≤ number
 
 module _ (middle : LimitedPrincipleOfOmniscience) (f : ℕ → ℕ) where
-  -- the test of the numbers after an index
-  coming : (p i : ℕ) → Coming f p i
-  coming p i = go (middle (λ k. f (i + k) == p))
-    where
-      go : ((k : ℕ) × ((f (i + k) == p) ≡ true)) ⊎ ((k : ℕ) → (f (i + k) == p) ≡ false) → Coming f p i
-      go (inl found) = inl (i + found.0, omega arith, eqb-true _ _ found.1)
-      go (inr none) = inr (λ j following is.
-          let sum : i + (j - i) ≡ j = omega arith in
-          false≢true (sym (none (j - i)) ∙ eq-eqb _ _ (rw sum is)))
-
-  -- the test of the indices
   settled : (p : ℕ) → Settled f p
-  settled p = go (middle (λ i. stops (coming p i)))
+  settled p = go (recurs_or_ceases middle (λ j. f j == p))
     where
-      recurs : (i : ℕ) (t : Coming f p i) → stops t ≡ false → (j : ℕ) × (i ≤ j) × (f j ≡ p)
-      recurs i (inl found) e = found
-      recurs i (inr none) e = absurd (cc)
-
-      ends : (i : ℕ) (t : Coming f p i) → stops t ≡ true → (j : ℕ) → i ≤ j → f j ≢ p
-      ends i (inl found) e = absurd (cc)
-      ends i (inr none) e = none
-
-      go : ((i : ℕ) × (stops (coming p i) ≡ true)) ⊎ ((i : ℕ) → stops (coming p i) ≡ false) → Settled f p
-      go (inl end) = inr (end.0, ends end.0 (coming p end.0) end.1)
-      go (inr on) = inl (λ i. recurs i (coming p i) (on i))
+      go : RecursOrCeases (λ j. f j == p) → Settled f p
+      go (inl recurs) = inl (λ i. let at = recurs i in (at.0, at.1, eqb-true _ _ at.2))
+      go (inr ends) = inr (ends.0, λ j following is. false≢true (sym (ends.1 j following) ∙ eq-eqb _ _ is))
 
   -- what is bounded from some index on has a greatest number that recurs
   below_bound : (b from : ℕ) → ((j : ℕ) → from ≤ j → f j ≤ b) → Greatest f

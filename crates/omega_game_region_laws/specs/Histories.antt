@@ -4,7 +4,8 @@ use Rattle.omega_game_values.specs.declared.player.Player.{Player}
 use Rattle.omega_game_values.specs.Game.{Node, IsGame, HasEdge, owner_at}
 use Rattle.omega_game_values.specs.Player.{loses}
 use Rattle.omega_game_values.specs.Winning.{InRegion}
-use Rattle.omega_game_region_laws.specs.Plays.{IsLimit, LimitedPrincipleOfOmniscience}
+use Rattle.omega_game_region_laws.specs.Plays.{IsLimit}
+use Rattle.omega_text.specs.Omniscience.{LimitedPrincipleOfOmniscience}
 
 -- the places of a play from its first up to an index, in order
 abbrev pub history : (ℕ → ℕ) → ℕ → List ℕ

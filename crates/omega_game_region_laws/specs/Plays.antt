@@ -1,10 +1,11 @@
 -- Infinite plays: the priority that decides a play, and winning all plays, which is what winning means.
-use Rattle.std.specs.Prelude.{◌≡◌, ◌↔◌, ◌⊎◌, ℕ, ◌+◌, ◌<◌, ◌≤◌, Bool}
-use Rattle.std.specs.Prelude.{true, false, IsTrue, List, Option, length}
+use Rattle.std.specs.Prelude.{◌≡◌, ◌↔◌, ℕ, ◌+◌, ◌<◌, ◌≤◌}
+use Rattle.std.specs.Prelude.{IsTrue, List, Option, length}
 use Rattle.omega_game_values.specs.declared.player.Player.{Player}
 use Rattle.omega_game_values.specs.Game.{Node, priority_at}
 use Rattle.omega_game_values.specs.Player.{loses}
 use Rattle.omega_game_values.specs.Winning.{Leaves, IsStrategy, Wins, InRegion}
+use Rattle.omega_text.specs.Omniscience.{LimitedPrincipleOfOmniscience}
 
 -- a play from v under the strategy: a place for each index, first v,
 -- and each step an edge that the strategy leaves possible
@@ -39,11 +40,6 @@ abbrev pub RegionsAreWonInAllPlays : Type 0
 RegionsAreWonInAllPlays = (nodes : List Node) (player : Player) (v : ℕ) → v < length nodes
     → InRegion nodes player v ↔ ((choices : List (Option ℕ)) × IsStrategy nodes player choices
     × WinsAllPlays nodes player choices v)
-
--- the limited principle of omniscience: each test of numbers passes somewhere or nowhere
-abbrev pub LimitedPrincipleOfOmniscience : Type 0
-LimitedPrincipleOfOmniscience =
-    (test : ℕ → Bool) → ((n : ℕ) × (test n ≡ true)) ⊎ ((n : ℕ) → test n ≡ false)
 
 -- given the limited principle of omniscience, each play has a limit
 abbrev pub PlaysHaveLimits : Type 0

@@ -7,7 +7,7 @@ ghost use Rattle.omega_hoa_satisfiable.specs.private.Leading.{ArePlanned, IsKept
 
 use crate::exits::Exits;
 use crate::left_parts::LeftParts;
-use crate::part::Part;
+use crate::part::LabelPart;
 use crate::steps::{Literal, Step, add};
 use omega_hoa_label::{Label, LabelNode, ROOM};
 use omega_text::Refusal;
@@ -28,7 +28,7 @@ pub(crate) fn append_label(
     ensures memory { IsOkUnless result Refusal.Memory }
 {
     let mut waiting = LeftParts::new(*steps.allocator());
-    let mut part = Part {
+    let mut part = LabelPart {
         wanted: true,
         exits,
     };
@@ -58,7 +58,7 @@ pub(crate) fn append_label(
 
 /// Appends the step of a constant as `part`, and returns its place. Returns the place of its other exit if the constant
 /// is not the wanted one.
-fn append_constant(value: bool, part: Part, steps: &mut Vec<Step>) -> Result<usize, Refusal>
+fn append_constant(value: bool, part: LabelPart, steps: &mut Vec<Step>) -> Result<usize, Refusal>
     requires planned { ArePlanned steps.old.items }
     requires exits { AreExits steps.old.items part.exits }
     ensures ok { IfOk result
@@ -76,7 +76,7 @@ fn append_constant(value: bool, part: Part, steps: &mut Vec<Step>) -> Result<usi
 }
 
 /// Appends the step of the literal of `proposition` as `part`, and returns its place.
-fn append_literal(proposition: u32, part: Part, steps: &mut Vec<Step>) -> Result<usize, Refusal>
+fn append_literal(proposition: u32, part: LabelPart, steps: &mut Vec<Step>) -> Result<usize, Refusal>
     requires planned { ArePlanned steps.old.items }
     requires exits { AreExits steps.old.items part.exits }
     ensures ok { IfOk result (IsEncoded steps.old.items steps.new.items

@@ -1,30 +1,30 @@
 ghost use Rattle.std.specs.Prelude.{◌≡◌, ◌∷◌, [], IfOk, IsOkUnless, OnOk};
 ghost use Rattle.omega_hoa_satisfiable.specs.private.Encoding.{next_part, parts_below, right_part};
 
-use crate::part::Part;
+use crate::part::LabelPart;
 use omega_text::Refusal;
 use std::alloc::Global;
 use std::marker::Model;
 
 /// A part of a label with two parts, of which the right one is encoded first and the left one waits.
 #[derive(Clone, Copy)]
-pub(crate) struct Joined {
+pub(crate) struct WaitingPart {
     /// Whether both parts are to hold; otherwise one of them is.
     pub(crate) both: bool,
-    pub(crate) whole: Part,
+    pub(crate) whole: LabelPart,
 }
 
 /// The left parts that wait, the next on top.
 #[derive(Drop)]
 pub(crate) struct LeftParts {
-    items: Vec<Joined>,
+    items: Vec<WaitingPart>,
 }
 
 impl Model for LeftParts {
     ghost use Rattle.std.specs.Prelude.{List, reverse};
-    ghost use Rattle.omega_hoa_satisfiable.specs.declared.left_parts.Joined.{Joined};
+    ghost use Rattle.omega_hoa_satisfiable.specs.declared.left_parts.WaitingPart.{WaitingPart};
 
-    ghost Value = { List Joined };
+    ghost Value = { List WaitingPart };
 
     ghost view = { λ p. reverse p.items.items };
 }
@@ -40,17 +40,17 @@ impl LeftParts {
     }
 
     /// Lets the left part of `whole` wait, and returns its right one. Both are to hold if `both`, otherwise one.
-    pub(crate) fn join(&mut self, both: bool, whole: Part) -> Result<Part, Refusal>
+    pub(crate) fn join(&mut self, both: bool, whole: LabelPart) -> Result<LabelPart, Refusal>
         ensures waiting { OnOk result (self.new ≡ record { both = both; whole = whole } ∷ self.old) }
         ensures right { IfOk result (λ right. right ≡ right_part both whole) }
         ensures memory { IsOkUnless result Refusal.Memory }
     {
-        self.items.push(Joined { both, whole })?;
+        self.items.push(WaitingPart { both, whole })?;
         Ok(whole.right(both))
     }
 
     /// Takes the next left part, whose right one is encoded at the place `right`. Returns `last` if none waits.
-    pub(crate) fn take(&mut self, last: Part, right: usize) -> Part
+    pub(crate) fn take(&mut self, last: LabelPart, right: usize) -> LabelPart
         ensures part { result ≡ next_part last self.old right }
         ensures rest { self.new ≡ parts_below self.old }
     {

@@ -5,38 +5,38 @@ use crate::exits::Exits;
 
 /// A part of a label that is to be encoded.
 #[derive(Clone, Copy)]
-pub(crate) struct Part {
+pub(crate) struct LabelPart {
     /// Whether the part is to hold; otherwise its negation is.
     pub(crate) wanted: bool,
     pub(crate) exits: Exits,
 }
 
-impl Part {
+impl LabelPart {
     /// Returns the part of a negation.
-    pub(crate) fn negation(self) -> Part
+    pub(crate) fn negation(self) -> LabelPart
         ensures { result ≡ negated_part self }
     {
-        Part {
+        LabelPart {
             wanted: !self.wanted,
             exits: self.exits,
         }
     }
 
     /// Returns the right one of two parts. Both are to hold if `both`, otherwise one of them.
-    pub(crate) fn right(self, both: bool) -> Part
+    pub(crate) fn right(self, both: bool) -> LabelPart
         ensures { result ≡ right_part both self }
     {
-        Part {
+        LabelPart {
             wanted: self.wanted,
             exits: self.exits.of_right(both),
         }
     }
 
     /// Returns the left one of two parts, if the right one is encoded at the place `right`.
-    pub(crate) fn left(self, both: bool, right: usize) -> Part
+    pub(crate) fn left(self, both: bool, right: usize) -> LabelPart
         ensures { result ≡ left_part both self right }
     {
-        Part {
+        LabelPart {
             wanted: self.wanted,
             exits: self.exits.of_left(both, right),
         }

@@ -6,4 +6,4 @@ mod guard;
 mod sig;
 mod state;
 
-pub(crate) use state::State;
+pub(crate) use state::StateSyntax;

@@ -11,9 +11,9 @@ use omega_text::{HoaKind, Numbers, Refusal, TokenSource};
 use std::alloc::Global;
 
 /// A further state of a conj, after `&`.
-struct Joined;
+struct FurtherState;
 
-impl<'a, S: TokenSource<'a, HoaKind>> Part<'a, S> for Joined {
+impl<'a, S: TokenSource<'a, HoaKind>> Part<'a, S> for FurtherState {
     type Value = u32;
 
     ghost valid = { IsAny };
@@ -53,7 +53,7 @@ pub(crate) fn conj<'a, S: TokenSource<'a, HoaKind>>(
     ensures length { S.length source.new ≡ S.length source.old }
 {
     let first = take_int(source)?;
-    let others = read_numbers::<Joined, S>(alloc, source)?;
+    let others = read_numbers::<FurtherState, S>(alloc, source)?;
     let states = with_first(alloc, first, others)?;
     Ok(states)
 }

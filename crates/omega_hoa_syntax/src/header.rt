@@ -5,4 +5,4 @@ mod item;
 mod known;
 mod name;
 
-pub(crate) use item::Item;
+pub(crate) use item::ItemSyntax;

@@ -5,8 +5,8 @@ ghost use Rattle.omega_hoa_syntax.specs.Grammar.{BeginsAutomaton, ReadsAutomaton
 ghost use Rattle.omega_hoa_syntax.specs.Grammar.{ReadsNoOther, ReadsNoAutomaton};
 ghost use Rattle.omega_hoa_expression.specs.Unread.{IsUnread};
 
-use crate::body::State;
-use crate::header::Item;
+use crate::body::StateSyntax;
+use crate::header::ItemSyntax;
 use crate::part::read_growing;
 use crate::raw_automaton::RawAutomaton;
 use crate::taking::{take_header, take_sign, take_word};
@@ -30,9 +30,9 @@ pub fn read_raw<'a, S: TokenSource<'a, HoaKind>>(
 {
     take_header(source, b"HOA")?;
     let version = take_word(alloc, source)?;
-    let items = read_growing::<Item, S>(alloc, source)?;
+    let items = read_growing::<ItemSyntax, S>(alloc, source)?;
     take_sign(source, HoaKind::Body)?;
-    let states = read_growing::<State, S>(alloc, source)?;
+    let states = read_growing::<StateSyntax, S>(alloc, source)?;
     take_sign(source, HoaKind::End)?;
     Ok(RawAutomaton {
         version,

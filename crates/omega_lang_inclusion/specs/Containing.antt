@@ -1,12 +1,12 @@
 -- Whether one automaton accepts only words that another accepts, and if not, words that show it.
-use Rattle.std.specs.Prelude.{ℕ, Bool, List, [], ◌∷◌}
+use Rattle.std.specs.Prelude.{ℕ, List, [], ◌∷◌}
 use Rattle.omega_hoa_automaton.specs.Automaton.{Description}
 use Rattle.omega_lang_lasso_word.specs.Fitting.{Fits, along}
 use Rattle.omega_lang_lasso_word.specs.LassoWordText.{lasso_word_text}
 use Rattle.omega_lang_lasso_word.specs.Laws.{HasStrings}
 use Rattle.omega_lang_runs.specs.Lasso.{IsAcceptingLasso}
 use Rattle.omega_lang_runs.specs.Words.{CanBeTaken}
-use Rattle.omega_lang_word_laws.specs.Complements.{RecursOrCeases}
+use Rattle.omega_text.specs.Omniscience.{LimitedPrincipleOfOmniscience}
 use Rattle.omega_lang_word_laws.specs.NamedWords.{AcceptsNamed, NamedWord, part_of}
 use Rattle.omega_lang_inclusion.specs.declared.containment.Containment.{Containment}
 use Rattle.omega_lang_inclusion.specs.declared.containment.Containment.TheVariants.{Contained, NotContained}
@@ -45,5 +45,5 @@ pub record IsCounterexample (one other : Description) (example : Counterexample)
 -- recurs or ceases, as it does by the excluded middle; any other answer is a counterexample
 abbrev pub IsContainment : Description → Description → Containment → Type 0
 IsContainment one other Contained =
-    ((test : ℕ → Bool) → RecursOrCeases test) → AcceptsAllOf one other
+    LimitedPrincipleOfOmniscience → AcceptsAllOf one other
 IsContainment one other (NotContained example) = IsCounterexample one other example

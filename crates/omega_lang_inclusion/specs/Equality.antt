@@ -1,8 +1,8 @@
 -- Whether two automata accept the same words, and if not, a counterexample.
-use Rattle.std.specs.Prelude.{◌⊎◌, ◌↔◌, ℕ, Bool}
+use Rattle.std.specs.Prelude.{◌⊎◌, ◌↔◌}
 use Rattle.omega_text.specs.declared.refusal.Refusal.{Refusal}
 use Rattle.omega_hoa_automaton.specs.Automaton.{Description}
-use Rattle.omega_lang_word_laws.specs.Complements.{RecursOrCeases}
+use Rattle.omega_text.specs.Omniscience.{LimitedPrincipleOfOmniscience}
 use Rattle.omega_lang_word_laws.specs.NamedWords.{AcceptsNamed, NamedWord}
 use Rattle.omega_lang_inclusion.specs.Containing.{AcceptsAllOf, IsCounterexample}
 use Rattle.omega_lang_inclusion.specs.Refusing.{AreComparable, IsContainmentRefusal}
@@ -16,10 +16,10 @@ AcceptSame one other = (word : NamedWord) → AcceptsNamed one word ↔ AcceptsN
 -- an answer is right: `Equal` only if both accept the same words, where each test of numbers recurs or ceases, as it
 -- does by the excluded middle; any other answer is a counterexample
 abbrev pub IsEquality : Description → Description → Equality → Type 0
-IsEquality one other Equal = ((test : ℕ → Bool) → RecursOrCeases test) → AcceptSame one other
+IsEquality one other Equal = LimitedPrincipleOfOmniscience → AcceptSame one other
 IsEquality one other (OnlyFirst example) = IsCounterexample one other example
 IsEquality one other (OnlySecond example) =
-    (((test : ℕ → Bool) → RecursOrCeases test) → AcceptsAllOf one other)
+    (LimitedPrincipleOfOmniscience → AcceptsAllOf one other)
     × IsCounterexample other one example
 
 -- no refusal of the complement applies to either automaton

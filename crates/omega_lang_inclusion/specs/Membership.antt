@@ -1,5 +1,5 @@
 -- Whether an automaton accepts each word that a symbolic word admits, and if not, words that show it.
-use Rattle.std.specs.Prelude.{◌⊎◌, ℕ, Bool, List}
+use Rattle.std.specs.Prelude.{◌⊎◌, ℕ, List}
 use Rattle.std.specs.List.{AllByRecursion}
 use Rattle.omega_hoa_automaton.specs.Automaton.{Description}
 use Rattle.omega_hoa_edges.specs.Determinism.{IsDeterministic}
@@ -8,7 +8,7 @@ use Rattle.omega_lang_lasso_word.specs.Laws.{HasStrings}
 use Rattle.omega_lang_lasso_word.specs.Admitted.{Admits}
 use Rattle.omega_lang_lasso_word.specs.declared.symbolic_word.SymbolicWord.{SymbolicWord}
 use Rattle.omega_text.specs.hoa.Forms.{IsQuotable}
-use Rattle.omega_lang_word_laws.specs.Complements.{RecursOrCeases}
+use Rattle.omega_text.specs.Omniscience.{LimitedPrincipleOfOmniscience}
 use Rattle.omega_lang_word_laws.specs.NamedWords.{AcceptsNamed, NamedWord}
 use Rattle.omega_lang_inclusion.specs.OneWord.{IsOneWordFor}
 use Rattle.omega_lang_inclusion.specs.declared.membership.Membership.{Membership}
@@ -38,7 +38,7 @@ pub record IsRejection (word : SymbolicWord) (a : Description) (text : List ℕ)
 -- an answer is right: `Accepted` only if the automaton accepts each admitted word, where each test of numbers recurs or
 -- ceases, as it does by the excluded middle; any other answer is a text of words that show that it does not
 abbrev pub IsMembership : SymbolicWord → Description → Membership → Type 0
-IsMembership word a Accepted = ((test : ℕ → Bool) → RecursOrCeases test) → AcceptsAdmitted word a
+IsMembership word a Accepted = LimitedPrincipleOfOmniscience → AcceptsAdmitted word a
 IsMembership word a (Rejected text) = IsRejection word a text
 
 -- membership is decided of a deterministic automaton, and of any automaton if it sees one word at most

@@ -1,6 +1,6 @@
 -- A deterministic automaton and its complement partition the words: each word is accepted by exactly one of them (HOA
 -- v1, acceptance).
-use Rattle.std.specs.Prelude.{◌≡◌, ◌⊎◌, ℕ, ◌≤◌, Bool, false, IsTrue, Some}
+use Rattle.std.specs.Prelude.{◌≡◌, ◌⊎◌, ℕ, Bool, Some}
 use Rattle.omega_text.specs.declared.refusal.automaton.AutomatonFault.{AutomatonFault}
 use Rattle.omega_text.specs.declared.refusal.automaton.AutomatonFault.TheVariants.{Expansion, TooDeep}
 use Rattle.omega_hoa_automaton.specs.Automaton.{Description, IsAutomaton}
@@ -10,6 +10,7 @@ use Rattle.omega_hoa_syntax.specs.declared.raw_automaton.RawAutomaton.{RawAutoma
 use Rattle.omega_lang_complement.specs.Complement.{IsComplement}
 use Rattle.omega_hoa_edges.specs.Determinism.{IsDeterministic}
 use Rattle.omega_lang_complement.specs.Written.{IsWrittenComplement}
+use Rattle.omega_text.specs.Omniscience.{LimitedPrincipleOfOmniscience}
 
 -- no word is accepted by a deterministic automaton and by its complement
 abbrev pub ComplementsAreApart : Type 0
@@ -17,15 +18,10 @@ ComplementsAreApart =
     (a complement : Description) (word : ℕ → ℕ → Bool) → IsAutomaton a → IsDeterministic a
     → IsComplement a complement → IsAccepted a word → IsAccepted complement word → ⊥
 
--- a test of numbers passes infinitely often, or from some number on no more
-abbrev pub RecursOrCeases : (ℕ → Bool) → Type 0
-RecursOrCeases test = ((i : ℕ) → (j : ℕ) × (i ≤ j) × IsTrue (test j))
-    ⊎ ((from : ℕ) × ((j : ℕ) → from ≤ j → test j ≡ false))
-
--- if each test recurs or ceases, as it does by the excluded middle, each word is accepted by a deterministic automaton
--- or by its complement
+-- by the limited principle of omniscience each word is accepted by a deterministic automaton or by its
+-- complement
 abbrev pub ComplementsCover : Type 0
-ComplementsCover = ((test : ℕ → Bool) → RecursOrCeases test)
+ComplementsCover = LimitedPrincipleOfOmniscience
     → (a complement : Description) (word : ℕ → ℕ → Bool) → IsAutomaton a → IsDeterministic a
     → IsComplement a complement → IsAccepted a word ⊎ IsAccepted complement word
 

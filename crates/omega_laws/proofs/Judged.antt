@@ -15,7 +15,7 @@ use Rattle.omega_synth_check.specs.declared.judgement.Judgement.{Judgement}
 use Rattle.omega_synth_check.specs.declared.judgement.Judgement.TheVariants.{Controls}
 use Rattle.omega_hoa.specs.Laws.{AutomataAreOne}
 use Rattle.omega_io.specs.declared.exit.Exit.{Exit}
-use Rattle.omega_lang_word_laws.specs.Complements.{RecursOrCeases}
+use Rattle.omega_text.specs.Omniscience.{LimitedPrincipleOfOmniscience}
 use Rattle.omega_laws.specs.ControllerTexts.{ControllersAreReadBack}
 use Rattle.omega_laws.specs.WrittenControllers.{IsWrittenController, WrittenControllersAreJudgedRight}
 use Rattle.omega_laws.proofs.RealizedWritten as written
@@ -35,14 +35,14 @@ module _ (back : ControllersAreReadBack) (one : AutomataAreOne) (automata : Mean
   kept = written.kept back specification controller is
 
   -- the judgement on it
-  controls : ((test : ℕ → Bool) → RecursOrCeases test) → (judgement : Judgement) → IsJudgement given part controlled judgement → judgement ≡ Controls
+  controls : LimitedPrincipleOfOmniscience → (judgement : Judgement) → IsJudgement given part controlled judgement → judgement ≡ Controls
   controls decided judgement judged =
       let automaton : IsAutomaton given = automata is.answer.read.value.raw given is.answer.read.value.means in
       right decided given part controlled kept judgement (written.controls back specification controller is)
       (parts given controlled kept (written.reached back specification controller is) automaton (written.tells back specification controller is)) judged
 
   -- the answer to it
-  answered : ((test : ℕ → Bool) → RecursOrCeases test) → (output : List ℕ) (explain : Bool) (exit : Exit) → IsControllerAnswer specification controller explain exit output
+  answered : LimitedPrincipleOfOmniscience → (output : List ℕ) (explain : Bool) (exit : Exit) → IsControllerAnswer specification controller explain exit output
       → IsYes exit output
   answered decided output explain exit answer =
       let verdict = answer.holds in

@@ -1,5 +1,5 @@
 -- What `meet`, `complement` and `empty` write, one after the other, says of the words that texts accept.
-use Rattle.std.specs.Prelude.{◌≡◌, ◌⊎◌, ◌↔◌, ℕ, ◌≤◌, Bool, List, length, codes}
+use Rattle.std.specs.Prelude.{◌≡◌, ◌⊎◌, ◌↔◌, ℕ, ◌≤◌, List, length, codes}
 use Rattle.omega_text.specs.Limits.{most_text}
 use Rattle.omega_hoa_automaton.specs.Automaton.{Description}
 use Rattle.omega_hoa.specs.Alone.{IsAutomatonText}
@@ -7,7 +7,7 @@ use Rattle.omega_answers_empty.specs.declared.lines.Lines.{Lines}
 use Rattle.omega_answers_empty.specs.empty.Answer.{IsEmptyAnswer, IsEmptySearchAnswer}
 use Rattle.omega_answers_automaton.specs.Complement.{IsComplementAnswer}
 use Rattle.omega_answers_automaton.specs.Meet.{IsMeetAnswer}
-use Rattle.omega_lang_word_laws.specs.Complements.{RecursOrCeases}
+use Rattle.omega_text.specs.Omniscience.{LimitedPrincipleOfOmniscience}
 use Rattle.omega_lang_word_laws.specs.NamedWords.{NamedWord}
 use Rattle.omega_laws.specs.TextWords.{TextAccepts}
 
@@ -34,11 +34,11 @@ pub record IsContainmentAnswer (one other output : List ℕ) : Type 0 where
   pub met : IsMeetAnswer one complement meeting ⊎ IsMeetAnswer complement one meeting
   pub answered : IsEmptinessAnswer meeting output
 
--- if each test recurs or ceases, as it does by the excluded middle, the answer `empty` means that `other` accepts each
--- word that `one` accepts
+-- by the limited principle of omniscience, the answer `empty` means that `other` accepts each word that `one`
+-- accepts
 abbrev pub EmptyMeansContained : Type 0
 EmptyMeansContained =
-    ((test : ℕ → Bool) → RecursOrCeases test)
+    LimitedPrincipleOfOmniscience
     → (one other : List ℕ) → IsContainmentAnswer one other (codes "empty\n")
     → (word : NamedWord) → TextAccepts one word → TextAccepts other word
 

@@ -7,7 +7,7 @@ use Rattle.omega_hoa.specs.Alone.{IsAutomatonText}
 use Rattle.omega_io.specs.declared.exit.Exit.{Exit}
 use Rattle.omega_io.specs.declared.exit.Exit.TheVariants.{Done}
 use Rattle.omega_io.specs.declared.refused.Refused.{Refused}
-use Rattle.omega_lang_word_laws.specs.Complements.{RecursOrCeases}
+use Rattle.omega_text.specs.Omniscience.{LimitedPrincipleOfOmniscience}
 use Rattle.omega_answers_synth.specs.Winner.{IsWinnerAnswer}
 use Rattle.omega_answers.specs.Answer.{IsYes}
 use Rattle.omega_answers_synth.specs.Verify.{IsControllerAnswer, IsControllerRefused}
@@ -23,7 +23,7 @@ abbrev pub WrittenControllersAreJudgedRight : Type 0
 WrittenControllersAreJudgedRight =
     (specification controller : List ℕ) → IsWrittenController specification controller
     → ((a : Description) × IsAutomatonText controller a)
-    × (((test : ℕ → Bool) → RecursOrCeases test)
+    × (LimitedPrincipleOfOmniscience
     → (output : List ℕ) (explain : Bool) (exit : Exit)
     → IsControllerAnswer specification controller explain exit output → IsYes exit output)
 

@@ -2,9 +2,10 @@
 -- of them a refusal is about.
 use Rattle.std.specs.Prelude.{◌≡◌, ◌⊎◌, Bool, true, false, List, ℕ, codes}
 use Rattle.omega_cli_command.specs.declared.two_texts.TwoTexts.{TwoTexts}
-use Rattle.omega_cli_command.specs.declared.two_texts.TwoTexts.TheVariants.{Accepts, Contained, ContainedStream}
-use Rattle.omega_cli_command.specs.declared.two_texts.TwoTexts.TheVariants.{DrawSolution, DrawWalk, Equal, Join}
-use Rattle.omega_cli_command.specs.declared.two_texts.TwoTexts.TheVariants.{Meet, Verify, VerifyController}
+use Rattle.omega_cli_command.specs.declared.two_texts.TwoTexts.TheVariants.{Accepts, Contained}
+use Rattle.omega_cli_command.specs.declared.two_texts.TwoTexts.TheVariants.{ContainedStream, DrawSolution}
+use Rattle.omega_cli_command.specs.declared.two_texts.TwoTexts.TheVariants.{DrawWalk, Equal, Join, Meet}
+use Rattle.omega_cli_command.specs.declared.two_texts.TwoTexts.TheVariants.{Verify, VerifyController}
 use Rattle.omega_cli_command.specs.declared.two_texts.TwoTexts.TheVariants.{VerifyLasso, VerifyNamed}
 use Rattle.omega_cli_command.specs.declared.two_texts.TwoTexts.TheVariants.{VerifyWinners}
 use Rattle.omega_io.specs.declared.exit.Exit.{Exit}

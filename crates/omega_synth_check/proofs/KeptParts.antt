@@ -7,7 +7,7 @@ use Rattle.omega_lang_runs.specs.Runs.{IsRun}
 use Rattle.omega_lang_runs.specs.Words.{CanBeTaken, IsAccepted}
 use Rattle.omega_synth_controllers.specs.Controllers.{HasAnswer, IsController, IsMet}
 use Rattle.omega_synth_controllers.proofs.Accepting.{kept_runs_are_accepting}
-use Rattle.omega_lang_word_laws.specs.Complements.{RecursOrCeases}
+use Rattle.omega_text.specs.Omniscience.{LimitedPrincipleOfOmniscience}
 use Rattle.omega_lang_word_laws.specs.NamedWords.{AcceptsNamed, NamedWord, part_of}
 use Rattle.omega_synth_check.specs.Judging.{IsAnswered, IsReached}
 use Rattle.omega_synth_check.specs.Laws.{IsKeptPart, KeptPartsAreJudgedRight, KeptPartsControl}
@@ -51,7 +51,7 @@ module _ (a part : Description) (controlled kept : List ℕ) (controller : IsCon
         };
       }
 
-  module _ (decided : (test : ℕ → Bool) → RecursOrCeases test) (word : ℕ → ℕ → Bool) (accepted : IsAccepted part word) where
+  module _ (decided : LimitedPrincipleOfOmniscience) (word : ℕ → ℕ → Bool) (accepted : IsAccepted part word) where
     run_in : IsRun a (λ i. is.state_in (accepted.states i)) (λ i. is.edge_in (accepted.edges i))
     run_in = record {
       begins = is.starts (accepted.states 0) accepted.accepting.run.begins;
@@ -70,7 +70,7 @@ module _ (a part : Description) (controlled kept : List ℕ) (controller : IsCon
       taken = λ i. ((is.steps (accepted.states i) (accepted.edges i) (accepted.states (i + 1)) (accepted.accepting.run.steps i)).taken (word i)).0 (accepted.taken i);
     }
 
-  pub accepted_named : ((test : ℕ → Bool) → RecursOrCeases test) → (word : NamedWord) → AcceptsNamed part word → AcceptsNamed a word
+  pub accepted_named : LimitedPrincipleOfOmniscience → (word : NamedWord) → AcceptsNamed part word → AcceptsNamed a word
   accepted_named decided word accepts =
       let here : IsAccepted part (part_of a.propositions word) = subst (λ (names : List (List ℕ)). IsAccepted part (part_of names word)) is.propositions accepts in
       accepted_in decided (part_of a.propositions word) here

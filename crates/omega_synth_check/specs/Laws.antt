@@ -6,18 +6,17 @@ use Rattle.omega_lang_runs.specs.Lasso.{IsStart, IsStep}
 use Rattle.omega_lang_runs.specs.Words.{CanBeTaken}
 use Rattle.omega_synth_controllers.specs.Controllers.{IsController}
 use Rattle.omega_synth_controllers.specs.Strategies.{System, word_of}
-use Rattle.omega_lang_word_laws.specs.Complements.{RecursOrCeases}
+use Rattle.omega_text.specs.Omniscience.{LimitedPrincipleOfOmniscience}
 use Rattle.omega_lang_word_laws.specs.NamedWords.{AcceptsNamed, NamedWord, part_of}
 use Rattle.omega_synth_check.specs.Judging.{IsControllerFor, IsJudgement, IsReached}
 use Rattle.omega_synth_check.specs.Refusing.{AcceptsAll}
 use Rattle.omega_synth_check.specs.declared.judgement.Judgement.{Judgement}
 use Rattle.omega_synth_check.specs.declared.judgement.Judgement.TheVariants.{Controls}
 
--- if each test recurs or ceases, as it does by the excluded middle, the judgement is `Controls` exactly for a
--- controller
+-- by the limited principle of omniscience, the judgement is `Controls` exactly for a controller
 abbrev pub JudgementsAreExact : Type 0
 JudgementsAreExact =
-    ((test : ℕ → Bool) → RecursOrCeases test)
+    LimitedPrincipleOfOmniscience
     → (specification controller : Description) (controlled : List ℕ) (judgement : Judgement)
     → IsJudgement specification controller controlled judgement
     → (judgement ≡ Controls) ↔ IsControllerFor specification controller controlled
@@ -43,15 +42,15 @@ pub record IsKeptPart (a : Description) (kept : List ℕ) (part : Description) :
       → IsStep a (state_in from) number to → Contains kept number
       → (own : ℕ) × ((next : ℕ) × IsStep part from own next × (edge_in own ≡ number))
 
--- a part that keeps the edges of a controller is a controller for the whole automaton, if each test recurs or ceases
+-- a part that keeps the edges of a controller is a controller for the whole automaton, by that principle
 abbrev pub KeptPartsControl : Type 0
 KeptPartsControl =
-    ((test : ℕ → Bool) → RecursOrCeases test) → (a part : Description) (controlled kept : List ℕ)
+    LimitedPrincipleOfOmniscience → (a part : Description) (controlled kept : List ℕ)
     → IsController a controlled kept → IsKeptPart a kept part → IsControllerFor a part controlled
 
 -- so it is judged to be one
 abbrev pub KeptPartsAreJudgedRight : Type 0
-KeptPartsAreJudgedRight = ((test : ℕ → Bool) → RecursOrCeases test)
+KeptPartsAreJudgedRight = LimitedPrincipleOfOmniscience
     → (a part : Description) (controlled kept : List ℕ) (judgement : Judgement)
     → IsController a controlled kept
     → IsKeptPart a kept part → IsJudgement a part controlled judgement → judgement ≡ Controls

@@ -5,7 +5,8 @@ use Rattle.omega_hoa_acceptance.specs.Acceptance.{AccTree, accepts, conjunction,
 use Rattle.omega_graph.specs.Marks.{meets}
 use Rattle.omega_lang_runs.specs.Runs.{AtLastNever, ForEver, Satisfies}
 use Rattle.omega_hoa_acceptance.specs.Dual.{dual}
-use Rattle.omega_synth_controllers.specs.Laws.{RecursOrCeases}
+use Rattle.omega_text.specs.Omniscience.{LimitedPrincipleOfOmniscience}
+use Rattle.omega_text.proofs.Omniscience.{recurs_or_ceases}
 
 twice_not : (b : Bool) → b ≡ not (not b)
 twice_not true = refl
@@ -29,12 +30,12 @@ dual_accepts forever (conjunction left right) =
 dual_accepts forever (disjunction left right) =
     ap₂ ◌&&◌ (dual_accepts forever left) (dual_accepts forever right) ∙ not_or (accepts forever left) (accepts forever right)
 
--- infinitely many marks satisfy a formula or its dual, if each test recurs or ceases
-pub satisfies_one : ((test : ℕ → Bool) → RecursOrCeases test) → (marks : ℕ → List ℕ) (f : AccTree) → Satisfies marks f ⊎ Satisfies marks (dual f)
+-- infinitely many marks satisfy a formula or its dual, by the limited principle of omniscience
+pub satisfies_one : LimitedPrincipleOfOmniscience → (marks : ℕ → List ℕ) (f : AccTree) → Satisfies marks f ⊎ Satisfies marks (dual f)
 satisfies_one settled marks (constant true) = inl refl
 satisfies_one settled marks (constant false) = inr refl
-satisfies_one settled marks (inf negated set) = settled (λ j. meets negated set (marks j))
-satisfies_one settled marks (fin negated set) = turned (settled (λ j. meets negated set (marks j)))
+satisfies_one settled marks (inf negated set) = recurs_or_ceases settled (λ j. meets negated set (marks j))
+satisfies_one settled marks (fin negated set) = turned (recurs_or_ceases settled (λ j. meets negated set (marks j)))
   where
     turned : ForEver marks negated set ⊎ AtLastNever marks negated set → AtLastNever marks negated set ⊎ ForEver marks negated set
     turned (inl always) = inr always

@@ -5,7 +5,8 @@ use Rattle.omega_lang_runs.specs.Lasso.{IsStep}
 use Rattle.omega_lang_runs.specs.Runs.{IsRun}
 use Rattle.omega_lang_runs.specs.Words.{CanBeTaken, IsAccepted}
 use Rattle.omega_synth_controllers.specs.Controllers.{HasAnswer, IsController, IsMet}
-use Rattle.omega_synth_controllers.specs.Laws.{ControllersAnswer, ControllersRealize, RecursOrCeases}
+use Rattle.omega_synth_controllers.specs.Laws.{ControllersAnswer, ControllersRealize}
+use Rattle.omega_text.specs.Omniscience.{LimitedPrincipleOfOmniscience}
 use Rattle.omega_synth_controllers.specs.Strategies.{HasKeptRun, System, so_far, word_of}
 use Rattle.omega_synth_controllers.proofs.Accepting.{kept_runs_are_accepting}
 use Rattle.omega_synth_controllers.proofs.Letters.{joined_is}
@@ -61,7 +62,7 @@ pub controllers_answer : ControllersAnswer
 controllers_answer a controlled kept controller = (strategy a controlled kept controller, kept_run a controlled kept controller)
 
 -- a run of a controller's edges on a word accepts it
-accepted_by : ((test : ℕ → Bool) → RecursOrCeases test) → (a : Description) (controlled kept : List ℕ) (word : ℕ → ℕ → Bool) → IsController a controlled kept
+accepted_by : LimitedPrincipleOfOmniscience → (a : Description) (controlled kept : List ℕ) (word : ℕ → ℕ → Bool) → IsController a controlled kept
     → HasKeptRun a kept word → (accepted : IsAccepted a word) × ((i : ℕ) → Contains kept (accepted.edges i))
 accepted_by decided a controlled kept word controller (states, (edges, kept_run)) = (
   record {

@@ -1,5 +1,5 @@
 -- Laws of controllers and of counter-strategies: the ones realize, the others refute, and no automaton has both.
-use Rattle.std.specs.Prelude.{◌≡◌, ◌⊎◌, ℕ, ◌≤◌, Bool, false, IsTrue, List, Contains}
+use Rattle.std.specs.Prelude.{ℕ, Bool, List, Contains}
 use Rattle.omega_hoa_automaton.specs.Automaton.{Description, IsAutomaton}
 use Rattle.omega_lang_runs.specs.Lasso.{marks_at}
 use Rattle.omega_lang_runs.specs.Runs.{IsRun, Satisfies}
@@ -7,11 +7,7 @@ use Rattle.omega_hoa_edges.specs.Determinism.{IsDeterministic}
 use Rattle.omega_synth_controllers.specs.Controllers.{IsController, IsCounterStrategy}
 use Rattle.omega_synth_controllers.specs.Strategies.{HasKeptRun, IsRefuted, Realizes}
 use Rattle.omega_synth_controllers.specs.Strategies.{RealizesBy, System, word_of}
-
--- a test of numbers passes infinitely often, or from some number on no more
-abbrev pub RecursOrCeases : (ℕ → Bool) → Type 0
-RecursOrCeases test = ((i : ℕ) → (j : ℕ) × (i ≤ j) × IsTrue (test j))
-    ⊎ ((from : ℕ) × ((j : ℕ) → from ≤ j → test j ≡ false))
+use Rattle.omega_text.specs.Omniscience.{LimitedPrincipleOfOmniscience}
 
 -- no automaton has both a controller and a counter-strategy
 abbrev pub ControllersExcludeCounterStrategies : Type 0
@@ -25,17 +21,18 @@ abbrev pub ControllersAnswer : Type 0
 ControllersAnswer = (a : Description) (controlled kept : List ℕ) → IsController a controlled kept
     → (system : System) × ((given : ℕ → ℕ → Bool) → HasKeptRun a kept (word_of controlled system given))
 
--- if each test recurs or ceases, as it does by the excluded middle, each run of a controller's edges is accepting
+-- by the limited principle of omniscience, each run of a controller's edges is accepting
 abbrev pub KeptRunsAreAccepting : Type 0
-KeptRunsAreAccepting = ((test : ℕ → Bool) → RecursOrCeases test)
+KeptRunsAreAccepting = LimitedPrincipleOfOmniscience
     → (a : Description) (controlled kept : List ℕ) (states edges : ℕ → ℕ)
     → IsController a controlled kept → IsRun a states edges → ((i : ℕ) → Contains kept (edges i))
     → Satisfies (λ i. marks_at a (edges i)) a.acceptance
 
--- if each test recurs or ceases, some strategy of the system realizes an automaton by the edges of a controller
+-- by the limited principle of omniscience, some strategy of the system realizes an automaton by the edges of
+-- a controller
 abbrev pub ControllersRealize : Type 0
 ControllersRealize =
-    ((test : ℕ → Bool) → RecursOrCeases test)
+    LimitedPrincipleOfOmniscience
     → (a : Description) (controlled kept : List ℕ) → IsController a controlled kept
     → (system : System) × RealizesBy a controlled kept system
 

@@ -5,4 +5,5 @@ pub mod hoa_texts
 pub mod pg_texts
 pub mod syntaxes
 pub mod Chunks
+pub mod Omniscience
 pub mod Rows

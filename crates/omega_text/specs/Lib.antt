@@ -8,6 +8,7 @@ pub mod Format
 pub mod Forms
 pub mod Lexeme
 pub mod Limits
+pub mod Omniscience
 pub mod Reading
 pub mod Refusal
 pub mod Syntax

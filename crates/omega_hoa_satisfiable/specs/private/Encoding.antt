@@ -4,8 +4,8 @@ use Rattle.std.specs.Prelude.{false, not, ◌&&◌, ◌||◌, List, [], ◌∷�
 use Rattle.omega_hoa_label.specs.Label.{LabelTree, truth}
 use Rattle.omega_hoa_satisfiable.specs.declared.steps.Step.{Step}
 use Rattle.omega_hoa_satisfiable.specs.declared.exits.Exits.{Exits}
-use Rattle.omega_hoa_satisfiable.specs.declared.left_parts.Joined.{Joined}
-use Rattle.omega_hoa_satisfiable.specs.declared.part.Part.{Part}
+use Rattle.omega_hoa_satisfiable.specs.declared.left_parts.WaitingPart.{WaitingPart}
+use Rattle.omega_hoa_satisfiable.specs.declared.part.LabelPart.{LabelPart}
 use Rattle.omega_hoa_satisfiable.specs.Cubes.{cubes, literals_in}
 use Rattle.omega_hoa_satisfiable.specs.private.Leading.{is_as, leads}
 use Rattle.omega_hoa_satisfiable.specs.private.Visits.{visits}
@@ -29,27 +29,27 @@ left_exits false exits right = record {
 }
 
 -- the part of a negation
-abbrev pub negated_part : Part → Part
+abbrev pub negated_part : LabelPart → LabelPart
 negated_part part = record { wanted = not part.wanted; exits = part.exits }
 
 -- the right one of two parts, both of which are to hold, or one
-abbrev pub right_part : Bool → Part → Part
+abbrev pub right_part : Bool → LabelPart → LabelPart
 right_part both part = record { wanted = part.wanted; exits = right_exits both part.exits }
 
 -- the left one, if the right one is encoded at a place
-abbrev pub left_part : Bool → Part → ℕ → Part
+abbrev pub left_part : Bool → LabelPart → ℕ → LabelPart
 left_part both part right = record {
   wanted = part.wanted;
   exits = left_exits both part.exits right;
 }
 
 -- the next of the left parts that wait, if the right one is encoded at a place; the last part if none waits
-abbrev pub next_part : Part → List Joined → ℕ → Part
+abbrev pub next_part : LabelPart → List WaitingPart → ℕ → LabelPart
 next_part last [] right = last
 next_part last (joined ∷ waiting) right = left_part joined.both joined.whole right
 
 -- those that wait after it
-abbrev pub parts_below : List Joined → List Joined
+abbrev pub parts_below : List WaitingPart → List WaitingPart
 parts_below [] = []
 parts_below (joined ∷ waiting) = waiting
 

@@ -17,9 +17,9 @@ use omega_text::{HoaKind, Refusal, TokenSource};
 use std::alloc::Global;
 
 /// An edge.
-struct Edge;
+struct EdgeSyntax;
 
-impl<'a, S: TokenSource<'a, HoaKind>> Part<'a, S> for Edge {
+impl<'a, S: TokenSource<'a, HoaKind>> Part<'a, S> for EdgeSyntax {
     type Value = RawEdge;
 
     ghost valid = { IsRawEdge };
@@ -66,7 +66,7 @@ pub(crate) fn read_edges<'a, S: TokenSource<'a, HoaKind>>(
         (S.left source.old) (S.left source.new) (S.length source.old) result }
     ensures length { S.length source.new ≡ S.length source.old }
 {
-    let edges = read_raw_edges::<Edge, S>(alloc, source)?;
+    let edges = read_raw_edges::<EdgeSyntax, S>(alloc, source)?;
     let edges = edges.fitted_edges(alloc)?;
     Ok(edges)
 }

@@ -18,9 +18,9 @@ use omega_text::{HoaKind, Refusal, TokenSource};
 use std::alloc::Global;
 
 /// A state with its edges.
-pub(crate) struct State;
+pub(crate) struct StateSyntax;
 
-impl<'a, S: TokenSource<'a, HoaKind>> Part<'a, S> for State {
+impl<'a, S: TokenSource<'a, HoaKind>> Part<'a, S> for StateSyntax {
     type Value = RawState;
 
     ghost valid = { IsRawState };

@@ -10,9 +10,9 @@ use omega_text::{HoaKind, Refusal, TokenSource};
 use std::alloc::Global;
 
 /// An item of a header.
-pub(crate) struct Item;
+pub(crate) struct ItemSyntax;
 
-impl<'a, S: TokenSource<'a, HoaKind>> Part<'a, S> for Item {
+impl<'a, S: TokenSource<'a, HoaKind>> Part<'a, S> for ItemSyntax {
     type Value = RawItem;
 
     ghost valid = { IsRawItem };

@@ -24,7 +24,9 @@ use Rattle.omega_lang_word_laws.proofs.parting.Formulas.{AreSame, one_of_both}
 use Rattle.omega_lang_word_laws.proofs.parting.Meant.{HoldSame, acceptance_plain, acceptance_sink, lost_moves, own_moves, sink_moves, starts_are}
 use Rattle.omega_lang_word_laws.proofs.parting.Moves.{IsMove, IsTakenStep, move_steps}
 use Rattle.omega_lang_word_laws.proofs.parting.Plain.{IsGood, beginning, target_of}
-use Rattle.omega_lang_word_laws.specs.Complements.{ComplementsCover, RecursOrCeases}
+use Rattle.omega_lang_word_laws.specs.Complements.{ComplementsCover}
+use Rattle.omega_text.specs.Omniscience.{LimitedPrincipleOfOmniscience}
+use Rattle.omega_text.proofs.Omniscience.{RecursOrCeases, recurs_or_ceases}
 
 any_there : {X : Type 0} (p : X → Bool) (xs : List X) → list_any p xs ≡ true → (k : ℕ) × ((x : X) × (slice_get xs k ≡ Some x) × (p x ≡ true))
 any_there p [] e = absurd (true≢false (sym e))
@@ -197,7 +199,7 @@ module _ (a c : Description) (is_a : IsAutomaton a) (deterministic : IsDetermini
         let more : suc (k + j) ≡ suc k + j = omega arith in
         subst (λ m. states m ≡ a.states) more (stays_next (states (k + j)) (word (k + j)) (states (suc (k + j))) (step (k + j)) (stays_on k j e))
 
-    module _ (settled : (test : ℕ → Bool) → RecursOrCeases test) (from : ℕ) (never : (j : ℕ) → from ≤ j → (states j == a.states) ≡ false) where
+    module _ (settled : LimitedPrincipleOfOmniscience) (from : ℕ) (never : (j : ℕ) → from ≤ j → (states j == a.states) ≡ false) where
       inside : (j : ℕ) → states j < a.states
       inside j = go (run j).1
         where
@@ -235,8 +237,8 @@ module _ (a c : Description) (is_a : IsAutomaton a) (deterministic : IsDetermini
           go (inl sat) = inl (accepted_by a is_a word states (λ i. (both i).own) taken_own ((beginning a is_a deterministic written.sink written.needed).inside (inside 0)) sat)
           go (inr sat) = inr (accepted_by c is_c word states (λ i. (both i).marks) taken_both begins_there (turned written.sink refl sat))
 
-    pub covered : ((test : ℕ → Bool) → RecursOrCeases test) → IsAccepted a word ⊎ IsAccepted c word
-    covered settled = go (settled (λ j. states j == a.states))
+    pub covered : LimitedPrincipleOfOmniscience → IsAccepted a word ⊎ IsAccepted c word
+    covered settled = go (recurs_or_ceases settled (λ j. states j == a.states))
       where
         go : RecursOrCeases (λ j. states j == a.states) → IsAccepted a word ⊎ IsAccepted c word
         go (inl always) = inr (for_ever always)

@@ -4,7 +4,8 @@ use Rattle.omega_hoa_acceptance.specs.Acceptance.{AccTree, conjunction, constant
 use Rattle.omega_graph.specs.Marks.{meets}
 use Rattle.omega_lang_runs.specs.Runs.{AtLastNever, ForEver, Satisfies}
 use Rattle.omega_hoa_acceptance.specs.Dual.{dual}
-use Rattle.omega_lang_word_laws.specs.Complements.{RecursOrCeases}
+use Rattle.omega_text.specs.Omniscience.{LimitedPrincipleOfOmniscience}
+use Rattle.omega_text.proofs.Omniscience.{RecursOrCeases, recurs_or_ceases}
 
 -- marks hold the same sets, index by index
 abbrev pub AreSame : (ℕ → List ℕ) → (ℕ → List ℕ) → Type 0
@@ -28,16 +29,16 @@ no_both (conjunction left right) marks others same one (inr other) = no_both rig
 no_both (disjunction left right) marks others same (inl one) other = no_both left marks others same one other.0
 no_both (disjunction left right) marks others same (inr one) other = no_both right marks others same one other.1
 
-pub one_of_both : ((test : ℕ → Bool) → RecursOrCeases test) → (formula : AccTree) (marks others : ℕ → List ℕ) → AreSame marks others
+pub one_of_both : LimitedPrincipleOfOmniscience → (formula : AccTree) (marks others : ℕ → List ℕ) → AreSame marks others
     → Satisfies marks formula ⊎ Satisfies others (dual formula)
 one_of_both settled (constant true) marks others same = inl refl
 one_of_both settled (constant false) marks others same = inr refl
-one_of_both settled (inf negated set) marks others same = go (settled (λ j. meets negated set (marks j)))
+one_of_both settled (inf negated set) marks others same = go (recurs_or_ceases settled (λ j. meets negated set (marks j)))
   where
     go : RecursOrCeases (λ j. meets negated set (marks j)) → ForEver marks negated set ⊎ AtLastNever others negated set
     go (inl always) = inl always
     go (inr never) = inr (never.0, λ j past. sym (meets_same negated set (marks j) (others j) (same j set)) ∙ never.1 j past)
-one_of_both settled (fin negated set) marks others same = go (settled (λ j. meets negated set (marks j)))
+one_of_both settled (fin negated set) marks others same = go (recurs_or_ceases settled (λ j. meets negated set (marks j)))
   where
     go : RecursOrCeases (λ j. meets negated set (marks j)) → AtLastNever marks negated set ⊎ ForEver others negated set
     go (inl always) = inr (λ i. let at = always i in (at.0, at.1, sym (meets_same negated set (marks at.0) (others at.0) (same at.0 set)) ∙ at.2))

@@ -1,7 +1,7 @@
 -- What a stream always is: fed with some bytes, which its tokenizer has read unless they are refused.
 use Rattle.std.specs.Prelude.{◌≡◌, ℕ, None, List, ◌++◌, MatchOption}
 use Rattle.omega_text.specs.Lexeme.{Lexeme}
-use Rattle.omega_text.specs.contracts.hoa.tokenizer.HoaTokenizerByteTokenizer.TheImpl.{ghosts as hoa_tokenizer}
+use Rattle.omega_text.specs.contracts.hoa.tokenizer.HoaTokenizerByteTokenizer.TheImpl.{ghosts as hoa_tokens}
 use Rattle.omega_text.specs.declared.hoa.kind.HoaKind.{HoaKind}
 use Rattle.omega_text.specs.declared.hoa.tokenizer.HoaTokenizer.{HoaTokenizer}
 use Rattle.omega_text.specs.declared.refusal.Refusal.{Refusal}
@@ -17,8 +17,8 @@ pub record HasReadTaken (kept : Kept) (tokenizer : HoaTokenizer) : Type 0 where
   pub taken : IsTaken seen items kept
   pub lexemes : List (Lexeme HoaKind)
   pub divided : IsDivided seen lexemes items kept.begins kept.inside
-  pub read : hoa_tokenizer.read tokenizer seen lexemes
-  pub sound : hoa_tokenizer.fault tokenizer ≡ None
+  pub read : hoa_tokens.read tokenizer seen lexemes
+  pub sound : hoa_tokens.fault tokenizer ≡ None
 
 -- what the fields of a stream keep
 abbrev pub kept_in : Inside → Kept

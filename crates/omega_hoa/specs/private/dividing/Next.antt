@@ -6,7 +6,7 @@ use Rattle.omega_text.specs.Lexeme.{Lexeme}
 use Rattle.omega_text.specs.Limits.{most_text}
 use Rattle.omega_text.specs.hoa.Format.{hoa_format}
 use Rattle.omega_text.specs.hoa.Pieces.{IsSettled, lexeme_in, lexemes_in, settled_lexemes}
-use Rattle.omega_text.specs.contracts.hoa.tokenizer.HoaTokenizerByteTokenizer.TheImpl.{ghosts as hoa_tokenizer}
+use Rattle.omega_text.specs.contracts.hoa.tokenizer.HoaTokenizerByteTokenizer.TheImpl.{ghosts as hoa_tokens}
 use Rattle.omega_text.specs.declared.hoa.kind.HoaKind.{HoaKind}
 use Rattle.omega_text.specs.declared.hoa.placed.PlacedToken.{PlacedToken}
 use Rattle.omega_text.specs.declared.hoa.placed.Settled.{Settled}
@@ -112,8 +112,8 @@ pub record IsProgress (bytes : List ℕ) (first place : ℕ) (progress : ReadPro
     (items : List Item) : Type 0 where
   pub there : first ≡ length prior
   pub lexemes : List (Lexeme HoaKind)
-  pub read : hoa_tokenizer.read progress.tokenizer (prior ++ take place bytes) lexemes
-  pub sound : hoa_tokenizer.fault progress.tokenizer ≡ None
+  pub read : hoa_tokens.read progress.tokenizer (prior ++ take place bytes) lexemes
+  pub sound : hoa_tokens.fault progress.tokenizer ≡ None
   pub divided : IsDivided
       (prior ++ take place bytes) lexemes items progress.division.begins progress.division.inside
   pub from : first ≤ progress.division.begins

@@ -9,7 +9,7 @@ use Rattle.omega_hoa_syntax.proofs.FollowLemmas.{some_any, guard_ends, targets_e
 use Rattle.omega_hoa_syntax.proofs.RowLemmas.{edge_same}
 use Rattle.omega_hoa_syntax.proofs.StepLemmas.{finds_error, none_after, passes_after, passes_then}
 use Rattle.omega_hoa_syntax.specs.Grammar.{edge_row, conj_row, optional_row, sig_row, label_row}
-use Rattle.omega_hoa_syntax.proofs.body.edge.EdgePart.read.Goals as goal
+use Rattle.omega_hoa_syntax.proofs.body.edge.EdgeSyntaxPart.read.Goals as goal
 
 pub returns-in_err-label-clause-finds : goal.returns-in_err-label-clause-finds
 returns-in_err-label-clause-finds g c =

@@ -6,7 +6,7 @@ use Rattle.std.proofs.Common.{◌∷◌, refl, []}
 use Rattle.omega_hoa_syntax.proofs.StepLemmas.{finds_error, passes_after, passes_then, none_after_token}
 use Rattle.omega_hoa_syntax.specs.Symbols.{number, sign}
 use Rattle.omega_hoa_syntax.specs.Grammar.{joined_row}
-use Rattle.omega_hoa_syntax.proofs.conj.JoinedPart.read.Goals as goal
+use Rattle.omega_hoa_syntax.proofs.conj.FurtherStatePart.read.Goals as goal
 
 pub returns-in_err-take_sign-clause-finds : goal.returns-in_err-take_sign-clause-finds
 returns-in_err-take_sign-clause-finds g c =

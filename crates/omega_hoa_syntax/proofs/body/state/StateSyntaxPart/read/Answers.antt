@@ -9,7 +9,7 @@ use Rattle.omega_hoa_syntax.proofs.RowLemmas.{state_same}
 use Rattle.omega_hoa_syntax.proofs.StepLemmas.{finds_error, none_after, passes_after, passes_then, none_after_token}
 use Rattle.omega_hoa_syntax.specs.Grammar.{state_row, each, edge_row, label_row, optional_row, sig_row, string_row}
 use Rattle.omega_hoa_syntax.specs.Symbols.{number, header}
-use Rattle.omega_hoa_syntax.proofs.body.state.StatePart.read.Goals as goal
+use Rattle.omega_hoa_syntax.proofs.body.state.StateSyntaxPart.read.Goals as goal
 
 pub returns-in_err-take_header-clause-finds : goal.returns-in_err-take_header-clause-finds
 returns-in_err-take_header-clause-finds g c =
