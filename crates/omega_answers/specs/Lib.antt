@@ -3,6 +3,7 @@ pub mod Choice
 pub mod OneAutomaton
 pub mod TwoAutomata
 pub mod TwoTexts
+pub use Rattle.omega_hoa.specs.Alone
 pub use Rattle.omega_io.specs.Answer
 pub use Rattle.omega_io.specs.Refused
 pub use Rattle.omega_text.specs.Cases
