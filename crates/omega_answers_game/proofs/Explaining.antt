@@ -1,6 +1,6 @@
 -- A lasso against a player's choices begins at a node given to the player, and is one of nodes;
 -- what is explained by it.
-use Rattle.std.proofs.Common.{◌≡◌, ℕ, ◌<◌, List, [], ◌∷◌, ◌++◌, Option, Some, None, length, get_or, Contains, All, sym, subst, arith, refl}
+use Rattle.std.proofs.Common.{◌≡◌, ℕ, ◌<◌, true, List, [], ◌∷◌, ◌++◌, Option, Some, None, length, get_or, Contains, All, sym, subst, arith, refl}
 use Rattle.std.specs.Prelude.{IfNone, IfSome, IsNone}
 use Rattle.std.proofs.lemmas.List.{get_or_append_left, length_push}
 use Rattle.std.proofs.lemmas.List.Elements.{All-cons, All-nil, All-contains, Contains-push}
@@ -13,7 +13,10 @@ use Rattle.omega_game_values.specs.Player.{player_number}
 use Rattle.omega_game_values.specs.Winning.{IsWalk}
 use Rattle.omega_game_values.specs.declared.solution.Solution.{Solution}
 use Rattle.omega_game_values.specs.Solution.{ArePlacesGiven, WinsGiven, choices_of}
-use Rattle.omega_answers_game.specs.Verify.{IsExplained, LosesGiven, explained_text}
+use Rattle.omega_io.specs.Answer.{IsReply}
+use Rattle.omega_io.specs.declared.answer.Answer.TheVariants.{No}
+use Rattle.omega_io.specs.declared.exit.Exit.{Exit}
+use Rattle.omega_answers_game.specs.Verify.{IsSolutionVerdict, LosesGiven, explanation_lines}
 
 -- ---- the start of a lasso
 
@@ -87,26 +90,30 @@ module _ (nodes : List Node) (player : Player) (choices : List (Option ℕ)) (ga
 -- ---- the verdict
 
 -- if player 0's choices do not win, that is explained
-pub zero-explained : (nodes : List Node) (solution : Solution) (lasso : Lasso) (output : List ℕ)
-    → LosesGiven nodes solution Zero lasso → output ≡ explained_text nodes Zero lasso → IsExplained nodes solution output
-zero-explained nodes solution lasso output loses written = record {
-  player = Zero;
-  least = λ other below. absurd (omega arith);
-  lasso = lasso;
-  loses = loses;
-  written = written;
-}
+pub zero-explained : (nodes : List Node) (solution : Solution) (lasso : Lasso) (exit : Exit) (output : List ℕ)
+    → LosesGiven nodes solution Zero lasso → IsReply (No (explanation_lines nodes Zero lasso)) exit output
+    → IsSolutionVerdict nodes solution true exit output
+zero-explained nodes solution lasso exit output loses reply =
+    subst (λ (exit : Exit). IsSolutionVerdict nodes solution true exit output) (sym reply.0) (record {
+      player = Zero;
+      least = λ other below. absurd (omega arith);
+      lasso = lasso;
+      loses = loses;
+      written = reply.1;
+    })
 
 -- if they do and player 1's do not, that is
-pub one-explained : (nodes : List Node) (solution : Solution) (lasso : Lasso) (output : List ℕ)
-    → WinsGiven nodes solution Zero → LosesGiven nodes solution One lasso → output ≡ explained_text nodes One lasso → IsExplained nodes solution output
-one-explained nodes solution lasso output wins loses written = record {
-  player = One;
-  least = least;
-  lasso = lasso;
-  loses = loses;
-  written = written;
-}
+pub one-explained : (nodes : List Node) (solution : Solution) (lasso : Lasso) (exit : Exit) (output : List ℕ)
+    → WinsGiven nodes solution Zero → LosesGiven nodes solution One lasso → IsReply (No (explanation_lines nodes One lasso)) exit output
+    → IsSolutionVerdict nodes solution true exit output
+one-explained nodes solution lasso exit output wins loses reply =
+    subst (λ (exit : Exit). IsSolutionVerdict nodes solution true exit output) (sym reply.0) (record {
+      player = One;
+      least = least;
+      lasso = lasso;
+      loses = loses;
+      written = reply.1;
+    })
   where
     least : (other : Player) → player_number other < 1 → WinsGiven nodes solution other
     least Zero below = wins

@@ -1,10 +1,13 @@
 -- Winners that are judged by an exact solution of the game.
-use Rattle.std.proofs.Common.{◌≡◌, ℕ, Option, None, ◌<◌, List, Bool, true, false, length, refl, ap, sym, ◌∙◌, arith}
+use Rattle.std.proofs.Common.{◌≡◌, ℕ, Option, None, ◌<◌, List, Bool, true, false, length, refl, ap, sym, subst, ◌∙◌, arith}
 use Rattle.std.proofs.lemmas.List.{length-map}
 use Rattle.omega_text.specs.Cases.{never, or_task}
 use Rattle.omega_text.specs.declared.refusal.Refusal.{Refusal}
 use Rattle.omega_text.specs.declared.refusal.Refusal.TheVariants.{Automaton, Game, Io, Memory, Task, Text}
+use Rattle.omega_io.specs.Answer.{IsReply}
 use Rattle.omega_io.specs.Refused.{IsRefusedOf, about}
+use Rattle.omega_io.specs.declared.answer.Answer.TheVariants.{No}
+use Rattle.omega_io.specs.declared.exit.Exit.{Exit}
 use Rattle.omega_io.specs.declared.refused.Which.TheVariants.{File}
 use Rattle.omega_solve.specs.Limits.{most_lifts}
 use Rattle.omega_game_values.specs.declared.player.Player.{Player}
@@ -14,10 +17,10 @@ use Rattle.omega_game_values.specs.Solution.{IsExactSolution, winner_at}
 use Rattle.omega_pg.specs.solution.Grammar.{SolutionLine}
 use Rattle.omega_pg.specs.solution.Winners.{IsWinnersText}
 use Rattle.omega_answers_game.specs.Verify.{IsJudgedGame}
-use Rattle.omega_answers_game.specs.Winners.{AreWinners, ExplainsWinners, IsFirstWrong, IsUnsolved, RefutesWinners, given_at}
+use Rattle.omega_answers_game.specs.Winners.{AreWinners, ExplainsWinners, IsFirstWrong, IsUnsolved, IsWinnersVerdict, given_at}
 use Rattle.omega_answers_game.specs.declared.solve.asked.Asked.TheVariants.{Search}
 use Rattle.omega_answers_game.specs.solve.Refusing.{IsSolveGameRefusal}
-use Rattle.omega_answers_game.specs.private.steps.Winners.{GiveTheSame, IsFirstDifference, IsUnsolvedRefusal, explanation_text, refutation_text}
+use Rattle.omega_answers_game.specs.private.steps.Winners.{GiveTheSame, IsFirstDifference, IsUnsolvedRefusal, explanation_text, refutation_lines}
 
 -- as many winners are given as there are nodes
 pub winners-counted : (nodes : List Node) (source : List ℕ) (winners : List Player) → IsWinnersText nodes source winners → length winners ≡ length nodes
@@ -50,17 +53,18 @@ module _ (nodes : List Node) (solution : Solution) (winners : List Player) (exac
   explained false = refl
   explained true = record { solution = solution; exact = exact; written = refl }
 
-  -- so the text of `no` refutes them
-  pub winners-refuted : (explain : Bool) (place : ℕ) (output : List ℕ) → IsFirstDifference solution.winners winners place
-      → output ≡ refutation_text explain nodes solution place → RefutesWinners nodes winners explain output
-  winners-refuted explain place output difference written = record {
-    place = place;
-    player = winner_at solution place;
-    first = first-wrong place difference;
-    explanation = explanation_text explain nodes solution;
-    explains = explained explain;
-    written = written;
-  }
+  -- so `no` with these lines refutes them
+  pub winners-refuted : (explain : Bool) (place : ℕ) (exit : Exit) (output : List ℕ) → IsFirstDifference solution.winners winners place
+      → IsReply (No (refutation_lines explain nodes solution place)) exit output → IsWinnersVerdict nodes winners explain exit output
+  winners-refuted explain place exit output difference reply =
+      subst (λ (exit : Exit). IsWinnersVerdict nodes winners explain exit output) (sym reply.0) (record {
+        place = place;
+        player = winner_at solution place;
+        first = first-wrong place difference;
+        explanation = explanation_text explain nodes solution;
+        explains = explained explain;
+        written = reply.1;
+      })
 
 -- a game that is not solved is that of its text
 pub unsolved-text : (game_text : List ℕ) (from : Option ℕ) (text : List ℕ) (game : List Node) (refusal : Refusal) → IsJudgedGame game_text from game

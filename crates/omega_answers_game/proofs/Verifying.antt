@@ -4,9 +4,10 @@ use Rattle.omega_game_values.specs.declared.player.Player.TheVariants.{One, Zero
 use Rattle.omega_game_values.specs.declared.solution.Solution.{Solution}
 use Rattle.omega_game_values.specs.Game.{Node}
 use Rattle.omega_game_values.specs.Solution.{WinsAsGiven, WinsGiven}
+use Rattle.omega_io.specs.Answer.{IsReply, answer_text, exit_of}
 use Rattle.omega_io.specs.declared.exit.Exit.{Exit}
 use Rattle.omega_answers_game.specs.Verify.{IsSolutionVerdict}
-use Rattle.omega_answers_game.specs.private.steps.Verdict.{verdict_exit, verdict_text}
+use Rattle.omega_answers_game.specs.private.steps.Verdict.{verdict_answer}
 
 -- both players' choices win as given
 pub both-win : (nodes : List Node) (solution : Solution) → WinsGiven nodes solution Zero → WinsGiven nodes solution One
@@ -29,11 +30,11 @@ one-decides nodes solution zero one e wins wins' =
 
 -- the verdict is as the choices win
 verdict_by : (nodes : List Node) (solution : Solution) (is_right : Bool) → IsTrue is_right ↔ WinsAsGiven nodes solution
-    → IsSolutionVerdict nodes solution false (verdict_exit is_right) (verdict_text is_right)
+    → IsSolutionVerdict nodes solution false (exit_of (verdict_answer is_right)) (answer_text (verdict_answer is_right))
 verdict_by nodes solution true wins = (wins.0 refl, refl)
 verdict_by nodes solution false wins = (λ all. let t : false ≡ true = wins.1 all in cc, refl)
 
 pub verdict-made : (nodes : List Node) (solution : Solution) (is_right : Bool) (exit : Exit) (output : List ℕ)
-    → IsTrue is_right ↔ WinsAsGiven nodes solution → exit ≡ verdict_exit is_right → output ≡ verdict_text is_right
+    → IsTrue is_right ↔ WinsAsGiven nodes solution → IsReply (verdict_answer is_right) exit output
     → IsSolutionVerdict nodes solution false exit output
-verdict-made nodes solution is_right exit output wins ends written = rw (ends, written) (verdict_by nodes solution is_right wins)
+verdict-made nodes solution is_right exit output wins reply = rw (reply.0, reply.1) (verdict_by nodes solution is_right wins)

@@ -14,8 +14,10 @@ use Rattle.omega_pg.specs.game.Refusing.{IsRefusal}
 use Rattle.omega_pg.specs.solution.Refusing.{IsSolutionRefusal}
 use Rattle.omega_pg.specs.solution.Text.{IsSolutionText}
 use Rattle.omega_pg.specs.game.Text.{IsGameText}
+use Rattle.omega_io.specs.Answer.{answer_text}
+use Rattle.omega_io.specs.declared.answer.Answer.TheVariants.{No, Yes}
 use Rattle.omega_io.specs.declared.exit.Exit.{Exit}
-use Rattle.omega_io.specs.declared.exit.Exit.TheVariants.{Done, No}
+use Rattle.omega_io.specs.declared.exit.Exit.TheVariants as exit
 use Rattle.omega_answers_game.specs.Part.{IsPartText, IsPartTextRefusal}
 
 -- the identifiers of the nodes at the places, a space before each
@@ -23,11 +25,15 @@ abbrev pub identifiers_text : List Node → List ℕ → List ℕ
 identifiers_text nodes places =
     flat_map (λ place. codes " " ++ decimal (identifier_at nodes place)) places
 
--- `no`, the player, and the nodes of the stem and of the cycle, a line for each
-abbrev pub explained_text : List Node → Player → Lasso → List ℕ
-explained_text nodes player lasso = codes "no\nplayer "
+-- the player, and the nodes of the stem and of the cycle, a line for each
+abbrev pub explanation_lines : List Node → Player → Lasso → List ℕ
+explanation_lines nodes player lasso = codes "player "
     ++ (decimal (player_number player) ++ (codes "\nstem" ++ (identifiers_text nodes lasso.stem
     ++ (codes "\ncycle" ++ (identifiers_text nodes lasso.cycle ++ codes "\n")))))
+
+-- `no` with its explanation
+abbrev pub explained_text : List Node → Player → Lasso → List ℕ
+explained_text nodes player lasso = answer_text (No (explanation_lines nodes player lasso))
 
 -- the places are those of nodes of the game
 abbrev pub ArePlacesOf : List Node → List ℕ → Type 0
@@ -53,11 +59,11 @@ pub record IsExplained (nodes : List Node) (solution : Solution) (output : List 
 -- `yes` if for each player the choices win from all nodes given to that player, else `no`, with an exit of its own;
 -- with `explain` the `no` is explained
 abbrev pub IsSolutionVerdict : List Node → Solution → Bool → Exit → List ℕ → Type 0
-IsSolutionVerdict nodes solution explain Done output =
-    WinsAsGiven nodes solution × (output ≡ codes "yes\n")
-IsSolutionVerdict nodes solution false No output =
-    (¬ WinsAsGiven nodes solution) × (output ≡ codes "no\n")
-IsSolutionVerdict nodes solution true No output = IsExplained nodes solution output
+IsSolutionVerdict nodes solution explain exit.Done output =
+    WinsAsGiven nodes solution × (output ≡ answer_text Yes)
+IsSolutionVerdict nodes solution false exit.No output =
+    (¬ WinsAsGiven nodes solution) × (output ≡ answer_text (No []))
+IsSolutionVerdict nodes solution true exit.No output = IsExplained nodes solution output
 
 -- the game to be judged: that of the text, or if an identifier is given, the part of it that its node reaches
 abbrev pub IsJudgedGame : List ℕ → Option ℕ → List Node → Type 0

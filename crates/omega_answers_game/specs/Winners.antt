@@ -11,8 +11,10 @@ use Rattle.omega_game_values.specs.Game.{Node, identifier_at}
 use Rattle.omega_game_values.specs.Winning.{InRegion}
 use Rattle.omega_pg.specs.solution.Winners.{IsWinnersRefusal, IsWinnersText}
 use Rattle.omega_solve.specs.Limits.{most_lifts}
+use Rattle.omega_io.specs.Answer.{answer_text}
+use Rattle.omega_io.specs.declared.answer.Answer.TheVariants.{No, Yes}
 use Rattle.omega_io.specs.declared.exit.Exit.{Exit}
-use Rattle.omega_io.specs.declared.exit.Exit.TheVariants.{Done, No}
+use Rattle.omega_io.specs.declared.exit.Exit.TheVariants as exit
 use Rattle.omega_answers_game.specs.PlayerText.{player_text}
 use Rattle.omega_answers_game.specs.Verify.{IsJudgedGame, IsJudgedGameRefusal}
 use Rattle.omega_answers_game.specs.declared.solve.asked.Asked.TheVariants.{Search}
@@ -35,9 +37,9 @@ pub record IsFirstWrong (nodes : List Node) (winners : List Player) (place : ℕ
   pub wrong : InRegion nodes (given_at winners place) place → ⊥
   pub before : (v : ℕ) → v < place → InRegion nodes (given_at winners v) v
 
--- `no`, and a line with the node's identifier and its winner
-abbrev pub wrong_text : List Node → ℕ → Player → List ℕ
-wrong_text nodes place player = codes "no\nnode "
+-- a line with the node's identifier and its winner
+abbrev pub wrong_line : List Node → ℕ → Player → List ℕ
+wrong_line nodes place player = codes "node "
     ++ (decimal (identifier_at nodes place) ++ (codes " " ++ (player_text player ++ codes "\n")))
 
 -- what explains the winners, if that is asked: the text of an exact solution
@@ -53,13 +55,13 @@ pub record RefutesWinners (nodes : List Node) (winners : List Player) (explain :
   pub first : IsFirstWrong nodes winners place player
   pub explanation : List ℕ
   pub explains : ExplainsWinners explain nodes explanation
-  pub written : output ≡ wrong_text nodes place player ++ explanation
+  pub written : output ≡ answer_text (No (wrong_line nodes place player ++ explanation))
 
 -- `yes` if each node is won by the winner that is given to it, else `no`, with an exit of its own
 abbrev pub IsWinnersVerdict : List Node → List Player → Bool → Exit → List ℕ → Type 0
-IsWinnersVerdict nodes winners explain Done output =
-    AreWinners nodes winners × (output ≡ codes "yes\n")
-IsWinnersVerdict nodes winners explain No output = RefutesWinners nodes winners explain output
+IsWinnersVerdict nodes winners explain exit.Done output =
+    AreWinners nodes winners × (output ≡ answer_text Yes)
+IsWinnersVerdict nodes winners explain exit.No output = RefutesWinners nodes winners explain output
 
 -- the answer of `verify --winners`: the texts are those of a game to be judged and of its winners, and the verdict is
 -- written

@@ -7,7 +7,8 @@ ghost use Rattle.omega_answers_game.specs.Verify.{IsJudgedGame, IsJudgedGameRefu
 ghost use Rattle.omega_answers_game.specs.Verify.{IsVerifyAnswer, RefusesSolution};
 ghost use Rattle.omega_io.specs.Refused.{IsRefusedOf};
 ghost use Rattle.omega_answers_game.specs.private.steps.Solved.{IsSolutionJudged};
-ghost use Rattle.omega_answers_game.specs.private.steps.Verdict.{verdict_exit, verdict_text};
+ghost use Rattle.omega_io.specs.Answer.{IsReply};
+ghost use Rattle.omega_answers_game.specs.private.steps.Verdict.{verdict_answer};
 
 pub mod explaining;
 pub mod winners;
@@ -16,7 +17,7 @@ use crate::dropping::drop_game;
 use crate::part::part_from;
 use explaining::explained_verdict;
 use omega_game::{ForwardGame, Player, Refusal, Solution, check_strategy};
-use omega_io::{Exit, Refused, Which};
+use omega_io::{Answer, Exit, Refused, Which};
 use omega_pg::{read_forward_game, read_solution};
 use std::alloc::Global;
 
@@ -124,19 +125,17 @@ fn verdict_on(
         return explained_verdict(alloc, game, solution);
     }
     let is_right = wins_as_given(alloc, game, solution)?;
-    verdict(alloc, is_right)
+    verdict_answer(alloc, is_right).reply(alloc)
 }
 
-/// Returns how the command ends for a solution that is right or not, and its output.
-fn verdict(alloc: Global, is_right: bool) -> Result<(Exit, Vec<u8>), Refusal>
-    ensures made { IfOk result
-        (λ made. (made.0 ≡ verdict_exit is_right) × (made.1.items ≡ verdict_text is_right)) }
-    ensures memory { IsOkUnless result Refusal.Memory }
+/// Returns the answer, without a reason, for a solution that is right or not.
+fn verdict_answer(alloc: Global, is_right: bool) -> Answer
+    ensures { result ≡ verdict_answer is_right }
 {
     if is_right {
-        Ok((Exit::Done, Vec::from_slice(alloc, b"yes\n")?))
+        Answer::Yes
     } else {
-        Ok((Exit::No, Vec::from_slice(alloc, b"no\n")?))
+        Answer::no_with(Vec::new(alloc))
     }
 }
 

@@ -3,15 +3,34 @@ ghost use Rattle.std.specs.Prelude.{◌≡◌, ◌++◌, ◌<◌, true, IfOk, Is
 ghost use Rattle.std.specs.Prelude.{OnOk, codes, decimal, length, option_map};
 ghost use Rattle.omega_answers_game.specs.Verify.{ArePlacesOf};
 ghost use Rattle.omega_game_values.specs.Game.{identifier_at};
-ghost use Rattle.omega_answers_walk.specs.Verify.{named_text};
-ghost use Rattle.omega_answers_walk.specs.Written.{name_after, name_if, nodes_text};
+ghost use Rattle.omega_answers_walk.specs.Written.{name_after, name_if, nodes_text, walk_text};
+ghost use Rattle.omega_io.specs.Answer.{IsReply};
+ghost use Rattle.omega_io.specs.declared.answer.Answer.TheVariants.{No};
 
 use omega_game::{ForwardGame, Lasso, Player};
+use omega_io::{Answer, Exit};
 use omega_text::{Refusal, write_number};
 use std::alloc::Global;
 
-/// Returns the text of `no` with its explanation: the nodes of `lasso` by their identifiers and names.
-pub(crate) fn explanation(
+/// Returns the verdict `no` with its explanation: the nodes of `lasso` by their identifiers and names.
+pub(crate) fn explained_no(
+    alloc: Global,
+    game: &ForwardGame,
+    player: Player,
+    lasso: &Lasso,
+) -> Result<(Exit, Vec<u8>), Refusal>
+    requires stem { ArePlacesOf game.now lasso.now.stem }
+    requires cycle { ArePlacesOf game.now lasso.now.cycle }
+    ensures reply { IfOk result (λ made.
+        IsReply (No (walk_text true game.now player lasso.now.stem lasso.now.cycle)) made.0 made.1.items) }
+    ensures memory { IsOkUnless result Refusal.Memory }
+{
+    let lines = explanation(alloc, game, player, lasso)?;
+    Answer::no_with(lines).reply(alloc)
+}
+
+/// Returns the lines that explain `no`: the player, and the nodes of the stem and of the cycle of `lasso`.
+fn explanation(
     alloc: Global,
     game: &ForwardGame,
     player: Player,
@@ -19,11 +38,12 @@ pub(crate) fn explanation(
 ) -> Result<Vec<u8>, Refusal>
     requires stem { ArePlacesOf game.now lasso.now.stem }
     requires cycle { ArePlacesOf game.now lasso.now.cycle }
-    ensures text { IfOk result (λ text. text.items ≡ named_text game.now player lasso.now) }
+    ensures lines { IfOk result
+        (λ lines. lines.items ≡ walk_text true game.now player lasso.now.stem lasso.now.cycle) }
     ensures memory { IsOkUnless result Refusal.Memory }
 {
     let mut out = Vec::new(alloc);
-    out.extend_from_slice(b"no\nplayer ")?;
+    out.extend_from_slice(b"player ")?;
     write_number(u128::from(player.number()), &mut out)?;
     out.extend_from_slice(b"\nstem")?;
     write_nodes(game, lasso.stem.as_slice(), &mut out)?;

@@ -6,10 +6,10 @@ ghost use Rattle.omega_pg.specs.solution.Refusing.{IsReadSolutionRefusal};
 ghost use Rattle.omega_answers_walk.specs.Verify.{IsNamedVerdict, IsNamedVerifyAnswer};
 ghost use Rattle.omega_answers_walk.specs.private.Judged.{IsNamedJudged};
 
-use crate::explanation::explanation;
+use crate::explanation::explained_no;
 use omega_answers_game::{judged_game, lost_by};
 use omega_game::{ForwardGame, Player, Solution};
-use omega_io::{Exit, Refused, Which};
+use omega_io::{Answer, Exit, Refused, Which};
 use omega_pg::read_solution;
 use omega_text::Refusal;
 use std::alloc::Global;
@@ -65,12 +65,10 @@ fn explained_verdict(
     ensures memory { IsOkUnless result Refusal.Memory }
 {
     if let Some(lasso) = lost_by(alloc, game, solution, Player::Zero)? {
-        let text = explanation(alloc, game, Player::Zero, &lasso)?;
-        return Ok((Exit::No, text));
+        return explained_no(alloc, game, Player::Zero, &lasso);
     }
     if let Some(lasso) = lost_by(alloc, game, solution, Player::One)? {
-        let text = explanation(alloc, game, Player::One, &lasso)?;
-        return Ok((Exit::No, text));
+        return explained_no(alloc, game, Player::One, &lasso);
     }
-    Ok((Exit::Done, Vec::from_slice(alloc, b"yes\n")?))
+    Answer::Yes.reply(alloc)
 }

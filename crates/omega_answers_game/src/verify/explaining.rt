@@ -1,12 +1,14 @@
 //! Explains why the choices of a solution do not win.
 ghost use Rattle.std.specs.Prelude.{◌≡◌, ◌++◌, IfNone, IfOk, IfSome, IsOkUnless, OnOk, true};
 ghost use Rattle.omega_game_values.specs.Solution.{IsSolution, WinsGiven};
+ghost use Rattle.omega_io.specs.Answer.{IsReply};
+ghost use Rattle.omega_io.specs.declared.answer.Answer.TheVariants.{No};
 ghost use Rattle.omega_answers_game.specs.Verify.{ArePlacesOf, IsSolutionVerdict, LosesGiven};
-ghost use Rattle.omega_answers_game.specs.Verify.{explained_text, identifiers_text};
+ghost use Rattle.omega_answers_game.specs.Verify.{explanation_lines, identifiers_text};
 
 use crate::numbered::append_numbered;
 use omega_game::{ForwardGame, Lasso, Player, Refusal, Solution, counterexample};
-use omega_io::Exit;
+use omega_io::{Answer, Exit};
 use omega_text::write_number;
 use std::alloc::Global;
 
@@ -22,14 +24,12 @@ pub(crate) fn explained_verdict(
     ensures memory { IsOkUnless result Refusal.Memory }
 {
     if let Some(lasso) = lost_by(alloc, game, solution, Player::Zero)? {
-        let text = explanation(alloc, game, Player::Zero, lasso)?;
-        return Ok((Exit::No, text));
+        return explained_no(alloc, game, Player::Zero, lasso);
     }
     if let Some(lasso) = lost_by(alloc, game, solution, Player::One)? {
-        let text = explanation(alloc, game, Player::One, lasso)?;
-        return Ok((Exit::No, text));
+        return explained_no(alloc, game, Player::One, lasso);
     }
-    Ok((Exit::Done, Vec::from_slice(alloc, b"yes\n")?))
+    Answer::Yes.reply(alloc)
 }
 
 /// Returns a counterexample to the choices of `player`: why they do not win from all nodes given to the player. Returns
@@ -54,23 +54,25 @@ pub fn lost_by(
     Ok(found)
 }
 
-/// Returns the text of `no` with its explanation. The lasso is dropped.
-fn explanation(
+/// Returns the verdict `no` with its explanation. The lasso is dropped.
+fn explained_no(
     alloc: Global,
     game: &ForwardGame,
     player: Player,
     lasso: Lasso,
-) -> Result<Vec<u8>, Refusal>
+) -> Result<(Exit, Vec<u8>), Refusal>
     requires stem { ArePlacesOf game.now lasso.stem }
     requires cycle { ArePlacesOf game.now lasso.cycle }
-    ensures text { IfOk result (λ text. text.items ≡ explained_text game.now player lasso) }
+    ensures reply { IfOk result
+        (λ made. IsReply (No (explanation_lines game.now player lasso)) made.0 made.1.items) }
     ensures memory { IsOkUnless result Refusal.Memory }
 {
-    explanation_by(alloc, game, player, &lasso)
+    let lines = explanation(alloc, game, player, &lasso)?;
+    Answer::no_with(lines).reply(alloc)
 }
 
-/// Returns the text of `no` with its explanation by `lasso`.
-fn explanation_by(
+/// Returns the lines that explain `no` by `lasso`.
+fn explanation(
     alloc: Global,
     game: &ForwardGame,
     player: Player,
@@ -78,7 +80,7 @@ fn explanation_by(
 ) -> Result<Vec<u8>, Refusal>
     requires stem { ArePlacesOf game.now lasso.now.stem }
     requires cycle { ArePlacesOf game.now lasso.now.cycle }
-    ensures text { IfOk result (λ text. text.items ≡ explained_text game.now player lasso.now) }
+    ensures text { IfOk result (λ text. text.items ≡ explanation_lines game.now player lasso.now) }
     ensures memory { IsOkUnless result Refusal.Memory }
 {
     let mut out = Vec::new(alloc);
@@ -86,7 +88,7 @@ fn explanation_by(
     Ok(out)
 }
 
-/// Appends `no` with its explanation.
+/// Appends the lines that explain `no` by `lasso`.
 fn append_explanation(
     game: &ForwardGame,
     player: Player,
@@ -96,10 +98,10 @@ fn append_explanation(
     requires stem { ArePlacesOf game.now lasso.now.stem }
     requires cycle { ArePlacesOf game.now lasso.now.cycle }
     ensures text { OnOk result
-        (out.new.items ≡ out.old.items ++ explained_text game.now player lasso.now) }
+        (out.new.items ≡ out.old.items ++ explanation_lines game.now player lasso.now) }
     ensures memory { IsOkUnless result Refusal.Memory }
 {
-    append_numbered(b"no\nplayer ", u128::from(player.number()), out)?;
+    append_numbered(b"player ", u128::from(player.number()), out)?;
     append_places(game, b"\nstem", lasso.stem.as_slice(), out)?;
     append_places(game, b"\ncycle", lasso.cycle.as_slice(), out)?;
     out.extend_from_slice(b"\n")?;

@@ -1,17 +1,19 @@
 //! Judges the winners that a solution text gives, whatever its choices, by solving the game.
 ghost use Rattle.std.specs.Prelude.{◌≡◌, ◌++◌, ◌<◌, ◌^◌, IfErr, IfNone, IfOk};
 ghost use Rattle.std.specs.Prelude.{IfSome, IsOkUnless, None, OnOk, length};
+ghost use Rattle.omega_io.specs.Answer.{IsReply};
 ghost use Rattle.omega_io.specs.Refused.{IsRefusedOf};
+ghost use Rattle.omega_io.specs.declared.answer.Answer.TheVariants.{No};
 ghost use Rattle.omega_game_values.specs.Solution.{IsExactSolution, IsSolution};
 ghost use Rattle.omega_pg.specs.solution.Winners.{IsReadWinnersRefusal, IsWinnersRefusal, IsWinnersText};
 ghost use Rattle.omega_solve.specs.Limits.{most_lifts};
 ghost use Rattle.omega_answers_game.specs.Winners.{IsWinnersAnswer, IsWinnersGameRefusal};
-ghost use Rattle.omega_answers_game.specs.Winners.{IsWinnersVerdict, RefusesWinners, wrong_text};
+ghost use Rattle.omega_answers_game.specs.Winners.{IsWinnersVerdict, RefusesWinners, wrong_line};
 ghost use Rattle.omega_answers_game.specs.declared.solve.asked.Asked.TheVariants.{Search};
 ghost use Rattle.omega_answers_game.specs.solve.Refusing.{IsSolveGameRefusal};
 ghost use Rattle.omega_answers_game.specs.private.steps.Winners.{AreWinnersJudged, GiveTheSame};
 ghost use Rattle.omega_answers_game.specs.private.steps.Winners.{IsFirstDifference, IsUnsolvedRefusal};
-ghost use Rattle.omega_answers_game.specs.private.steps.Winners.{explanation_text, refutation_text};
+ghost use Rattle.omega_answers_game.specs.private.steps.Winners.{explanation_text, refutation_lines};
 
 use super::judged_game;
 use crate::dropping::{drop_game, drop_whole};
@@ -19,7 +21,7 @@ use crate::numbered::append_numbered;
 use crate::player_text::append_player;
 use crate::solve::searched::searched_solution;
 use omega_game::{ForwardGame, Game, Player, Refusal, Solution};
-use omega_io::{Exit, Refused, Which};
+use omega_io::{Answer, Exit, Refused, Which};
 use omega_pg::{read_winners, write_solution};
 use omega_solve::MOST_LIFTS;
 use omega_solve::budget::NoObserver;
@@ -139,10 +141,10 @@ fn verdict_by(
 {
     game.keeps_limits();
     match first_difference(solution.winners.as_slice(), winners) {
-        None => Ok((Exit::Done, Vec::from_slice(alloc, b"yes\n")?)),
+        None => Answer::Yes.reply(alloc),
         Some(place) => {
-            let text = refutation(alloc, game, solution, place, explain)?;
-            Ok((Exit::No, text))
+            let lines = refutation(alloc, game, solution, place, explain)?;
+            Answer::no_with(lines).reply(alloc)
         }
     }
 }
@@ -162,7 +164,7 @@ fn first_difference(winners: &[Player], given: &[Player]) -> Option<u32>
     None
 }
 
-/// Returns the text of `no` for the node at `place`, and with `explain` the text of `solution` after it.
+/// Returns the lines after `no` for the node at `place`: its winner, and with `explain` the text of `solution`.
 fn refutation(
     alloc: Global,
     game: &ForwardGame,
@@ -172,8 +174,8 @@ fn refutation(
 ) -> Result<Vec<u8>, Refusal>
     requires solution { IsSolution game.now solution.now }
     requires place { place < length game.now }
-    ensures text { IfOk result
-        (λ text. text.items ≡ refutation_text explain game.now solution.now place) }
+    ensures lines { IfOk result
+        (λ lines. lines.items ≡ refutation_lines explain game.now solution.now place) }
     ensures memory { IsOkUnless result Refusal.Memory }
 {
     let mut out = Vec::new(alloc);
@@ -204,7 +206,7 @@ fn append_explanation(
     Ok(())
 }
 
-/// Appends `no`, and a line with the identifier of the node at `place` and its `winner`.
+/// Appends a line with the identifier of the node at `place` and its `winner`.
 fn append_wrong(
     game: &ForwardGame,
     place: u32,
@@ -212,10 +214,10 @@ fn append_wrong(
     out: &mut Vec<u8>,
 ) -> Result<(), Refusal>
     requires { place < length game.now }
-    ensures text { OnOk result (out.new.items ≡ out.old.items ++ wrong_text game.now place winner) }
+    ensures text { OnOk result (out.new.items ≡ out.old.items ++ wrong_line game.now place winner) }
     ensures memory { IsOkUnless result Refusal.Memory }
 {
-    append_numbered(b"no\nnode ", u128::from(game.id(place)), out)?;
+    append_numbered(b"node ", u128::from(game.id(place)), out)?;
     out.extend_from_slice(b" ")?;
     append_player(winner, out)?;
     out.extend_from_slice(b"\n")?;

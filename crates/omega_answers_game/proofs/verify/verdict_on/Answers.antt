@@ -8,9 +8,9 @@ use Rattle.omega_answers_game.proofs.verify.verdict_on.Goals as goal
 
 pub returns-clause-verdict : goal.returns-clause-verdict
 returns-clause-verdict c =
-    subst (λ (explain : Bool). IfOk c.verdict.result (λ made. IsSolutionVerdict c.args.game.now c.args.solution.now explain made.0 made.1.items)) (sym c.if-explain.false)
-    (IfOk-weaker c.verdict.result _ _
-    (λ made verdict.
+    subst (λ (explain : Bool). IfOk c.reply.result (λ made. IsSolutionVerdict c.args.game.now c.args.solution.now explain made.0 made.1.items)) (sym c.if-explain.false)
+    (IfOk-weaker c.reply.result _ _
+    (λ made reply.
     verdict-made c.args.game.now c.args.solution.now c.in_ok-is_right.is_right made.0 made.1.items c.in_ok-is_right.ensures.wins
-    verdict.0 verdict.1)
-    c.verdict.ensures.made)
+    (rw c.verdict_answer.ensures at reply))
+    c.reply.ensures.reply)

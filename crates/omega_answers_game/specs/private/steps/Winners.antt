@@ -11,7 +11,7 @@ use Rattle.omega_game_values.specs.Solution.{winner_at}
 use Rattle.omega_pg.specs.solution.Canonical.{solution_text}
 use Rattle.omega_pg.specs.solution.Winners.{IsWinnersText}
 use Rattle.omega_solve.specs.Limits.{most_lifts}
-use Rattle.omega_answers_game.specs.Winners.{IsWinnersVerdict, given_at, wrong_text}
+use Rattle.omega_answers_game.specs.Winners.{IsWinnersVerdict, given_at, wrong_line}
 use Rattle.omega_answers_game.specs.declared.solve.asked.Asked.TheVariants.{Search}
 use Rattle.omega_answers_game.specs.solve.Refusing.{IsWholeFault}
 
@@ -30,10 +30,10 @@ abbrev pub explanation_text : Bool → List Node → Solution → List ℕ
 explanation_text false nodes solution = []
 explanation_text true nodes solution = solution_text nodes solution
 
--- the text of `no` that a solution makes for a place
-abbrev pub refutation_text : Bool → List Node → Solution → ℕ → List ℕ
-refutation_text explain nodes solution place =
-    wrong_text nodes place (winner_at solution place) ++ explanation_text explain nodes solution
+-- the lines after `no` that a solution makes for a place
+abbrev pub refutation_lines : Bool → List Node → Solution → ℕ → List ℕ
+refutation_lines explain nodes solution place =
+    wrong_line nodes place (winner_at solution place) ++ explanation_text explain nodes solution
 
 -- the text gives winners of the game, and the verdict on them is written
 pub record AreWinnersJudged (game : List Node) (text : List ℕ) (explain : Bool) (exit : Exit)
