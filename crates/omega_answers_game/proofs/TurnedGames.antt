@@ -1,5 +1,5 @@
 -- Winning by the least priority is winning in the game whose priorities are turned.
-use Rattle.std.proofs.Common.{◌≡◌, ◌↔◌, ℕ, ◌<◌, ◌≤◌, inl, inr, IsTrue, max, min, List, [], ◌∷◌, Option, length, get_or, map, refl, ap, sym, ◌∙◌, subst, arith}
+use Rattle.std.proofs.Common.{◌≡◌, ℕ, ◌<◌, ◌≤◌, inl, inr, max, List, [], ◌∷◌, Option, length, get_or, map, ap, sym, ◌∙◌, subst, arith}
 use Rattle.std.specs.Prelude.{Contains}
 use Rattle.std.specs.List.Sorted.{IsStrictlyIncreasing}
 use Rattle.std.proofs.lemmas.Bool.{cases_lt}
@@ -7,10 +7,9 @@ use Rattle.std.proofs.lemmas.List.{ext_get_or, get_or_past, get_or-map, length-m
 use Rattle.std.proofs.lemmas.List.FromFn.{get_or-map-range_with_len, length-map-range_with_len}
 use Rattle.omega_game_values.specs.declared.player.Player.{Player}
 use Rattle.omega_game_values.specs.Bound.{priorities_in_use}
-use Rattle.omega_game_values.specs.Game.{HasEdge, IsGame, Node, identifier_at, identifiers, no_node, node_at, owner_at, priorities, priority_at, successors_at}
+use Rattle.omega_game_values.specs.Game.{HasEdge, Node, identifier_at, identifiers, no_node, node_at, owner_at, priorities, priority_at, successors_at}
 use Rattle.omega_game_values.specs.Player.{loses}
-use Rattle.omega_game_values.specs.Winning.{Chooses, InRegion, IsClosedWalk, IsStrategy, IsWalk, Leaves, Wins, end_of, greatest_on}
-use Rattle.omega_pg.specs.game.Priorities.{with_priorities}
+use Rattle.omega_game_values.specs.Winning.{IsClosedWalk, IsStrategy, IsWalk, Leaves, Wins, end_of, greatest_on}
 use Rattle.omega_answers_game.specs.LeastPriorityLaws.{TurnedGamesAreGames, TurnedGamesWinAlike, TurnedRegionsAreAlike}
 use Rattle.omega_answers_game.specs.Turning.{turned_game, turned_priority}
 use Rattle.omega_answers_game.specs.Winning.{WinsByLeast, least_on}

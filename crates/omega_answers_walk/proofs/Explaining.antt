@@ -1,5 +1,5 @@
 -- What is explained with names by a lasso against a player's choices.
-use Rattle.std.proofs.Common.{◌≡◌, ℕ, ◌<◌, true, List, sym, subst, arith}
+use Rattle.std.proofs.Common.{ℕ, ◌<◌, true, List, sym, subst, arith}
 use Rattle.omega_game.specs.declared.lasso.Lasso.{Lasso}
 use Rattle.omega_answers_game.specs.Verify.{LosesGiven}
 use Rattle.omega_game_values.specs.Game.{Node}
