@@ -48,12 +48,13 @@ the game is not yet solved for that player, such as `player 0: 67108864 lifts of
 The line has the number of lifts so far, and the bound or, if it is less, the budget. Standard output and
 the exit status are the same without it, even if standard error cannot be written.
 
---search finds winners and choices with Zielonka's recursive algorithm. It is not proved that this finds
-the right ones. So what it finds is written only after it has passed the proved check of `omega verify`:
-for each player the choices win from all the nodes given to that player. No node is won by both players,
-so the winners that pass the check are right. The choices may differ from those of lifting. Where the
-search finds nothing, the game is solved by lifting, within the budget; --progress reports on that
-lifting alone. --search solves for both players, so it does not go with --player.
+--search finds winners and choices with Zielonka's recursive algorithm or, if that looks at too many
+edges, with tangle learning. It is not proved that these find the right ones. So what they find is written
+only after it has passed the proved check of `omega verify`: for each player the choices win from all the
+nodes given to that player. No node is won by both players, so the winners that pass the check are right.
+The choices may differ from those of lifting. Where both searches give up, the game is solved by lifting,
+within the budget; --progress reports on that lifting alone. --search solves for both players, so it does
+not go with --player.
 
 --from ID solves the part of the game that is reached from the node with that identifier, and writes
 lines for those nodes alone. Who wins them depends on nothing else in the game. If no node has the
