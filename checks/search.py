@@ -1,17 +1,14 @@
 """The winners that `solve --search` names, against a plain solver by recursion, in 1,300 random games and in hard ones,
-and in lines, ladders and cliques, where they are plain, up to 750,000 nodes. The budget is 0, so that the winners are
-the search's and not lifting's. Games on which the search stops are refused 51 with a budget of 0, and solved by lifting
-without one.
-
-A search that gives an answer makes no lift, so that it keeps a budget of 0; where it gave nothing, a game with a lift
-to make is refused 51. So an answer is seen to be the search's, and on a game that is too hard for the search to be
-lifting's.
+and in lines, ladders, cliques and rings of loops, where they are plain, up to 750,000 nodes. The budget is 0, so that
+the winners are the search's and not lifting's: a search that gives an answer makes no lift, and where it gave nothing, a
+game with a lift to make is refused 51. On rings of sixteen loops and more Zielonka's algorithm gives up, so that the
+answer is that of tangle learning.
 """
 import random
 from functools import partial
 
 from games import Game, Node, random_game, text_of, winners
-from program import Cases, Fault, refusal_fault, run_of
+from program import Cases, Fault, run_of
 
 
 def friedmann(levels: int) -> Game:
@@ -57,9 +54,9 @@ def winners_fault(words: list[str], game: Game) -> Fault:
     return None if said == wanted else f"nodes of players 0 and 1: {said} for {wanted}"
 
 
-def loops_fault(words: list[str], levels: int) -> Fault:
-    """Where not all nodes of a chain of loops are given to the player of the last, or nothing."""
-    run = run_of(words, text_of(loops(levels)))
+def loops_fault(words: list[str], levels: int, back: bool = False) -> Fault:
+    """Where not all nodes of a chain of loops, or of a ring, are given to the player of the last, or nothing."""
+    run = run_of(words, text_of(loops(levels, back)))
     if run.returncode:
         return f"status {run.returncode}: {run.stderr[:80]!r}"
     said, wanted = said_winners(run.stdout)[levels % 2], set(range(2 * levels))
@@ -136,11 +133,17 @@ def search_checks() -> Cases:
     for levels in (1, 2, 16, 40, 400):
         yield f"a chain of {levels} loops by a search without a lift", partial(
             loops_fault, search + ["--budget", "0"], levels)
-    for levels in (8, 12):
+    for levels in (8, 12, 16):
         game = loops(levels, back=True)
         yield f"a ring of {levels} loops by a search without a lift", partial(
             winners_fault, search + ["--budget", "0"], game)
-    ring = loops(16, back=True)
-    yield ("a ring of 16 loops, on which the search gives up, and no lift to solve it by",
-           partial(refusal_fault, search + ["--budget", "0"], text_of(ring), "51 Budget", 3))
-    yield "a ring of 16 loops, by lifting where the search gives up", partial(winners_fault, search, ring)
+    for levels in (40, 1000, 10_000):
+        yield f"a ring of {levels} loops by a search without a lift", partial(
+            loops_fault, search + ["--budget", "0"], levels, back=True)
+    for seed in range(3):
+        maker = random.Random(seed)
+        nodes = 10_000
+        game = {v: Node(priority, maker.randrange(2), [maker.randrange(nodes), maker.randrange(nodes)])
+                for v, priority in enumerate(maker.sample(range(nodes), nodes))}
+        yield f"random game {seed} of 10,000 nodes, each of another priority, by a search without a lift", partial(
+            answered_fault, game)
