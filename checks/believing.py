@@ -10,6 +10,7 @@ crates/omega_run/specs for what the subcommand asks for. From the words of these
 `use` lines of its file lead. A file stands after the files that it cites. A line of a specs file that has none of the
 forms below is an error, with its file and number.
 """
+import functools
 import glob
 import os
 import re
@@ -100,6 +101,8 @@ EXPORTS = {"omega_solve": "solving", "omega_verify": "verifying", "omega_bound":
 # the end of a record. All other lines are indented and belong to the definition above them.
 USE = re.compile(r"(?:(?:ghost|pub) )?use (?:Rattle|mathlib|base|denote)\.([\w.]+?)(?:\.\{([^}]*)\}| as (\w+));?$")
 LISTED = re.compile(r"pub use Rattle\.[\w.]+$|pub mod \w+$")
+# A file of definitions that a crate hands on from another crate.
+PASSED = re.compile(r"^pub use Rattle\.([\w.]+)$", re.MULTILINE)
 # Names that a file hands on from another one.
 HANDED = re.compile(r"^(pub use Rattle\..*\})$", re.MULTILINE)
 DECLARED = re.compile(r"(?:(?:abbrev |unfoldable )?pub (?:record |data )?|(?=[^\s(:{]+ :))([^\s(:{]+)"
@@ -299,12 +302,12 @@ class Names:
     def take(self, line: str) -> None:
         found = USE.match(line.strip())
         if found and found.group(3):
-            self.short[found.group(3)] = found.group(1)
+            self.short[found.group(3)] = defining_module(found.group(1))
         elif found and found.group(2) is not None:
             for one in found.group(2).split(","):
                 theirs, _, ours = one.strip().partition(" as ")
                 if theirs:
-                    self.given[ours.strip() or theirs] = (found.group(1), theirs)
+                    self.given[ours.strip() or theirs] = (defining_module(found.group(1)), theirs)
 
     def place_of(self, module: str, word: str) -> Place:
         """The module and the name that a word stands for."""
@@ -343,6 +346,22 @@ def module_of(path: str) -> str:
 
 def file_of(module: str) -> str:
     return f"crates/{module.replace('.', '/')}.antt"
+
+
+@functools.cache
+def passed_on(crate: str) -> dict[str, str]:
+    """The modules that the specs of a crate hand on from other crates, by the names that they have there."""
+    try:
+        with open(os.path.join(ROOT, "crates", crate, "specs", "Lib.antt"), encoding="utf-8") as file:
+            modules = PASSED.findall(file.read())
+    except FileNotFoundError:
+        return {}
+    return {f"{crate}.specs.{module.rpartition('.')[2]}": module for module in modules}
+
+
+def defining_module(module: str) -> str:
+    """The module that has the definitions of one that a crate may hand on."""
+    return passed_on(module.partition(".")[0]).get(module, module)
 
 
 class Sources:
