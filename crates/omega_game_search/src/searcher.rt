@@ -20,10 +20,8 @@ pub enum Searcher {
 }
 
 impl Searcher {
-    /// Returns how many edges the searcher may visit in `game` with an effort of 1, multiplied by `effort`. For n nodes
-    /// and m edges these are 16 · (n + m) for Zielonka's algorithm, and for tangle learning
-    /// 10,000,000 + 4,000 · (n + m), but at most 4,000,000,000.
-    pub fn fuel(self, game: &Game, effort: u64) -> u64 {
+    /// Returns how many edges the searcher may visit in `game`, `effort` times as many as with an effort of 1.
+    pub(crate) fn fuel(self, game: &Game, effort: u64) -> u64 {
         let size = (game.len() as u64).saturating_add(game.edges() as u64);
         let single = match self {
             Searcher::Zielonka => size.saturating_mul(ZIELONKA_FUEL),

@@ -12,14 +12,14 @@ use std::alloc::Global;
 /// Returns an exact solution of `game`: each node is given to the player in whose region it is, and each player's
 /// strategy wins from all of that region. Returns none if the search gives up or its suggestion is not accepted.
 ///
-/// Two searchers take turns, each with the fuel of [`Searcher::fuel`] for an effort of 1. The first is Zielonka's
-/// recursive algorithm with attractors (Zielonka 1998; van Dijk 2018), which takes exponential time at worst and then
-/// runs out of fuel soon. The second is tangle learning (van Dijk 2018), which takes exponential time at worst too, but
-/// does so on no family of games that was tried. It gives up after a minute or two, as for some games of 400,000 nodes
-/// with as many priorities.
+/// Two searchers take turns on a game of n nodes and m edges. The first is Zielonka's recursive algorithm with
+/// attractors (Zielonka 1998), which takes exponential time at worst. It may visit about 16 · (n + m) edges, which
+/// suffices for most games. The second is tangle learning (van Dijk 2018), whose time may be exponential too. It may
+/// visit about 10,000,000 + 4,000 · (n + m) edges, at most 4,000,000,000, and store 64 · (n + m) words, of 4 bytes. It
+/// gives up on some games of 400,000 nodes, each of another priority.
 ///
-/// With its answer a searcher suggests an order of the places, by which the answer is judged in time n + m for n nodes
-/// and m edges. A second run gives the same result.
+/// With its answer a searcher suggests an order of the places, by which the answer is judged in time n + m. A second
+/// run gives the same result.
 pub fn solve_by_search(alloc: Global, game: &Game) -> Result<Option<Solution>, Refusal>
     ensures exact { IfOk result (λ found. IfSome found (IsExactSolution game.now)) }
     ensures memory { IsOkUnless result Refusal.Memory }
@@ -28,8 +28,9 @@ pub fn solve_by_search(alloc: Global, game: &Game) -> Result<Option<Solution>, R
     Ok(searched.solution)
 }
 
-/// Solves `game` as `solve_by_search` does, with `effort` times the fuel, and by one searcher alone if one is given.
-/// Also returns how the turn of each searcher ended.
+/// Solves `game` as [`solve_by_search`] does, but each searcher may visit `effort` times as many edges, and if one is to
+/// search `alone`, then the other takes no turn. Also returns how the turn of each ended. A greater effort is of no use
+/// to a searcher that lacks room.
 pub fn solve_by(
     alloc: Global,
     game: &Game,

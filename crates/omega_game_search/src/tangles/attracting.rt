@@ -31,7 +31,7 @@ impl<'g> Decomposition<'g> {
         self.spend(predecessors.len());
         for before in predecessors {
             let before = *before;
-            if self.regions.at(before) == FREE && self.is_forced(region.player, before, node) {
+            if self.regions.at(before) == FREE && self.is_forced(region.player(), before, node) {
                 self.take(before, region.level)?;
             }
         }
@@ -58,7 +58,7 @@ impl<'g> Decomposition<'g> {
             }
             self.spend(1);
             if let Some(tangle) = self.tangles.close_escape(escape)
-                && tangle.player == region.player
+                && tangle.player == region.player()
             {
                 self.attract_tangle(region, tangle)?;
             }

@@ -29,7 +29,7 @@ impl<'g> Decomposition<'g> {
     /// chooses to stay.
     #[inline(always)]
     fn leaves(&mut self, region: Region, head: u32) -> bool {
-        if self.game.owner(head) != region.player {
+        if self.game.owner(head) != region.player() {
             return self.finds(head, RegionRange::FREE);
         }
         !self.stays(region, head)
@@ -75,7 +75,7 @@ impl<'g> Decomposition<'g> {
     /// Whether a node of `region` must or may go to `target`, which leaves. A head chooses another successor if it can.
     #[inline(always)]
     fn follows(&mut self, region: Region, node: u32, target: u32) -> bool {
-        if self.game.owner(node) != region.player {
+        if self.game.owner(node) != region.player() {
             return true;
         }
         if self.choice(node) != target {
@@ -97,7 +97,7 @@ impl<'g> Decomposition<'g> {
         for position in region.start..number_of(self.order.len()) {
             let node = self.in_order(position);
             if self.regions.at(node) == region.level
-                && self.game.owner(node) != region.player
+                && self.game.owner(node) != region.player()
                 && !self.is_kept_in(region, node)
             {
                 return false;

@@ -2,7 +2,6 @@
 use crate::tangles::decomposition::Decomposition;
 use crate::tangles::region::{Region, is_in_play};
 use crate::tangles::tangle::TangleNode;
-use omega_game_values::Player;
 use omega_graph_search::{NONE, SearchedGraph, number_of};
 use std::alloc::{AllocError, Global};
 use std::slice;
@@ -30,7 +29,6 @@ impl<'g> Learning<'g> {
             decomposition,
             region: Region {
                 level: NONE,
-                player: Player::Zero,
                 start: 0,
                 heads: 0,
                 before: 0,
@@ -87,7 +85,7 @@ impl<'g> Learning<'g> {
     /// Whether the player of the region owns `node`.
     #[inline(always)]
     fn is_own(&self, node: u32) -> bool {
-        self.decomposition.game.owner(node) == self.region.player
+        self.decomposition.game.owner(node) == self.region.player()
     }
 
     /// Makes a tangle of the last nodes and escapes.
@@ -97,7 +95,7 @@ impl<'g> Learning<'g> {
             regions,
             ..
         } = &mut self.decomposition;
-        let level = tangles.add_tangle(self.region.player, first_node, first_escape, regions)?;
+        let level = tangles.add_tangle(self.region.player(), first_node, first_escape, regions)?;
         match level {
             Some(level) => {
                 self.again = Some(match self.again {

@@ -1,3 +1,4 @@
+use crate::tangles::ranked_game::player_of;
 use omega_game_values::Player;
 use omega_graph_search::NONE;
 
@@ -23,12 +24,19 @@ pub(crate) fn is_in_play(region: u32) -> bool {
 #[derive(Clone, Copy)]
 pub(crate) struct Region {
     pub level: u32,
-    pub player: Player,
     /// Where its nodes begin in the list of all, and the number of its heads.
     pub start: u32,
     pub heads: u32,
     /// Where to look for heads of the next region if this one is given up: before this index of the nodes in play.
     pub before: u32,
+}
+
+impl Region {
+    /// Returns the player of its level, for whom it is.
+    #[inline(always)]
+    pub(crate) fn player(self) -> Player {
+        player_of(self.level)
+    }
 }
 
 /// A range of regions, or of what stands for one.

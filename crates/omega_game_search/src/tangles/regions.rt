@@ -1,6 +1,5 @@
 //! How regions begin, and how they are given up.
 use crate::tangles::decomposition::Decomposition;
-use crate::tangles::ranked_game::player_of;
 use crate::tangles::region::{FREE, Region, is_in_play};
 use omega_graph_search::{NONE, number_of};
 use std::alloc::AllocError;
@@ -31,7 +30,6 @@ impl<'g> Decomposition<'g> {
         }
         let region = Region {
             level,
-            player: player_of(level),
             start,
             heads: number_of(self.order.len()).saturating_sub(start),
             before,
