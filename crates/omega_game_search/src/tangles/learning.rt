@@ -88,20 +88,22 @@ impl<'g> Learning<'g> {
         self.decomposition.game.owner(node) == self.region.player()
     }
 
-    /// Makes a tangle of the last nodes and escapes.
+    /// Makes a tangle of the nodes and escapes from these indices on.
     fn add_tangle(&mut self, first_node: u32, first_escape: u32) -> Result<(), AllocError> {
-        let Decomposition {
-            tangles,
-            regions,
-            ..
-        } = &mut self.decomposition;
-        let level = tangles.add_tangle(self.region.player(), first_node, first_escape, regions)?;
-        match level {
+        let player = self.region.player();
+        let decomposition = &mut self.decomposition;
+        let tangle = decomposition
+            .tangles
+            .add_tangle(player, first_node, first_escape)?;
+        match decomposition
+            .tangles
+            .level_of(tangle, &decomposition.regions)
+        {
             Some(level) => {
-                self.again = Some(match self.again {
-                    Some(again) => again.max(level),
-                    None => level,
-                });
+                self.again = match self.again {
+                    Some(again) if level < again => Some(again),
+                    _ => Some(level),
+                };
             }
             None => self.has_dominion = true,
         }

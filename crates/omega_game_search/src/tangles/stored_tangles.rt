@@ -1,6 +1,6 @@
 //! The tangles that were learned, and their escapes by node.
 use crate::tangles::region::FREE;
-use crate::tangles::tangle::{Escape, Tangle, TangleNode, escapes_in, lesser};
+use crate::tangles::tangle::{Escape, Tangle, TangleNode};
 use omega_game_values::Player;
 use omega_graph_search::{NONE, NumberTable, number_of};
 use std::alloc::{AllocError, Global};
@@ -134,23 +134,56 @@ impl StoredTangles {
     /// have.
     pub(crate) fn count_free_escapes(&mut self, regions: &NumberTable) -> usize {
         let mut looked_at: usize = 0;
-        for index in self.known as usize..self.tangles.len() {
-            let tangle = self.tangles[index];
-            let escapes = escapes_in(self.escapes.as_slice(), tangle);
-            looked_at = looked_at.wrapping_add(escapes.len());
-            let mut free_escapes: u32 = 0;
-            for escape in escapes {
-                if regions.at(escape.node) == FREE {
-                    free_escapes = free_escapes.wrapping_add(1);
-                }
+        for index in self.known..self.len() {
+            if let Some(tangle) = self.tangle(index) {
+                let free_escapes = self.free_escapes_of(tangle, regions);
+                self.put_tangle(
+                    index as usize,
+                    Tangle {
+                        free_escapes,
+                        ..tangle
+                    },
+                );
+                looked_at = looked_at.wrapping_add(tangle.escapes() as usize);
             }
-            self.tangles[index] = Tangle {
-                free_escapes,
-                ..tangle
-            };
         }
         self.known = self.len();
         looked_at
+    }
+
+    /// Returns how many escapes of `tangle` are free.
+    fn free_escapes_of(&self, tangle: Tangle, regions: &NumberTable) -> u32 {
+        let mut count: u32 = 0;
+        for escape in self.escapes_of(tangle) {
+            if regions.at(escape.node) == FREE {
+                count = count.wrapping_add(1);
+            }
+        }
+        count
+    }
+
+    /// Returns the level to which `tangle` is attracted, the least of its escapes, or none if it has no escapes.
+    pub(crate) fn level_of(&self, tangle: Tangle, regions: &NumberTable) -> Option<u32> {
+        let mut least = None;
+        for escape in self.escapes_of(tangle) {
+            let level = regions.at(escape.node);
+            least = match least {
+                Some(least) if least < level => Some(least),
+                _ => Some(level),
+            };
+        }
+        least
+    }
+
+    /// Returns the escapes of `tangle`.
+    fn escapes_of(&self, tangle: Tangle) -> &[Escape] {
+        match self
+            .escapes
+            .get(tangle.first_escape as usize..tangle.end_escape as usize)
+        {
+            Some(escapes) => escapes,
+            None => &[],
+        }
     }
 
     /// Appends a node to the list of all.
@@ -168,11 +201,7 @@ impl StoredTangles {
 
     /// Appends an escape to `node` to the list of all. It becomes one of the next tangle.
     pub(crate) fn add_escape(&mut self, node: u32) -> Result<(), AllocError> {
-        self.escapes.push(Escape {
-            node,
-            tangle: NONE,
-            next: NONE,
-        })?;
+        self.escapes.push(Escape::to(node))?;
         Ok(())
     }
 
@@ -181,42 +210,43 @@ impl StoredTangles {
         self.escapes.truncate(first as usize);
     }
 
-    /// Makes a tangle of `player` of the last nodes and escapes. Returns the level to which it is attracted, which is
-    /// the least of its escapes, or none if it has no escapes.
+    /// Makes a tangle of `player` of the nodes and escapes from these indices on, and returns it.
     pub(crate) fn add_tangle(
         &mut self,
         player: Player,
         first_node: u32,
         first_escape: u32,
-        regions: &NumberTable,
-    ) -> Result<Option<u32>, AllocError> {
+    ) -> Result<Tangle, AllocError> {
         let index = self.len();
-        let end_node = self.node_count();
-        let end_escape = self.escape_count();
-        self.tangles.push(Tangle {
+        let tangle = Tangle {
             player,
             free_escapes: 0,
             first_node,
-            end_node,
+            end_node: self.node_count(),
             first_escape,
-            end_escape,
-        })?;
-        let mut least = None;
-        for escape in first_escape..end_escape {
-            if let Some(node) = self.link(escape, index) {
-                least = lesser(least, regions.at(node));
-            }
+            end_escape: self.escape_count(),
+        };
+        self.tangles.push(tangle)?;
+        for escape in first_escape..tangle.end_escape {
+            self.link(escape, index);
         }
-        Ok(least)
+        Ok(tangle)
     }
 
-    /// Gives the escape at `index` to `tangle` and puts it before the other escapes to its node, which it returns.
-    pub(crate) fn link(&mut self, index: u32, tangle: u32) -> Option<u32> {
-        let node = self.escapes.get(index as usize)?.node;
-        let next = self.first_escapes.at(node);
-        self.put_escape(index as usize, Escape { node, tangle, next });
-        self.first_escapes.put(node, index);
-        Some(node)
+    /// Gives the escape at `index` to the tangle at `tangle`, and puts it before the other escapes to its node.
+    pub(crate) fn link(&mut self, index: u32, tangle: u32) {
+        if let Some(escape) = self.escapes.get(index as usize).copied() {
+            let next = self.first_escapes.at(escape.node);
+            self.put_escape(
+                index as usize,
+                Escape {
+                    tangle,
+                    next,
+                    ..escape
+                },
+            );
+            self.first_escapes.put(escape.node, index);
+        }
     }
 
     /// Replaces the tangle at `index`.

@@ -1,4 +1,5 @@
 use omega_game_values::Player;
+use omega_graph_search::NONE;
 
 /// A tangle: nodes in which the choices of its player win each play that stays. The opponent can leave it by its
 /// escapes alone.
@@ -15,9 +16,14 @@ pub(crate) struct Tangle {
 }
 
 impl Tangle {
+    /// Returns the number of its escapes.
+    pub(crate) fn escapes(self) -> u32 {
+        self.end_escape.wrapping_sub(self.first_escape)
+    }
+
     /// Whether the opponent cannot leave the tangle.
     pub(crate) fn is_dominion(self) -> bool {
-        self.first_escape == self.end_escape
+        self.escapes() == 0
     }
 }
 
@@ -38,18 +44,13 @@ pub(crate) struct Escape {
     pub next: u32,
 }
 
-/// Returns those of `escapes` that `tangle` has.
-pub(crate) fn escapes_in(escapes: &[Escape], tangle: Tangle) -> &[Escape] {
-    match escapes.get(tangle.first_escape as usize..tangle.end_escape as usize) {
-        Some(escapes) => escapes,
-        None => &[],
-    }
-}
-
-/// Returns the lesser of two numbers, of which the first may be missing.
-pub(crate) fn lesser(least: Option<u32>, number: u32) -> Option<u32> {
-    match least {
-        Some(least) => Some(least.min(number)),
-        None => Some(number),
+impl Escape {
+    /// Makes an escape to `node` that no tangle has.
+    pub(crate) fn to(node: u32) -> Escape {
+        Escape {
+            node,
+            tangle: NONE,
+            next: NONE,
+        }
     }
 }
