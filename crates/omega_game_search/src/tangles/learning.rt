@@ -49,27 +49,40 @@ impl<'g> Learning<'g> {
 
     /// Stores the whole closed part of `region`, which the opponent cannot leave.
     pub(crate) fn store_whole(&mut self, region: Region) -> Result<(), AllocError> {
-        self.region = region;
+        self.begin(region);
         let first_node = self.decomposition.tangles.node_count();
-        let end = region.start.saturating_add(region.heads);
-        for position in end..number_of(self.decomposition.order.len()) {
-            self.store(position)?;
-        }
-        for position in (region.start..end).rev() {
-            self.store(position)?;
+        for index in 0..self.size() {
+            let node = self.node(index);
+            if self.is_closed(node) {
+                let planned = self.planned(node);
+                self.decomposition.tangles.add_node(planned)?;
+            }
         }
         let first_escape = self.decomposition.tangles.escape_count();
         self.add_tangle(first_node, first_escape)
     }
 
-    /// Stores the node at `position` if it is in the closed part.
-    fn store(&mut self, position: u32) -> Result<(), AllocError> {
-        let node = self.decomposition.in_order(position);
-        if self.decomposition.regions.at(node) == self.region.level {
-            let planned = self.planned(node);
-            self.decomposition.tangles.add_node(planned)?;
-        }
-        Ok(())
+    /// Returns the number of nodes of the region.
+    fn size(&self) -> u32 {
+        number_of(self.decomposition.order.len()).saturating_sub(self.region.start)
+    }
+
+    /// Returns the node at `index` of the region, in the order in which a tangle is attracted: first what was attracted
+    /// to the heads, and then the heads, the last first.
+    fn node(&self, index: u32) -> u32 {
+        let Region { start, heads, .. } = self.region;
+        let attracted = self.size().saturating_sub(heads);
+        let offset = if index < attracted {
+            heads.wrapping_add(index)
+        } else {
+            self.size().wrapping_sub(index).wrapping_sub(1)
+        };
+        self.decomposition.in_order(start.wrapping_add(offset))
+    }
+
+    /// Whether `node` is in the closed part of the region.
+    fn is_closed(&self, node: u32) -> bool {
+        self.decomposition.regions.at(node) == self.region.level
     }
 
     /// Returns `node` with what the player of the region chose there.
@@ -110,25 +123,18 @@ impl<'g> Learning<'g> {
         Ok(())
     }
 
-    /// Lists the nodes of each tangle that was found in the region in the order in which they are attracted: what was
-    /// attracted to the heads, and then the heads, the last first.
+    /// Lists the nodes of each tangle that was found in the region in the order in which they are attracted.
     pub(crate) fn list_nodes(&mut self) {
-        let region = self.region;
-        let end = region.start.saturating_add(region.heads);
-        for position in end..number_of(self.decomposition.order.len()) {
-            self.list_node(position);
-        }
-        for position in (region.start..end).rev() {
-            self.list_node(position);
+        for index in 0..self.size() {
+            let node = self.node(index);
+            if self.is_closed(node) {
+                self.list_node(node);
+            }
         }
     }
 
-    /// Lists the node at `position` in its tangle, if it is in one.
-    fn list_node(&mut self, position: u32) {
-        let node = self.decomposition.in_order(position);
-        if self.decomposition.regions.at(node) != self.region.level {
-            return;
-        }
+    /// Lists `node` as the next one of its tangle, if it is in one.
+    fn list_node(&mut self, node: u32) {
         let stamp = self.decomposition.stamps.at(node);
         let component = stamp.wrapping_sub(self.first_stamp).wrapping_sub(1) as usize;
         if component >= self.listed.len() || self.listed[component] == NONE {
