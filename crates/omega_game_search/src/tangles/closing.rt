@@ -6,9 +6,9 @@ use std::alloc::AllocError;
 
 impl<'g> Decomposition<'g> {
     /// Marks what is not in the closed part of `region` as leaving, and lets the heads that are in it choose. Returns
-    /// whether there is a closed part. The marks are taken back by `take_back`.
+    /// whether any node is in it. The marks stand until `take_back`.
     #[inline(never)]
-    pub(crate) fn find_closed_part(&mut self, region: Region) -> Result<bool, AllocError> {
+    pub(crate) fn finds_closed_part(&mut self, region: Region) -> Result<bool, AllocError> {
         self.leaving.clear();
         let end = region.start.saturating_add(region.heads);
         for position in region.start..end {
@@ -18,15 +18,15 @@ impl<'g> Decomposition<'g> {
             }
         }
         if self.leaving.len() < region.heads as usize {
-            self.find_leaving(region)?;
+            self.mark_followers(region)?;
             let size = self.order.len().saturating_sub(region.start as usize);
             return Ok(self.leaving.len() < size);
         }
         Ok(false)
     }
 
-    /// Whether the owner of a head must leave `region`, or as the opponent can leave it downward. Else the owner
-    /// chooses to stay.
+    /// Whether the player of `region` must leave it at `head`, or the opponent can leave it downward. A player who can
+    /// stay chooses to.
     #[inline(always)]
     fn leaves(&mut self, region: Region, head: u32) -> bool {
         if self.game.owner(head) != region.player() {
@@ -35,7 +35,7 @@ impl<'g> Decomposition<'g> {
         !self.stays(region, head)
     }
 
-    /// Lets the owner of `head` choose to stay, if one of its successors does.
+    /// Lets the owner of `head` choose a successor that stays, and returns whether there is one.
     #[inline(always)]
     fn stays(&mut self, region: Region, head: u32) -> bool {
         if self.finds(head, RegionRange::at(region.level)) {
@@ -46,6 +46,7 @@ impl<'g> Decomposition<'g> {
         false
     }
 
+    /// Marks `node` as leaving.
     fn mark_leaving(&mut self, node: u32) -> Result<(), AllocError> {
         self.regions.put(node, LEAVING);
         self.leaving.push(node)?;
@@ -53,7 +54,7 @@ impl<'g> Decomposition<'g> {
     }
 
     /// Marks as leaving what must or may go to a node that leaves.
-    fn find_leaving(&mut self, region: Region) -> Result<(), AllocError> {
+    fn mark_followers(&mut self, region: Region) -> Result<(), AllocError> {
         let game = self.game;
         for position in 0..NONE {
             let node = match self.leaving.get(position as usize) {

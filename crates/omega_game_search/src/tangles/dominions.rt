@@ -65,7 +65,7 @@ impl<'g> Decomposition<'g> {
                 break;
             }
         }
-        Ok(self.greatest_changed(from).max(top))
+        Ok(self.greatest_changed_level(from).max(top))
     }
 
     /// Takes out the tangle at `index`, with its attractor, if it has no escapes. Returns the greatest level of their
@@ -116,7 +116,7 @@ impl<'g> Decomposition<'g> {
 
     /// Returns the greatest level, and at least 0, at which a node in play may now be that has lost a successor among
     /// the won nodes from the position `from` on: that of its region or of the least region that it still leads to.
-    fn greatest_changed(&mut self, from: u32) -> u32 {
+    fn greatest_changed_level(&mut self, from: u32) -> u32 {
         let game = self.game;
         let stamp = self.new_stamp();
         let mut top = 0;
@@ -130,7 +130,7 @@ impl<'g> Decomposition<'g> {
                 let level = self.regions.at(before);
                 if is_in_play(level) && self.stamps.at(before) != stamp {
                     self.stamps.put(before, stamp);
-                    top = self.least_successor(before).max(level).max(top);
+                    top = self.least_successor_level(before).max(level).max(top);
                 }
             }
         }
@@ -138,7 +138,7 @@ impl<'g> Decomposition<'g> {
     }
 
     /// Returns the least level of a successor of `node` in play, or 0 if there is none.
-    fn least_successor(&mut self, node: u32) -> u32 {
+    fn least_successor_level(&mut self, node: u32) -> u32 {
         let game = self.game;
         let successors = game.successors(node);
         self.spend(successors.len());

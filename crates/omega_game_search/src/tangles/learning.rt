@@ -54,7 +54,7 @@ impl<'g> Learning<'g> {
         for index in 0..self.size() {
             let node = self.node(index);
             if self.is_closed(node) {
-                let planned = self.planned(node);
+                let planned = self.planned_node(node);
                 self.decomposition.tangles.add_node(planned)?;
             }
         }
@@ -86,7 +86,7 @@ impl<'g> Learning<'g> {
     }
 
     /// Returns `node` with what the player of the region chose there.
-    fn planned(&self, node: u32) -> TangleNode {
+    fn planned_node(&self, node: u32) -> TangleNode {
         let choice = if self.is_own(node) {
             self.decomposition.choice(node)
         } else {
@@ -141,7 +141,7 @@ impl<'g> Learning<'g> {
             return;
         }
         let index = self.listed[component];
-        let planned = self.planned(node);
+        let planned = self.planned_node(node);
         self.decomposition.tangles.put_node(index, planned);
         self.listed[component] = index.wrapping_add(1);
     }
@@ -237,7 +237,7 @@ impl<'g> SearchedGraph for Learning<'g> {
         }
         let first_node = self.decomposition.tangles.node_count();
         for node in component {
-            let planned = self.planned(*node);
+            let planned = self.planned_node(*node);
             self.decomposition.tangles.add_node(planned)?;
         }
         self.listed.push(first_node)?;

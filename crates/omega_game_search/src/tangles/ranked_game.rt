@@ -24,8 +24,9 @@ impl RankedGame {
         for (rank, place) in places.iter().enumerate() {
             ranks.put(*place, number_of(rank));
         }
-        let successors = Neighbours::ahead(alloc, game, places.as_slice(), &ranks)?;
-        let predecessors = Neighbours::behind(alloc, game, places.as_slice(), &ranks)?;
+        let list = places.as_slice();
+        let successors = Neighbours::of_places(alloc, game, list, &ranks, Direction::Ahead)?;
+        let predecessors = Neighbours::of_places(alloc, game, list, &ranks, Direction::Behind)?;
         Ok(RankedGame {
             places,
             levels,
@@ -67,13 +68,13 @@ impl RankedGame {
     /// Returns the successors of `node`.
     #[inline(always)]
     pub(crate) fn successors(&self, node: u32) -> &[u32] {
-        self.successors.of(node)
+        self.successors.list(node)
     }
 
     /// Returns the predecessors of `node`, one entry for each edge.
     #[inline(always)]
     pub(crate) fn predecessors(&self, node: u32) -> &[u32] {
-        self.predecessors.of(node)
+        self.predecessors.list(node)
     }
 }
 
@@ -105,6 +106,13 @@ fn levels_along(alloc: Global, game: &Game, places: &[u32]) -> Result<NumberTabl
     Ok(NumberTable::of(levels))
 }
 
+/// In which direction an edge is followed.
+#[derive(Clone, Copy)]
+enum Direction {
+    Ahead,
+    Behind,
+}
+
 /// The neighbours of each node in one direction.
 #[derive(Drop)]
 struct Neighbours {
@@ -114,43 +122,24 @@ struct Neighbours {
 }
 
 impl Neighbours {
-    /// Lists the successors of each of `places`, by rank.
-    fn ahead(
+    /// Lists the neighbours of each of `places`, by rank.
+    fn of_places(
         alloc: Global,
         game: &Game,
         places: &[u32],
         ranks: &NumberTable,
+        direction: Direction,
     ) -> Result<Neighbours, AllocError> {
         let mut first = Vec::with_capacity(alloc, places.len().saturating_add(1))?;
         let mut nodes = Vec::with_capacity(alloc, game.edges())?;
         for place in places {
             first.push(number_of(nodes.len()))?;
             if (*place as usize) < game.len() {
-                let successors = game.successors(*place);
-                append_ranks(game, ranks, *place, successors, &mut nodes)?;
-            }
-        }
-        first.push(number_of(nodes.len()))?;
-        Ok(Neighbours {
-            first: NumberTable::of(first),
-            nodes,
-        })
-    }
-
-    /// Lists the predecessors of each of `places`, by rank.
-    fn behind(
-        alloc: Global,
-        game: &Game,
-        places: &[u32],
-        ranks: &NumberTable,
-    ) -> Result<Neighbours, AllocError> {
-        let mut first = Vec::with_capacity(alloc, places.len().saturating_add(1))?;
-        let mut nodes = Vec::with_capacity(alloc, game.edges())?;
-        for place in places {
-            first.push(number_of(nodes.len()))?;
-            if (*place as usize) < game.len() {
-                let predecessors = game.predecessors(*place);
-                append_ranks(game, ranks, *place, predecessors, &mut nodes)?;
+                let neighbours = match direction {
+                    Direction::Ahead => game.successors(*place),
+                    Direction::Behind => game.predecessors(*place),
+                };
+                append_ranks(game, ranks, *place, neighbours, &mut nodes)?;
             }
         }
         first.push(number_of(nodes.len()))?;
@@ -162,7 +151,7 @@ impl Neighbours {
 
     /// Returns the neighbours of `node`.
     #[inline(always)]
-    fn of(&self, node: u32) -> &[u32] {
+    fn list(&self, node: u32) -> &[u32] {
         let start = self.first.at(node) as usize;
         let end = self.first.at(node.wrapping_add(1)) as usize;
         match self.nodes.get(start..end) {

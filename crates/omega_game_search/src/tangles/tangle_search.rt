@@ -113,7 +113,7 @@ impl<'g> TangleSearch<'g> {
         let decomposition = &mut self.learning.decomposition;
         let region = decomposition.begin_region(self.nodes.as_slice(), before)?;
         decomposition.attract(region)?;
-        if decomposition.find_closed_part(region)? {
+        if decomposition.finds_closed_part(region)? {
             if decomposition.is_shut(region) {
                 self.learning.store_whole(region)?;
             } else {
