@@ -15,8 +15,7 @@ use std::alloc::Global;
 /// Two searchers take turns on a game of n nodes and m edges. The first is Zielonka's recursive algorithm with
 /// attractors (Zielonka 1998), which takes exponential time at worst. It may visit about 16 · (n + m) edges, which
 /// suffices for most games. The second is tangle learning (van Dijk 2018), whose time may be exponential too. It may
-/// visit about 10,000,000 + 4,000 · (n + m) edges, at most 4,000,000,000, and store 64 · (n + m) words, of 4 bytes. It
-/// gives up on some games of 400,000 nodes, each of another priority.
+/// visit about 10,000,000 + 4,000 · (n + m) edges, at most 4,000,000,000, and store 64 · (n + m) words of 4 bytes.
 ///
 /// With its answer a searcher suggests an order of the places, by which the answer is judged in time n + m. A second
 /// run gives the same result.
@@ -28,9 +27,9 @@ pub fn solve_by_search(alloc: Global, game: &Game) -> Result<Option<Solution>, R
     Ok(searched.solution)
 }
 
-/// Solves `game` as [`solve_by_search`] does, but each searcher may visit `effort` times as many edges, and if one is to
-/// search `alone`, then the other takes no turn. Also returns how the turn of each ended. A greater effort is of no use
-/// to a searcher that lacks room.
+/// Solves `game` as [`solve_by_search`] does, but each searcher may visit `effort` times as many edges. If one is to
+/// search `alone`, then the other takes no turn. Also returns how the turn of each ended. A greater effort does not help
+/// tangle learning if it stored all the words that it may.
 pub fn solve_by(
     alloc: Global,
     game: &Game,
