@@ -28,8 +28,8 @@ pub fn solve_by_search(alloc: Global, game: &Game) -> Result<Option<Solution>, R
 }
 
 /// Solves `game` as [`solve_by_search`] does, but each searcher may visit `effort` times as many edges. If one is to
-/// search `alone`, then the other takes no turn. Also returns how the turn of each ended. A greater effort does not help
-/// tangle learning if it stored all the words that it may.
+/// search `alone`, then the other takes no turn. Also returns how the turn of each ended. A greater effort does not
+/// help tangle learning if it stored all the words that it may.
 pub fn solve_by(
     alloc: Global,
     game: &Game,
