@@ -2,4 +2,5 @@
 pub use Rattle.omega_game_values.specs.Game
 pub use Rattle.omega_game_values.specs.Solution
 pub use Rattle.omega_game_values.specs.Winning
+pub mod Turns
 pub mod private

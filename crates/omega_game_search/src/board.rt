@@ -3,12 +3,6 @@ use omega_game_values::{Game, Player};
 use omega_graph_search::{NONE, NumberTable, number_of};
 use std::alloc::{AllocError, Global};
 
-/// The depth of a place that is won.
-pub(crate) const WON: u32 = 0;
-
-/// The depth of a place whose component is not searched yet, or that is lost there.
-pub(crate) const WAITING: u32 = 1;
-
 /// The places of a game by the depth of the subgame that took them out of play.
 #[derive(Drop)]
 pub(crate) struct Board {
@@ -23,10 +17,10 @@ pub(crate) struct Board {
 }
 
 impl Board {
-    /// Makes a board on which all places are waiting.
+    /// Makes a board on which all places are in play.
     pub(crate) fn new(alloc: Global, game: &Game, fuel: u64) -> Result<Board, AllocError> {
         let count = game.len();
-        let depth = NumberTable::filled(alloc, count, WAITING)?;
+        let depth = NumberTable::filled(alloc, count, NONE)?;
         let watched = NumberTable::filled(alloc, count, 0)?;
         let moves = NumberTable::filled(alloc, count, NONE)?;
         let trail = Vec::with_capacity(alloc, count)?;
@@ -45,9 +39,9 @@ impl Board {
         self.fuel = self.fuel.saturating_sub(edges as u64);
     }
 
-    /// Whether no fuel is left.
-    pub(crate) fn is_spent(&self) -> bool {
-        self.fuel == 0
+    /// Returns how much fuel is left.
+    pub(crate) fn fuel(&self) -> u64 {
+        self.fuel
     }
 
     /// Returns for each place the place that its owner moves to.
@@ -85,11 +79,6 @@ impl Board {
     #[inline(always)]
     pub(crate) fn is_in_play(&self, place: u32) -> bool {
         self.depth.at(place) == NONE
-    }
-
-    /// Whether `place` is waiting.
-    pub(crate) fn is_waiting(&self, place: u32) -> bool {
-        self.depth.at(place) == WAITING
     }
 
     /// Sets the depth of `place`.

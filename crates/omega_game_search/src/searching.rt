@@ -1,46 +1,67 @@
 use crate::chains::{Chain, Chains};
-use crate::components::ComponentPlaces;
+use crate::searcher::Searcher;
 use crate::sorting::by_priority;
-use crate::suggestion::Suggestion;
+use crate::suggestion::{Finding, Suggestion};
+use crate::tangles::{RankedGame, TangleSearch};
 use crate::zielonka::Zielonka;
 use omega_game_values::{Game, Player};
 use omega_graph_search::NONE;
 use std::alloc::{AllocError, Global};
 
-/// Searches for the winning regions of `game`, first as a whole and then by components. Returns none if both searches
-/// used up their `fuel`. A unit of fuel pays for about one visit to an edge. Returns an error if a request for memory
-/// is refused.
-pub fn search(alloc: Global, game: &Game, fuel: u64) -> Result<Option<Suggestion>, AllocError> {
-    let whole = ComponentPlaces::single_component(alloc, by_priority(alloc, game)?)?;
-    if let Some(suggestion) = suggestion_by_search(alloc, game, whole, fuel)? {
-        return Ok(Some(suggestion));
-    }
-    let components = ComponentPlaces::of(alloc, game, by_priority(alloc, game)?)?;
-    suggestion_by_search(alloc, game, components, fuel)
-}
-
-/// Returns what the search by `components` suggests, or none if the fuel runs out.
-fn suggestion_by_search(
+/// Lets `searcher` search for the winning regions of `game`. It gives up if it uses up its `fuel`, of which a unit pays
+/// for about one visit to an edge. Returns an error if a request for memory is refused.
+pub fn search(
     alloc: Global,
     game: &Game,
-    components: ComponentPlaces,
+    searcher: Searcher,
     fuel: u64,
-) -> Result<Option<Suggestion>, AllocError> {
-    let mut zielonka = Zielonka::new(alloc, game, components, fuel)?;
-    let won = match zielonka.solve(game)? {
+) -> Result<Finding, AllocError> {
+    match searcher {
+        Searcher::Zielonka => finding_of_zielonka(alloc, game, fuel),
+        Searcher::Tangles => finding_of_tangles(alloc, game, fuel),
+    }
+}
+
+/// Returns what tangle learning finds.
+fn finding_of_tangles(alloc: Global, game: &Game, fuel: u64) -> Result<Finding, AllocError> {
+    let ranked = RankedGame::of(alloc, game)?;
+    let mut tangles = TangleSearch::new(alloc, &ranked, fuel)?;
+    let is_solved = tangles.solve()?;
+    let edges = fuel.saturating_sub(tangles.fuel());
+    let suggestion = if is_solved {
+        Some(tangles.into_suggestion(alloc)?)
+    } else {
+        None
+    };
+    Ok(Finding { suggestion, edges })
+}
+
+/// Returns what Zielonka's algorithm finds.
+fn finding_of_zielonka(alloc: Global, game: &Game, fuel: u64) -> Result<Finding, AllocError> {
+    let places = by_priority(alloc, game)?;
+    let mut zielonka = Zielonka::new(alloc, game, places, fuel)?;
+    let solved = zielonka.solve(game)?;
+    let edges = fuel.saturating_sub(zielonka.fuel());
+    let won = match solved {
         Some(won) => won,
-        None => return Ok(None),
+        None => {
+            return Ok(Finding {
+                suggestion: None,
+                edges,
+            });
+        }
     };
     let mut order = Vec::with_capacity(alloc, game.len())?;
     let mut winners = vec![in alloc; Player::Zero; game.len()]?;
     list(zielonka.chains(), won.one, game.len(), &mut order)?;
     give(order.as_slice(), &mut winners);
     list(zielonka.chains(), won.zero, game.len(), &mut order)?;
-    Ok(Some(Suggestion {
+    let suggestion = Some(Suggestion {
         winners,
         moves: zielonka.into_moves(),
         order,
-    }))
+    });
+    Ok(Finding { suggestion, edges })
 }
 
 /// Appends the places of `chain` to `order`, at most `most` of them.

@@ -11,3 +11,12 @@ pub struct Suggestion {
     /// An order of the places which shows that these moves win.
     pub order: Vec<u32>,
 }
+
+/// What a searcher came to.
+#[derive(Drop)]
+pub struct Finding {
+    /// What it suggests, or none if it gave up.
+    pub suggestion: Option<Suggestion>,
+    /// About how many edges it visited.
+    pub edges: u64,
+}

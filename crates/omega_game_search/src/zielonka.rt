@@ -1,7 +1,18 @@
-//! The open subgames, each within the one before, and the step from one to the next.
-use crate::board::{Board, WAITING, WON};
+//! Zielonka's recursive algorithm (Zielonka 1998), without recursion and on flat arrays (van Dijk 2018): the open
+//! subgames, each within the one before, and the step from one to the next.
+//!
+//! The top nodes of a subgame are the places of its greatest priorities, as long as these are of one parity. Their
+//! player wins them unless the opponent can avoid them. So the player's attractor to them is taken out, and the rest is
+//! solved as a subgame. If the opponent wins none of the rest, the player wins the whole subgame. Else the opponent
+//! wins its attractor to the part that it won, and the remaining places are solved again. On some games this takes
+//! exponential time, as on a chain of nodes that lead to themselves.
+//!
+//! The places that a player wins form an order which proves the win. In what a subgame's player wins, the top nodes
+//! come first, by falling priority. Then come the rest, and then the other places of the attractor to the top nodes,
+//! the farthest first. So each edge leads forward in the order or back to a top node. The attractor to a won part comes
+//! before that part, and what is won later comes before what was won earlier.
+use crate::board::Board;
 use crate::chains::{Chain, Chains};
-use crate::components::ComponentPlaces;
 use crate::subgame::{Subgame, Won};
 use omega_game_values::{Game, Player};
 use omega_graph_search::{NONE, number_of};
@@ -12,31 +23,36 @@ use std::alloc::{AllocError, Global};
 pub(crate) struct Zielonka {
     board: Board,
     chains: Chains,
-    // The places of the game by components, in each in rising order of priorities. After them come copies of the places
-    // in play of some subgames that have few. So the list is at most about twice as long as the game.
+    // The places of the game in rising order of priorities. After them come copies of the places in play of some
+    // subgames that have few. So the list is at most about twice as long as the game.
     places: Vec<u32>,
-    ends: Vec<u32>,
     open: Vec<Subgame>,
 }
 
 impl Zielonka {
-    /// Makes the state with no component begun. In each of `components` priorities rise.
+    /// Makes the state with the whole game open. The priorities of `places` rise.
     pub(crate) fn new(
         alloc: Global,
         game: &Game,
-        components: ComponentPlaces,
+        places: Vec<u32>,
         fuel: u64,
     ) -> Result<Zielonka, AllocError> {
         let board = Board::new(alloc, game, fuel)?;
         let chains = Chains::new(alloc, game.len())?;
-        let ComponentPlaces { places, ends } = components;
+        let count = number_of(places.len());
+        let mut open = Vec::new(alloc);
+        open.push(Subgame::new(0, count, count, count))?;
         Ok(Zielonka {
             board,
             chains,
             places,
-            ends,
-            open: Vec::new(alloc),
+            open,
         })
+    }
+
+    /// Returns how much fuel is left.
+    pub(crate) fn fuel(&self) -> u64 {
+        self.board.fuel()
     }
 
     /// Returns the lists of places.
@@ -50,57 +66,12 @@ impl Zielonka {
         board.into_moves()
     }
 
-    /// Solves the game component by component. Returns none if the fuel runs out.
+    /// Solves the game. Returns none if the fuel runs out.
     pub(crate) fn solve(&mut self, game: &Game) -> Result<Option<Won>, AllocError> {
-        let mut all = Won::NOTHING;
-        let mut start = 0;
-        for index in 0..self.ends.len() {
-            let end = match self.ends.get(index) {
-                Some(end) => *end,
-                None => break,
-            };
-            self.begin(start, end)?;
-            let won = match self.solve_open(game)? {
-                Some(won) => won,
-                None => return Ok(None),
-            };
-            // After the last component no place is waiting.
-            let won = if (end as usize) < game.len() {
-                self.widened_regions(game, won)?
-            } else {
-                won
-            };
-            // What is won later comes before what was won earlier.
-            all = Won {
-                zero: self.chains.concatenation(won.zero, all.zero),
-                one: self.chains.concatenation(won.one, all.one),
-            };
-            start = end;
-        }
-        Ok(Some(all))
-    }
-
-    /// Opens the waiting places of a component, given by its range in the list of places.
-    fn begin(&mut self, start: u32, end: u32) -> Result<(), AllocError> {
-        let mut size: u32 = 0;
-        for position in start..end {
-            let place = self.place_at(position);
-            if self.board.is_waiting(place) {
-                self.board.put(place, NONE);
-                size = size.saturating_add(1);
-            }
-        }
-        let kept = number_of(self.places.len());
-        self.open.push(Subgame::new(start, end, kept, size))?;
-        Ok(())
-    }
-
-    /// Solves the open subgame. Returns none if the fuel runs out.
-    fn solve_open(&mut self, game: &Game) -> Result<Option<Won>, AllocError> {
         let mut won = None;
         // `loop` would need a proof that fuel is spent in each round.
         for _ in 0..u64::MAX {
-            if self.board.is_spent() {
+            if self.fuel() == 0 {
                 return Ok(None);
             }
             let subgame = match self.open.pop() {
@@ -115,33 +86,9 @@ impl Zielonka {
         Ok(won)
     }
 
-    /// Adds to what each player won of a component the player's attractor to it among the waiting places.
-    fn widened_regions(&mut self, game: &Game, won: Won) -> Result<Won, AllocError> {
-        // What one player wins must not count as out of play for the other's attractor.
-        let _ = self.put_all(won.one, WAITING);
-        Ok(Won {
-            zero: self.widened_for(game, Player::Zero, won.zero)?,
-            one: self.widened_for(game, Player::One, won.one)?,
-        })
-    }
-
-    /// Adds to what `player` won of a component the player's attractor to it. The attractor comes first.
-    fn widened_for(
-        &mut self,
-        game: &Game,
-        player: Player,
-        won: Chain,
-    ) -> Result<Chain, AllocError> {
-        let _ = self.put_all(won, WON);
-        let from = self.board.trail_length();
-        self.attract_to_all(game, player, WON, won)?;
-        self.board.attract(game, player, WON, from)?;
-        Ok(self.trail_before(from, won))
-    }
-
     /// Returns the depth of the current subgame, which is not among the open ones.
     fn depth(&self) -> u32 {
-        number_of(self.open.len()).saturating_add(WAITING + 1)
+        number_of(self.open.len()).saturating_add(1)
     }
 
     /// Takes the attractor to the top nodes out of `subgame`, and opens the rest. Returns what is won if nothing
