@@ -18,9 +18,9 @@ use Rattle.omega_lang_inclusion.specs.declared.membership.Membership.TheVariants
 abbrev pub AcceptsAdmitted : SymbolicWord → Description → Type 0
 AcceptsAdmitted word a = (named : NamedWord) → Admits word named → AcceptsNamed a named
 
--- an automaton accepts the words that a symbolic word admits: without a premise all of them if each letter fixes each of
--- its propositions, and else each of which it sees an ultimately periodic part; by the limited principle of omniscience
--- all
+-- an automaton accepts the words that a symbolic word admits: without a premise all of them if each letter fixes each
+-- of its propositions, and else each of which it sees an ultimately periodic part; by the limited principle of
+-- omniscience all
 pub record AreAccepted (word : SymbolicWord) (a : Description) : Type 0 where
   pub one_word : IsOneWordFor word a → AcceptsAdmitted word a
   pub periodic : (named : NamedWord) → IsPeriodicFor a named → Admits word named → AcceptsNamed a named

@@ -38,8 +38,8 @@ pub data IsOneWordRefusal (one a : Description) (refusal : Refusal) : Type 0 whe
   not_found : IsSearchRefusal one refusal → IsOneWordRefusal one a refusal
 
 -- the refusal of membership: that of the automaton of the word, else that of its containment, if it is not for a
--- choice, nor for a size where a choice is found. If it is, then the refusal of a letter that is not judged, or that for
--- the choice if a letter leaves a proposition open, or else that for one word
+-- choice, nor for a size where a choice is found. If it is, then the refusal of a letter that is not judged, or that
+-- for the choice if a letter leaves a proposition open, or else that for one word. Memory may be wanting
 pub data IsMembershipRefusal (word : SymbolicWord) (a : Description)
     (refusal : Refusal) : Type 0 where
   oversized : IsOversized word refusal → IsMembershipRefusal word a refusal

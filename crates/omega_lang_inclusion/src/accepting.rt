@@ -30,8 +30,8 @@ use std::alloc::Global;
 ///
 /// Fails with [TaskFault::TooLarge] as [word_automaton] does. Or else fails as `contained` of `omega_lang_inclusion`
 /// does for the automaton of `word` in `automaton`. In place of [TaskFault::NotDeterministic], with which this fails
-/// for a state of `automaton`, and of [TaskFault::TooLarge] if `automaton` has such a state or two starts, the letters of
-/// `word` are judged:
+/// for a state of `automaton`, and of [TaskFault::TooLarge] if `automaton` has such a state or two starts, the letters
+/// of `word` are judged:
 ///
 /// - Fails with [TaskFault::TooLarge] or [TaskFault::TooManyPropositions] if a letter is not judged together with a
 ///   proposition of `automaton`, as `can_hold_together` of `omega_hoa_edges` does.
@@ -71,9 +71,9 @@ fn membership(alloc: Global, one: &Automaton, automaton: &Automaton) -> Result<M
     }
 }
 
-/// Returns whether `automaton` accepts each word that `one` does, the automaton of a symbolic word, where containment was
-/// refused so: for one word, if the refusal is for a choice, or for a size and there is a choice. Fails as [accepts]
-/// does.
+/// Returns whether `automaton` accepts each word that `one` does, the automaton of a symbolic word, of which containment
+/// was refused with `refusal`: asks for one word if that is for a choice, or for a size and there is a choice. Fails as
+/// [accepts] does.
 fn membership_refused(
     alloc: Global,
     one: &Automaton,
@@ -144,7 +144,7 @@ fn found_choice(alloc: Global, automaton: &Automaton) -> Result<Option<usize>, R
     }
 }
 
-/// Returns the first state of which two edges can be taken at one letter, if no state before it is refused to be judged.
+/// Returns the first state of which two edges can be taken at one letter, if none before it is refused to be judged.
 fn clash_found(alloc: Global, automaton: &Automaton) -> Result<Option<usize>, Refusal>
     requires { length automaton.now.starts ≤ 1 }
     ensures some { IfOk result (λ found. IfSome found (HasChoice automaton.now)) }

@@ -27,8 +27,8 @@ UnionsAcceptEitherByName = (one other a : Description) (word : NamedWord) → Is
     → has_universal_branching other ≡ false → IsUnion one other a
     → AcceptsNamed a word ↔ (AcceptsNamed one word ⊎ AcceptsNamed other word)
 
--- what `join` writes for two texts is, within the limit of texts, the text of an automaton; it accepts a word exactly if
--- one of the texts does
+-- what `join` writes for two texts is, within the limit of texts, the text of an automaton; it accepts a word exactly
+-- if one of the texts does
 abbrev pub JoinedTextsAcceptEither : Type 0
 JoinedTextsAcceptEither =
     (file input output : List ℕ) → IsJoinAnswer file input output → length output ≤ most_text

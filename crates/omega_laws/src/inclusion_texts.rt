@@ -1,5 +1,5 @@
-//! Laws of what `contained`, `equal` and `accepts` answer, in words of texts and of the words that they accept: each call
-//! does nothing and states one law.
+//! Laws of what `contained`, `equal` and `accepts` answer, in words of texts and of the words that they accept: each
+//! call does nothing and states one law.
 
 ghost use Rattle.omega_laws.specs.InclusionTexts.{AcceptedTextsAreAccepted};
 ghost use Rattle.omega_laws.specs.InclusionTexts.{ContainedTextsAreContained, EqualTextsAreEqual};

@@ -16,8 +16,8 @@ pub fn trims_accept_the_same()
     accepting_runs_have_lassos();
 }
 
-/// Shows that what `trim` writes for a text is the text of an automaton that accepts the same words, if it is within the
-/// limit of texts.
+/// Shows that what `trim` writes for a text is the text of an automaton that accepts the same words, if it is within
+/// the limit of texts.
 pub fn trimmed_texts_accept_the_same()
     ensures { TrimmedTextsAcceptTheSame }
 {

@@ -20,8 +20,8 @@ pub fn unions_accept_either_by_name()
     ensures { UnionsAcceptEitherByName }
 {}
 
-/// Shows that what `join` writes for two texts is the text of an automaton that accepts a word exactly if one of the two
-/// texts does, if it is within the limit of texts.
+/// Shows that what `join` writes for two texts is the text of an automaton that accepts a word exactly if one of the
+/// two texts does, if it is within the limit of texts.
 pub fn joined_texts_accept_either()
     ensures { JoinedTextsAcceptEither }
 {
