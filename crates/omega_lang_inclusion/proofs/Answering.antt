@@ -1,5 +1,5 @@
 -- What a verdict on the product with a complement says of two automata.
-use Rattle.std.proofs.Common.{◌≡◌, ◌↔◌, ◌⊎◌, inl, inr, ℕ, ◌<◌, Bool, false, List, [], ◌∷◌, map, get_or, sym, subst, ◌∙◌, arith}
+use Rattle.std.proofs.Common.{◌≡◌, ◌↔◌, ◌⊎◌, inl, inr, ℕ, ◌<◌, false, List, [], ◌∷◌, map, get_or, sym, subst, ◌∙◌, arith}
 use Rattle.std.specs.List.{AllByRecursion}
 use Rattle.std.proofs.lemmas.List.Elements.{All-contains}
 use Rattle.omega_text.specs.hoa.Forms.{IsQuotable}
@@ -7,7 +7,6 @@ use Rattle.omega_hoa_automaton.specs.Automaton.{Description, sets_of}
 use Rattle.omega_hoa_automaton.specs.Branching.{has_universal_branching}
 use Rattle.omega_lang_runs.specs.Lasso.{IsAcceptingLasso, IsStep, marks_at}
 use Rattle.omega_lang_runs.specs.Verdict.{IsVerdict}
-use Rattle.omega_lang_runs.specs.Words.{IsAccepted}
 use Rattle.omega_lang_runs.specs.declared.verdict.Verdict.TheVariants.{Empty}
 use Rattle.omega_lang_runs.proofs.Verdicts.{empty_accepts_no_word}
 use Rattle.omega_lang_complement.specs.Complement.{HasComplement}
@@ -21,14 +20,14 @@ use Rattle.omega_lang_lasso_word.specs.declared.lasso_word.LassoWord.{LassoWord}
 use Rattle.omega_lang_lasso_word.proofs.Admitted.{admitted_words_are_accepted}
 use Rattle.omega_lang_lasso_word.proofs.Fitted.{words_fit_where_edges_can_be_taken}
 use Rattle.omega_lang_word_laws.specs.NamedWords.{AcceptsNamed, NamedWord, part_of}
+use Rattle.omega_lang_word_laws.specs.Complements.{IsParted}
 use Rattle.omega_lang_word_laws.specs.Graphs.{IsGraphOf}
 use Rattle.omega_lang_word_laws.proofs.meeting.Meeting.{products_meet}
 use Rattle.omega_lang_lasso_search.specs.Tabled.{AllAreUsable, IsTabled}
 use Rattle.omega_lang_product.specs.declared.graph.PairGraph.{PairGraph}
 use Rattle.omega_lang_word_laws.proofs.naming.Parted.{products_meet_named}
+use Rattle.omega_lang_word_laws.proofs.naming.Parting.{complements_part}
 use Rattle.omega_lang_word_laws.proofs.naming.Same.{same_names}
-use Rattle.omega_lang_word_laws.proofs.parting.Apart.{complements_apart}
-use Rattle.omega_lang_word_laws.proofs.parting.Cover.{complements_over}
 use Rattle.omega_lang_word_laws.proofs.parting.Plain.{or_parts}
 use Rattle.omega_lang_inclusion.specs.Containing.{GoesAlong, IsContainment, IsCounterexample, IsOutside}
 use Rattle.omega_lang_inclusion.specs.declared.containment.Containment.TheVariants.{Contained}
@@ -61,27 +60,21 @@ module _ (one other c : Description) (graph : PairGraph) (k : IsDifference one o
   meets : (word : NamedWord) → AcceptsNamed both word ↔ (AcceptsNamed one word × AcceptsNamed c word)
   meets word = products_meet_named products_meet one c both k.is_one k.is_complement plain.0 plain.1 of.product word
 
-  -- the complement reads a word as its automaton does
-  abbrev part : NamedWord → ℕ → ℕ → Bool
-  part word = part_of other.propositions word
+  -- the two automata part each word
+  parted : (word : NamedWord) → IsParted other c word
+  parted word = complements_part other c word k.is_other k.given.deterministic k.complemented
 
-  from_c : (word : NamedWord) → AcceptsNamed c word → IsAccepted c (part word)
-  from_c word accepted =
-      let P : List (List ℕ) → Type 0 = λ names. IsAccepted c (part_of names word) in subst P (same_names other c k.complemented) accepted
+  -- an empty product: a word of `one` is one of `other`, if it is one of `other` or of the complement
+  within : IsVerdict both Empty → (word : NamedWord) → AcceptsNamed one word → AcceptsNamed other word ⊎ AcceptsNamed c word → AcceptsNamed other word
+  within empty word accepted (inl inside) = inside
+  within empty word accepted (inr outside) =
+      absurd (empty_accepts_no_word both (part_of both.propositions word) searchable empty ((meets word).1 (accepted, outside)))
 
-  to_c : (word : NamedWord) → IsAccepted c (part word) → AcceptsNamed c word
-  to_c word accepted =
-      let P : List (List ℕ) → Type 0 = λ names. IsAccepted c (part_of names word) in subst P (sym (same_names other c k.complemented)) accepted
-
-  -- an empty product: each word of `one` is one of `other`
   pub contained_right : IsVerdict both Empty → IsContainment one other Contained
-  contained_right empty settled word accepted =
-      go (complements_over settled other c (part word) k.is_other k.given.deterministic k.complemented)
-    where
-      go : IsAccepted other (part word) ⊎ IsAccepted c (part word) → AcceptsNamed other word
-      go (inl within) = within
-      go (inr outside) =
-          absurd (empty_accepts_no_word both (part_of both.propositions word) searchable empty ((meets word).1 (accepted, to_c word outside)))
+  contained_right empty = record {
+    periodic = λ word periodic accepted. within empty word accepted ((parted word).periodic periodic);
+    all = λ omniscience word accepted. within empty word accepted ((parted word).all omniscience);
+  }
 
   -- the names of the product are strings
   strings : HasStrings one → HasStrings other → HasStrings both
@@ -102,8 +95,7 @@ module _ (one other c : Description) (graph : PairGraph) (k : IsDifference one o
         let parts = (meets word).0 accepted in
         record {
           accepted = parts.0;
-          not_accepted = λ within.
-              complements_apart other c (part word) k.is_other k.given.deterministic k.complemented within (from_c word parts.1);
+          not_accepted = λ inside. (parted word).apart inside parts.1;
         }
 
     fitting : HasStrings one → HasStrings other → (word : NamedWord)

@@ -14,10 +14,15 @@ use Rattle.omega_lang_inclusion.specs.Membership.{HasStringNames, IsMembership, 
 use Rattle.omega_lang_inclusion.specs.Written.{IsWordAutomaton}
 use Rattle.omega_lang_inclusion.specs.declared.membership.Membership.TheVariants.{Accepted, Rejected}
 use Rattle.omega_lang_inclusion.proofs.Running.{accepted_admits, admitted_accepts}
+use Rattle.omega_lang_inclusion.proofs.Together.{one_word_repeats}
 
 module _ (word : SymbolicWord) (one a : Description) (means : IsWordAutomaton word one) where
   pub contained_accepts : IsContainment one a Contained → IsMembership word a Accepted
-  contained_accepts is middle named admitted = is middle named (admitted_accepts word one means named admitted)
+  contained_accepts is = record {
+    one_word = λ fixed named admitted. is.periodic named (one_word_repeats word a fixed named admitted) (admitted_accepts word one means named admitted);
+    periodic = λ named periodic admitted. is.periodic named periodic (admitted_accepts word one means named admitted);
+    all = λ omniscience named admitted. is.all omniscience named (admitted_accepts word one means named admitted);
+  }
 
   outside_rejected : (named : NamedWord) → IsOutside one a named → IsRejected word a named
   outside_rejected named outside = record {

@@ -15,6 +15,7 @@ pub mod Below
 pub mod Edges
 pub mod Going
 pub mod Judging
+pub mod Meeting
 pub mod WordLetters
 pub mod Opened
 pub mod Refused

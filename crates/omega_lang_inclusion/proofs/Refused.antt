@@ -1,11 +1,15 @@
 -- Refusals of membership: for a choice or not, and never for a failed read or write.
-use Rattle.std.proofs.Common.{◌≡◌, inl, inr, ℕ, true, false, List, Option, Some, None, sym, ap, ◌∙◌}
+use Rattle.std.proofs.Common.{◌≡◌, ◌⊎◌, inl, inr, ℕ, true, false, List, Option, Some, None, refl, sym, ap, subst, ◌∙◌}
 use Rattle.omega_hoa_automaton.specs.Automaton.{Description}
+use Rattle.omega_hoa_edges.specs.AutomatonLabels.{labels_at}
+use Rattle.omega_hoa_edges.specs.Refusing.{AreUnjudged, IsFirstClash, IsSecondStart, IsStartRefusal, IsUndecidedFault}
+use Rattle.omega_lang_complement.specs.Refusing.{IsComplementFault}
 use Rattle.omega_lang_inclusion.specs.Refusing.{IsContainmentRefusal, no_memory, not_complemented, not_met}
 use Rattle.omega_hoa_label.specs.Label.{LabelTree}
 use Rattle.omega_lang_lasso_word.specs.declared.symbolic_word.SymbolicWord.{SymbolicWord}
 use Rattle.omega_text.specs.declared.refusal.Refusal.{Refusal}
-use Rattle.omega_text.specs.declared.refusal.Refusal.TheVariants.{Io, Task}
+use Rattle.omega_text.specs.declared.refusal.Refusal.TheVariants.{Automaton, Game, Io, Memory, Task, Text}
+use Rattle.omega_text.specs.declared.refusal.task.TaskFault.{TaskFault}
 use Rattle.omega_text.specs.declared.refusal.task.TaskFault.TheVariants.{NotDeterministic}
 use Rattle.omega_lang_inclusion.specs.Opening.{HasUnjudgedName, IsUnjudgedWith, first_label, literal_of, number_among}
 use Rattle.omega_lang_inclusion.specs.WordRefusing as refusing
@@ -30,9 +34,39 @@ no_choice refusal is state same = none (sym is ∙ ap choice_in same)
     none : ◌≡◌ {A = Option ℕ} None (Some state) → ⊥
     none e = cc
 
+-- the refusal of the complement for a choice is one for a choice of its automaton
+complement_choice : (a : Description) (state : ℕ) → IsComplementFault a (NotDeterministic state) → HasChoice a state
+complement_choice a state (inl second) = inl second.1
+complement_choice a state (inr (start, first)) =
+    inr (subst (IsFirstClash a) (sym first.4.0) (record { below = first.1; apart = first.2; clash = first.4.1 }))
+
+-- the refusal for a second start names its state
+pub start_choice : (a : Description) (refusal : Refusal) → IsStartRefusal a refusal → (state : ℕ) × (choice_in refusal ≡ Some state) × IsSecondStart a state
+start_choice a (Task fault) (state, is, second) = (state, ap (λ (f : TaskFault). choice_in (Task f)) is, second)
+start_choice a (Text fault) h = absurd h
+start_choice a (Game fault) h = absurd h
+start_choice a (Automaton fault) h = absurd h
+start_choice a Memory h = absurd h
+start_choice a Io h = absurd h
+
+-- the refusal of judging the states names a state of which two edges can be taken at one letter, or none
+pub clash_choice : (a : Description) (refusal : Refusal) → AreUnjudged a refusal
+    → ((state : ℕ) × (choice_in refusal ≡ Some state) × IsFirstClash a state) ⊎ (choice_in refusal ≡ None)
+clash_choice a (Task fault) (inl (state, is, clash)) = inl (state, ap (λ (f : TaskFault). choice_in (Task f)) is, clash)
+clash_choice a (Task fault) (inr first) = inr (undecided first.undecided)
+  where
+    undecided : IsUndecidedFault (labels_at a first.number) fault → choice_in (Task fault) ≡ None
+    undecided (inl many) = ap (λ (f : TaskFault). choice_in (Task f)) many.0
+    undecided (inr large) = ap (λ (f : TaskFault). choice_in (Task f)) large.0
+clash_choice a (Text fault) h = absurd h
+clash_choice a (Game fault) h = absurd h
+clash_choice a (Automaton fault) h = absurd h
+clash_choice a Memory h = inr refl
+clash_choice a Io h = absurd h
+
 -- the refusal of containment for a choice is that of the automaton's complement
 pub has_choice : (one a : Description) (state : ℕ) → IsContainmentRefusal one a (Task (NotDeterministic state)) → HasChoice a state
-has_choice one a state (not_complemented refused) = refused
+has_choice one a state (not_complemented refused) = complement_choice a state refused
 has_choice one a state (not_met complement given is refused) = absurd refused
 has_choice one a state (no_memory given refused) = absurd refused
 
@@ -55,13 +89,13 @@ names_io one names (name, has, inr (state, there, is)) =
 
 one_io : (one a : Description) → IsOneWordRefusal one a Io → ⊥
 one_io one a (refusing.not_met refused) = refused
-one_io one a (refusing.not_searched both is refused) = refused
 one_io one a (refusing.not_found refused) = refused
 
 -- nor is membership
 pub membership_io : (word : SymbolicWord) (a : Description) → IsMembershipRefusal word a Io → ⊥
 membership_io word a (refusing.oversized large) = large
-membership_io word a (refusing.not_contained one is refused other) = contained_io one a refused
+membership_io word a (refusing.not_contained one is refused other searched) = contained_io one a refused
+membership_io word a (refusing.no_memory e) = cc
 membership_io word a (refusing.not_judged one state is choice refused) = names_io one a.propositions refused
 membership_io word a (refusing.has_open_letter state choice open' e) = cc
 membership_io word a (refusing.not_one one state is choice single refused) = one_io one a refused

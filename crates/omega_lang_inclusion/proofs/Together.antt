@@ -1,16 +1,18 @@
--- An automaton sees one word at most, so that it accepts all words that are admitted or none.
-use Rattle.std.proofs.Common.{ℕ, zero, suc, List, [], ◌∷◌, length, Contains}
+-- An automaton sees one word at most, which is ultimately periodic, so that it accepts all words that are admitted or
+-- none.
+use Rattle.std.proofs.Common.{◌≡◌, ℕ, zero, suc, ◌+◌, ◌-◌, ◌≤◌, IsTrue, List, [], ◌∷◌, length, Contains, sym, ap, subst, ◌∙◌, arith}
 use Rattle.std.specs.Prelude.{slice_index_or}
 use Rattle.std.proofs.lemmas.List.Elements.{Contains-append_left, Contains-append_right}
 use Rattle.omega_hoa_automaton.specs.Automaton.{Description, IsAutomaton}
 use Rattle.omega_lang_lasso_word.specs.Fitting.{along}
 use Rattle.omega_lang_product.proofs.Membership.{Contains-here, Contains-there}
-use Rattle.omega_lang_lasso_word.specs.Admitted.{Admits}
+use Rattle.omega_hoa_label.specs.Raw.{RawLabelTree}
+use Rattle.omega_lang_lasso_word.specs.Admitted.{Admits, holds}
 use Rattle.omega_lang_lasso_word.specs.declared.symbolic_word.SymbolicWord.{SymbolicWord}
-use Rattle.omega_lang_word_laws.specs.NamedWords.{AcceptsNamed, NamedWord, part_of}
+use Rattle.omega_lang_word_laws.specs.NamedWords.{AcceptsNamed, IsPeriodicFor, NamedWord, part_of}
 use Rattle.omega_lang_word_laws.proofs.naming.Named.{AgreeBelow, accepted_same, contained_at}
 use Rattle.omega_lang_inclusion.specs.Laws.{OneWordsAreAcceptedTogether}
-use Rattle.omega_lang_inclusion.specs.Membership.{AcceptsAdmitted}
+use Rattle.omega_lang_inclusion.specs.Membership.{AcceptsAdmitted, AreAccepted}
 use Rattle.omega_lang_inclusion.specs.OneWord.{IsOneWordFor}
 use Rattle.omega_lang_inclusion.specs.Written.{IsWordAutomaton, letters_of}
 use Rattle.omega_lang_inclusion.specs.private.Choosing.{AcceptCommon}
@@ -51,3 +53,44 @@ pub all_accepted : (word : SymbolicWord) (one a : Description) → IsWordAutomat
     → AcceptsAdmitted word a
 all_accepted word one a means automaton fixed (named, by_one, by_a) other admitted =
     accepted_too word a fixed named other (accepted_admits word one means named by_one) admitted automaton by_a
+
+-- words that are all accepted are so whatever is seen of them
+pub each_accepted : (word : SymbolicWord) (a : Description) → AcceptsAdmitted word a → AreAccepted word a
+each_accepted word a accepts = record {
+  one_word = λ fixed. accepts;
+  periodic = λ named periodic admitted. accepts named admitted;
+  all = λ omniscience. accepts;
+}
+
+-- what stands at an index comes again after a round of the cycle
+module _ {A : Type 0} (first : A) (others : List A) where
+  behind : (rest : List A) (i : ℕ) → along first others rest (length rest + i) ≡ along first others [] i
+  behind [] i = let none : 0 + i ≡ i = omega arith in ap (λ (n : ℕ). along first others [] n) none
+  behind (x ∷ xs) i =
+      let next : suc (length xs) + i ≡ suc (length xs + i) = omega arith in
+      ap (λ (n : ℕ). along first others (x ∷ xs) n) next ∙ behind xs i
+
+  around : (i : ℕ) → along first others [] (suc (length others + i)) ≡ along first others [] i
+  around i = behind others i
+
+  comes_again : (stem : List A) (i : ℕ) → length stem ≤ i → along first others stem (i + suc (length others)) ≡ along first others stem i
+  comes_again stem i past =
+      let d : ℕ = i - length stem in
+      let later : i + suc (length others) ≡ length stem + suc (length others + d) = omega (arith, past) in
+      let here : i ≡ length stem + d = omega (arith, past) in
+      ap (λ (n : ℕ). along first others stem n) later ∙ behind stem (suc (length others + d)) ∙ around d ∙ sym (behind stem d)
+      ∙ ap (λ (n : ℕ). along first others stem n) (sym here)
+
+-- an automaton whose propositions are fixed sees an ultimately periodic word
+pub one_word_repeats : (word : SymbolicWord) (a : Description) → IsOneWordFor word a → (named : NamedWord) → Admits word named → IsPeriodicFor a named
+one_word_repeats word a fixed named admitted = record {
+  start = length word.stem;
+  period = suc (length word.others);
+  some = omega arith;
+  repeats = λ i name past within.
+      (let letter = along word.first word.others word.stem i in
+      let again = comes_again word.first word.others word.stem i past in
+      let later : IsTrue (holds word.names (named (i + suc (length word.others))) letter) =
+      subst (λ (l : RawLabelTree). IsTrue (holds word.names (named (i + suc (length word.others))) l)) again (admitted (i + suc (length word.others))) in
+      fixed letter name (letter_listed word i) within (named (i + suc (length word.others))) (named i) later (admitted i));
+}

@@ -7,7 +7,7 @@ use Rattle.omega_lang_lasso_word.specs.Laws.{HasStrings}
 use Rattle.omega_lang_runs.specs.Lasso.{IsAcceptingLasso}
 use Rattle.omega_lang_runs.specs.Words.{CanBeTaken}
 use Rattle.omega_text.specs.Omniscience.{LimitedPrincipleOfOmniscience}
-use Rattle.omega_lang_word_laws.specs.NamedWords.{AcceptsNamed, NamedWord, part_of}
+use Rattle.omega_lang_word_laws.specs.NamedWords.{AcceptsNamed, IsPeriodicFor, NamedWord, part_of}
 use Rattle.omega_lang_inclusion.specs.declared.containment.Containment.{Containment}
 use Rattle.omega_lang_inclusion.specs.declared.containment.Containment.TheVariants.{Contained, NotContained}
 use Rattle.omega_lang_inclusion.specs.declared.containment.Counterexample.{Counterexample}
@@ -15,6 +15,13 @@ use Rattle.omega_lang_inclusion.specs.declared.containment.Counterexample.{Count
 -- each word over names that one automaton accepts is accepted by another
 abbrev pub AcceptsAllOf : Description → Description → Type 0
 AcceptsAllOf one other = (word : NamedWord) → AcceptsNamed one word → AcceptsNamed other word
+
+-- `other` accepts the words that `one` accepts: without a premise each of which it sees an ultimately periodic part,
+-- and by the limited principle of omniscience all
+pub record IsContained (one other : Description) : Type 0 where
+  pub periodic : (word : NamedWord) → IsPeriodicFor other word → AcceptsNamed one word
+      → AcceptsNamed other word
+  pub all : LimitedPrincipleOfOmniscience → AcceptsAllOf one other
 
 -- a word over names is accepted by `one` and not by `other`
 pub record IsOutside (one other : Description) (word : NamedWord) : Type 0 where
@@ -41,9 +48,8 @@ pub record IsCounterexample (one other : Description) (example : Counterexample)
       HasStrings one → HasStrings other → (word : NamedWord) → Fits (lasso_word_text example.word) word
       → GoesAlong one example.stem example.cycle word
 
--- an answer is right: `Contained` only if `other` accepts each word that `one` accepts, where each test of numbers
--- recurs or ceases, as it does by the excluded middle; any other answer is a counterexample
+-- an answer is right: `Contained` only if `other` accepts the words that `one` accepts; any other answer is a
+-- counterexample
 abbrev pub IsContainment : Description → Description → Containment → Type 0
-IsContainment one other Contained =
-    LimitedPrincipleOfOmniscience → AcceptsAllOf one other
+IsContainment one other Contained = IsContained one other
 IsContainment one other (NotContained example) = IsCounterexample one other example

@@ -9,7 +9,7 @@ use Rattle.omega_lang_lasso_word.specs.Admitted.{Admits}
 use Rattle.omega_lang_lasso_word.specs.declared.symbolic_word.SymbolicWord.{SymbolicWord}
 use Rattle.omega_text.specs.hoa.Forms.{IsQuotable}
 use Rattle.omega_text.specs.Omniscience.{LimitedPrincipleOfOmniscience}
-use Rattle.omega_lang_word_laws.specs.NamedWords.{AcceptsNamed, NamedWord}
+use Rattle.omega_lang_word_laws.specs.NamedWords.{AcceptsNamed, IsPeriodicFor, NamedWord}
 use Rattle.omega_lang_inclusion.specs.OneWord.{IsOneWordFor}
 use Rattle.omega_lang_inclusion.specs.declared.membership.Membership.{Membership}
 use Rattle.omega_lang_inclusion.specs.declared.membership.Membership.TheVariants.{Accepted, Rejected}
@@ -17,6 +17,14 @@ use Rattle.omega_lang_inclusion.specs.declared.membership.Membership.TheVariants
 -- an automaton accepts each word that a symbolic word admits
 abbrev pub AcceptsAdmitted : SymbolicWord → Description → Type 0
 AcceptsAdmitted word a = (named : NamedWord) → Admits word named → AcceptsNamed a named
+
+-- an automaton accepts the words that a symbolic word admits: without a premise all of them if each letter fixes each
+-- of its propositions, and else each of which it sees an ultimately periodic part; by the limited principle of
+-- omniscience all
+pub record AreAccepted (word : SymbolicWord) (a : Description) : Type 0 where
+  pub one_word : IsOneWordFor word a → AcceptsAdmitted word a
+  pub periodic : (named : NamedWord) → IsPeriodicFor a named → Admits word named → AcceptsNamed a named
+  pub all : LimitedPrincipleOfOmniscience → AcceptsAdmitted word a
 
 -- a word is admitted, and an automaton does not accept it
 pub record IsRejected (word : SymbolicWord) (a : Description) (named : NamedWord) : Type 0 where
@@ -35,10 +43,10 @@ pub record IsRejection (word : SymbolicWord) (a : Description) (text : List ℕ)
   pub all_rejected : HasStringNames word → HasStrings a → (other : NamedWord) → Fits text other
       → IsRejected word a other
 
--- an answer is right: `Accepted` only if the automaton accepts each admitted word, where each test of numbers recurs or
--- ceases, as it does by the excluded middle; any other answer is a text of words that show that it does not
+-- an answer is right: `Accepted` only if the automaton accepts the admitted words; any other answer is a text of words
+-- that show that it does not
 abbrev pub IsMembership : SymbolicWord → Description → Membership → Type 0
-IsMembership word a Accepted = LimitedPrincipleOfOmniscience → AcceptsAdmitted word a
+IsMembership word a Accepted = AreAccepted word a
 IsMembership word a (Rejected text) = IsRejection word a text
 
 -- membership is decided of a deterministic automaton, and of any automaton if it sees one word at most

@@ -13,9 +13,9 @@ ghost use Rattle.omega_lang_product.specs.Refusing.{HaveNoBranch};
 use crate::containment::{Containment, Counterexample};
 use crate::joints::Joints;
 use crate::letters::{joint_word, number_at};
+use crate::searching::verdict_on;
 use omega_hoa_automaton::{Automaton, Refusal};
 use omega_lang_complement::complement;
-use omega_lang_lasso_search::lasso_in_table;
 use omega_lang_lasso_word::LassoWord;
 use omega_lang_product::{PairGraph, pair_graph, places_among};
 use omega_lang_runs::{Verdict, edge_places};
@@ -90,13 +90,7 @@ fn containment_by_search(
 {
     one.keeps_limits();
     rest.keeps_limits();
-    match lasso_in_table(
-        alloc,
-        graph.starts.as_slice(),
-        graph.edges.ends.as_slice(),
-        graph.edges.marks.as_slice(),
-        &graph.acceptance,
-    ) {
+    match verdict_on(alloc, graph) {
         Ok(verdict) => containment_of_verdict(alloc, one, rest, graph, &verdict),
         Err(refusal) => Err(refusal),
     }

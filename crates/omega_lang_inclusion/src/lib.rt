@@ -19,6 +19,7 @@ mod making;
 mod membership;
 mod one_word;
 mod open_letters;
+mod searching;
 mod states;
 
 pub use accepting::accepts;

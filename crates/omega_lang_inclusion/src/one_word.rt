@@ -1,9 +1,11 @@
-//! Membership of one word in an automaton with choices: whether the product with the automaton of the word accepts a
+//! Membership of one word in an automaton with choices: whether the automaton of the word and this one accept a common
 //! word.
 
 ghost use Rattle.std.specs.Prelude.{◌≡◌, ◌↔◌, IfErr, IfOk, IsOkUnless, IsTrue, OnOk};
 ghost use Rattle.omega_hoa_automaton.specs.Automaton.{Description, IsAutomaton};
 ghost use Rattle.omega_lang_lasso_search.specs.Searching.{IsSearchRefusal, IsSearchable};
+ghost use Rattle.omega_lang_product.specs.PairGraph.{IsPairGraph};
+ghost use Rattle.omega_lang_product.specs.Refusing.{HaveNoBranch};
 ghost use Rattle.omega_lang_runs.specs.Lasso.{IsAcceptingLasso};
 ghost use Rattle.omega_lang_runs.specs.Verdict.{IsVerdict};
 ghost use Rattle.omega_lang_lasso_word.specs.declared.symbolic_word.SymbolicWord.{SymbolicWord};
@@ -11,14 +13,15 @@ ghost use Rattle.omega_lang_inclusion.specs.Membership.{IsDecided, IsMembership}
 ghost use Rattle.omega_lang_inclusion.specs.OneWord.{IsOneWordFor};
 ghost use Rattle.omega_lang_inclusion.specs.WordRefusing.{HasChoice, IsMembershipRefusal, IsOneWordRefusal};
 ghost use Rattle.omega_lang_inclusion.specs.Written.{IsWordAutomaton};
-ghost use Rattle.omega_lang_inclusion.specs.private.Choosing.{AcceptCommon, AcceptsSome, is_lasso};
+ghost use Rattle.omega_lang_inclusion.specs.private.Choosing.{AcceptCommon, is_lasso};
 
 use crate::membership::Membership;
 use crate::open_letters::has_open_name;
+use crate::searching::verdict_on;
 use omega_hoa_automaton::{Automaton, Refusal};
 use omega_lang_lasso_search::lasso;
 use omega_lang_lasso_word::word_of;
-use omega_lang_product::product;
+use omega_lang_product::{PairGraph, pair_graph};
 use omega_lang_runs::Verdict;
 use omega_text::{Seq, TaskFault};
 use std::alloc::Global;
@@ -48,7 +51,7 @@ pub(crate) fn membership_of_one(
 }
 
 /// Returns whether `automaton` accepts each word that `one` does, the automaton of a symbolic word of which it sees one
-/// word at most. Fails as `product` does for both, or else as `lasso` does for this product or for `one`.
+/// word at most. Fails as `pair_graph` does for both, or else as `lasso` does for `one`.
 fn membership_of_word(
     alloc: Global,
     one: &Automaton,
@@ -66,26 +69,32 @@ fn membership_of_word(
     }
 }
 
-/// Whether some word is accepted by both automata. Fails as `product` does, or else as `lasso` does for the product.
+/// Whether some word is accepted by both automata. Fails as `pair_graph` does.
 fn meets(alloc: Global, one: &Automaton, automaton: &Automaton) -> Result<bool, Refusal>
     ensures right { IfOk result (λ found. IsTrue found ↔ AcceptCommon one.now automaton.now) }
     ensures refused { IfErr result (IsOneWordRefusal one.now automaton.now) }
 {
-    one.keeps_limits();
-    automaton.keeps_limits();
-    match product(alloc, one, automaton) {
-        Ok(both) => accepts_some(alloc, &both),
+    match pair_graph(alloc, one, automaton) {
+        Ok(graph) => meets_in(alloc, one, automaton, &graph),
         Err(refusal) => Err(refusal),
     }
 }
 
-/// Whether `automaton` accepts a word. Fails as `lasso` does.
-fn accepts_some(alloc: Global, automaton: &Automaton) -> Result<bool, Refusal>
-    ensures right { IfOk result (λ some. IsTrue some ↔ AcceptsSome automaton.now) }
-    ensures refused { IfErr result (IsSearchRefusal automaton.now) }
+/// Whether some word is accepted by both automata, by the graph of their product.
+fn meets_in(
+    alloc: Global,
+    one: &Automaton,
+    automaton: &Automaton,
+    graph: &PairGraph,
+) -> Result<bool, Refusal>
+    requires graph { IsPairGraph one.now automaton.now graph.now }
+    requires plain { HaveNoBranch one.now automaton.now }
+    ensures right { IfOk result (λ found. IsTrue found ↔ AcceptCommon one.now automaton.now) }
+    ensures memory { IsOkUnless result Refusal.Memory }
 {
+    one.keeps_limits();
     automaton.keeps_limits();
-    let verdict = lasso(alloc, automaton)?;
+    let verdict = verdict_on(alloc, graph)?;
     Ok(is_lasso(&verdict))
 }
 

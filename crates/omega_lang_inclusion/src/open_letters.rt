@@ -3,8 +3,10 @@
 ghost use Rattle.std.specs.Prelude.{◌≡◌, ◌↔◌, ◌<◌, ◌^◌, length, IfErr, IfOk, IsOkUnless, IsTrue};
 ghost use Rattle.std.specs.Option.{option_copied};
 ghost use Rattle.omega_hoa_label.specs.Postfix.{postfix};
-ghost use Rattle.omega_lang_inclusion.specs.Opening.{CanBeBoth, HasOpenName, HasOpenState, HasUnjudgedName};
-ghost use Rattle.omega_lang_inclusion.specs.Opening.{HasUnjudgedState, IsOpenName, IsUnjudgedName};
+ghost use Rattle.omega_lang_inclusion.specs.Opening.{HasUnjudgedName};
+ghost use Rattle.omega_lang_inclusion.specs.private.Opened.{CanBeBoth, HasOpenName, HasOpenState};
+ghost use Rattle.omega_lang_inclusion.specs.Opening.{HasUnjudgedState, IsUnjudgedName};
+ghost use Rattle.omega_lang_inclusion.specs.private.Opened.{IsOpenName};
 ghost use Rattle.omega_lang_inclusion.specs.Opening.{IsUnjudgedWith, first_label, literal_of, number_among};
 ghost use Rattle.std.specs.Prelude.{Some};
 

@@ -223,11 +223,13 @@ module _ (one other : Description) (pairs : List Pair) (at : ℕ) (below : at < 
         transition = has.joint.first.transition;
         partner = has.joint.second.transition;
         met = record {
-          pairs = pairs;
-          done = length pairs;
-          found = found_all one other pairs reached;
           pair = get_or pairs at (0, 0);
-          reached = (at, below, same_default pairs at (get_or pairs at (0, 0)) (0, 0) below);
+          found = record {
+            pairs = pairs;
+            done = length pairs;
+            found = found_all one other pairs reached;
+            listed = (at, below, same_default pairs at (get_or pairs at (0, 0)) (0, 0) below);
+          };
           first = first;
           second = second;
         };

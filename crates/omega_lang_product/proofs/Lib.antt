@@ -7,6 +7,8 @@ pub mod Holding
 pub mod Rows
 pub mod Made
 pub mod Reaching
+pub mod PairsOne
+pub mod Room
 pub mod Steps
 pub mod Meaning
 pub mod Formulas

@@ -1,15 +1,13 @@
 -- Rows of a table that are made.
-use Rattle.std.proofs.Common.{◌≡◌, ◌==◌, ℕ, ◌<◌, Bool, true, false, nat_eq, if◌then◌else◌, List, [], ◌∷◌, length, map, get_or, Option, Some, None, position, sym, ap, subst, ◌∙◌, true≢false}
+use Rattle.std.proofs.Common.{◌≡◌, ℕ, ◌<◌, nat_eq, List, [], length, map, get_or, Option, Some, None, position, sym, ap, subst, ◌∙◌, true≢false}
 use Rattle.std.specs.Prelude.{IfSome}
 use Rattle.std.specs.Option.{IsSome}
 use Rattle.std.proofs.lemmas.List.{get_or-map}
 use Rattle.omega_hoa_automaton.specs.declared.state.State.{State}
-use Rattle.omega_lang_product.specs.Refusing.{HasUnfitEdge, HasUnfitLabel}
 use Rattle.omega_lang_product.specs.Transitions.{View, transitions_at}
 use Rattle.omega_lang_product.specs.private.Tables.{HasRow, IsTableOf, row_of}
 use Rattle.omega_lang_product.specs.declared.table.Table.{Table}
 use Rattle.omega_lang_product.specs.declared.transition.Transition.{Transition}
-use Rattle.omega_lang_product.proofs.Membership.{Contains-here, Contains-nothing, Contains-there}
 use Rattle.omega_lang_product.proofs.Rows.{row_found}
 
 -- the row that is made of the state at the place of a number is that of the number
@@ -32,14 +30,3 @@ row_made view states table number place edges are has found is =
     made_is (get_or table.rows.items place None) edges (get_or (map (row_of view) states) place [])
     (subst (λ (at : Option ℕ). IfSome at (λ k. IsSome (get_or table.rows.items k None))) found has) is (are.rows.each place)
     ∙ sym (row_found view states table.numbers.keys table.firsts.items number place are.numbered found)
-
--- an edge that leaves the first state with a number is one of that state
-pub unfit_listed : (view : View) (states : List State) (number : ℕ) → HasUnfitEdge (transitions_at view states number) → HasUnfitLabel view states
-unfit_listed view [] number unfit = absurd (Contains-nothing unfit.transition unfit.listed)
-unfit_listed view (state ∷ states) number unfit = go (state.number == number) (λ later. unfit_listed view states number later) unfit
-  where
-    go : (b : Bool) → (HasUnfitEdge (transitions_at view states number) → HasUnfitLabel view states)
-        → HasUnfitEdge (if b then row_of view state else transitions_at view states number) → HasUnfitLabel view (state ∷ states)
-    go true later edge = record { state = state; listed = Contains-here state states; edge = edge }
-    go false later edge = let rest = later edge in
-        record { state = rest.state; listed = Contains-there state rest.state states rest.listed; edge = rest.edge }

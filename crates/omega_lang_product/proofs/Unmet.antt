@@ -9,13 +9,12 @@ use Rattle.omega_hoa_label.specs.Shape.{FitsALabel}
 use Rattle.omega_hoa_satisfiable.specs.Undecided.{IsHardLabel}
 use Rattle.omega_hoa_automaton.specs.Automaton.{Description}
 use Rattle.omega_hoa_edges.specs.Fitting.{IsUnjudged}
-use Rattle.omega_lang_product.specs.Pairs.{AreFound, Pair, first_leaving, first_view, second_leaving, second_view}
-use Rattle.omega_lang_product.specs.Refusing.{AreMet, IsJoinFault, IsProductTooLarge, unfit_first, unfit_meeting, unfit_second}
+use Rattle.omega_lang_product.specs.Pairs.{AreFound, Pair, first_leaving, second_leaving}
+use Rattle.omega_lang_product.specs.Refusing.{AreMet, HasUnfitAt, IsFoundPair, IsGraphTooLarge, unfit_label, unfit_meeting}
+use Rattle.omega_lang_product.specs.private.Faults.{IsGraphFault}
 use Rattle.omega_lang_product.specs.private.Meeting.{HasUnmet, HasUnmetPartner, IsUnmet}
-use Rattle.omega_lang_product.specs.private.Operands.{HasUnfitAt}
 use Rattle.omega_lang_product.specs.declared.transition.Transition.{Transition}
 use Rattle.omega_hoa_edges.proofs.Refusals.{task_weaker}
-use Rattle.omega_lang_product.proofs.Made.{unfit_listed}
 
 -- an element of a list by its index
 pub listed_at : {X : Type 0} (xs : List X) (i : ℕ) (x : X) → i < length xs → x ≡ get_or xs i x → Contains xs x
@@ -36,12 +35,14 @@ edge_unmet transitions others transition listed refusal h =
 
 -- edges that leave a pair which is reached
 module _ (one other : Description) (pairs : List Pair) (done : ℕ) (found : AreFound one other done pairs) (pair : Pair) (reached : Contains pairs pair) where
+  found_pair : IsFoundPair one other pair
+  found_pair = record { pairs = pairs; done = done; found = found; listed = reached }
+
   met : (fault : TaskFault) (unmet : HasUnmet (first_leaving one other pair) (second_leaving one other pair) fault)
       → AreMet one other unmet.transition unmet.partner.other
-  met fault unmet =
-      record { pairs = pairs; done = done; found = found; pair = pair; reached = reached; first = unmet.listed; second = unmet.partner.listed }
+  met fault unmet = record { pair = pair; found = found_pair; first = unmet.listed; second = unmet.partner.listed }
 
-  join_fault : (fault : TaskFault) → HasUnmet (first_leaving one other pair) (second_leaving one other pair) fault → IsJoinFault one other fault
+  join_fault : (fault : TaskFault) → HasUnmet (first_leaving one other pair) (second_leaving one other pair) fault → IsGraphFault one other fault
   join_fault NotParity unmet = unmet.partner.unmet
   join_fault UniversalBranch unmet = unmet.partner.unmet
   join_fault TooManyPropositions unmet =
@@ -56,14 +57,13 @@ module _ (one other : Description) (pairs : List Pair) (done : ℕ) (found : Are
   join_fault (NotDeterministic state) unmet = unmet.partner.unmet
 
   pub join_refused : (refusal : Refusal) → or_task (HasUnmet (first_leaving one other pair) (second_leaving one other pair)) (or_memory never) refusal
-      → or_task (IsJoinFault one other) (or_memory never) refusal
+      → or_task (IsGraphFault one other) (or_memory never) refusal
   join_refused refusal h =
-      task_weaker (HasUnmet (first_leaving one other pair) (second_leaving one other pair)) (IsJoinFault one other) join_fault refusal h
+      task_weaker (HasUnmet (first_leaving one other pair) (second_leaving one other pair)) (IsGraphFault one other) join_fault refusal h
 
--- an edge that leaves a state of a pair and has a label that is too deep or too large
-pub unfit_pair : (one other : Description) (pair : Pair) → HasUnfitAt one other pair → IsProductTooLarge one other
-unfit_pair one other pair (inl first) = unfit_first (unfit_listed (first_view one other) one.defined pair.0 first)
-unfit_pair one other pair (inr second) = unfit_second (unfit_listed (second_view one other) other.defined pair.1 second)
+  -- an edge that leaves a state of the pair and has a label that is too deep or too large
+  pub unfit_pair : HasUnfitAt one other pair → IsGraphTooLarge one other
+  unfit_pair edge = unfit_label (record { pair = pair; found = found_pair; edge = edge })
 
 -- two edges whose labels together are not judged
 pub unjudged_unmet : (transition other : Transition) (label : LabelTree) → label ≡ conjunction transition.label other.label → (refusal : Refusal)

@@ -1,17 +1,17 @@
--- The refusal of a product: `UniversalBranch`, or `TooManyPropositions` if it is undecided whether two labels can hold
--- together, or `TooLarge` if it would pass a limit, or want of memory.
-use Rattle.std.specs.Prelude.{◌≡◌, ◌<◌, ℕ, ◌+◌, ◌||◌, true, false, List, length, take, Contains, Some, sum_by}
+-- The refusals of a product and of its graph: `UniversalBranch`, or `TooManyPropositions` if it is undecided whether
+-- two labels can hold together, or `TooLarge` if a limit would be passed, or want of memory. A graph has no labels, and
+-- no text is made of it: limits of these refuse the product alone.
+use Rattle.std.specs.Prelude.{◌≡◌, ◌<◌, ◌⊎◌, ℕ, ◌+◌, ◌||◌, true, false, List}
+use Rattle.std.specs.Prelude.{length, take, Contains, Some, sum_by}
 use Rattle.omega_text.specs.Cases.{never, or_memory, or_task}
 use Rattle.omega_text.specs.Limits.{most_number}
 use Rattle.omega_text.specs.declared.refusal.Refusal.{Refusal}
 use Rattle.omega_text.specs.declared.refusal.automaton.AutomatonFault.{AutomatonFault}
 use Rattle.omega_text.specs.declared.refusal.task.TaskFault.{TaskFault}
-use Rattle.omega_text.specs.declared.refusal.task.TaskFault.TheVariants.{BadSolution, Budget, Controllable}
-use Rattle.omega_text.specs.declared.refusal.task.TaskFault.TheVariants.{NotDeterministic, NotParity}
 use Rattle.omega_text.specs.declared.refusal.task.TaskFault.TheVariants.{TooLarge, TooManyPropositions}
-use Rattle.omega_text.specs.declared.refusal.task.TaskFault.TheVariants.{TooWide, UniversalBranch}
-use Rattle.omega_text.specs.declared.refusal.task.TaskFault.TheVariants.{UnknownNode}
+use Rattle.omega_text.specs.declared.refusal.task.TaskFault.TheVariants.{UniversalBranch}
 use Rattle.omega_hoa_expression.specs.Limits.{most_depth}
+use Rattle.omega_hoa_acceptance.specs.Acceptance.{acc_depth}
 use Rattle.omega_hoa_acceptance.specs.Writing.{acc_written}
 use Rattle.omega_hoa_acceptance.specs.Raw.{raw_acc_depth}
 use Rattle.omega_hoa_label.specs.Label.{conjunction}
@@ -24,12 +24,11 @@ use Rattle.omega_hoa_automaton.specs.Automaton.{Description}
 use Rattle.omega_hoa_automaton.specs.Branching.{has_universal_branching}
 use Rattle.omega_hoa_automaton.specs.Faults.{automaton_fault_of}
 use Rattle.omega_hoa_automaton.specs.Limits.{most_propositions}
-use Rattle.omega_hoa_automaton.specs.declared.state.State.{State}
-use Rattle.omega_lang_product.specs.Acceptance.{conjoined_acceptance}
+use Rattle.omega_lang_product.specs.Acceptance.{AreBuchi, conjoined_acceptance}
 use Rattle.omega_lang_product.specs.Joining.{joined_names}
-use Rattle.omega_lang_product.specs.Pairs.{AreFound, Pair, can_meet, first_leaving, first_view}
-use Rattle.omega_lang_product.specs.Pairs.{second_leaving, second_view, targets_of}
-use Rattle.omega_lang_product.specs.Transitions.{View, transitions_from}
+use Rattle.omega_lang_product.specs.Limits.{most_joint_sets}
+use Rattle.omega_lang_product.specs.Pairs.{AreFound, Pair, can_meet, first_leaving}
+use Rattle.omega_lang_product.specs.Pairs.{second_leaving, targets_of}
 use Rattle.omega_lang_product.specs.Written.{IsWrittenProduct}
 use Rattle.omega_lang_product.specs.declared.transition.Transition.{Transition}
 use Rattle.omega_hoa_syntax.specs.declared.raw_automaton.RawAutomaton.{RawAutomaton}
@@ -39,13 +38,17 @@ use Rattle.omega_hoa_edges.specs.Limits.{most_edges, most_states}
 abbrev pub HaveNoBranch : Description → Description → Type 0
 HaveNoBranch one other = (has_universal_branching one || has_universal_branching other) ≡ false
 
--- an edge of the first and one of the second, which leave the two states of a reachable pair
-pub record AreMet (one other : Description) (transition partner : Transition) : Type 0 where
+-- a pair that a search of the reachable ones has found
+pub record IsFoundPair (one other : Description) (pair : Pair) : Type 0 where
   pub pairs : List Pair
   pub done : ℕ
   pub found : AreFound one other done pairs
+  pub listed : Contains pairs pair
+
+-- an edge of the first and one of the second, which leave the two states of a reachable pair
+pub record AreMet (one other : Description) (transition partner : Transition) : Type 0 where
   pub pair : Pair
-  pub reached : Contains pairs pair
+  pub found : IsFoundPair one other pair
   pub first : Contains (first_leaving one other pair) transition
   pub second : Contains (second_leaving one other pair) partner
 
@@ -81,24 +84,26 @@ pub record HasUnfitEdge (transitions : List Transition) : Type 0 where
   pub listed : Contains transitions transition
   pub unfit : FitsALabel transition.label → ⊥
 
--- an edge of some state has such a label
-pub record HasUnfitLabel (view : View) (states : List State) : Type 0 where
-  pub state : State
-  pub listed : Contains states state
-  pub edge : HasUnfitEdge (transitions_from view state 0 state.edges)
+-- an edge that leaves a state of a pair has such a label
+abbrev pub HasUnfitAt : Description → Description → Pair → Type 0
+HasUnfitAt one other pair =
+    HasUnfitEdge (first_leaving one other pair) ⊎ HasUnfitEdge (second_leaving one other pair)
 
--- an edge of the first automaton has such a label
-abbrev pub HasUnfitFirst : Description → Description → Type 0
-HasUnfitFirst one other = HasUnfitLabel (first_view one other) one.defined
+-- an edge that leaves a state of a reachable pair has such a label
+pub record HasUnfitLabel (one other : Description) : Type 0 where
+  pub pair : Pair
+  pub found : IsFoundPair one other pair
+  pub edge : HasUnfitAt one other pair
 
--- an edge of the second automaton has such a label
-abbrev pub HasUnfitSecond : Description → Description → Type 0
-HasUnfitSecond one other = HasUnfitLabel (second_view one other) other.defined
+-- the acceptance is the conjunction of both, and is too deep
+pub record HasDeepFormula (one other : Description) : Type 0 where
+  pub others : AreBuchi one other → ⊥
+  pub deep : most_depth < acc_depth (conjoined_acceptance one other)
 
--- the conjunction of both acceptances, as it is written, is too deep
-abbrev pub HasDeepAcceptance : Description → Description → Type 0
-HasDeepAcceptance one other =
-    most_depth < raw_acc_depth (acc_written (conjoined_acceptance one other))
+-- the acceptance is the conjunction of both, and is too deep as it is written
+pub record HasDeepAcceptance (one other : Description) : Type 0 where
+  pub others : AreBuchi one other → ⊥
+  pub deep : most_depth < raw_acc_depth (acc_written (conjoined_acceptance one other))
 
 -- more pairs are reachable than a product may have states
 pub record HasManyPairs (one other : Description) : Type 0 where
@@ -121,47 +126,39 @@ pub record BreaksLimit (one other : Description) : Type 0 where
   pub fault : AutomatonFault
   pub broken : automaton_fault_of written ≡ Some fault
 
--- why a product would be too large
-pub data IsProductTooLarge (one other : Description) : Type 0 where
-  many_sets : most_number < one.sets + other.sets → IsProductTooLarge one other
+-- why the graph of a product would be too large
+pub data IsGraphTooLarge (one other : Description) : Type 0 where
+  many_joint_sets : most_joint_sets < one.sets + other.sets → IsGraphTooLarge one other
   many_names : most_propositions < length (joined_names one.propositions other.propositions)
-      → IsProductTooLarge one other
+      → IsGraphTooLarge one other
+  deep_formula : HasDeepFormula one other → IsGraphTooLarge one other
+  unfit_label : HasUnfitLabel one other → IsGraphTooLarge one other
+  unfit_meeting : HasUnfitMeeting one other → IsGraphTooLarge one other
+  many_pairs : HasManyPairs one other → IsGraphTooLarge one other
+  many_edges : HasManyEdges one other → IsGraphTooLarge one other
+
+-- why a product would be too large: its graph would be, or its text would pass a limit
+pub data IsProductTooLarge (one other : Description) : Type 0 where
+  large_graph : IsGraphTooLarge one other → IsProductTooLarge one other
+  many_sets : most_number < one.sets + other.sets → IsProductTooLarge one other
   deep_acceptance : HasDeepAcceptance one other → IsProductTooLarge one other
-  unfit_first : HasUnfitFirst one other → IsProductTooLarge one other
-  unfit_second : HasUnfitSecond one other → IsProductTooLarge one other
-  unfit_meeting : HasUnfitMeeting one other → IsProductTooLarge one other
   deep_meeting : HasDeepMeeting one other → IsProductTooLarge one other
-  many_pairs : HasManyPairs one other → IsProductTooLarge one other
-  many_edges : HasManyEdges one other → IsProductTooLarge one other
   broken_limit : BreaksLimit one other → IsProductTooLarge one other
 
--- `TooManyPropositions` or `TooLarge`, if there is no universal branching
-abbrev pub IsJoinFault : Description → Description → TaskFault → Type 0
-IsJoinFault one other NotParity = ⊥
-IsJoinFault one other UniversalBranch = ⊥
-IsJoinFault one other TooManyPropositions = HasUndecidedMeeting one other
-IsJoinFault one other TooWide = ⊥
-IsJoinFault one other Budget = ⊥
-IsJoinFault one other BadSolution = ⊥
-IsJoinFault one other UnknownNode = ⊥
-IsJoinFault one other Controllable = ⊥
-IsJoinFault one other TooLarge = IsProductTooLarge one other
-IsJoinFault one other (NotDeterministic state) = ⊥
-
--- `UniversalBranch` if there is universal branching, otherwise `TooManyPropositions` or `TooLarge`
-abbrev pub IsProductFault : Description → Description → TaskFault → Type 0
-IsProductFault one other NotParity = ⊥
-IsProductFault one other UniversalBranch =
+-- `UniversalBranch` if there is universal branching, otherwise `TooManyPropositions`, or `TooLarge` for a reason
+abbrev pub IsPairsFault : Type 0 → Description → Description → TaskFault → Type 0
+IsPairsFault large one other UniversalBranch =
     (has_universal_branching one || has_universal_branching other) ≡ true
-IsProductFault one other TooManyPropositions = HaveNoBranch one other × HasUndecidedMeeting one other
-IsProductFault one other TooWide = ⊥
-IsProductFault one other Budget = ⊥
-IsProductFault one other BadSolution = ⊥
-IsProductFault one other UnknownNode = ⊥
-IsProductFault one other Controllable = ⊥
-IsProductFault one other TooLarge = HaveNoBranch one other × IsProductTooLarge one other
-IsProductFault one other (NotDeterministic state) = ⊥
+IsPairsFault large one other TooManyPropositions = HaveNoBranch one other × HasUndecidedMeeting one other
+IsPairsFault large one other TooLarge = HaveNoBranch one other × large
+IsPairsFault large one other fault = ⊥
+
+-- the refusal of the graph of a product
+abbrev pub IsGraphRefusal : Description → Description → Refusal → Type 0
+IsGraphRefusal one other =
+    or_task (IsPairsFault (IsGraphTooLarge one other) one other) (or_memory never)
 
 -- the refusal of a product
 abbrev pub IsProductRefusal : Description → Description → Refusal → Type 0
-IsProductRefusal one other = or_task (IsProductFault one other) (or_memory never)
+IsProductRefusal one other =
+    or_task (IsPairsFault (IsProductTooLarge one other) one other) (or_memory never)

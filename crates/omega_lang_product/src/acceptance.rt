@@ -3,6 +3,7 @@
 ghost use Rattle.std.specs.Prelude.{◌≡◌, ◌+◌, ◌<◌, ◌≤◌, IfErr, IfOk, IsOkUnless, None};
 ghost use Rattle.omega_hoa_expression.specs.Limits.{most_depth};
 ghost use Rattle.omega_hoa_acceptance.specs.Acceptance.{acc_depth};
+ghost use Rattle.omega_hoa_acceptance.specs.Raw.{raw_acc_depth};
 ghost use Rattle.omega_hoa_acceptance.specs.Writing.{acc_written};
 ghost use Rattle.omega_hoa_acceptance.specs.Kind.{buchi_formula};
 ghost use Rattle.omega_lang_product.specs.Acceptance.{AreBuchi, both_formulas as formula_of_both};
@@ -132,7 +133,8 @@ fn conjunction_of_both(
     ensures name { IfOk result (λ written. written.name ≡ None) }
     ensures formula { IfOk result
         (λ written. written.formula ≡ acc_written (conjoined_acceptance one.now other.now)) }
-    ensures err { IfErr result (IsLarge (HasDeepAcceptance one.now other.now)) }
+    ensures err { IfErr result (IsLarge
+        (most_depth < raw_acc_depth (acc_written (conjoined_acceptance one.now other.now)))) }
 {
     let formula = conjunction(alloc, one, other)?;
     let formula = written_formula(alloc, &formula)?;
@@ -146,7 +148,8 @@ fn conjunction_of_both(
 /// [TaskFault::TooLarge] if it is too deep.
 pub(crate) fn conjunction(alloc: Global, one: &Automaton, other: &Automaton) -> Result<Acc, Refusal>
     ensures formula { IfOk result (λ formula. formula ≡ conjoined_acceptance one.now other.now) }
-    ensures err { IfErr result (IsLarge (HasDeepAcceptance one.now other.now)) }
+    ensures err { IfErr result
+        (IsLarge (most_depth < acc_depth (conjoined_acceptance one.now other.now))) }
 {
     let first = one.acceptance().copy_in(alloc)?;
     let second = other.acceptance().moved_after(alloc, one.set_count())?;

@@ -5,7 +5,7 @@ ghost use Rattle.omega_hoa_expression.specs.Limits.{most_depth};
 ghost use Rattle.omega_hoa_acceptance.specs.Kind.{buchi_formula};
 ghost use Rattle.omega_hoa_edges.specs.Fitting.{IsLarge};
 ghost use Rattle.omega_lang_product.specs.Acceptance.{AreBuchi, IsJointFormula};
-ghost use Rattle.omega_lang_product.specs.Refusing.{HasDeepAcceptance};
+ghost use Rattle.omega_lang_product.specs.Refusing.{HasDeepFormula};
 
 use crate::acceptance::conjunction;
 use crate::buchi::are_buchi;
@@ -22,7 +22,7 @@ pub(crate) fn joint_formula(
     other: &Automaton,
 ) -> Result<Acc, Refusal>
     ensures ok { IfOk result (IsJointFormula one.now other.now) }
-    ensures err { IfErr result (IsLarge (HasDeepAcceptance one.now other.now)) }
+    ensures err { IfErr result (IsLarge (HasDeepFormula one.now other.now)) }
 {
     if are_buchi(one, other) {
         recurring_in_both(alloc, one, other)

@@ -7,8 +7,8 @@ ghost use Rattle.omega_lang_product.specs.PairGraph.{joints_at};
 ghost use Rattle.omega_lang_product.specs.Pairs.{first_leaving, second_leaving, start_state as first_listed};
 ghost use Rattle.omega_lang_product.specs.Pairs.{starts_between, starts_with, with_pairs};
 ghost use Rattle.omega_lang_product.specs.private.Adding.{AddsAmong};
-ghost use Rattle.omega_lang_product.specs.Refusing.{IsJoinFault};
 ghost use Rattle.omega_lang_product.specs.private.Explored.{AreMade, IsExplored};
+ghost use Rattle.omega_lang_product.specs.private.Faults.{IsGraphFault};
 ghost use Rattle.omega_lang_product.specs.private.Meeting.{MeetByIndex};
 ghost use Rattle.omega_lang_product.specs.private.Operands.{AreTables, AreTabled, HasUnmetAt};
 ghost use Rattle.omega_lang_product.specs.private.Operands.{HaveRows, targets_in};
@@ -40,7 +40,7 @@ pub(crate) fn explore(
     ensures tables { OnOk result (AreTables one.now other.now tables.new) }
     ensures explored { IfOk result (IsExplored one.now other.now) }
     ensures made { IfOk result (AreMade tables.new) }
-    ensures err { IfErr result (or_task (IsJoinFault one.now other.now) (or_memory never)) }
+    ensures err { IfErr result (or_task (IsGraphFault one.now other.now) (or_memory never)) }
 {
     let mut pairs = IndexSet::new(alloc);
     let mut edges = JointEdges::new(alloc);

@@ -3,14 +3,16 @@ ghost use Rattle.std.specs.Prelude.{IfErr, IfOk, IsOkUnless, OnOk, sum_by};
 ghost use Rattle.omega_text.specs.Cases.{never, or_memory, or_task};
 ghost use Rattle.omega_text.specs.Limits.{most_number};
 ghost use Rattle.omega_hoa_automaton.specs.Branching.{has_universal_branching};
+ghost use Rattle.omega_hoa_automaton.specs.Limits.{most_propositions};
 ghost use Rattle.omega_lang_product.specs.Joining.{joined_names as names_of_both};
 ghost use Rattle.omega_lang_product.specs.Limits.{IsWithin};
 ghost use Rattle.omega_hoa_edges.specs.Limits.{most_edges, most_states};
 ghost use Rattle.omega_lang_product.specs.private.Explored.{AreMade, IsExplored};
+ghost use Rattle.omega_lang_product.specs.private.Faults.{IsProductFault};
 ghost use Rattle.omega_lang_product.specs.private.Headers.{AreOfBoth, IsHeader};
 ghost use Rattle.omega_lang_product.specs.private.Operands.{AreTabled, AreTables};
 ghost use Rattle.omega_lang_product.specs.Product.{IsProduct};
-ghost use Rattle.omega_lang_product.specs.Refusing.{HaveNoBranch, IsJoinFault, IsProductRefusal};
+ghost use Rattle.omega_lang_product.specs.Refusing.{HaveNoBranch, IsProductRefusal};
 ghost use Rattle.omega_hoa_edges.specs.Fitting.{IsLarge};
 ghost use Rattle.omega_lang_product.specs.Written.{IsWritten, IsWrittenProduct, raw_of};
 
@@ -83,7 +85,7 @@ fn product_automaton(
     ensures product { IfOk result (IsProduct one.now other.now) }
     ensures written { IfOk result (IsWritten one.now other.now) }
     ensures within { IfOk result IsWithin }
-    ensures refused { IfErr result (or_task (IsJoinFault one.now other.now) (or_memory never)) }
+    ensures refused { IfErr result (or_task (IsProductFault one.now other.now) (or_memory never)) }
 {
     written_labels_mean();
     written_formulas_mean();
@@ -106,7 +108,7 @@ fn written_product(
     ensures states { IfOk result (λ raw. length raw.states ≤ most_states) }
     ensures edges { IfOk result (λ raw. sum_by (λ state. length state.edges) raw.states ≤ most_edges) }
     ensures sets { OnOk result (one.now.sets + other.now.sets ≤ most_number) }
-    ensures refused { IfErr result (or_task (IsJoinFault one.now other.now) (or_memory never)) }
+    ensures refused { IfErr result (or_task (IsProductFault one.now other.now) (or_memory never)) }
 {
     let sets = sets_of_both(one, other)?;
     let names = names_of(alloc, one, other)?;
@@ -129,7 +131,7 @@ fn written_over(
     ensures written { IfOk result (IsWrittenProduct one.now other.now) }
     ensures states { IfOk result (λ raw. length raw.states ≤ most_states) }
     ensures edges { IfOk result (λ raw. sum_by (λ state. length state.edges) raw.states ≤ most_edges) }
-    ensures refused { IfErr result (or_task (IsJoinFault one.now other.now) (or_memory never)) }
+    ensures refused { IfErr result (or_task (IsProductFault one.now other.now) (or_memory never)) }
 {
     match explore(alloc, one, other, tables) {
         Ok(explored) => {
@@ -156,7 +158,7 @@ fn written_explored(
     ensures states { IfOk result (λ raw. length raw.states ≤ most_states) }
     ensures edges { IfOk result (λ raw. sum_by (λ state. length state.edges) raw.states ≤ most_edges) }
     ensures refused { IfErr result
-        (or_task (IsJoinFault operands.now.one.now operands.now.other.now) (or_memory never)) }
+        (or_task (IsProductFault operands.now.one.now operands.now.other.now) (or_memory never)) }
 {
     let states = states_of(alloc, operands, explored)?;
     match header_of(alloc, operands, explored, names, sets) {
@@ -179,7 +181,7 @@ fn header_of(
     ensures header { IfOk result (λ items.
         IsHeader operands.now.one.now operands.now.other.now explored.now.pairs.keys items.items) }
     ensures refused { IfErr result
-        (or_task (IsJoinFault operands.now.one.now operands.now.other.now) (or_memory never)) }
+        (or_task (IsProductFault operands.now.one.now operands.now.other.now) (or_memory never)) }
 {
     let acceptance = joint_acceptance(alloc, operands.one, operands.other)?;
     let starts = Starts {
@@ -213,7 +215,8 @@ pub(crate) fn names_of(
     ensures ok { IfOk result
         (λ names. names.items ≡ names_of_both one.now.propositions other.now.propositions) }
     ensures few { IfOk result (λ names. length names.items < 2 ^ 32) }
-    ensures err { IfErr result (or_task (IsJoinFault one.now other.now) (or_memory never)) }
+    ensures err { IfErr result (IsLarge
+        (most_propositions < length (names_of_both one.now.propositions other.now.propositions))) }
 {
     let names = joined_names(alloc, one.propositions(), other.propositions())?;
     if MOST_PROPOSITIONS < names.len() {

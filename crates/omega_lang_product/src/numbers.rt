@@ -1,22 +1,8 @@
-//! Numbers that come after others: of sets, of edges and of pairs.
+//! Numbers of edges and of pairs that come after others.
 
 ghost use Rattle.std.specs.Prelude.{◌≡◌, ◌+◌, IfOk, IsOkUnless};
 
 use omega_text::Refusal;
-
-/// Returns the number of `set` after `before` other sets. Also fails with [Refusal::Memory] if it is over 2^32 - 1.
-///
-/// Automata of texts never have so many sets. But each automaton may have up to 2^32 - 1 by its type, and `IsAutomaton`
-/// bounds a set by their count alone, so that no condition shows here that `before + set < 2 ^ 32`.
-pub(crate) fn number_of_set(before: u32, set: u32) -> Result<u32, Refusal>
-    ensures ok { IfOk result (λ number. number ≡ before + set) }
-    ensures memory { IsOkUnless result Refusal.Memory }
-{
-    match before.checked_add(set) {
-        Some(number) => Ok(number),
-        None => Err(Refusal::Memory),
-    }
-}
 
 /// Returns the number that comes `count` numbers after `before`. Also fails with [Refusal::Memory] if it is over
 /// 2^32 - 1.
@@ -28,7 +14,10 @@ pub(crate) fn number_after(before: u32, count: usize) -> Result<u32, Refusal>
     ensures memory { IsOkUnless result Refusal.Memory }
 {
     match u32::try_from(count) {
-        Ok(count) => number_of_set(before, count),
+        Ok(count) => match before.checked_add(count) {
+            Some(number) => Ok(number),
+            None => Err(Refusal::Memory),
+        },
         Err(_) => Err(Refusal::Memory),
     }
 }

@@ -1,10 +1,12 @@
-ghost use Rattle.std.specs.Prelude.{◌≡◌, ◌<◌, None, get_or, length, replicate, IfErr, IfOk, IfSome};
+ghost use Rattle.std.specs.Prelude.{◌≡◌, ◌+◌, ◌<◌, ◌≤◌, None, get_or, length, replicate, IfErr, IfOk, IfSome};
 ghost use Rattle.std.specs.Prelude.{IsOkUnless, OnOk, ℕ, ◌∷◌, [], ◌++◌, false, nat_eq, true};
 ghost use Rattle.std.specs.List.{list_any};
 ghost use Rattle.omega_hoa_edges.specs.Fitting.{IsLarge};
+ghost use Rattle.omega_lang_product.specs.Limits.{most_joint_sets};
 ghost use Rattle.omega_lang_product.specs.Refusing.{HasUnfitEdge};
 ghost use Rattle.omega_lang_product.specs.Transitions.{View, transitions_at};
 ghost use Rattle.omega_lang_product.specs.private.Meeting.{AreByValuation};
+ghost use Rattle.omega_lang_product.specs.private.Room.{HasRoom};
 ghost use Rattle.omega_lang_product.specs.private.Tables.{AreNumbered, HasRow, IsRowIn, IsTableOf};
 ghost use Rattle.omega_lang_product.specs.private.Tables.{row_of as edges_of, view_at, view_in};
 
@@ -71,7 +73,8 @@ impl Table {
         automaton: &Automaton,
         number: u32,
     ) -> Result<(), Refusal>
-        requires { (view : View) × IsTableOf view automaton.now.defined self.old }
+        requires table { (view : View) × IsTableOf view automaton.now.defined self.old }
+        requires room { self.old.before + automaton.now.sets ≤ most_joint_sets }
         ensures table { OnOk result ((view : View) → IsTableOf view automaton.now.defined self.old
             → IsTableOf view automaton.now.defined self.new) }
         ensures made { OnOk result (HasRow self.new number) }
@@ -81,6 +84,7 @@ impl Table {
             (λ refusal. (view : View) → IsTableOf view automaton.now.defined self.old
             → IsLarge (HasUnfitEdge (transitions_at view automaton.now.defined number)) refusal) }
     {
+        automaton.keeps_limits();
         let Some(place) = self.numbers.get_index_of(&number) else {
             return Ok(());
         };
@@ -95,6 +99,7 @@ impl Table {
     /// Returns the edges of `state` as the product sees them. Fails with [TaskFault::TooLarge] if a label is too deep
     /// or too large.
     fn edges_of_state(&self, alloc: Global, state: &State) -> Result<Seq<Tabled>, Refusal>
+        requires { HasRoom self.now.before state.now }
         ensures ok { IfOk result (λ row. row ≡ edges_of (view_in self.now) state.now) }
         ensures err { IfErr result (IsLarge (HasUnfitEdge (edges_of (view_in self.now) state.now))) }
     {

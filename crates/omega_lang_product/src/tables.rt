@@ -1,7 +1,9 @@
-ghost use Rattle.std.specs.Prelude.{◌≡◌, ◌<◌, ◌^◌, length, IfErr, IfOk, IsOkUnless, OnOk};
+ghost use Rattle.std.specs.Prelude.{◌≡◌, ◌+◌, ◌<◌, ◌≤◌, ◌^◌, length, IfErr, IfOk, IsOkUnless, OnOk};
 ghost use Rattle.omega_hoa_edges.specs.Fitting.{IsLarge};
 ghost use Rattle.omega_lang_product.specs.Joining.{joined_names};
-ghost use Rattle.omega_lang_product.specs.private.Operands.{AreTables, HasUnfitAt, Reaches};
+ghost use Rattle.omega_lang_product.specs.Limits.{most_joint_sets};
+ghost use Rattle.omega_lang_product.specs.Refusing.{HasUnfitAt};
+ghost use Rattle.omega_lang_product.specs.private.Operands.{AreTables, Reaches};
 
 use crate::names::places_among;
 use crate::table::Table;
@@ -28,6 +30,7 @@ impl Tables {
     ) -> Result<Tables, Refusal>
         requires named { names.now ≡ joined_names one.now.propositions other.now.propositions }
         requires few { length names.now < 2 ^ 32 }
+        requires room { one.now.sets + other.now.sets ≤ most_joint_sets }
         ensures ok { IfOk result (AreTables one.now other.now) }
         ensures memory { IsOkUnless result Refusal.Memory }
     {

@@ -3,10 +3,10 @@
 ghost use Rattle.std.specs.Prelude.{◌≡◌, ◌+◌, ◌++◌, IfErr, IfOk, IsOkUnless, OnOk, map};
 ghost use Rattle.omega_lang_product.specs.Refusing.{HasUnfitEdge};
 ghost use Rattle.omega_lang_product.specs.Transitions.{transition_of as transition_of_edge};
+ghost use Rattle.omega_lang_product.specs.private.Room.{HasRoom, HaveRoom};
 ghost use Rattle.omega_lang_product.specs.private.Tables.{label_in_product, row_of, view_of};
 ghost use Rattle.omega_hoa_edges.specs.Fitting.{IsLarge, IsUnfit};
 
-use crate::numbers::number_of_set;
 use crate::renumbering::Renumbering;
 use crate::tabled::Tabled;
 use crate::transition::Transition;
@@ -23,6 +23,7 @@ pub(crate) fn transitions_of(
     state: &State,
     renumbering: &Renumbering<'_>,
 ) -> Result<Seq<Tabled>, Refusal>
+    requires { HasRoom renumbering.now.before state.now }
     ensures ok { IfOk result (λ row. row ≡ row_of (view_of renumbering.now) state.now) }
     ensures err { IfErr result (IsLarge (HasUnfitEdge (row_of (view_of renumbering.now) state.now))) }
 {
@@ -45,6 +46,8 @@ fn transition_of<'a>(
     at: usize,
     renumbering: &Renumbering<'_>,
 ) -> Result<Transition, Refusal>
+    requires of_state { HaveRoom renumbering.now.before state.now.marks }
+    requires of_edge { HaveRoom renumbering.now.before edge.now.marks }
     ensures ok { IfOk result (λ transition.
         transition ≡ transition_of_edge (view_of renumbering.now) state.now at edge.now) }
     ensures err { IfErr result
@@ -82,14 +85,15 @@ fn label_of<'a>(
     Ok(moved)
 }
 
-/// Returns the marks of a state and of an edge, each after `before` other sets. Also fails with [Refusal::Memory] if a
-/// number is over 2^32 - 1, as `number_of_set` does.
+/// Returns the marks of a state and of an edge, each after `before` other sets.
 fn marks_after(
     alloc: Global,
     of_state: &[u32],
     of_edge: &[u32],
     before: u32,
 ) -> Result<Numbers, Refusal>
+    requires of_state { HaveRoom before of_state.now }
+    requires of_edge { HaveRoom before of_edge.now }
     ensures ok { IfOk result
         (λ marks. marks ≡ map (λ set. before + set) (of_state.now ++ of_edge.now)) }
     ensures memory { IsOkUnless result Refusal.Memory }
@@ -107,12 +111,12 @@ fn append_moved(
     sets: &[u32],
     before: u32,
 ) -> Result<(), Refusal>
+    requires { HaveRoom before sets.now }
     ensures ok { OnOk result (marks.new ≡ marks.old ++ map (λ set. before + set) sets.now) }
     ensures memory { IsOkUnless result Refusal.Memory }
 {
     for set in sets {
-        let following = number_of_set(before, *set)?;
-        marks.push(alloc, following)?;
+        marks.push(alloc, before + *set)?;
     }
     Ok(())
 }

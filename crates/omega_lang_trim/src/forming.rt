@@ -1,6 +1,7 @@
 //! A trimmed automaton, by way of what a text writes of it.
 
 ghost use Rattle.std.specs.Prelude.{◌≡◌, IfErr, IfOk};
+ghost use Rattle.omega_hoa_automaton.specs.Meaning.{Means};
 ghost use Rattle.omega_hoa_edges.specs.Fitting.{IsLarge};
 ghost use Rattle.omega_lang_trim.specs.Refusing.{IsTooLarge, PassesLimit};
 ghost use Rattle.omega_lang_trim.specs.Trimmed.{IsTrimmed, trimmed};
@@ -29,6 +30,7 @@ pub(crate) fn trimmed_automaton(
     requires useful { AreUsefulStates automaton.now kept.now.keys }
     requires few { IsFew kept.now.keys }
     ensures trimmed { IfOk result (IsTrimmed automaton.now) }
+    ensures written { IfOk result (λ trim. Means (written_form trim) trim) }
     ensures err { IfErr result (IsLarge (IsTooLarge automaton.now)) }
 {
     automaton.keeps_limits();

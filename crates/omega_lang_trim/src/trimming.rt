@@ -1,9 +1,11 @@
 //! An automaton without its useless states.
 
 ghost use Rattle.std.specs.Prelude.{IfErr, IfOk, OnOk};
+ghost use Rattle.omega_hoa_automaton.specs.Meaning.{Means};
 ghost use Rattle.omega_lang_lasso_search.specs.Searching.{IsSearchable};
 ghost use Rattle.omega_lang_trim.specs.Refusing.{IsTrimRefusal};
 ghost use Rattle.omega_lang_trim.specs.Trimmed.{IsTrimmed};
+ghost use Rattle.omega_lang_trim.specs.Written.{written as written_form};
 
 use crate::forming::trimmed_automaton;
 use crate::useful::useful_states;
@@ -35,6 +37,7 @@ use std::alloc::Global;
 /// each state. A formula without `Fin` has no such component.
 pub fn trim(alloc: Global, automaton: &Automaton) -> Result<Automaton, Refusal>
     ensures trimmed { IfOk result (IsTrimmed automaton.now) }
+    ensures written { IfOk result (λ trim. Means (written_form trim) trim) }
     ensures given { OnOk result (IsSearchable automaton.now) }
     ensures refused { IfErr result (IsTrimRefusal automaton.now) }
 {

@@ -7,5 +7,7 @@ pub mod Moves
 pub mod Numbered
 pub mod One
 pub mod Parts
+pub mod Periods
 pub mod Plain
+pub mod Rounds
 pub mod Writable

@@ -11,6 +11,7 @@ use Rattle.omega_lang_complement.specs.Complement.{IsComplement}
 use Rattle.omega_hoa_edges.specs.Determinism.{IsDeterministic}
 use Rattle.omega_lang_complement.specs.Written.{IsWrittenComplement}
 use Rattle.omega_text.specs.Omniscience.{LimitedPrincipleOfOmniscience}
+use Rattle.omega_lang_word_laws.specs.NamedWords.{AcceptsNamed, IsPeriodicFor, NamedWord}
 
 -- no word is accepted by a deterministic automaton and by its complement
 abbrev pub ComplementsAreApart : Type 0
@@ -24,6 +25,18 @@ abbrev pub ComplementsCover : Type 0
 ComplementsCover = LimitedPrincipleOfOmniscience
     → (a complement : Description) (word : ℕ → ℕ → Bool) → IsAutomaton a → IsDeterministic a
     → IsComplement a complement → IsAccepted a word ⊎ IsAccepted complement word
+
+-- an automaton and another part a word over names: they do not both accept it, and one of them does, which for a word
+-- of which the first sees an ultimately periodic part needs no premise
+pub record IsParted (a complement : Description) (word : NamedWord) : Type 0 where
+  pub apart : AcceptsNamed a word → ¬ AcceptsNamed complement word
+  pub periodic : IsPeriodicFor a word → AcceptsNamed a word ⊎ AcceptsNamed complement word
+  pub all : LimitedPrincipleOfOmniscience → AcceptsNamed a word ⊎ AcceptsNamed complement word
+
+-- so do a deterministic automaton and its complement
+abbrev pub ComplementsPartByName : Type 0
+ComplementsPartByName = (a complement : Description) (word : NamedWord) → IsAutomaton a
+    → IsDeterministic a → IsComplement a complement → IsParted a complement word
 
 -- the written complement of an automaton within the limits has no other fault than `TooDeep` and `Expansion`
 abbrev pub ComplementsAreWritable : Type 0

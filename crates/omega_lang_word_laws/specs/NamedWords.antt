@@ -1,5 +1,5 @@
 -- Words over names. Automata share the propositions that have one name, whatever their numbers are (HOA v1, AP).
-use Rattle.std.specs.Prelude.{ℕ, ◌↔◌, Bool, List, [], slice_index_or}
+use Rattle.std.specs.Prelude.{◌≡◌, ◌<◌, ◌≤◌, ◌+◌, ◌↔◌, ℕ, Bool, List, [], length, slice_index_or, Contains}
 use Rattle.omega_hoa_automaton.specs.Automaton.{Description, IsAutomaton}
 use Rattle.omega_lang_runs.specs.Words.{IsAccepted}
 
@@ -15,8 +15,34 @@ part_of names word i number = word i (slice_index_or names number [])
 abbrev pub AcceptsNamed : Description → NamedWord → Type 0
 AcceptsNamed a word = IsAccepted a (part_of a.propositions word)
 
--- words over names miss none: each word by numbers is accepted exactly if the part of some word over names is
+-- from some index on such a word repeats itself after a period, as far as some names go
+pub record RepeatsItself (IsSeen : List ℕ → Type 0) (word : NamedWord) : Type 0 where
+  pub start : ℕ
+  pub period : ℕ
+  pub some : 0 < period
+  pub repeats : (i : ℕ) (name : List ℕ) → start ≤ i → IsSeen name → word (i + period) name ≡ word i name
+
+-- the word is ultimately periodic
+abbrev pub IsPeriodic : NamedWord → Type 0
+IsPeriodic = RepeatsItself (λ name. Unit {0})
+
+-- what an automaton sees of it is
+abbrev pub IsPeriodicFor : Description → NamedWord → Type 0
+IsPeriodicFor a = RepeatsItself (Contains a.propositions)
+
+-- an automaton sees the same of two words by numbers: each of its propositions holds in both or in neither
+abbrev pub AreSeenAlike : Description → (word other : ℕ → ℕ → Bool) → Type 0
+AreSeenAlike a word other =
+    (i number : ℕ) → number < length a.propositions → word i number ≡ other i number
+
+-- words over names miss none: what an automaton sees of a word by numbers it sees of some word over names
 abbrev pub WordsAreNamed : Type 0
 WordsAreNamed =
     (a : Description) (word : ℕ → ℕ → Bool) → IsAutomaton a
-    → (named : NamedWord) × (IsAccepted a word ↔ AcceptsNamed a named)
+    → (named : NamedWord) × AreSeenAlike a (part_of a.propositions named) word
+
+-- whether an automaton accepts a word depends on what it sees of the word alone
+abbrev pub WordsSeenAlikeAreOne : Type 0
+WordsSeenAlikeAreOne =
+    (a : Description) (word other : ℕ → ℕ → Bool) → IsAutomaton a → AreSeenAlike a word other
+    → IsAccepted a word ↔ IsAccepted a other

@@ -6,6 +6,7 @@ use Rattle.omega_lang_runs.specs.Words.{IsAccepted}
 use Rattle.omega_lang_product.specs.Joining.{part_of_word}
 use Rattle.omega_lang_product.specs.Pairs.{first_view, second_view}
 use Rattle.omega_lang_product.specs.Product.{IsProduct}
+use Rattle.omega_lang_word_laws.specs.NamedWords.{AcceptsNamed, NamedWord}
 
 -- the product of two automata without universal branching accepts a word over the propositions of both exactly if each
 -- accepts its part of the word
@@ -16,6 +17,13 @@ ProductsMeet =
     → has_universal_branching other ≡ false → IsProduct one other a
     → IsAccepted a word ↔ (IsAccepted one (part_of_word (first_view one other).places word)
     × IsAccepted other (part_of_word (second_view one other).places word))
+
+-- so by names: the product accepts a word over names exactly if both do
+abbrev pub ProductsMeetByName : Type 0
+ProductsMeetByName = (one other a : Description) (word : NamedWord) → IsAutomaton one → IsAutomaton other
+    → has_universal_branching one ≡ false
+    → has_universal_branching other ≡ false → IsProduct one other a
+    → AcceptsNamed a word ↔ (AcceptsNamed one word × AcceptsNamed other word)
 
 -- two automata have at most one product
 abbrev pub ProductsAreOne : Type 0

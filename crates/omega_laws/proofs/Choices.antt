@@ -9,7 +9,7 @@ use Rattle.omega_hoa_label.specs.Label.{LabelTree}
 use Rattle.omega_lang_lasso_word.specs.declared.symbolic_word.SymbolicWord.{SymbolicWord}
 use Rattle.omega_lang_inclusion.specs.OneWord.{HasOpenLetter}
 use Rattle.omega_lang_inclusion.specs.Opening.{HasUnjudgedName, IsUnjudgedWith}
-use Rattle.omega_lang_inclusion.specs.WordRefusing.{HasChoice, IsMembershipRefusal, IsOneWordRefusal, has_open_letter, not_contained, not_found, not_judged, not_met, not_one, not_searched, oversized}
+use Rattle.omega_lang_inclusion.specs.WordRefusing.{HasChoice, IsMembershipRefusal, IsOneWordRefusal, has_open_letter, no_memory, not_contained, not_found, not_judged, not_met, not_one, oversized}
 
 -- the refusal for a choice in a state
 abbrev choice_at : ℕ → Refusal
@@ -36,7 +36,6 @@ no_name one names state (name, within, inr (its, among, is)) = no_labels _ _ _ s
 -- nor one for the one word
 no_word : (one a : Description) (state : ℕ) → IsOneWordRefusal one a (choice_at state) → ⊥
 no_word one a state (not_met is) = is
-no_word one a state (not_searched both product is) = is
 no_word one a state (not_found is) = is
 
 same_state : (state other : ℕ) → choice_at state ≡ choice_at other → other ≡ state
@@ -44,7 +43,8 @@ same_state state other e = cc
 
 pub open_choice : (word : SymbolicWord) (a : Description) (state : ℕ) → IsMembershipRefusal word a (choice_at state) → HasChoice a state × HasOpenLetter word a
 open_choice word a state (oversized is) = absurd (no_large _ state is)
-open_choice word a state (not_contained one means is none) = absurd (none state refl)
+open_choice word a state (not_contained one means is none searched) = absurd (none state refl)
+open_choice word a state (no_memory is) = absurd (let no : choice_at state ≡ Memory = is in cc)
 open_choice word a state (not_judged one other means choice is) = absurd (no_name one a.propositions state is)
 open_choice word a state (has_open_letter other choice letter is) = (subst (HasChoice a) (same_state state other is) choice, letter)
 open_choice word a state (not_one one other means choice own is) = absurd (no_word one a state is)

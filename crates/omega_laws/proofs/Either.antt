@@ -54,7 +54,7 @@ module _ (part : Part) (starts : List (List ℕ)) where
       let one : IsOneMoved part.states from.0 to = one_moved part.states from.0 to from.2 in
       record { start = one.number; is = one.is; has = subst (Contains starts) one.alone from.1 }
 
-start_low : (x : Description) → IsAutomaton x → (state : ℕ) → IsStart x state → state < x.states
+pub start_low : (x : Description) → IsAutomaton x → (state : ℕ) → IsStart x state → state < x.states
 start_low x automaton state begins =
     All-contains (λ n. n < x.states) (state ∷ []) state (All-contains (AreTargets x) x.starts (state ∷ []) automaton.starts begins).below (Contains-here state [])
 

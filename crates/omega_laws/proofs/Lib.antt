@@ -17,6 +17,7 @@ pub mod Formulas
 pub mod Marks
 pub mod UnionWords
 pub mod Either
+pub mod EitherNamed
 pub mod UnionOne
 pub mod Accepted
 pub mod Choices

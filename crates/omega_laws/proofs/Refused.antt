@@ -30,7 +30,7 @@ use Rattle.omega_io.specs.Refused.{IsAbout}
 use Rattle.omega_io.specs.declared.refused.Refused.{Refused}
 use Rattle.omega_io.specs.declared.refused.Which.{Which}
 use Rattle.omega_io.specs.declared.refused.Which.TheVariants.{File, Input}
-use Rattle.omega_lang_product.specs.Refusing.{IsProductRefusal}
+use Rattle.omega_lang_product.specs.Refusing.{IsGraphRefusal}
 use Rattle.omega_laws.specs.ControllerTexts.{ControllersAreReadBack}
 use Rattle.omega_laws.specs.WrittenControllers.{IsWrittenController, WrittenControllersAreNotAtFault}
 use Rattle.omega_laws.proofs.Plain.{complement_plain, controller_plain}
@@ -106,13 +106,13 @@ complement_of_neither a deterministic refusal is = record {
     clash state (inl second) = no_second a.starts second.1.0 deterministic.one_start second.1.1
     clash state (inr first) = deterministic.apart first.1.0 first.1.1 first.1.4.1
 
--- the product with it
-product_of_neither : (one other : Description) → has_universal_branching one ≡ false → has_universal_branching other ≡ false → (refusal : Refusal) → IsProductRefusal one other refusal
+-- the graph of the product with it
+graph_of_neither : (one other : Description) → has_universal_branching one ≡ false → has_universal_branching other ≡ false → (refusal : Refusal) → IsGraphRefusal one other refusal
     → IsOfNeither refusal
-product_of_neither one other plain plain' refusal is = record {
-  no_choice = λ state e. subst (IsProductRefusal one other) e is;
-  no_kind = λ e. subst (IsProductRefusal one other) e is;
-  no_branch = λ e. true≢false (sym (subst (IsProductRefusal one other) e is) ∙ (ap (λ (b : Bool). b || has_universal_branching other) plain ∙ plain'));
+graph_of_neither one other plain plain' refusal is = record {
+  no_choice = λ state e. subst (IsGraphRefusal one other) e is;
+  no_kind = λ e. subst (IsGraphRefusal one other) e is;
+  no_branch = λ e. true≢false (sym (subst (IsGraphRefusal one other) e is) ∙ (ap (λ (b : Bool). b || has_universal_branching other) plain ∙ plain'));
 }
 
 memory_of_neither : (refusal : Refusal) → IsMemory refusal → IsOfNeither refusal
@@ -127,7 +127,7 @@ contained_of_neither : (one other : Description) → has_universal_branching one
 contained_of_neither one other plain deterministic refusal (not_complemented is) = complement_of_neither other deterministic refusal is
 contained_of_neither one other plain deterministic refusal (not_met complement given complemented is) =
     let parts = or_parts (list_any (λ (start : List ℕ). nat_lt 1 (length start)) other.starts) (list_any state_branches other.defined) deterministic.plain in
-    product_of_neither one complement plain (complement_plain other parts.0 parts.1 complement complemented) refusal is
+    graph_of_neither one complement plain (complement_plain other parts.0 parts.1 complement complemented) refusal is
 contained_of_neither one other plain deterministic refusal (no_memory given is) = memory_of_neither refusal is
 
 -- ---- names

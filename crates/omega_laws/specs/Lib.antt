@@ -5,11 +5,13 @@
 -- The laws of the texts of controllers, of what is answered to them, and of answers by lifting.
 pub mod ComplementTexts
 pub mod Containment
+pub mod InclusionTexts
 pub mod ProductTexts
 pub mod TextWords
 pub mod Trimming
 pub mod Trims
 pub mod Unions
+pub mod WrittenTexts
 pub mod WrittenWords
 pub mod ControllerTexts
 pub mod LiftedAnswers

@@ -1,14 +1,15 @@
 //! Laws of the texts of complements: each call does nothing and states one law.
 
-ghost use Rattle.omega_laws.specs.ComplementTexts.{ComplementsAreReadBack};
+ghost use Rattle.omega_laws.specs.ComplementTexts.{ComplementTextsAcceptTheRest, ComplementsAreReadBack};
 
 use omega_acc::{
     acc_texts_are_formulas, label_texts_are_labels, written_formulas_are_shallowest,
     written_formulas_mean, written_labels_are_shallowest, written_labels_mean,
 };
-use omega_hoa::automata_fill_segments;
+use omega_hoa::{automata_are_one, automata_fill_segments};
 use omega_hoa_automaton::{meanings_are_automata, meanings_have_no_fault};
 use omega_hoa_round_trips::read_automata_are_writable;
+use omega_lang_word_laws::complements_part_by_name;
 use omega_text::HoaKind;
 use omega_text::hoa::laws::{
     closed_are_longest, numbers_are_longest, numbers_are_plain, words_are_longest,
@@ -35,4 +36,16 @@ pub fn complements_are_read_back()
     meanings_are_automata();
     automata_fill_segments();
     read_automata_are_writable();
+}
+
+/// Shows that what `complement` writes for a text is the text of an automaton, if it is within the limit of texts, and
+/// that each word is accepted by exactly one of the two. That one of them accepts it has the premise of
+/// `complements_cover`, but for an ultimately periodic word.
+pub fn complement_texts_accept_the_rest()
+    ensures { ComplementTextsAcceptTheRest }
+{
+    automata_are_one();
+    meanings_are_automata();
+    complements_are_read_back();
+    complements_part_by_name();
 }

@@ -9,9 +9,7 @@ use crate::product_texts::products_are_read_back;
 use omega_hoa::automata_are_one;
 use omega_hoa_automaton::meanings_are_automata;
 use omega_lang_runs::{empty_accepts_no_word, lassos_have_accepted_words};
-use omega_lang_word_laws::{
-    complements_are_apart, complements_cover, products_meet, words_are_named,
-};
+use omega_lang_word_laws::{complements_are_apart, complements_cover, products_meet};
 
 /// Shows that what `meet` writes for two texts is the text of an automaton that accepts a word exactly if both texts
 /// do, if it is within the limit of texts.
@@ -47,5 +45,4 @@ pub fn lassos_mean_not_contained()
     complements_are_apart();
     lassos_have_accepted_words();
     met_texts_accept_both();
-    words_are_named();
 }

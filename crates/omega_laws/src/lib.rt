@@ -14,27 +14,36 @@
 mod complement_texts;
 mod containment;
 mod controller_texts;
+mod inclusion_texts;
 mod lifted_answers;
 mod product_texts;
 mod trimming;
 mod trims;
 mod unions;
 mod written_controllers;
+mod written_texts;
 mod written_words;
 
-pub use complement_texts::complements_are_read_back;
+pub use complement_texts::{complement_texts_accept_the_rest, complements_are_read_back};
 pub use containment::{empty_means_contained, lassos_mean_not_contained, met_texts_accept_both};
 pub use controller_texts::controllers_are_read_back;
+pub use inclusion_texts::{
+    accepted_texts_are_accepted, contained_texts_are_contained, equal_texts_are_equal,
+};
 pub use lifted_answers::lifted_answers_end;
 pub use omega_lang_word_laws::{
     complements_are_apart, complements_are_one, complements_are_writable, complements_cover,
-    products_are_one, products_meet, words_are_named,
+    complements_part_by_name, products_are_one, products_meet, products_meet_by_name,
+    words_are_named, words_seen_alike_are_one,
 };
 pub use product_texts::products_are_read_back;
 pub use trimming::trimmed_meetings_accept_both;
-pub use trims::{trims_accept_the_same, trims_are_one};
-pub use unions::{unions_accept_either, unions_are_one};
+pub use trims::{trimmed_texts_accept_the_same, trims_accept_the_same, trims_are_one};
+pub use unions::{
+    joined_texts_accept_either, unions_accept_either, unions_accept_either_by_name, unions_are_one,
+};
 pub use written_controllers::{
     written_controllers_are_judged_right, written_controllers_are_not_at_fault,
 };
+pub use written_texts::written_automata_are_read_back;
 pub use written_words::written_words_are_accepted;

@@ -3,17 +3,21 @@
 ghost use Rattle.omega_laws.specs.Trimming.{TrimmedMeetingsAcceptBoth};
 
 use crate::trims_accept_the_same;
+use crate::written_texts::written_automata_are_read_back;
 use omega_hoa::automata_are_one;
 use omega_hoa_automaton::meanings_are_automata;
-use omega_lang_word_laws::products_meet;
+use omega_hoa_round_trips::read_automata_are_writable;
+use omega_lang_word_laws::products_meet_by_name;
 
-/// Shows that what `meet --trim` writes for two texts is the canonical text of an automaton that accepts a word exactly
-/// if both texts do.
+/// Shows that what `meet --trim` writes for two texts is the text of an automaton that accepts a word exactly if both
+/// texts do, if it is within the limit of texts.
 pub fn trimmed_meetings_accept_both()
     ensures { TrimmedMeetingsAcceptBoth }
 {
     automata_are_one();
     meanings_are_automata();
-    products_meet();
+    read_automata_are_writable();
+    written_automata_are_read_back();
+    products_meet_by_name();
     trims_accept_the_same();
 }

@@ -1,7 +1,11 @@
 //! Laws of trimmed automata: each call does nothing and states one law.
 
-ghost use Rattle.omega_laws.specs.Trims.{TrimsAcceptTheSame, TrimsAreOne};
+ghost use Rattle.omega_laws.specs.Trims.{TrimmedTextsAcceptTheSame, TrimsAcceptTheSame, TrimsAreOne};
 
+use crate::written_texts::written_automata_are_read_back;
+use omega_hoa::automata_are_one;
+use omega_hoa_automaton::meanings_are_automata;
+use omega_hoa_round_trips::read_automata_are_writable;
 use omega_lang_runs::accepting_runs_have_lassos;
 
 /// Shows that an automaton without universal branching accepts exactly the words that it accepts without its useless
@@ -10,6 +14,18 @@ pub fn trims_accept_the_same()
     ensures { TrimsAcceptTheSame }
 {
     accepting_runs_have_lassos();
+}
+
+/// Shows that what `trim` writes for a text is the text of an automaton that accepts the same words, if it is within
+/// the limit of texts.
+pub fn trimmed_texts_accept_the_same()
+    ensures { TrimmedTextsAcceptTheSame }
+{
+    automata_are_one();
+    meanings_are_automata();
+    read_automata_are_writable();
+    written_automata_are_read_back();
+    trims_accept_the_same();
 }
 
 /// Shows that an automaton has one trimmed automaton, so that `trim` can return no other.

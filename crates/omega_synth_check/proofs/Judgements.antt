@@ -17,7 +17,7 @@ word_controls example is = cc
 
 pub judgements_are_exact : JudgementsAreExact
 judgements_are_exact decided specification controller controlled Controls right =
-    (λ is. record { answers = right.0; accepted = right.1 decided }, λ for. refl)
+    (λ is. record { answers = right.0; accepted = right.1.all decided }, λ for. refl)
 judgements_are_exact decided specification controller controlled NoStart right =
     (λ is. absurd (none_controls is), λ for. absurd (right for.answers.begins.0 for.answers.begins.1))
 judgements_are_exact decided specification controller controlled (Unanswered lack) right = (

@@ -46,8 +46,8 @@ pub record IsLack (controller : Description) (controlled : List ℕ) (lack : Lac
   pub leads : Leads controller start lack.stem lack.state
   pub unanswered : ¬ IsAnswered controller controlled lack.state (holds_in lack.letter)
 
--- a judgement is right. `Controls`: a controller for the specification, where that its words are accepted is said if
--- each test of numbers recurs or ceases, as it does by the excluded middle; any other judgement says why it is none
+-- a judgement is right. `Controls`: a controller for the specification, where what is said of the words that it accepts
+-- is what containment says of them; any other judgement says why it is none
 abbrev pub IsJudgement : (specification controller : Description) (controlled : List ℕ) → Judgement
     → Type 0
 IsJudgement specification controller controlled Controls =

@@ -13,10 +13,6 @@ abbrev pub choice_in : Refusal → Option ℕ
 choice_in (Task (NotDeterministic state)) = Some state
 choice_in refusal = None
 
--- an automaton accepts some word
-abbrev pub AcceptsSome : Description → Type 0
-AcceptsSome a = (named : NamedWord) × AcceptsNamed a named
-
 -- both automata accept some word
 abbrev pub AcceptCommon : Description → Description → Type 0
 AcceptCommon one a = (named : NamedWord) × AcceptsNamed one named × AcceptsNamed a named

@@ -1,19 +1,20 @@
 -- What a product is formed of, and what is said of it by the words of products.
-use Rattle.std.specs.Prelude.{◌⊎◌, List}
+use Rattle.std.specs.Prelude.{◌≤◌, ◌+◌, List}
 use Rattle.omega_text.specs.declared.refusal.task.TaskFault.{TaskFault}
 use Rattle.omega_hoa_automaton.specs.Automaton.{Description}
 use Rattle.omega_hoa_syntax.specs.declared.raw_state.RawState.{RawState}
+use Rattle.omega_lang_product.specs.Limits.{most_joint_sets}
 use Rattle.omega_lang_product.specs.Pairs.{Pair, first_leaving, first_view}
 use Rattle.omega_lang_product.specs.Pairs.{second_leaving, second_view, targets_of}
-use Rattle.omega_lang_product.specs.Refusing.{HasUnfitEdge}
 use Rattle.omega_lang_product.specs.Written.{raw_state_of, raw_states}
 use Rattle.omega_lang_product.specs.declared.operands.Operands.{Operands}
 use Rattle.omega_lang_product.specs.declared.tables.Tables.{Tables}
 use Rattle.omega_lang_product.specs.private.Meeting.{HasUnmet}
 use Rattle.omega_lang_product.specs.private.Tables.{HasRow, IsTableOf}
 
--- the tables hold edges of two automata as the product sees them
+-- the tables hold edges of two automata as the product sees them, whose sets all have numbers
 pub record AreTables (one other : Description) (tables : Tables) : Type 0 where
+  pub room : one.sets + other.sets ≤ most_joint_sets
   pub firsts : IsTableOf (first_view one other) one.defined tables.firsts
   pub seconds : IsTableOf (second_view one other) other.defined tables.seconds
 
@@ -31,11 +32,6 @@ pub record Reaches (one other : Description) (pair : Pair) (before after : Table
   pub tables : AreTables one other after
   pub made : HaveRows after pair
   pub kept : (earlier : Pair) → HaveRows before earlier → HaveRows after earlier
-
--- an edge that leaves a state of a pair has a label that is too deep or too large
-abbrev pub HasUnfitAt : Description → Description → Pair → Type 0
-HasUnfitAt one other pair =
-    HasUnfitEdge (first_leaving one other pair) ⊎ HasUnfitEdge (second_leaving one other pair)
 
 -- the pairs that a pair leads to in one step
 abbrev pub targets_in : Operands → Pair → List Pair

@@ -1,5 +1,5 @@
 -- Words over names: an automaton's part of one depends on its own propositions alone, and each word is the part of one.
-use Rattle.std.proofs.Common.{◌≡◌, ℕ, zero, suc, ◌<◌, Bool, false, List, [], ◌∷◌, length, Contains, Option, Some, None, refl, sym, ap, ◌∙◌, arith}
+use Rattle.std.proofs.Common.{◌≡◌, ◌↔◌, ℕ, zero, suc, ◌<◌, Bool, false, List, [], ◌∷◌, length, Contains, Option, Some, None, refl, sym, ap, ◌∙◌, arith}
 use Rattle.std.specs.Prelude.{IfSome, slice_index_or}
 use Rattle.std.specs.List.{position_or_len}
 use Rattle.std.specs.Option.{option_or}
@@ -13,7 +13,7 @@ use Rattle.omega_hoa_automaton.specs.Automaton.{BodyEdge, Description, IsAutomat
 use Rattle.omega_lang_runs.specs.Lasso.{label_of}
 use Rattle.omega_lang_runs.specs.Words.{Allows, IsAccepted}
 use Rattle.omega_lang_runs.proofs.Kept.{edge_kept}
-use Rattle.omega_lang_word_laws.specs.NamedWords.{NamedWord, WordsAreNamed, part_of}
+use Rattle.omega_lang_word_laws.specs.NamedWords.{AcceptsNamed, NamedWord, WordsAreNamed, WordsSeenAlikeAreOne, part_of}
 use Rattle.omega_lang_product.proofs.Holding.{truth_same}
 use Rattle.omega_lang_word_laws.proofs.meeting.Lists.{passes_nowhere}
 use Rattle.omega_lang_word_laws.proofs.parting.Plain.{or_parts}
@@ -82,11 +82,14 @@ part_named names unlike word i number below = sym (ap (word i) (own_place names 
 
 pub words_named : WordsAreNamed
 words_named a word automaton =
-    let named : NamedWord = named_by a.propositions word in
-    let agree : AgreeBelow (length a.propositions) word (part_of a.propositions named) = part_named a.propositions automaton.unlike word in (
-      named,
-      (
-        accepted_same a automaton word (part_of a.propositions named) agree,
-        accepted_same a automaton (part_of a.propositions named) word (λ i p below. sym (agree i p below)),
-      ),
-    )
+    (named_by a.propositions word, λ i number below. sym (part_named a.propositions automaton.unlike word i number below))
+
+pub seen_alike_one : WordsSeenAlikeAreOne
+seen_alike_one a word other automaton agree =
+    (accepted_same a automaton word other agree, accepted_same a automaton other word (λ i number below. sym (agree i number below)))
+
+-- so a word is accepted exactly if the part of some word over names is
+pub accepted_named : (a : Description) (word : ℕ → ℕ → Bool) → IsAutomaton a → (named : NamedWord) × (IsAccepted a word ↔ AcceptsNamed a named)
+accepted_named a word automaton =
+    let named = words_named a word automaton in
+    (named.0, seen_alike_one a word (part_of a.propositions named.0) automaton (λ i number below. sym (named.1 i number below)))

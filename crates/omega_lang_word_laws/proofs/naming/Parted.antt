@@ -15,11 +15,11 @@ use Rattle.omega_lang_product.specs.Joining.{joined_names, part_of_word, places_
 use Rattle.omega_lang_product.specs.Pairs.{first_view, second_view}
 use Rattle.omega_lang_product.specs.Product.{IsProduct}
 use Rattle.omega_lang_product.proofs.Membership.{Contains-here, Contains-there}
-use Rattle.omega_lang_word_laws.specs.NamedWords.{NamedWord, part_of}
+use Rattle.omega_lang_word_laws.specs.NamedWords.{AcceptsNamed, NamedWord, part_of}
 use Rattle.omega_lang_word_laws.specs.Products.{ProductsMeet}
 use Rattle.omega_lang_product.proofs.Holding.{or_either}
 use Rattle.omega_lang_word_laws.proofs.meeting.Lists.{contains_filter}
-use Rattle.omega_lang_word_laws.proofs.naming.Named.{AgreeBelow, accepted_same, contained_at}
+use Rattle.omega_lang_word_laws.proofs.naming.Named.{AgreeBelow, contained_at, seen_alike_one}
 
 -- the first place of a name among others has this name
 name_there : (joined : List (List ℕ)) (name : List ℕ) → Contains joined name → slice_index_or joined (position_or_len (bytes_eq name) joined) [] ≡ name
@@ -65,43 +65,30 @@ second_among names others name within = go (list_any (bytes_eq name) names) refl
     go false none =
         Contains-append_right names (filter (is_new names) others) name (contains_filter (is_new names) others name within (ap not none))
 
+-- an automaton accepts its part of a word over joined names exactly if it accepts the word by names
+module _ (one other : Description) (word : NamedWord) where
+  abbrev joined : List (List ℕ)
+  joined = joined_names one.propositions other.propositions
+
+  pub first_named : IsAutomaton one → IsAccepted one (part_of_word (first_view one other).places (part_of joined word)) ↔ AcceptsNamed one word
+  first_named automaton =
+      seen_alike_one one (part_of_word (first_view one other).places (part_of joined word)) (part_of one.propositions word) automaton
+      (part_agrees joined one.propositions (first_among one.propositions other.propositions) word)
+
+  pub second_named : IsAutomaton other → IsAccepted other (part_of_word (second_view one other).places (part_of joined word)) ↔ AcceptsNamed other word
+  second_named automaton =
+      seen_alike_one other (part_of_word (second_view one other).places (part_of joined word)) (part_of other.propositions word) automaton
+      (part_agrees joined other.propositions (second_among one.propositions other.propositions) word)
+
 -- the law of products, by names
 pub products_meet_named : ProductsMeet → (one other a : Description) → IsAutomaton one → IsAutomaton other → has_universal_branching one ≡ false → has_universal_branching other ≡ false
-    → IsProduct one other a → (word : NamedWord)
-    → IsAccepted a (part_of a.propositions word) ↔ (IsAccepted one (part_of one.propositions word) × IsAccepted other (part_of other.propositions word))
-products_meet_named law one other a automaton automaton' plain plain' is word = (
-  λ accepted. (
-      let both = meets.0 (subst P is.propositions accepted) in
-      (accepted_same one automaton first_part (part_of one.propositions word) first both.0, accepted_same other automaton' second_part (part_of other.propositions word) second both.1)
-      ),
-  λ both. (
-      let first_back : AgreeBelow (length one.propositions) (part_of one.propositions word) first_part = λ i p below. sym (first i p below) in
-      let second_back : AgreeBelow (length other.propositions) (part_of other.propositions word) second_part = λ i p below. sym (second i p below) in
-      subst P (sym is.propositions)
-      (meets.1 (
-        accepted_same one automaton (part_of one.propositions word) first_part first_back both.0,
-        accepted_same other automaton' (part_of other.propositions word) second_part second_back both.1,
-      ))
-      ),
-)
-  where
-    joined : List (List ℕ)
-    joined = joined_names one.propositions other.propositions
-
-    P : List (List ℕ) → Type 0
-    P names = IsAccepted a (part_of names word)
-
-    first_part : ℕ → ℕ → Bool
-    first_part = part_of_word (first_view one other).places (part_of joined word)
-
-    second_part : ℕ → ℕ → Bool
-    second_part = part_of_word (second_view one other).places (part_of joined word)
-
-    meets : IsAccepted a (part_of joined word) ↔ (IsAccepted one first_part × IsAccepted other second_part)
-    meets = law one other a (part_of joined word) automaton automaton' plain plain' is
-
-    first : AgreeBelow (length one.propositions) first_part (part_of one.propositions word)
-    first = part_agrees joined one.propositions (first_among one.propositions other.propositions) word
-
-    second : AgreeBelow (length other.propositions) second_part (part_of other.propositions word)
-    second = part_agrees joined other.propositions (second_among one.propositions other.propositions) word
+    → IsProduct one other a → (word : NamedWord) → AcceptsNamed a word ↔ (AcceptsNamed one word × AcceptsNamed other word)
+products_meet_named law one other a automaton automaton' plain plain' is word =
+    let P : List (List ℕ) → Type 0 = λ names. IsAccepted a (part_of names word) in
+    let all : List (List ℕ) = joined_names one.propositions other.propositions in
+    let meets = law one other a (part_of all word) automaton automaton' plain plain' is in
+    let first = first_named one other word automaton in
+    let second = second_named one other word automaton' in (
+      λ accepted. (let both = meets.0 (subst P is.propositions accepted) in (first.0 both.0, second.0 both.1)),
+      λ both. subst P (sym is.propositions) (meets.1 (first.1 both.0, second.1 both.1)),
+    )

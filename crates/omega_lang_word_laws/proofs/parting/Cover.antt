@@ -9,6 +9,7 @@ use Rattle.omega_hoa_automaton.specs.Automaton.{Description, IsAutomaton}
 use Rattle.omega_hoa_automaton.specs.Meaning.{Means}
 use Rattle.omega_hoa_automaton.specs.declared.edge.Edge.{Edge}
 use Rattle.omega_hoa_automaton.proofs.validity.Automata.{means_is_automaton}
+use Rattle.omega_graph.specs.Marks.{meets}
 use Rattle.omega_lang_runs.specs.Lasso.{IsStart, IsStep, marks_at}
 use Rattle.omega_lang_runs.specs.Runs.{Satisfies}
 use Rattle.omega_lang_runs.specs.Words.{IsAccepted}
@@ -20,12 +21,11 @@ use Rattle.omega_hoa_edges.specs.Labels.{label_at}
 use Rattle.omega_lang_complement.specs.Written.{IsWrittenComplement}
 use Rattle.omega_hoa_edges.proofs.Rows.{each_at}
 use Rattle.omega_lang_word_laws.proofs.parting.Apart.{move_within}
-use Rattle.omega_lang_word_laws.proofs.parting.Formulas.{AreSame, one_of_both}
+use Rattle.omega_lang_word_laws.proofs.parting.Formulas.{AreSame, AreSettled, one_of_both, settled_same}
 use Rattle.omega_lang_word_laws.proofs.parting.Meant.{HoldSame, acceptance_plain, acceptance_sink, lost_moves, own_moves, sink_moves, starts_are}
 use Rattle.omega_lang_word_laws.proofs.parting.Moves.{IsMove, IsTakenStep, move_steps}
 use Rattle.omega_lang_word_laws.proofs.parting.Plain.{IsGood, beginning, target_of}
 use Rattle.omega_lang_word_laws.specs.Complements.{ComplementsCover}
-use Rattle.omega_text.specs.Omniscience.{LimitedPrincipleOfOmniscience}
 use Rattle.omega_text.proofs.Omniscience.{RecursOrCeases, recurs_or_ceases}
 
 any_there : {X : Type 0} (p : X → Bool) (xs : List X) → list_any p xs ≡ true → (k : ℕ) × ((x : X) × (slice_get xs k ≡ Some x) × (p x ≡ true))
@@ -136,24 +136,51 @@ module _ (a c : Description) (is_a : IsAutomaton a) (deterministic : IsDetermini
   good_next n held to (inl both) = inl both.within
   good_next n held to (inr sunk) = inr (sunk.at, sunk.sink)
 
+  -- a run that the automaton has until it enters the sink
+  pub record IsRunOn (word : ℕ → ℕ → Bool) : Type 0 where
+    pub states : ℕ → ℕ
+    pub good : (i : ℕ) → IsGood a written.sink (states i)
+    pub step : (i : ℕ) → IsNext (states i) (word i) (states (suc i))
+    pub begins : states 0 ≡ (beginning a is_a deterministic written.sink written.needed).state
+
+  -- the marks of the automaton at a step
+  abbrev pub own_next : (n : ℕ) (held : ℕ → Bool) (to : ℕ) → IsNext n held to → List ℕ
+  own_next n held to (inl both) = both.own
+  own_next n held to (inr sunk) = []
+
   module _ (word : ℕ → ℕ → Bool) where
-    abbrev run : ℕ → (n : ℕ) × IsGood a written.sink n
-    run zero = ((beginning a is_a deterministic written.sink written.needed).state, (beginning a is_a deterministic written.sink written.needed).good)
-    run (suc i) = (
-      (next (run i).0 (word i) (run i).1).0,
-      good_next (run i).0 (word i) (next (run i).0 (word i) (run i).1).0 (next (run i).0 (word i) (run i).1).1,
+    abbrev states_with : ℕ → (n : ℕ) × IsGood a written.sink n
+    states_with zero = ((beginning a is_a deterministic written.sink written.needed).state, (beginning a is_a deterministic written.sink written.needed).good)
+    states_with (suc i) = (
+      (next (states_with i).0 (word i) (states_with i).1).0,
+      good_next (states_with i).0 (word i) (next (states_with i).0 (word i) (states_with i).1).0 (next (states_with i).0 (word i) (states_with i).1).1,
     )
 
-    abbrev states : ℕ → ℕ
-    states i = (run i).0
+    -- each word has a run
+    pub run_on : IsRunOn word
+    run_on = record {
+      states = λ i. (states_with i).0;
+      good = λ i. (states_with i).1;
+      step = λ i. (next (states_with i).0 (word i) (states_with i).1).1;
+      begins = refl;
+    }
 
-    step : (i : ℕ) → IsNext (states i) (word i) (states (suc i))
-    step i = (next (run i).0 (word i) (run i).1).1
+  module _ (word : ℕ → ℕ → Bool) (run : IsRunOn word) where
+    abbrev states : ℕ → ℕ
+    states i = run.states i
+
+    abbrev step : (i : ℕ) → IsNext (states i) (word i) (states (suc i))
+    step i = run.step i
 
     begins_there : IsStart c (states 0)
     begins_there =
-        subst (λ (ss : List (List ℕ)). Contains ss ((beginning a is_a deterministic written.sink written.needed).state ∷ [])) (sym (starts_are a c raw written means is_c))
-        (0, omega arith, (beginning a is_a deterministic written.sink written.needed).begins)
+        subst (λ (n : ℕ). IsStart c n) (sym run.begins)
+        (subst (λ (ss : List (List ℕ)). Contains ss ((beginning a is_a deterministic written.sink written.needed).state ∷ [])) (sym (starts_are a c raw written means is_c))
+        (0, omega arith, (beginning a is_a deterministic written.sink written.needed).begins))
+
+    -- the marks of the automaton along the run
+    abbrev pub own_marks : ℕ → List ℕ
+    own_marks i = own_next (states i) (word i) (states (suc i)) (step i)
 
     -- into the sink for ever
     abbrev marks_next : (n : ℕ) (held : ℕ → Bool) (to : ℕ) → IsNext n held to → List ℕ
@@ -199,21 +226,25 @@ module _ (a c : Description) (is_a : IsAutomaton a) (deterministic : IsDetermini
         let more : suc (k + j) ≡ suc k + j = omega arith in
         subst (λ m. states m ≡ a.states) more (stays_next (states (k + j)) (word (k + j)) (states (suc (k + j))) (step (k + j)) (stays_on k j e))
 
-    module _ (settled : LimitedPrincipleOfOmniscience) (from : ℕ) (never : (j : ℕ) → from ≤ j → (states j == a.states) ≡ false) where
+    module _ (settled : AreSettled own_marks) (from : ℕ) (never : (j : ℕ) → from ≤ j → (states j == a.states) ≡ false) where
       inside : (j : ℕ) → states j < a.states
-      inside j = go (run j).1
+      inside j = go (run.good j)
         where
           go : IsGood a written.sink (states j) → states j < a.states
           go (inl less) = less
           go (inr (is, sink)) =
               absurd (true≢false (sym (eq-eqb (states (from + j)) a.states (stays_on from j is)) ∙ never (from + j) (omega arith)))
 
-      both : (j : ℕ) → IsBoth (states j) (word j) (states (suc j))
-      both j = go (step j)
+      both_with : (j : ℕ) → (b : IsBoth (states j) (word j) (states (suc j))) × (own_marks j ≡ b.own)
+      both_with j = go (step j)
         where
-          go : IsNext (states j) (word j) (states (suc j)) → IsBoth (states j) (word j) (states (suc j))
-          go (inl b) = b
+          go : (x : IsNext (states j) (word j) (states (suc j)))
+              → (b : IsBoth (states j) (word j) (states (suc j))) × (own_next (states j) (word j) (states (suc j)) x ≡ b.own)
+          go (inl b) = (b, refl)
           go (inr sunk) = let less : states (suc j) < a.states = inside (suc j) in absurd (omega (arith, sunk.at, less))
+
+      abbrev both : (j : ℕ) → IsBoth (states j) (word j) (states (suc j))
+      both j = (both_with j).0
 
       taken_own : (i : ℕ) → IsTakenStep a is_a (states i) (word i) (states (suc i)) (both i).own
       taken_own i = move_steps a is_a (states i) (word i) (states (suc i)) (both i).own (both i).move
@@ -224,8 +255,16 @@ module _ (a c : Description) (is_a : IsAutomaton a) (deterministic : IsDetermini
       same : AreSame (λ i. marks_at a ((taken_own i).number)) (λ i. marks_at c ((taken_both i).number))
       same i set = ap (holds set) (taken_own i).marks_are ∙ sym ((both i).same set) ∙ sym (ap (holds set) (taken_both i).marks_are)
 
+      settled_own : AreSettled (λ i. marks_at a ((taken_own i).number))
+      settled_own = settled_same own_marks (λ i. marks_at a ((taken_own i).number)) (λ i. (both_with i).1 ∙ sym (taken_own i).marks_are) settled
+
+      start_own : IsStart a (states 0)
+      start_own =
+          let first : (beginning a is_a deterministic written.sink written.needed).state < a.states = subst (λ (n : ℕ). n < a.states) run.begins (inside 0) in
+          subst (λ (n : ℕ). IsStart a n) (sym run.begins) ((beginning a is_a deterministic written.sink written.needed).inside first)
+
       at_last : IsAccepted a word ⊎ IsAccepted c word
-      at_last = go (one_of_both settled a.acceptance (λ i. marks_at a ((taken_own i).number)) (λ i. marks_at c ((taken_both i).number)) same)
+      at_last = go (one_of_both a.acceptance (λ i. marks_at a ((taken_own i).number)) (λ i. marks_at c ((taken_both i).number)) settled_own same)
         where
           turned : (b : Bool) → written.sink ≡ b → Satisfies (λ i. marks_at c ((taken_both i).number)) (dual a.acceptance)
               → Satisfies (λ i. marks_at c ((taken_both i).number)) c.acceptance
@@ -234,16 +273,18 @@ module _ (a c : Description) (is_a : IsAutomaton a) (deterministic : IsDetermini
 
           go : Satisfies (λ i. marks_at a ((taken_own i).number)) a.acceptance ⊎ Satisfies (λ i. marks_at c ((taken_both i).number)) (dual a.acceptance)
               → IsAccepted a word ⊎ IsAccepted c word
-          go (inl sat) = inl (accepted_by a is_a word states (λ i. (both i).own) taken_own ((beginning a is_a deterministic written.sink written.needed).inside (inside 0)) sat)
+          go (inl sat) = inl (accepted_by a is_a word states (λ i. (both i).own) taken_own start_own sat)
           go (inr sat) = inr (accepted_by c is_c word states (λ i. (both i).marks) taken_both begins_there (turned written.sink refl sat))
 
-    pub covered : LimitedPrincipleOfOmniscience → IsAccepted a word ⊎ IsAccepted c word
-    covered settled = go (recurs_or_ceases settled (λ j. states j == a.states))
-      where
-        go : RecursOrCeases (λ j. states j == a.states) → IsAccepted a word ⊎ IsAccepted c word
-        go (inl always) = inr (for_ever always)
-        go (inr never) = at_last settled never.0 never.1
+    -- if what recurs along the run is known
+    pub covered : RecursOrCeases (λ j. states j == a.states) → AreSettled own_marks → IsAccepted a word ⊎ IsAccepted c word
+    covered (inl always) settled = inr (for_ever always)
+    covered (inr never) settled = at_last settled never.0 never.1
 
 pub complements_over : ComplementsCover
-complements_over settled a c word is_a deterministic (raw, written, means) =
-    covered a c is_a deterministic raw written means (means_is_automaton raw c means) word settled
+complements_over omniscience a c word is_a deterministic (raw, written, means) =
+    let is_c : IsAutomaton c = means_is_automaton raw c means in
+    let run = run_on a c is_a deterministic raw written means is_c word in
+    covered a c is_a deterministic raw written means is_c word run
+    (recurs_or_ceases omniscience (λ j. run.states j == a.states))
+    (λ negated set. recurs_or_ceases omniscience (λ j. meets negated set (own_marks a c is_a deterministic raw written means is_c word run j)))

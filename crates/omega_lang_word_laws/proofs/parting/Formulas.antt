@@ -4,8 +4,7 @@ use Rattle.omega_hoa_acceptance.specs.Acceptance.{AccTree, conjunction, constant
 use Rattle.omega_graph.specs.Marks.{meets}
 use Rattle.omega_lang_runs.specs.Runs.{AtLastNever, ForEver, Satisfies}
 use Rattle.omega_hoa_acceptance.specs.Dual.{dual}
-use Rattle.omega_text.specs.Omniscience.{LimitedPrincipleOfOmniscience}
-use Rattle.omega_text.proofs.Omniscience.{RecursOrCeases, recurs_or_ceases}
+use Rattle.omega_text.proofs.Omniscience.{RecursOrCeases}
 
 -- marks hold the same sets, index by index
 abbrev pub AreSame : (ℕ → List ℕ) → (ℕ → List ℕ) → Type 0
@@ -29,28 +28,40 @@ no_both (conjunction left right) marks others same one (inr other) = no_both rig
 no_both (disjunction left right) marks others same (inl one) other = no_both left marks others same one other.0
 no_both (disjunction left right) marks others same (inr one) other = no_both right marks others same one other.1
 
-pub one_of_both : LimitedPrincipleOfOmniscience → (formula : AccTree) (marks others : ℕ → List ℕ) → AreSame marks others
+-- of each set it is known whether marks are in it infinitely often
+abbrev pub AreSettled : (ℕ → List ℕ) → Type 0
+AreSettled marks = (negated : Bool) (set : ℕ) → RecursOrCeases (λ j. meets negated set (marks j))
+
+recurs_same : (test other : ℕ → Bool) → ((j : ℕ) → test j ≡ other j) → RecursOrCeases test → RecursOrCeases other
+recurs_same test other same (inl always) = inl (λ i. let at = always i in (at.0, at.1, sym (same at.0) ∙ at.2))
+recurs_same test other same (inr never) = inr (never.0, λ j past. sym (same j) ∙ never.1 j past)
+
+pub settled_same : (marks others : ℕ → List ℕ) → ((i : ℕ) → marks i ≡ others i) → AreSettled marks → AreSettled others
+settled_same marks others same settled negated set =
+    recurs_same (λ j. meets negated set (marks j)) (λ j. meets negated set (others j)) (λ j. ap (meets negated set) (same j)) (settled negated set)
+
+pub one_of_both : (formula : AccTree) (marks others : ℕ → List ℕ) → AreSettled marks → AreSame marks others
     → Satisfies marks formula ⊎ Satisfies others (dual formula)
-one_of_both settled (constant true) marks others same = inl refl
-one_of_both settled (constant false) marks others same = inr refl
-one_of_both settled (inf negated set) marks others same = go (recurs_or_ceases settled (λ j. meets negated set (marks j)))
+one_of_both (constant true) marks others settled same = inl refl
+one_of_both (constant false) marks others settled same = inr refl
+one_of_both (inf negated set) marks others settled same = go (settled negated set)
   where
     go : RecursOrCeases (λ j. meets negated set (marks j)) → ForEver marks negated set ⊎ AtLastNever others negated set
     go (inl always) = inl always
     go (inr never) = inr (never.0, λ j past. sym (meets_same negated set (marks j) (others j) (same j set)) ∙ never.1 j past)
-one_of_both settled (fin negated set) marks others same = go (recurs_or_ceases settled (λ j. meets negated set (marks j)))
+one_of_both (fin negated set) marks others settled same = go (settled negated set)
   where
     go : RecursOrCeases (λ j. meets negated set (marks j)) → AtLastNever marks negated set ⊎ ForEver others negated set
     go (inl always) = inr (λ i. let at = always i in (at.0, at.1, sym (meets_same negated set (marks at.0) (others at.0) (same at.0 set)) ∙ at.2))
     go (inr never) = inl never
-one_of_both settled (conjunction left right) marks others same = go (one_of_both settled left marks others same) (one_of_both settled right marks others same)
+one_of_both (conjunction left right) marks others settled same = go (one_of_both left marks others settled same) (one_of_both right marks others settled same)
   where
     go : Satisfies marks left ⊎ Satisfies others (dual left) → Satisfies marks right ⊎ Satisfies others (dual right)
         → (Satisfies marks left × Satisfies marks right) ⊎ (Satisfies others (dual left) ⊎ Satisfies others (dual right))
     go (inl one) (inl other) = inl (one, other)
     go (inl one) (inr other) = inr (inr other)
     go (inr one) other = inr (inl one)
-one_of_both settled (disjunction left right) marks others same = go (one_of_both settled left marks others same) (one_of_both settled right marks others same)
+one_of_both (disjunction left right) marks others settled same = go (one_of_both left marks others settled same) (one_of_both right marks others settled same)
   where
     go : Satisfies marks left ⊎ Satisfies others (dual left) → Satisfies marks right ⊎ Satisfies others (dual right)
         → (Satisfies marks left ⊎ Satisfies marks right) ⊎ (Satisfies others (dual left) × Satisfies others (dual right))

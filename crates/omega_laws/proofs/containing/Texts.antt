@@ -18,10 +18,11 @@ use Rattle.omega_answers_automaton.specs.Meet.{IsMeetAnswer}
 use Rattle.omega_laws.specs.ComplementTexts.{ComplementsAreReadBack}
 use Rattle.omega_lang_word_laws.specs.Complements.{ComplementsAreApart, ComplementsCover}
 use Rattle.omega_laws.specs.Containment.{EmptyMeansContained, IsContainmentAnswer, IsEmptinessAnswer, LassosMeanNotContained, MetTextsAcceptBoth}
-use Rattle.omega_lang_word_laws.specs.NamedWords.{AcceptsNamed, NamedWord, WordsAreNamed, part_of}
+use Rattle.omega_lang_word_laws.specs.NamedWords.{AcceptsNamed, NamedWord, part_of}
 use Rattle.omega_laws.specs.ProductTexts.{ProductsAreReadBack}
 use Rattle.omega_laws.specs.TextWords.{TextAccepts}
 use Rattle.omega_lang_word_laws.specs.Products.{ProductsMeet}
+use Rattle.omega_lang_word_laws.proofs.naming.Named.{accepted_named}
 use Rattle.omega_lang_word_laws.proofs.naming.Parted.{products_meet_named}
 use Rattle.omega_lang_word_laws.proofs.naming.Same.{same_names}
 use Rattle.omega_lang_word_laws.proofs.parting.Plain.{or_parts}
@@ -152,12 +153,12 @@ module _ (one : AutomataAreOne) (automata : MeaningsAreAutomata) (back : Complem
       (of_text one is.meeting said.automaton word said.read ((meeting_exactly is.met word).1 (accepts, complement_accepts word accepted))))
 
   -- a lasso has a word that is in both
-  outside : LassosHaveAcceptedWords → WordsAreNamed → ComplementsAreApart → (verdict : Verdict) → IsVerdict said.automaton verdict
+  outside : LassosHaveAcceptedWords → ComplementsAreApart → (verdict : Verdict) → IsVerdict said.automaton verdict
       → output ≡ emptiness_text said.automaton said.lines verdict → ¬ (output ≡ codes "empty\n") → (word : NamedWord) × TextAccepts text word × (¬ TextAccepts other word)
-  outside lassos named apart Empty right written not = absurd (not written)
-  outside lassos named apart (Lasso stem cycle) right written not =
+  outside lassos apart Empty right written not = absurd (not written)
+  outside lassos apart (Lasso stem cycle) right written not =
       let found = lassos said.automaton stem cycle said.plain right in
-      let word = named said.automaton found.0 (is_automaton automata is.meeting said.automaton said.read) in
+      let word = accepted_named said.automaton found.0 (is_automaton automata is.meeting said.automaton said.read) in
       let parts = (meeting_exactly is.met word.0).0 (of_automaton is.meeting said.automaton word.0 said.read (word.1.0 found.1)) in (
         word.0,
         parts.0,
@@ -173,8 +174,7 @@ empty_contained one automata back both cover none settled text other is word =
     (is_automaton automata other is.complemented.automaton is.complemented.read) is.complemented.holds.given.deterministic is.complemented.holds.right)
     (is_empty said.automaton said.lines said.verdict said.right said.written)
 
-pub lassos_uncontained : AutomataAreOne → MeaningsAreAutomata → ComplementsAreReadBack → MetTextsAcceptBoth → ComplementsAreApart → LassosHaveAcceptedWords → WordsAreNamed
-    → LassosMeanNotContained
-lassos_uncontained one automata back both apart lassos named text other output is =
+pub lassos_uncontained : AutomataAreOne → MeaningsAreAutomata → ComplementsAreReadBack → MetTextsAcceptBoth → ComplementsAreApart → LassosHaveAcceptedWords → LassosMeanNotContained
+lassos_uncontained one automata back both apart lassos text other output is =
     let said = judged is.meeting output is.answered in
-    outside one automata back both text other output is lassos named apart said.verdict said.right said.written
+    outside one automata back both text other output is lassos apart said.verdict said.right said.written

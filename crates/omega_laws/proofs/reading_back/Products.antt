@@ -118,7 +118,7 @@ module _ (mean : WrittenLabelsMean) (formulas : WrittenFormulasMean) (one other 
   )
 
 -- the name of the acceptance of both
-joint_named : (one other : Description) (name : Option AccName) (tree : AccTree) → IsJointAcceptance one other name tree → IfSome name IsWritableName
+pub joint_named : (one other : Description) (name : Option AccName) (tree : AccTree) → IsJointAcceptance one other name tree → IfSome name IsWritableName
 joint_named one other name tree (inl buchi) =
     subst (λ (n : Option AccName). IfSome n IsWritableName) (sym buchi.name_is)
     (writable_name (one.sets + other.sets) (omega (arith, buchi.both.few)))

@@ -9,6 +9,7 @@ returns-in-Ok-clause-text c =
       given = c.in-Ok.ensures.given;
       trim = c.in-Ok.trimmed;
       right = c.in-Ok.ensures.trimmed;
+      trim_written = c.in-Ok.ensures.written;
       is_automaton = c.keeps_limits.ensures;
       written = written;
     })

@@ -2,7 +2,8 @@
 use Rattle.std.proofs.Common.{ℕ, List, inr, refl, sym, subst, ◌∙◌, true≢false}
 use Rattle.std.proofs.lemmas.Result.{IfErr-weaker, IfOk-weaker}
 use Rattle.omega_hoa_expression.proofs.PassingLemmas.{error_then}
-use Rattle.omega_lang_inclusion.specs.Opening.{HasOpenName, HasUnjudgedName}
+use Rattle.omega_lang_inclusion.specs.Opening.{HasUnjudgedName}
+use Rattle.omega_lang_inclusion.specs.private.Opened.{HasOpenName}
 use Rattle.omega_lang_inclusion.specs.WordRefusing.{has_open_letter, not_judged, not_one}
 use Rattle.omega_lang_inclusion.proofs.Opened.{one_word, open_letter}
 use Rattle.omega_lang_inclusion.proofs.one_word.membership_of_one.Goals as goal

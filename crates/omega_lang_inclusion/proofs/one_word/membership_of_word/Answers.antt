@@ -2,12 +2,13 @@
 use Rattle.std.proofs.Common.{sym, ◌∙◌, true≢false}
 use Rattle.std.proofs.lemmas.Result.{IfErr-weaker, IfOk-weaker}
 use Rattle.omega_lang_inclusion.specs.WordRefusing.{not_found}
-use Rattle.omega_lang_inclusion.proofs.Together.{all_accepted}
+use Rattle.omega_lang_inclusion.proofs.Together.{all_accepted, each_accepted}
 use Rattle.omega_lang_inclusion.proofs.one_word.membership_of_word.Goals as goal
 
 pub returns-then-branch-clause-right : goal.returns-then-branch-clause-right
-returns-then-branch-clause-right c = λ word means fixed middle.
-    all_accepted word c.args.one.now c.args.automaton.now means c.keeps_limits.ensures fixed (c.in_ok-meets.ensures.right.0 c.if-branch.true)
+returns-then-branch-clause-right c = λ word means fixed.
+    each_accepted word c.args.automaton.now
+    (all_accepted word c.args.one.now c.args.automaton.now means c.keeps_limits.ensures fixed (c.in_ok-meets.ensures.right.0 c.if-branch.true))
 
 pub returns-else-branch-clause-right : goal.returns-else-branch-clause-right
 returns-else-branch-clause-right c =

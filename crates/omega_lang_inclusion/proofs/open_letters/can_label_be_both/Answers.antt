@@ -2,7 +2,7 @@
 use Rattle.std.proofs.Common.{◌↔◌, IfOk, IsTrue, Option, ap, subst, sym}
 use Rattle.std.specs.Option.{option_copied}
 use Rattle.omega_hoa_label.specs.Label.{LabelTree}
-use Rattle.omega_lang_inclusion.specs.Opening.{CanBeBoth}
+use Rattle.omega_lang_inclusion.specs.private.Opened.{CanBeBoth}
 use Rattle.omega_lang_inclusion.proofs.open_letters.can_label_be_both.Goals as goal
 
 pub returns-in-Some-clause-right : goal.returns-in-Some-clause-right

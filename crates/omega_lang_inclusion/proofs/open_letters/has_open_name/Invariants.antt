@@ -1,5 +1,5 @@
 -- no name so far is open
-use Rattle.omega_lang_inclusion.specs.Opening.{IsOpenName}
+use Rattle.omega_lang_inclusion.specs.private.Opened.{IsOpenName}
 use Rattle.omega_lang_inclusion.proofs.Below.{NoneBelow}
 use Rattle.omega_lang_inclusion.proofs.open_letters.has_open_name.Given as goal
 

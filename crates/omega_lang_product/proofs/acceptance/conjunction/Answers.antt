@@ -1,12 +1,10 @@
--- the conjunction of both formulas, which is no deeper than as it is written
-use Rattle.std.proofs.Common.{◌≡◌, ◌<◌, ap₂, arith, subst, ◌∙◌}
+-- the conjunction of both formulas
+use Rattle.std.proofs.Common.{◌≡◌, ◌<◌, ap₂, subst, ◌∙◌}
 use Rattle.std.proofs.lemmas.Result.{IfErr-weaker, IfOk-weaker}
 use Rattle.omega_hoa_expression.specs.Limits.{most_depth}
 use Rattle.omega_hoa_acceptance.specs.Acceptance.{acc_depth}
-use Rattle.omega_hoa_acceptance.proofs.WrittenLemmas.{written-deep}
 use Rattle.omega_hoa_edges.proofs.Refusals.{large_weaker}
 use Rattle.omega_lang_product.specs.Acceptance.{both_formulas, conjoined_acceptance, moved_after}
-use Rattle.omega_lang_product.specs.Refusing.{HasDeepAcceptance}
 use Rattle.omega_lang_product.proofs.acceptance.conjunction.Goals as goal
 
 pub returns-clause-formula : goal.returns-clause-formula
@@ -22,10 +20,6 @@ returns-clause-err c =
     let second : c.in_ok-second.second ≡ moved_after c.args.one.now.sets c.args.other.now.acceptance =
     c.in_ok-second.ensures.ok ∙ ap₂ moved_after c.set_count.ensures c.acceptance-2.ensures in
     IfErr-weaker c.both_formulas.result _ _
-    (large_weaker (most_depth < acc_depth (both_formulas c.in_ok-first.first c.in_ok-second.second)) (HasDeepAcceptance c.args.one.now c.args.other.now)
-    (λ deep. omega (
-      arith,
-      subst (λ tree. most_depth < acc_depth tree) (ap₂ both_formulas first second) deep,
-      written-deep (conjoined_acceptance c.args.one.now c.args.other.now),
-    )))
+    (large_weaker (most_depth < acc_depth (both_formulas c.in_ok-first.first c.in_ok-second.second)) (most_depth < acc_depth (conjoined_acceptance c.args.one.now c.args.other.now))
+    (λ deep. subst (λ tree. most_depth < acc_depth tree) (ap₂ both_formulas first second) deep))
     c.both_formulas.ensures.err

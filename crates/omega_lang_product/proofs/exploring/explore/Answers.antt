@@ -2,12 +2,11 @@
 use Rattle.std.proofs.Common.{◌≡◌, ◌<◌, ◌≤◌, List, [], length, ap₂, ◌∙◌, arith}
 use Rattle.omega_hoa_edges.specs.Limits.{most_edges, most_states}
 use Rattle.omega_lang_product.specs.Pairs.{Pair, starts_between, targets_of, with_pairs}
-use Rattle.omega_lang_product.specs.Refusing.{many_edges, many_pairs}
+use Rattle.omega_lang_product.specs.Refusing.{HasUnfitAt, many_edges, many_pairs}
 use Rattle.omega_lang_product.proofs.Finding.{counted_all, edges_all, found_more, found_none, long_all, many_now, reached_all, reached_more}
 use Rattle.omega_lang_product.proofs.Reaching.{done_with, extends_by, found_so_far}
-use Rattle.omega_lang_product.specs.private.Operands.{HasUnfitAt}
 use Rattle.omega_hoa_edges.proofs.Refusals.{passed_on}
-use Rattle.omega_lang_product.proofs.Refused.{large_join}
+use Rattle.omega_lang_product.proofs.Refused.{large_in_graph}
 use Rattle.omega_lang_product.proofs.Unmet.{join_refused, listed_at, unfit_pair}
 use Rattle.omega_lang_product.proofs.exploring.explore.Goals as goal
 
@@ -44,8 +43,12 @@ pub returns-in_err-reach-clause-err : goal.returns-in_err-reach-clause-err
 returns-in_err-reach-clause-err c =
     let one = c.args.one.now in
     let other = c.args.other.now in
+    let below : c.loop-at.at < length c.loop-at.pairs.keys = omega (arith, c.loop-at-test.true, c.len.ensures.len) in
     passed_on c.from_residual-in_err-reach.result _ _ c.from_residual-in_err-reach.ensures.1
-    (large_join one other (HasUnfitAt one other c.pair_at-pair.result) (unfit_pair one other c.pair_at-pair.result) _ c.in_err-reach.ensures.err)
+    (large_in_graph one other (HasUnfitAt one other c.pair_at-pair.result)
+    (unfit_pair one other c.loop-at.pairs.keys c.loop-at.at (found_so_far one other c.loop-at.pairs.keys c.loop-at.at c.loop-at.invariant.0.way)
+    c.pair_at-pair.result (listed_at {X = Pair} c.loop-at.pairs.keys c.loop-at.at c.pair_at-pair.result below c.pair_at-pair.ensures))
+    _ c.in_err-reach.ensures.err)
 
 pub returns-in_err-expand-clause-err : goal.returns-in_err-expand-clause-err
 returns-in_err-expand-clause-err c =

@@ -1,8 +1,9 @@
 -- the header, or the acceptance is too deep, or memory is refused
 use Rattle.std.proofs.Common.{◌∙◌}
-use Rattle.omega_lang_product.specs.Refusing.{HasDeepAcceptance, IsJoinFault, deep_acceptance}
+use Rattle.omega_lang_product.specs.Refusing.{HasDeepAcceptance, deep_acceptance}
+use Rattle.omega_lang_product.specs.private.Faults.{IsProductFault}
 use Rattle.omega_lang_product.proofs.Formulas.{items_are}
-use Rattle.omega_lang_product.proofs.Refused.{large_join}
+use Rattle.omega_lang_product.proofs.Refused.{large_in_product}
 use Rattle.omega_hoa_edges.proofs.Refusals.{memory_task, passed_on}
 use Rattle.omega_lang_product.proofs.forming.header_of.Goals as goal
 
@@ -11,12 +12,12 @@ returns-in_err-acceptance-clause-refused c =
     let one = c.args.operands.now.one.now in
     let other = c.args.operands.now.other.now in
     passed_on c.from_residual.result _ _ c.from_residual.ensures.1
-    (large_join one other (HasDeepAcceptance one other) deep_acceptance _ c.in_err-acceptance.ensures.err)
+    (large_in_product one other (HasDeepAcceptance one other) deep_acceptance _ c.in_err-acceptance.ensures.err)
 
 pub returns-in_err-items_of-clause-refused : goal.returns-in_err-items_of-clause-refused
 returns-in_err-items_of-clause-refused c =
     passed_on c.from_residual-in_err-items_of.result _ _ c.from_residual-in_err-items_of.ensures.1
-    (memory_task (IsJoinFault c.args.operands.now.one.now c.args.operands.now.other.now) _ c.in_err-items_of.ensures.memory)
+    (memory_task (IsProductFault c.args.operands.now.one.now c.args.operands.now.other.now) _ c.in_err-items_of.ensures.memory)
 
 pub returns-clause-header : goal.returns-clause-header
 returns-clause-header c =

@@ -6,9 +6,10 @@ use Rattle.std.proofs.lemmas.Result.{IfErr-weaker, IfOk-weaker}
 use Rattle.omega_hoa_syntax.specs.declared.raw_automaton.RawAutomaton.{RawAutomaton}
 use Rattle.omega_hoa_syntax.specs.declared.raw_state.RawState.{RawState}
 use Rattle.omega_hoa_edges.specs.Limits.{most_edges}
-use Rattle.omega_lang_product.specs.Refusing.{HasDeepMeeting, IsJoinFault, deep_meeting}
+use Rattle.omega_lang_product.specs.Refusing.{HasDeepMeeting, deep_meeting}
+use Rattle.omega_lang_product.specs.private.Faults.{IsProductFault}
 use Rattle.omega_lang_product.specs.Written.{raw_of, raw_state_of}
-use Rattle.omega_lang_product.proofs.Refused.{large_join}
+use Rattle.omega_lang_product.proofs.Refused.{large_in_product}
 use Rattle.omega_hoa_edges.proofs.Refusals.{memory_task, passed_on}
 use Rattle.omega_lang_product.proofs.forming.written_explored.Goals as goal
 
@@ -17,11 +18,11 @@ returns-in_err-states-clause-refused c =
     let one = c.args.operands.now.one.now in
     let other = c.args.operands.now.other.now in
     passed_on c.from_residual.result _ _ c.from_residual.ensures.1
-    (large_join one other (HasDeepMeeting one other) deep_meeting _ c.in_err-states.ensures.err)
+    (large_in_product one other (HasDeepMeeting one other) deep_meeting _ c.in_err-states.ensures.err)
 
 pub returns-in-Ok-clause-refused : goal.returns-in-Ok-clause-refused
 returns-in-Ok-clause-refused c =
-    IfErr-weaker c.raw_automaton_of.result _ _ (λ refusal is. memory_task (IsJoinFault c.args.operands.now.one.now c.args.operands.now.other.now) refusal is) c.raw_automaton_of.ensures.memory
+    IfErr-weaker c.raw_automaton_of.result _ _ (λ refusal is. memory_task (IsProductFault c.args.operands.now.one.now c.args.operands.now.other.now) refusal is) c.raw_automaton_of.ensures.memory
 
 pub returns-in-Ok-clause-written : goal.returns-in-Ok-clause-written
 returns-in-Ok-clause-written c =

@@ -1,7 +1,9 @@
-use Rattle.std.proofs.Common.{◌<◌, List, [], ◌∷◌, ◌++◌, length, sym, ap, ◌∙◌, arith}
+use Rattle.std.proofs.Common.{◌<◌, List, [], ◌∷◌, ◌++◌, length, sym, ap, subst, ◌∙◌, arith}
+use Rattle.omega_hoa_automaton.specs.declared.edge.Edge.{Edge}
 use Rattle.omega_hoa_label.specs.Shape.{FitsALabel}
 use Rattle.omega_lang_product.specs.Refusing.{HasUnfitEdge}
 use Rattle.omega_lang_product.specs.Transitions.{View, transition_of}
+use Rattle.omega_lang_product.specs.private.Room.{HaveRoom}
 use Rattle.omega_lang_product.specs.private.Tables.{row_of, view_of}
 use Rattle.omega_lang_product.specs.declared.transition.Transition.{Transition}
 use Rattle.omega_hoa_edges.proofs.Refusals.{large_weaker, passed_on}
@@ -26,3 +28,9 @@ returns-in_err-transition-clause-err c =
     (large_weaker (FitsALabel transition.label → ⊥) (HasUnfitEdge (row_of view c.args.state.now))
     (λ unfit. record { transition = transition; listed = row_contains view c.args.state.now c.loop-at.at c.edge-edge.result below c.edge-edge.ensures; unfit = unfit })
     _ c.in_err-transition.ensures.err)
+
+pub transition_of-requires-clause-of_edge : goal.transition_of-requires-clause-of_edge
+transition_of-requires-clause-of_edge c =
+    let below : c.loop-at.at < length c.args.state.now.edges = omega (arith, c.loop-at-test.true, c.len-at-end.ensures) in
+    subst (λ (edge : Edge). HaveRoom c.args.renumbering.now.before edge.marks) (sym c.edge-edge.ensures)
+    (c.requires.edges c.loop-at.at c.edge-edge.result below)

@@ -8,6 +8,7 @@ use Rattle.omega_hoa_syntax.specs.declared.raw_automaton.RawAutomaton.{RawAutoma
 use Rattle.omega_hoa_edges.proofs.Refusals.{large_weaker}
 use Rattle.omega_lang_trim.specs.Refusing.{BreaksLimit, IsTooLarge, PassesLimit, broken_limit}
 use Rattle.omega_lang_trim.specs.Trimmed.{trimmed}
+use Rattle.omega_lang_trim.specs.Written.{written}
 use Rattle.omega_lang_trim.proofs.Meant.{automaton_meant, trimmed_rises}
 use Rattle.omega_lang_trim.proofs.forming.trimmed_automaton.Goals as goal
 
@@ -44,4 +45,16 @@ returns-in-Ok-clause-trimmed c =
       is = automaton_meant c.written_labels_mean.ensures c.written_formulas_mean.ensures (trimmed kept a) made refl refl refl
           (trimmed_rises a kept c.keeps_limits.ensures) (subst (λ (raw : RawAutomaton). Means raw made) c.in-Ok.ensures.written means);
     })
+    c.meaning.ensures.means
+
+pub returns-in-Ok-clause-written : goal.returns-in-Ok-clause-written
+returns-in-Ok-clause-written c =
+    let a : Description = c.args.automaton.now in
+    let kept : List ℕ = c.args.kept.now.keys in
+    IfOk-weaker c.meaning.result _ _
+    (λ made means.
+    let of_trimmed : Means (written (trimmed kept a)) made = subst (λ (raw : RawAutomaton). Means raw made) c.in-Ok.ensures.written means in
+    let is = automaton_meant c.written_labels_mean.ensures c.written_formulas_mean.ensures (trimmed kept a) made refl refl refl
+    (trimmed_rises a kept c.keeps_limits.ensures) of_trimmed in
+    subst (λ (raw : RawAutomaton). Means raw made) (ap written (sym is)) of_trimmed)
     c.meaning.ensures.means

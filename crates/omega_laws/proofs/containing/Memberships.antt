@@ -1,0 +1,64 @@
+-- What `accepts` answers of the text of a word and of that of an automaton.
+use Rattle.std.proofs.Common.{◌≡◌, ◌++◌, ℕ, inl, Bool, true, List, codes, sym, ap, subst, ◌∙◌}
+use Rattle.omega_hoa_automaton.specs.Automaton.{Description}
+use Rattle.omega_hoa.specs.Laws.{AutomataAreOne}
+use Rattle.omega_hoa_round_trips.specs.Laws.{ReadAutomataAreWritable}
+use Rattle.omega_io.specs.declared.exit.Exit.{Exit}
+use Rattle.omega_lang_lasso_word.specs.Admitted.{Admits}
+use Rattle.omega_lang_lasso_word.specs.Fitting.{Fits}
+use Rattle.omega_lang_lasso_word.specs.Laws.{HasStrings}
+use Rattle.omega_lang_lasso_word.specs.declared.symbolic_word.SymbolicWord.{SymbolicWord}
+use Rattle.omega_lang_word_laws.specs.NamedWords.{NamedWord}
+use Rattle.omega_lang_word_text.specs.Laws.{FittingTextsAreRead, NamesAreStrings, WordsOfTextsAreOne}
+use Rattle.omega_lang_inclusion.specs.Membership.{IsMembership}
+use Rattle.omega_lang_inclusion.specs.OneWord.{IsOneWordFor}
+use Rattle.omega_lang_inclusion.specs.declared.membership.Membership.{Membership}
+use Rattle.omega_lang_inclusion.specs.declared.membership.Membership.TheVariants.{Accepted, Rejected}
+use Rattle.omega_io.specs.Answer.{IsReply, explained}
+use Rattle.omega_answers_inclusion.specs.Accepts.{membership_answer, word_line}
+use Rattle.omega_laws.specs.InclusionTexts.{AcceptedTextsAreAccepted, SaysAccepted}
+use Rattle.omega_laws.proofs.containing.Parted.{seen_periodic}
+use Rattle.omega_laws.proofs.containing.Texts.{of_automaton, of_text}
+
+pub accepted_said : AutomataAreOne → ReadAutomataAreWritable → FittingTextsAreRead → NamesAreStrings → WordsOfTextsAreOne → AcceptedTextsAreAccepted
+accepted_said law writable fitting names words_one word text explain exit output answer = go answer.holds.answer answer.holds.right answer.holds.reply
+  where
+    symbolic : SymbolicWord
+    symbolic = answer.file
+
+    a : Description
+    a = answer.input
+
+    -- what fits the text is admitted
+    admitted : (named : NamedWord) → Fits word named → Admits symbolic named
+    admitted named fits =
+        let own = fitting word named fits answer.file_read.short in
+        let same : own.0 ≡ symbolic = words_one word own.0 symbolic own.1 answer.file_read in
+        subst (λ (s : SymbolicWord). Admits s named) same ((own.2 named).1 fits)
+
+    go : (said : Membership) → IsMembership symbolic a said → IsReply (membership_answer explain said) exit output → SaysAccepted word text explain exit output
+    go Accepted right reply =
+        subst (λ (e : Exit). SaysAccepted word text explain e output) (sym reply.0)
+        (record {
+          periodic = λ named periodic fits. of_automaton text a named answer.input_read (right.periodic named (seen_periodic a named periodic) (admitted named fits));
+          one_word = λ other b read other_read fixed named fits.
+              (let same : other ≡ symbolic = words_one word other symbolic read answer.file_read in
+              let also : b ≡ a = law text b a other_read answer.input_read in
+              let own : IsOneWordFor symbolic a = subst (λ (s : SymbolicWord). IsOneWordFor s a) same (subst (λ (d : Description). IsOneWordFor other d) also fixed) in
+              of_automaton text a named answer.input_read (right.one_word own named (admitted named fits)));
+          all = λ omniscience named fits. of_automaton text a named answer.input_read (right.all omniscience named (admitted named fits));
+        })
+    go (Rejected words) right reply =
+        let strings : HasStrings a = (writable a (inl (text, answer.input_read))).propositions in
+        let own = names word symbolic answer.file_read in
+        subst (λ (e : Exit). SaysAccepted word text explain e output) (sym reply.0)
+        (record {
+          symbolic = symbolic;
+          read = answer.file_read;
+          words = words;
+          fitting = right.named;
+          fits = right.fits own strings;
+          rejected = λ named fits. (let rejected = right.all_rejected own strings named fits in
+              (rejected.admitted, λ accepts. rejected.not_accepted (of_text law text a named answer.input_read accepts)));
+          told = λ asked. (codes "no\n", reply.1 ∙ ap (λ (b : Bool). codes "no\n" ++ explained b (word_line words)) asked);
+        })

@@ -1,0 +1,5 @@
+use Rattle.omega_laws.proofs.containing.Inclusion.{equal_said}
+use Rattle.omega_laws.proofs.inclusion_texts.equal_texts_are_equal.Goals as goal
+
+pub returns : goal.returns
+returns c = equal_said c.automata_are_one.ensures c.read_automata_are_writable.ensures

@@ -1,0 +1,44 @@
+//! Laws of what `contained`, `equal` and `accepts` answer, in words of texts and of the words that they accept: each
+//! call does nothing and states one law.
+
+ghost use Rattle.omega_laws.specs.InclusionTexts.{AcceptedTextsAreAccepted};
+ghost use Rattle.omega_laws.specs.InclusionTexts.{ContainedTextsAreContained, EqualTextsAreEqual};
+
+use omega_hoa::automata_are_one;
+use omega_hoa_round_trips::read_automata_are_writable;
+use omega_lang_word_text::laws::{
+    fitting_texts_are_read, names_are_strings, words_of_texts_are_one,
+};
+
+/// Shows what `contained` answers of two texts: `yes` only if the text of the file accepts the words that the other
+/// accepts, and otherwise words that the other accepts and that of the file does not. With an explanation the answer
+/// ends in these words. That all words are accepted has the premise of `complements_cover`, but not for those that are
+/// ultimately periodic.
+pub fn contained_texts_are_contained()
+    ensures { ContainedTextsAreContained }
+{
+    automata_are_one();
+    read_automata_are_writable();
+}
+
+/// Shows what `equal` answers of two texts: `yes` only if each accepts the words of the other, and otherwise words that
+/// one accepts and the other does not, as `contained` does both ways.
+pub fn equal_texts_are_equal()
+    ensures { EqualTextsAreEqual }
+{
+    automata_are_one();
+    read_automata_are_writable();
+}
+
+/// Shows what `accepts` answers of the text of a word and of that of an automaton: `yes` only if the latter accepts the
+/// words that fit the former, and otherwise words that are admitted and not accepted. `yes` needs no premise if each
+/// letter fixes each proposition of the automaton.
+pub fn accepted_texts_are_accepted()
+    ensures { AcceptedTextsAreAccepted }
+{
+    automata_are_one();
+    read_automata_are_writable();
+    fitting_texts_are_read();
+    names_are_strings();
+    words_of_texts_are_one();
+}
