@@ -1,5 +1,5 @@
 -- Priorities turned: their order is reversed and their parities are kept.
-use Rattle.std.proofs.Common.{◌≡◌, ℕ, zero, suc, ◌+◌, ◌*◌, ◌%◌, ◌^◌, ◌<◌, ◌≤◌, ◌⊎◌, inl, inr, Bool, true, false, IsTrue, cond, eqb, leb, nat_lt, max, min, List, [], ◌∷◌, ◌++◌, length, get_or, map, fold, filter, count_by, take, refl, ap, sym, ◌∙◌, subst, arith, add-one}
+use Rattle.std.proofs.Common.{◌≡◌, ℕ, zero, suc, ◌+◌, ◌%◌, ◌^◌, ◌<◌, ◌≤◌, ◌⊎◌, inl, inr, Bool, true, false, IsTrue, cond, eqb, nat_lt, max, min, List, [], ◌∷◌, ◌++◌, length, get_or, map, fold, filter, take, refl, ap, sym, ◌∙◌, subst, arith}
 use Rattle.std.proofs.lemmas.Bool.{cases_eq, cases_lt, cond-true, eq-eqb, ltb-true, ltb-false, lt-ltb, le-ltb}
 use Rattle.std.proofs.lemmas.List.{get_or-map, get_or_default, length-map, map_push, take_more}
 use Rattle.omega_text.specs.Limits.{most_number}
@@ -107,7 +107,7 @@ greater-more p m (q ∷ qs) less (inr among) =
       | inr past ↦ omega (arith, rest, counts-not m q qs past, greater-cons p q qs)
     ]
 
-two-parities : (n : ℕ) → n % 2 < 2
+pub two-parities : (n : ℕ) → n % 2 < 2
 two-parities n = omega arith
 
 -- the lesser of two priorities in use is turned into the greater

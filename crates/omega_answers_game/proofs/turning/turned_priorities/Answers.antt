@@ -1,5 +1,5 @@
 -- `turned_priorities`: each priority is turned among those in use, which fall.
-use Rattle.std.proofs.Common.{◌≡◌, ◌<◌, ◌^◌, ◌+◌, ◌*◌, ◌%◌, List, [], ◌∷◌, ◌++◌, ℕ, length, sym, ap, ◌∙◌, subst, arith}
+use Rattle.std.proofs.Common.{◌≡◌, ◌<◌, ◌^◌, ◌+◌, ◌*◌, ◌%◌, [], ◌∷◌, ◌++◌, length, sym, ap, ◌∙◌, subst, arith}
 use Rattle.omega_game_values.specs.Bound.{IsStrictlyFalling, priorities_in_use}
 use Rattle.omega_game_values.specs.Game.{priorities}
 use Rattle.omega_answers_game.specs.Turning.{greater_count}
