@@ -1,6 +1,6 @@
 -- What stands for each part of a line of a lenient solution text in its bare text: numbers, names and `-1`.
 use Rattle.std.specs.Prelude.{◌≡◌, ◌≢◌, ℕ, zero, suc, ◌<◌, false, not, ◌==◌, ◌||◌, ◌⊎◌, List, [], ◌∷◌}
-use Rattle.std.specs.Prelude.{◌++◌, length, slice_index}
+use Rattle.std.specs.Prelude.{◌++◌, slice_index}
 use Rattle.std.specs.List.{AllPass}
 use Rattle.omega_text.specs.Bytes.{is_digit, is_white}
 use Rattle.omega_pg_lenient.specs.Parts.{blanks}
@@ -66,38 +66,43 @@ NamedNoChoicesAreBlank = (front between name gap rest : List ℕ) → AreNumbers
     → bare_lines (front ++ 45 ∷ 49 ∷ (between ++ named_before name (gap ++ 59 ∷ rest)))
     ≡ front ++ 32 ∷ 32 ∷ (between ++ (blanks (named_before name []) ++ (gap ++ 59 ∷ bare_lines rest)))
 
--- the byte behind the front stays
-abbrev pub StaysBehind : (front : List ℕ) (byte : ℕ) (rest : List ℕ) → Type 0
-StaysBehind front byte rest = slice_index (bare_lines (front ++ byte ∷ rest)) (length front) ≡ byte
+-- the bytes at the front of a line stay, before this rest
+abbrev pub StaysBefore : (front rest : List ℕ) → Type 0
+StaysBefore front rest = (shown : List ℕ) × (bare_lines (front ++ rest) ≡ front ++ shown)
 
--- a hyphen stays if not just two numbers are before it in its line
+-- a hyphen stays, with the digits behind it, if not just two numbers are before it in its line
 abbrev pub EarlyAndLateHyphensStay : Type 0
-EarlyAndLateHyphensStay = (n : ℕ) (front rest : List ℕ)
-    → AreNumbers n front → n ≢ 2 → StaysBehind front 45 rest
+EarlyAndLateHyphensStay = (n : ℕ) (front digits rest : List ℕ) → AreNumbers n front → n ≢ 2
+    → AllPass is_digit digits → StaysBefore (front ++ 45 ∷ digits) rest
 
 -- after two numbers a hyphen stays that does not begin `-1`
 abbrev pub LoneHyphensStay : Type 0
 LoneHyphensStay = (front rest : List ℕ) → AreNumbers 2 front → slice_index rest 0 ≢ 49
-    → StaysBehind front 45 rest
+    → StaysBefore (front ++ 45 ∷ []) rest
 
--- and one that begins `-1` if neither `;` nor a name is next
-abbrev pub InnerHyphensStay : Type 0
-InnerHyphensStay = (front gap : List ℕ) (next : ℕ) (rest : List ℕ) → AreNumbers 2 front
+-- and so does `-1` if neither `;` nor a name is next
+abbrev pub InnerNoChoicesStay : Type 0
+InnerNoChoicesStay = (front gap : List ℕ) (next : ℕ) (rest : List ℕ) → AreNumbers 2 front
     → IsWhiteSpace gap → is_white next ≡ false → next ≢ 59 → next ≢ 34
-    → StaysBehind front 45 (49 ∷ (gap ++ next ∷ rest))
+    → StaysBefore (front ++ 45 ∷ 49 ∷ []) (gap ++ next ∷ rest)
 
--- a quote stays if there are not two numbers before it in its line
+-- a quote stays, with what is behind it in its line, if there are not two numbers before it
 abbrev pub EarlyQuotesStay : Type 0
-EarlyQuotesStay = (n : ℕ) (front rest : List ℕ) → AreNumbers n front → n < 2
-    → StaysBehind front 34 rest
+EarlyQuotesStay = (n : ℕ) (front name rest : List ℕ) → AreNumbers n front → n < 2
+    → IsNameText name → StaysBefore (front ++ 34 ∷ name) rest
 
--- and so does that of a name after which something else than `;` is next
+-- and so does a name
+abbrev pub EarlyNamesStay : Type 0
+EarlyNamesStay = (n : ℕ) (front name rest : List ℕ) → AreNumbers n front → n < 2
+    → IsNameText name → StaysBefore (front ++ named_before name []) rest
+
+-- a name stays after which something else than `;` is next
 abbrev pub InnerNamesStay : Type 0
 InnerNamesStay = (n : ℕ) (front name gap : List ℕ) (next : ℕ) (rest : List ℕ) → AreNumbers n front
     → IsNameText name → IsWhiteSpace gap → is_white next ≡ false → next ≢ 59
-    → StaysBehind front 34 (name ++ 34 ∷ (gap ++ next ∷ rest))
+    → StaysBefore (front ++ named_before name []) (gap ++ next ∷ rest)
 
--- and one whose line ends before another quote
+-- a quote stays whose line ends before another
 abbrev pub OpenNamesStay : Type 0
 OpenNamesStay = (n : ℕ) (front name rest : List ℕ) → AreNumbers n front → IsNameText name
-    → StaysBehind front 34 (name ++ 10 ∷ rest)
+    → StaysBefore (front ++ 34 ∷ (name ++ 10 ∷ [])) rest

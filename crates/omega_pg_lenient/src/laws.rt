@@ -7,10 +7,11 @@ ghost use Rattle.omega_pg_lenient.specs.Laws.{LenientRefusalsAreOne, LenientText
 ghost use Rattle.omega_pg_lenient.specs.Laws.{PlainTextsKeepPlaces, StrictTextsAreLenient};
 ghost use Rattle.omega_pg_lenient.specs.Parts.{BlockCommentsAreBlank, LineCommentsAreBlank, LoneSlashesStay};
 ghost use Rattle.omega_pg_lenient.specs.Parts.{NamesAreShown, OtherBytesStay, UnclosedCommentsStay};
-ghost use Rattle.omega_pg_lenient.specs.SolutionParts.{EarlyAndLateHyphensStay, EarlyQuotesStay};
-ghost use Rattle.omega_pg_lenient.specs.SolutionParts.{InnerHyphensStay, InnerNamesStay, LastNamesAreBlank};
-ghost use Rattle.omega_pg_lenient.specs.SolutionParts.{LoneHyphensStay, NamedNoChoicesAreBlank};
-ghost use Rattle.omega_pg_lenient.specs.SolutionParts.{NoChoicesAreBlank, OpenNamesStay, OtherLinesStay};
+ghost use Rattle.omega_pg_lenient.specs.SolutionParts.{EarlyAndLateHyphensStay, EarlyNamesStay};
+ghost use Rattle.omega_pg_lenient.specs.SolutionParts.{EarlyQuotesStay, InnerNamesStay, InnerNoChoicesStay};
+ghost use Rattle.omega_pg_lenient.specs.SolutionParts.{LastNamesAreBlank, LoneHyphensStay};
+ghost use Rattle.omega_pg_lenient.specs.SolutionParts.{NamedNoChoicesAreBlank, NoChoicesAreBlank};
+ghost use Rattle.omega_pg_lenient.specs.SolutionParts.{OpenNamesStay, OtherLinesStay};
 ghost use Rattle.omega_pg_lenient.specs.SolutionText.{BareTextsKeepPlaces, StrictSolutionsAreLenient};
 ghost use Rattle.omega_pg_lenient.specs.OpenPlays.{OpenWinningMeansAllPlays};
 ghost use Rattle.omega_pg_lenient.specs.Playing.{CompletionKeepsWinners, LenientGamesKeepWinners};
@@ -50,7 +51,7 @@ pub fn plain_texts_show_parts()
 {}
 
 /// States what stands for each part of a line of a solution text in its bare text: spaces for a `-1` in the place of a
-/// successor and for a name that ends the line. Each other byte stays, and so does each hyphen or quote that stands
+/// successor and for a name that ends the line. Each other byte stays, and so does a `-1` or a name that stands
 /// elsewhere.
 pub fn bare_texts_show_parts()
     ensures lines { OtherLinesStay }
@@ -59,8 +60,9 @@ pub fn bare_texts_show_parts()
     ensures named_no_choices { NamedNoChoicesAreBlank }
     ensures early_and_late_hyphens { EarlyAndLateHyphensStay }
     ensures lone_hyphens { LoneHyphensStay }
-    ensures inner_hyphens { InnerHyphensStay }
+    ensures inner_no_choices { InnerNoChoicesStay }
     ensures early_quotes { EarlyQuotesStay }
+    ensures early_names { EarlyNamesStay }
     ensures inner_names { InnerNamesStay }
     ensures open_names { OpenNamesStay }
 {}

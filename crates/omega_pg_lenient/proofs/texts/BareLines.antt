@@ -73,14 +73,14 @@ white_pass numbers (byte ∷ gap) rest white =
     ∙ ap (λ list. byte ∷ list) (white_pass numbers gap rest (All-tail (λ b. is_white b ≡ true) byte gap white))
 
 -- the first digit of a number is counted
-first_digit : (numbers byte : ℕ) (rest : List ℕ) → is_digit byte ≡ true
+pub first_digit : (numbers byte : ℕ) (rest : List ℕ) → is_digit byte ≡ true
     → bare_from (place_in_line Between numbers) (byte ∷ rest) ≡ byte ∷ bare_from (place_in_line Number (counted Between numbers)) rest
 first_digit numbers byte rest digit =
     shown_step Between numbers byte rest (place_in_line Number (counted Between numbers))
     (ap (λ t. if t then place_in_line Number (counted Between numbers) else after_other numbers byte rest) digit)
 
 -- the others are not
-digits_pass : (numbers : ℕ) (digits rest : List ℕ) → AllPass is_digit digits
+pub digits_pass : (numbers : ℕ) (digits rest : List ℕ) → AllPass is_digit digits
     → bare_from (place_in_line Number numbers) (digits ++ rest) ≡ digits ++ bare_from (place_in_line Number numbers) rest
 digits_pass numbers [] rest all = refl
 digits_pass numbers (byte ∷ digits) rest all =

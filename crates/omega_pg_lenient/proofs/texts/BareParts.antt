@@ -1,18 +1,17 @@
 -- What stands for names and `-1` in bare texts.
-use Rattle.std.proofs.Common.{◌≡◌, ℕ, ◌<◌, inl, inr, Bool, true, false, List, [], ◌∷◌, ◌++◌, length, get_or, nat_lt, refl, ap, ap₂, sym, ◌∙◌, arith}
-use Rattle.std.proofs.Math.Seq.{get_or-append_seam}
+use Rattle.std.proofs.Common.{◌≡◌, ℕ, ◌<◌, inl, inr, Bool, true, false, List, [], ◌∷◌, ◌++◌, get_or, nat_lt, refl, ap, ap₂, sym, ◌∙◌, append_assoc, arith}
 use Rattle.std.specs.Prelude.{◌==◌, ◌&&◌, ◌||◌, drop, if◌then◌else◌, not}
 use Rattle.std.specs.List.{AllPass}
 use Rattle.std.proofs.lemmas.Bool.{eq-eqb, le-ltb, lt-ltb, ne_eqb, or_parts}
 use Rattle.std.proofs.lemmas.List.Elements.{All-head, All-tail}
 use Rattle.omega_text.specs.Bytes.{is_digit, is_white}
 use Rattle.omega_pg_lenient.specs.Parts.{blanks}
-use Rattle.omega_pg_lenient.specs.SolutionLines.{after_byte, bare_from, is_last_name, is_no_choice, next_black, place_in_line, shown_in_line}
-use Rattle.omega_pg_lenient.specs.SolutionParts.{AreNumbers, EarlyAndLateHyphensStay, EarlyQuotesStay, InnerHyphensStay, InnerNamesStay, IsNameText, IsWhiteSpace, LastNamesAreBlank, LoneHyphensStay, NamedNoChoicesAreBlank, NoChoicesAreBlank, OpenNamesStay, OtherLinesStay, StaysBehind, bare_lines, named_before}
+use Rattle.omega_pg_lenient.specs.SolutionLines.{after_byte, bare_from, counted, is_last_name, is_no_choice, next_black, place_in_line, shown_in_line}
+use Rattle.omega_pg_lenient.specs.SolutionParts.{AreNumbers, EarlyAndLateHyphensStay, EarlyNamesStay, EarlyQuotesStay, InnerNoChoicesStay, InnerNamesStay, IsNameText, IsWhiteSpace, LastNamesAreBlank, LoneHyphensStay, NamedNoChoicesAreBlank, NoChoicesAreBlank, OpenNamesStay, OtherLinesStay, StaysBefore, bare_lines, named_before}
 use Rattle.omega_pg_lenient.specs.declared.line_place.LineContext.{LineContext}
 use Rattle.omega_pg_lenient.specs.declared.line_place.LineContext.TheVariants.{Between, Choice, Name, Number, Passed}
 use Rattle.omega_pg_lenient.specs.declared.line_place.LinePlace.{LinePlace}
-use Rattle.omega_pg_lenient.proofs.texts.BareLines.{numbers_pass, shown_step, tally, tally_is, white_pass}
+use Rattle.omega_pg_lenient.proofs.texts.BareLines.{digits_pass, first_digit, numbers_pass, shown_step, tally, tally_is, white_pass}
 use Rattle.omega_pg_lenient.proofs.texts.StrictBare.{IsClean, after_clean, is_outside, shown_clean}
 
 apart : (test : Bool) → not test ≡ true → test ≡ false
@@ -144,59 +143,112 @@ named_no_choices front between name gap rest are white all white' =
 
 -- ---- what stays
 
--- the byte behind numbers is that which is shown for it
+-- a byte behind numbers stays, if it is shown for itself
 stays_by : (n : ℕ) (front : List ℕ) (byte : ℕ) (rest : List ℕ) (next : LinePlace) → AreNumbers n front → is_digit byte ≡ false
-    → after_byte Between (tally n 0) byte rest ≡ next → shown_in_line Between next.context byte ≡ byte → StaysBehind front byte rest
+    → after_byte Between (tally n 0) byte rest ≡ next → shown_in_line Between next.context byte ≡ byte
+    → bare_lines (front ++ byte ∷ rest) ≡ front ++ byte ∷ bare_from next rest
 stays_by n front byte rest next are other is shown =
-    ap (λ list. get_or list (length front) 0) (numbers_pass n 0 front byte rest are other)
-    ∙ ap (λ list. get_or (front ++ list) (length front) 0) (shown_step Between (tally n 0) byte rest next is)
-    ∙ get_or-append_seam front (shown_in_line Between next.context byte) (bare_from next rest) 0
-    ∙ shown
+    numbers_pass n 0 front byte rest are other
+    ∙ ap (λ list. front ++ list) (shown_step Between (tally n 0) byte rest next is)
+    ∙ ap (λ b. front ++ b ∷ bare_from next rest) shown
+
+-- so bytes stay behind a front
+begins : (front bytes rest shown : List ℕ) → bare_lines (front ++ (bytes ++ rest)) ≡ front ++ (bytes ++ shown) → StaysBefore (front ++ bytes) rest
+begins front bytes rest shown e =
+    (shown, ap bare_lines (append_assoc front bytes rest) ∙ e ∙ sym (append_assoc front bytes shown))
+
+-- digits stay, whatever is before them
+digits_between : (numbers : ℕ) (digits rest : List ℕ) → AllPass is_digit digits
+    → (shown : List ℕ) × (bare_from (place_in_line Between numbers) (digits ++ rest) ≡ digits ++ shown)
+digits_between numbers [] rest all = (bare_from (place_in_line Between numbers) rest, refl)
+digits_between numbers (digit ∷ digits) rest all = (
+  bare_from (place_in_line Number (counted Between numbers)) rest,
+  first_digit numbers digit (digits ++ rest) (All-head (λ b. is_digit b ≡ true) digit digits all)
+      ∙ ap (λ list. digit ∷ list) (digits_pass (counted Between numbers) digits rest (All-tail (λ b. is_digit b ≡ true) digit digits all)),
+)
 
 pub early_and_late_hyphens : EarlyAndLateHyphensStay
-early_and_late_hyphens n front rest are other =
+early_and_late_hyphens n front digits rest are other all =
     let count = tally_is n 0 (omega arith) in
     let not_two : (tally n 0 == 2) ≡ false = ne_eqb (tally n 0) 2 (λ same. other (omega (arith, count, same))) in
-    stays_by n front 45 rest (place_in_line Between (tally n 0)) are refl
-    (ap (λ t. if t && is_no_choice rest then place_in_line Choice (tally n 0) else place_in_line Between (tally n 0)) not_two) refl
+    let behind = digits_between (tally n 0) digits rest all in
+    begins front (45 ∷ digits) rest behind.0
+    (stays_by n front 45 (digits ++ rest) (place_in_line Between (tally n 0)) are refl
+    (ap (λ t. if t && is_no_choice (digits ++ rest) then place_in_line Choice (tally n 0) else place_in_line Between (tally n 0)) not_two) refl
+    ∙ ap (λ list. front ++ 45 ∷ list) behind.1)
 
 -- a hyphen behind two numbers
-hyphen_stays : (front rest : List ℕ) → AreNumbers 2 front → is_no_choice rest ≡ false → StaysBehind front 45 rest
+hyphen_stays : (front rest : List ℕ) → AreNumbers 2 front → is_no_choice rest ≡ false
+    → bare_lines (front ++ 45 ∷ rest) ≡ front ++ 45 ∷ bare_from (place_in_line Between 2) rest
 hyphen_stays front rest are unlike =
     stays_by 2 front 45 rest (place_in_line Between 2) are refl (ap (λ t. if t then place_in_line Choice 2 else place_in_line Between 2) unlike) refl
 
 pub lone_hyphens : LoneHyphensStay
 lone_hyphens front rest are other =
-    hyphen_stays front rest are
-    (ap (λ t. t && (next_black (drop 1 rest) == 59 || next_black (drop 1 rest) == 34)) (ne_eqb (get_or rest 0 0) 49 other))
+    begins front (45 ∷ []) rest (bare_from (place_in_line Between 2) rest)
+    (hyphen_stays front rest are
+    (ap (λ t. t && (next_black (drop 1 rest) == 59 || next_black (drop 1 rest) == 34)) (ne_eqb (get_or rest 0 0) 49 other)))
 
-pub inner_hyphens : InnerHyphensStay
-inner_hyphens front gap next rest are white black semicolon quote =
-    hyphen_stays front (49 ∷ (gap ++ next ∷ rest)) are
-    (ap (λ n. n == 59 || n == 34) (next_is gap next rest white black) ∙ ap₂ ◌||◌ (ne_eqb next 59 semicolon) (ne_eqb next 34 quote))
+pub inner_no_choices : InnerNoChoicesStay
+inner_no_choices front gap next rest are white black semicolon quote =
+    let ending : List ℕ = gap ++ next ∷ rest in
+    begins front (45 ∷ 49 ∷ []) ending (bare_from (place_in_line Number 3) ending)
+    (hyphen_stays front (49 ∷ ending) are
+    (ap (λ n. n == 59 || n == 34) (next_is gap next rest white black) ∙ ap₂ ◌||◌ (ne_eqb next 59 semicolon) (ne_eqb next 34 quote)))
+
+-- the bytes behind a quote stay in a name
+in_name : (numbers : ℕ) (name rest : List ℕ) → IsNameText name
+    → bare_from (place_in_line Name numbers) (name ++ rest) ≡ name ++ bare_from (place_in_line Name numbers) rest
+in_name numbers [] rest all = refl
+in_name numbers (byte ∷ name) rest all =
+    shown_step Name numbers byte (name ++ rest) (place_in_line Name numbers)
+    (ap (λ t. place_in_line (if t then Between else Name) numbers) (name_byte byte (All-head (λ b. not (b == 34 || b == 10) ≡ true) byte name all)).0)
+    ∙ ap (λ list. byte ∷ list) (in_name numbers name rest (All-tail (λ b. not (b == 34 || b == 10) ≡ true) byte name all))
 
 -- a quote that begins no last name
-quote_stays : (n : ℕ) (front rest : List ℕ) → AreNumbers n front → (nat_lt 1 (tally n 0) && is_last_name rest) ≡ false → StaysBehind front 34 rest
-quote_stays n front rest are unlike =
-    stays_by n front 34 rest (place_in_line Name (tally n 0)) are refl (ap (λ t. place_in_line (if t then Passed else Name) (tally n 0)) unlike) refl
+quote_stays : (n : ℕ) (front name rest : List ℕ) → AreNumbers n front → IsNameText name → (nat_lt 1 (tally n 0) && is_last_name (name ++ rest)) ≡ false
+    → bare_lines (front ++ 34 ∷ (name ++ rest)) ≡ front ++ 34 ∷ (name ++ bare_from (place_in_line Name (tally n 0)) rest)
+quote_stays n front name rest are all unlike =
+    stays_by n front 34 (name ++ rest) (place_in_line Name (tally n 0)) are refl (ap (λ t. place_in_line (if t then Passed else Name) (tally n 0)) unlike) refl
+    ∙ ap (λ list. front ++ 34 ∷ list) (in_name (tally n 0) name rest all)
+
+-- with what ends the name
+begins_named : (front name end rest shown : List ℕ) → bare_lines (front ++ 34 ∷ (name ++ (end ++ rest))) ≡ front ++ 34 ∷ (name ++ (end ++ shown))
+    → StaysBefore (front ++ 34 ∷ (name ++ end)) rest
+begins_named front name end rest shown e =
+    begins front (34 ∷ (name ++ end)) rest shown
+    (ap (λ list. bare_lines (front ++ 34 ∷ list)) (append_assoc name end rest) ∙ e ∙ ap (λ list. front ++ 34 ∷ list) (sym (append_assoc name end shown)))
 
 and_false : (test : Bool) → (test && false) ≡ false
 and_false true = refl
 and_false false = refl
 
-pub early_quotes : EarlyQuotesStay
-early_quotes n front rest are few =
+-- no name ends a line of fewer than two numbers
+few_numbers : (n : ℕ) (last : Bool) → n < 2 → (nat_lt 1 (tally n 0) && last) ≡ false
+few_numbers n last few =
     let count = tally_is n 0 (omega arith) in
-    quote_stays n front rest are (ap (λ t. t && is_last_name rest) (le-ltb 1 (tally n 0) (omega (arith, count, few))))
+    ap (λ t. t && last) (le-ltb 1 (tally n 0) (omega (arith, count, few)))
+
+pub early_quotes : EarlyQuotesStay
+early_quotes n front name rest are few all =
+    begins front (34 ∷ name) rest (bare_from (place_in_line Name (tally n 0)) rest)
+    (quote_stays n front name rest are all (few_numbers n (is_last_name (name ++ rest)) few))
+
+pub early_names : EarlyNamesStay
+early_names n front name rest are few all =
+    begins_named front name (34 ∷ []) rest (bare_from (place_in_line Between (tally n 0)) rest)
+    (quote_stays n front name (34 ∷ rest) are all (few_numbers n (is_last_name (name ++ 34 ∷ rest)) few))
 
 pub inner_names : InnerNamesStay
 inner_names n front name gap next rest are all white black semicolon =
-    quote_stays n front (name ++ 34 ∷ (gap ++ next ∷ rest)) are
+    begins_named front name (34 ∷ []) (gap ++ next ∷ rest) (bare_from (place_in_line Between (tally n 0)) (gap ++ next ∷ rest))
+    (quote_stays n front name (34 ∷ (gap ++ next ∷ rest)) are all
     (ap (λ t. nat_lt 1 (tally n 0) && t)
     (last_name_by name (gap ++ next ∷ rest) all ∙ ap (λ b. b == 59) (next_is gap next rest white black) ∙ ne_eqb next 59 semicolon)
-    ∙ and_false (nat_lt 1 (tally n 0)))
+    ∙ and_false (nat_lt 1 (tally n 0))))
 
 pub open_names : OpenNamesStay
 open_names n front name rest are all =
-    quote_stays n front (name ++ 10 ∷ rest) are
-    (ap (λ t. nat_lt 1 (tally n 0) && t) (open_name name rest all) ∙ and_false (nat_lt 1 (tally n 0)))
+    begins_named front name (10 ∷ []) rest (bare_from (place_in_line Name (tally n 0)) rest)
+    (quote_stays n front name (10 ∷ rest) are all
+    (ap (λ t. nat_lt 1 (tally n 0) && t) (open_name name rest all) ∙ and_false (nat_lt 1 (tally n 0))))
