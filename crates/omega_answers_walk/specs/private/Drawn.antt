@@ -9,7 +9,7 @@ use Rattle.omega_game_values.specs.Game.{Node}
 use Rattle.omega_text.specs.declared.refusal.Refusal.{Refusal}
 use Rattle.omega_text.specs.declared.refusal.Refusal.TheVariants.{Task}
 use Rattle.omega_text.specs.declared.refusal.task.TaskFault.TheVariants.{UnknownNode}
-use Rattle.omega_answers_walk.specs.Walk.{IsWalkOf, IsWalkRefusal}
+use Rattle.omega_answers_walk.specs.Walk.{IsWalkOf}
 
 -- an identifier is given that no node has
 abbrev pub IsUnknownFrom : List Node → Option ℕ → Refusal → Type 0
