@@ -1,6 +1,6 @@
 -- What `omega_run` leaves: what the program leaves that obeys the words over these texts.
 use Rattle.std.specs.Prelude.{◌≡◌, ◌<◌, ◌==◌, ◌⊎◌, ◌∷◌, ◌++◌, [], Bool, ℕ, List, Option}
-use Rattle.std.specs.Prelude.{None, Some, Result, Ok, Err, codes, length, string_bytes}
+use Rattle.std.specs.Prelude.{None, Some, Result, Ok, Err, All, codes, length, string_bytes}
 use Rattle.std.specs.List.{slice_split}
 use Rattle.std.specs.Str.{IsUtf8}
 use Rattle.omega_text.specs.declared.refusal.Refusal.{Refusal}
@@ -23,10 +23,11 @@ is_nul byte = byte == 0
 abbrev pub pieces_of : List ℕ → List (List ℕ)
 pieces_of text = codes "omega" ∷ slice_split is_nul text
 
--- these are the words, the program's name first; the rest after the last NUL is not read
+-- these are the words, the program's name first, and each is UTF-8; the rest after the last NUL is not read
 pub record AreWords (text : List ℕ) (words : List (List ℕ)) : Type 0 where
   pub rest : List ℕ
   pub split : pieces_of text ≡ words ++ rest ∷ []
+  pub texts : All IsUtf8 words
 
 -- some word is not UTF-8
 pub record HasNoText (text : List ℕ) : Type 0 where

@@ -2,6 +2,7 @@
 use Rattle.std.specs.Prelude.{◌≡◌, ◌≤◌, ◌==◌, ◌⊎◌, ℕ, Bool, true, false}
 use Rattle.std.specs.Prelude.{if◌then◌else◌, List, None, All, length}
 use Rattle.omega_game_values.specs.Solution.{IsExactSolution}
+use Rattle.omega_solve.specs.Turns.{IsNarrow}
 use Rattle.omega_arrays.specs.declared.fault.ArrayFault.{ArrayFault}
 use Rattle.omega_arrays.specs.declared.solving.Lifts.{Lifts}
 use Rattle.omega_arrays.specs.Answer.{solution_in, wrong_room}
@@ -15,11 +16,13 @@ use Rattle.omega.specs.Outcome.{given, outcome_of}
 abbrev pub asks : ℕ → Bool
 asks number = if number == 0 then false else true
 
--- the game was solved: the arrays hold an exact solution of it, and the lifts are those that were made
+-- the game was solved: the arrays hold an exact solution of it, and the lifts are those that were made; unless a search
+-- was requested, it is too wide for neither player
 pub record IsSolvedGame (a : GameArrays) (by_search budget : ℕ)
     (winners winners' choices choices' : List ℕ) (lifts : Lifts) : Type 0 where
   pub shape : wrong_room a (length winners) (length choices) ≡ None
   pub sized : IsSized a
+  pub narrow : asks by_search ≡ false → IsNarrow (nodes_in a)
   pub exact : IsExactSolution (nodes_in a) (solution_in winners' choices')
   pub players : All (λ p. p ≤ 1) winners'
   pub lifted : AreLifts (asks by_search) (nodes_in a) (budget_of budget) lifts

@@ -69,7 +69,7 @@ verdict-yes nodes solution true No output wins verdict = absurd (loses_not nodes
 -- ---- the game that is judged
 
 -- a text has one game that is judged
-judged-unique : (text : List ℕ) (from : Option ℕ) (one other : List Node) → GamesOfTextsAreOne → IsJudgedGame text from one
+pub judged-unique : (text : List ℕ) (from : Option ℕ) (one other : List Node) → GamesOfTextsAreOne → IsJudgedGame text from one
     → IsJudgedGame text from other → one ≡ other
 judged-unique text None one other games first second = games text one other first second
 judged-unique text (Some identifier) one other games first second =
@@ -77,7 +77,7 @@ judged-unique text (Some identifier) one other games first second =
     part_from-unique second.game identifier one other second.read.rearranged.game (rw same at first.part_of) second.part_of
 
 -- it is a game within the limits
-judged-game : (text : List ℕ) (from : Option ℕ) (nodes : List Node) → PartsAreGames → PartsKeepNodes → IsJudgedGame text from nodes
+pub judged-game : (text : List ℕ) (from : Option ℕ) (nodes : List Node) → PartsAreGames → PartsKeepNodes → IsJudgedGame text from nodes
     → IsGame nodes × IsWithinLimits nodes
 judged-game text None nodes games keeps judged = (judged.rearranged.game, judged.limits)
 judged-game text (Some identifier) nodes games keeps judged =

@@ -26,4 +26,7 @@ pub mod Leading
 pub mod Counted
 pub mod Unique
 pub mod TurnedGames
+pub mod TurnedLimits
+pub mod TurnedPlays
+pub mod TurnedTexts
 pub mod TurnedPriorities

@@ -23,7 +23,7 @@ pub record AreAlike (nodes others : List Node) : Type 0 where
   pub owner : (v : ℕ) → owner_at others v ≡ owner_at nodes v
   pub successors : (v : ℕ) → successors_at others v ≡ successors_at nodes v
 
-alike-back : (nodes others : List Node) → AreAlike nodes others → AreAlike others nodes
+pub alike-back : (nodes others : List Node) → AreAlike nodes others → AreAlike others nodes
 alike-back nodes others alike = record {
   count = sym alike.count;
   owner = λ v. sym (alike.owner v);
@@ -43,7 +43,7 @@ module _ (nodes others : List Node) (alike : AreAlike nodes others) (player : Pl
   }
 
   -- which leave the same edges possible
-  leaves-alike : (v w : ℕ) → Leaves nodes player choices v w → Leaves others player choices v w
+  pub leaves-alike : (v w : ℕ) → Leaves nodes player choices v w → Leaves others player choices v w
   leaves-alike v w leaves = record {
     listed = edge-alike v w leaves.listed;
     chosen = λ own. leaves.chosen (sym (alike.owner v) ∙ own);
@@ -65,13 +65,13 @@ module _ (nodes others : List Node) (alike : AreAlike nodes others) (player : Pl
 
 module _ (nodes : List Node) where
   -- its priorities
-  abbrev turned : List ℕ
+  abbrev pub turned : List ℕ
   turned = map (turned_priority (priorities nodes)) (priorities nodes)
 
-  abbrev turned_node : ℕ → Node
+  abbrev pub turned_node : ℕ → Node
   turned_node v = record (node_at nodes v) { priority = get_or turned v 0 }
 
-  count-turned : length (turned_game nodes) ≡ length nodes
+  pub count-turned : length (turned_game nodes) ≡ length nodes
   count-turned = length-map-range_with_len turned_node 0 (length nodes)
 
   node-turned : (v : ℕ) → v < length nodes → node_at (turned_game nodes) v ≡ turned_node v
@@ -87,7 +87,7 @@ module _ (nodes : List Node) where
         | inr past ↦ ap (λ (node : Node). node.owner) (node-past v past)
       ]
 
-  successors-turned : (v : ℕ) → successors_at (turned_game nodes) v ≡ successors_at nodes v
+  pub successors-turned : (v : ℕ) → successors_at (turned_game nodes) v ≡ successors_at nodes v
   successors-turned v =
       elim (cases_lt v (length nodes)) as (λ _. successors_at (turned_game nodes) v ≡ successors_at nodes v) [
         | inl inside ↦ ap (λ (node : Node). node.successors) (node-turned v inside)
@@ -108,7 +108,7 @@ module _ (nodes : List Node) where
   priority-listed v inside = get_or-map (λ (node : Node). node.priority) nodes v no_node 0 inside
 
   -- the priority at a place is turned
-  priority-turned : (v : ℕ) → v < length nodes → priority_at (turned_game nodes) v ≡ turned_priority (priorities nodes) (priority_at nodes v)
+  pub priority-turned : (v : ℕ) → v < length nodes → priority_at (turned_game nodes) v ≡ turned_priority (priorities nodes) (priority_at nodes v)
   priority-turned v inside =
       let listed : v < length (priorities nodes) = omega (arith, inside, priorities-counted) in
       ap (λ (node : Node). node.priority) (node-turned v inside)
@@ -119,13 +119,13 @@ module _ (nodes : List Node) where
   alike-turned = record { count = count-turned; owner = owner-turned; successors = successors-turned }
 
   -- a priority of a node is in use
-  in-use : (v : ℕ) → v < length nodes → IsAmong (priority_at nodes v) (priorities_in_use (priorities nodes))
+  pub in-use : (v : ℕ) → v < length nodes → IsAmong (priority_at nodes v) (priorities_in_use (priorities nodes))
   in-use v inside =
       subst (λ p. IsAmong p (priorities_in_use (priorities nodes))) (priority-listed v inside)
       (among-in_use (priorities nodes) v (omega (arith, inside, priorities-counted)))
 
   -- a place that is left is a node
-  left-inside : (v w : ℕ) → HasEdge nodes v w → v < length nodes
+  pub left-inside : (v w : ℕ) → HasEdge nodes v w → v < length nodes
   left-inside v w edge =
       elim (cases_lt v (length nodes)) as (λ _. v < length nodes) [
         | inl inside ↦ inside

@@ -107,7 +107,7 @@ greater-more p m (q ∷ qs) less (inr among) =
       | inr past ↦ omega (arith, rest, counts-not m q qs past, greater-cons p q qs)
     ]
 
-two-parities : (n : ℕ) → n % 2 < 2
+pub two-parities : (n : ℕ) → n % 2 < 2
 two-parities n = omega arith
 
 -- the lesser of two priorities in use is turned into the greater

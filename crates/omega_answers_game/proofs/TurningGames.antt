@@ -11,12 +11,11 @@ use Rattle.omega_game_values.specs.Game.{IsGame, Node, priorities}
 use Rattle.omega_game_values.specs.Solution.{IsExactSolution}
 use Rattle.omega_game_region_laws.specs.Laws.{RegionsAreApart, RegionsCover}
 use Rattle.omega_solve.specs.declared.turns.TurnsAnswers.{TurnsAnswers}
-use Rattle.omega_solve.specs.Turns.{IsTurnsRefusal}
+use Rattle.omega_solve.specs.Turns.{IsNarrow, IsTurnsRefusal}
 use Rattle.omega_solve.specs.budget.Within.{IsFoundUncounted}
 use Rattle.omega_solve.proofs.within_budget.Turning.{found_at}
 use Rattle.omega_answers_game.specs.declared.solve.asked.Asked.TheVariants as way
 use Rattle.omega_answers_game.specs.solve.Refusing.{IsSolveGameRefusal, IsTooWide, IsWideRefusal}
-use Rattle.omega_answers_game.specs.solve.Solution.{IsNarrow}
 use Rattle.omega_answers_game.specs.solve.Winners.{winners_of}
 use Rattle.omega_answers_game.specs.private.steps.Bounds.{AreBoundsWithin, IsRightByBounds}
 use Rattle.omega_answers_game.proofs.Solutions.{right_solution}

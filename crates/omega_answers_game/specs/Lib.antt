@@ -16,6 +16,7 @@ pub mod Observing
 pub mod solve
 pub mod private
 pub mod Components
+pub mod LeastPlays
 pub mod LeastPriorityLaws
 pub mod Turning
 pub mod Winning

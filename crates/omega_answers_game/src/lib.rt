@@ -35,7 +35,8 @@ pub use counting::{Components, components_are_unique, count_components};
 pub use draw::{draw_game_text, draw_solution_text};
 pub use laws::{solved_is_not_refused, solved_is_verified};
 pub use least_priority_laws::{
-    turned_games_are_games, turned_games_win_alike, turned_regions_are_alike,
+    least_winning_means_all_plays, turned_games_are_games, turned_games_keep_limits,
+    turned_games_win_alike, turned_regions_are_alike, turned_texts_are_read,
 };
 pub use omega_game_values::ForwardGame;
 pub use omega_io::Exit;

@@ -3,7 +3,6 @@
 -- Texts of walks in games: what public contracts cite.
 pub mod Draw
 pub mod Laws
-pub mod Refused
 pub mod Verify
 pub mod Walk
 pub mod private

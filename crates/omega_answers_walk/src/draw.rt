@@ -1,25 +1,18 @@
 ghost use Rattle.std.specs.Prelude.{◌≡◌, IfErr, IfOk};
 ghost use Rattle.omega_text.specs.Cases.{or_memory};
-ghost use Rattle.omega_answers_game.specs.Verify.{IsJudgedGameRefusal, RefusesSolution};
+ghost use Rattle.omega_answers_game.specs.Verify.{IsJudgedGameRefusal};
 ghost use Rattle.omega_game_dot.specs.Extent.{IsPlaced};
 ghost use Rattle.omega_io.specs.Refused.{IsRefusedOf};
-ghost use Rattle.omega_game_values.specs.Solution.{IsSolution};
-ghost use Rattle.omega_pg.specs.solution.Refusing.{IsSolutionRefusal};
-ghost use Rattle.omega_answers_walk.specs.Draw.{IsSolutionWalkDrawingAnswer, IsWalkDrawingAnswer};
-ghost use Rattle.omega_answers_walk.specs.Draw.{RefusesWalk, RefusesWalkAfter};
-ghost use Rattle.omega_answers_walk.specs.Refused.{IsRefusedDrawing};
+ghost use Rattle.omega_answers_walk.specs.Draw.{IsWalkDrawingAnswer, RefusesWalk};
 ghost use Rattle.omega_answers_walk.specs.Walk.{IsWalkRefusal};
-ghost use Rattle.omega_answers_walk.specs.private.Drawn.{IsBothDrawn, IsPartDrawn, IsSolvedDrawn};
-ghost use Rattle.omega_answers_walk.specs.private.Drawn.{IsUnknownFrom, IsWalkDrawn, RefusesAfter};
+ghost use Rattle.omega_answers_walk.specs.private.Drawn.{IsPartDrawn, IsUnknownFrom, IsWalkDrawn};
 
 use crate::extent::extent_of;
-use crate::refused::{Drawn, RefusedDrawing};
 use crate::walk::walk_in;
 use omega_answers_game::judged_game;
-use omega_game::{ForwardGame, Solution};
-use omega_game_dot::{Extent, draw_solution_walk, draw_walk};
+use omega_game::ForwardGame;
+use omega_game_dot::{Extent, draw_walk};
 use omega_io::{Refused, Which};
-use omega_pg::read_solution;
 use omega_text::Refusal;
 use std::alloc::Global;
 
@@ -91,89 +84,6 @@ fn draw_extent(
         alloc,
         game,
         extent,
-        lasso.stem.as_slice(),
-        lasso.cycle.as_slice(),
-        legend,
-    )
-}
-
-/// Returns the drawing of the game of `text` as [draw_walk_text] does, and with the solution of the text `solution`.
-///
-/// Fails with the [Refusal::Text] or [Refusal::Game] of the game's text, or else with [TaskFault::UnknownNode]; both
-/// are of the game. Or else fails with the [Refusal::Text] or [TaskFault::BadSolution] of the solution's text, or else
-/// with those of the walk's text.
-pub fn draw_solution_walk_text(
-    alloc: Global,
-    text: &[u8],
-    solution: &[u8],
-    walk: &[u8],
-    from: Option<u32>,
-    depth: Option<u32>,
-    legend: bool,
-) -> Result<Vec<u8>, RefusedDrawing>
-    ensures answer { IfOk result (λ output.
-        IsSolutionWalkDrawingAnswer text.now solution.now walk.now from depth legend output.items) }
-    ensures refused { IfErr result (IsRefusedDrawing (IsJudgedGameRefusal text.now from)
-        (RefusesSolution text.now from solution.now)
-        (RefusesWalkAfter text.now from solution.now walk.now)) }
-{
-    match judged_game(alloc, text, from) {
-        Ok(game) => draw_both(alloc, &game, solution, walk, from, depth, legend),
-        Err(refusal) => Err(RefusedDrawing::of(Drawn::Game, refusal)),
-    }
-}
-
-/// Returns the drawing of the extent of `game` with the solution and the walk of both texts. Fails with
-/// [TaskFault::UnknownNode] of the game, or else with the [Refusal::Text] or [TaskFault::BadSolution] of the solution,
-/// or else with those of the walk.
-fn draw_both(
-    alloc: Global,
-    game: &ForwardGame,
-    solution: &[u8],
-    walk: &[u8],
-    from: Option<u32>,
-    depth: Option<u32>,
-    legend: bool,
-) -> Result<Vec<u8>, RefusedDrawing>
-    ensures drawn { IfOk result
-        (λ output. IsBothDrawn game.now from depth solution.now walk.now legend output.items) }
-    ensures refused { IfErr result (IsRefusedDrawing (IsUnknownFrom game.now from)
-        (IsSolutionRefusal game.now solution.now) (RefusesAfter game.now solution.now walk.now)) }
-{
-    match extent_of(game, from, depth) {
-        Ok(extent) => match read_solution(alloc, game, solution) {
-            Ok(solution) => match draw_solved(alloc, game, extent, &solution, walk, legend) {
-                Ok(made) => Ok(made),
-                Err(refusal) => Err(RefusedDrawing::of(Drawn::Walk, refusal)),
-            },
-            Err(refusal) => Err(RefusedDrawing::of(Drawn::Solution, refusal)),
-        },
-        Err(refusal) => Err(RefusedDrawing::of(Drawn::Game, refusal)),
-    }
-}
-
-/// Returns the drawing of the `extent` of `game` with `solution` and the walk of the text `walk`. Fails with the
-/// [Refusal::Text] or [TaskFault::BadSolution] of the text.
-fn draw_solved(
-    alloc: Global,
-    game: &ForwardGame,
-    extent: Extent,
-    solution: &Solution,
-    walk: &[u8],
-    legend: bool,
-) -> Result<Vec<u8>, Refusal>
-    requires extent { IsPlaced game.now extent }
-    requires solution { IsSolution game.now solution.now }
-    ensures drawn { IfOk result (λ output.
-        IsSolvedDrawn game.now extent solution.now walk.now legend output.items) }
-    ensures refused { IfErr result (or_memory (IsWalkRefusal game.now walk.now)) }
-{
-    let lasso = walk_in(alloc, game, walk)?;
-    draw_solution_walk(
-        alloc,
-        game,
-        extent,
-        solution,
         lasso.stem.as_slice(),
         lasso.cycle.as_slice(),
         legend,

@@ -15,16 +15,14 @@ mod joining;
 pub mod laws;
 mod places;
 mod reading;
-mod refused;
 mod sizes;
 mod verify;
 mod walk;
 pub mod walk_text_laws;
 
-pub use draw::{draw_solution_walk_text, draw_walk_text};
+pub use draw::draw_walk_text;
 pub use omega_io::{Exit, Refused};
 pub use omega_lang_lasso_text::LassoText;
 pub use omega_text::Refusal;
 pub use reading::read_walk;
-pub use refused::{Drawn, RefusedDrawing};
 pub use verify::verify_with_names;

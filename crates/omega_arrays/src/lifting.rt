@@ -1,10 +1,8 @@
 //! Games solved by lifting for both players.
-ghost use Rattle.std.specs.Prelude.{◌≡◌, ◌≤◌, IfOk, IfErr, false, true};
-ghost use Rattle.omega_game_values.specs.declared.player.Player.{Player};
-ghost use Rattle.omega_game_values.specs.Game.{priorities};
+ghost use Rattle.std.specs.Prelude.{◌≡◌, ◌≤◌, IfOk, IfErr, IsOk, true};
 ghost use Rattle.omega_game_values.specs.Solution.{IsExactSolution};
-ghost use Rattle.omega_measure.specs.Table.{is_too_wide};
 ghost use Rattle.omega_solve.specs.Limits.{most_lifts};
+ghost use Rattle.omega_solve.specs.Turns.{IsNarrow};
 ghost use Rattle.omega_arrays.specs.Solving.{AreLifts, EndBoth, IsWholeRefusal};
 
 use crate::solving::Lifts;
@@ -26,6 +24,7 @@ pub(crate) fn solution_by_lifting(
     requires { budget ≤ most_lifts }
     ensures exact { IfOk result (λ found. IsExactSolution game.now found.0) }
     ensures lifts { IfOk result (λ found. EndBoth game.now budget found.1) }
+    ensures narrow { IsOk result → IsNarrow game.now }
     ensures refused { IfErr result (IsWholeRefusal game.now budget) }
 {
     fits_both(game)?;
@@ -64,7 +63,7 @@ fn lifted_for_both(
 ) -> Result<(Solution, Lifts), Refusal>
     requires budget { budget ≤ most_lifts }
     requires given { reordered.now.given ≡ game.now }
-    requires narrow { (player : Player) → is_too_wide player (priorities game.now) ≡ false }
+    requires narrow { IsNarrow game.now }
     ensures exact { IfOk result (λ found. IsExactSolution game.now found.0) }
     ensures lifts { IfOk result (λ found. EndBoth game.now budget found.1) }
     ensures refused { IfErr result (IsWholeRefusal game.now budget) }

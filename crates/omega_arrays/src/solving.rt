@@ -1,7 +1,9 @@
 //! Games as arrays, solved.
-ghost use Rattle.std.specs.Prelude.{◌≡◌, ◌≤◌, All, IfOk, IfErr, IsOk, OnOk, OnErr, None, length};
+ghost use Rattle.std.specs.Prelude.{◌≡◌, ◌≤◌, All, IfOk, IfErr, IsOk, OnOk, OnErr, None, false};
+ghost use Rattle.std.specs.Prelude.{length};
 ghost use Rattle.omega_game_values.specs.Solution.{IsExactSolution};
 ghost use Rattle.omega_solve.specs.Limits.{most_lifts};
+ghost use Rattle.omega_solve.specs.Turns.{IsNarrow};
 ghost use Rattle.omega_arrays.specs.Answer.{solution_in, wrong_room};
 ghost use Rattle.omega_arrays.specs.Arrays.{nodes_in};
 ghost use Rattle.omega_arrays.specs.Shape.{IsSized};
@@ -51,6 +53,7 @@ pub fn solve_arrays(
     ensures faultless { IsOk result
         → wrong_room arrays.now (length winners.old) (length choices.old) ≡ None }
     ensures sized { IsOk result → IsSized arrays.now }
+    ensures narrow { IsOk result → by_search ≡ false → IsNarrow (nodes_in arrays.now) }
     ensures winners_kept { OnErr result (winners.new ≡ winners.old) }
     ensures choices_kept { OnErr result (choices.new ≡ choices.old) }
     ensures refused { IfErr result (or_shape
@@ -76,6 +79,7 @@ fn solution_of(
     requires { budget ≤ most_lifts }
     ensures exact { IfOk result (λ found. IsExactSolution game.now found.0) }
     ensures lifts { IfOk result (λ found. AreLifts by_search game.now budget found.1) }
+    ensures narrow { IsOk result → by_search ≡ false → IsNarrow game.now }
     ensures refused { IfErr result (IsWholeRefusal game.now budget) }
 {
     if !by_search {

@@ -10,3 +10,4 @@ pub mod Steps
 pub mod Texts
 pub mod WinnerLines
 pub mod WinnerTexts
+pub mod WinnersApart

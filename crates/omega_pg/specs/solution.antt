@@ -7,3 +7,4 @@ pub mod Laws
 pub mod Refusing
 pub mod Text
 pub mod Winners
+pub mod WinnerLaws

@@ -9,3 +9,7 @@ pub use crate::solution::laws::{
     solution_texts_are_read_or_refused, solutions_are_not_refused, solutions_of_texts_are_one,
     written_solutions_are_read,
 };
+pub use crate::solution::winner_laws::{
+    solutions_give_their_winners, winner_refusals_are_one, winner_texts_are_read_or_refused,
+    winners_are_not_refused, winners_of_texts_are_one,
+};

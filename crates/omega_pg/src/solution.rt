@@ -7,6 +7,7 @@ pub(crate) mod reading;
 mod solution_lines;
 mod stage;
 pub(crate) mod syntax;
+pub(crate) mod winner_laws;
 mod winner_lines;
 pub(crate) mod winner_reading;
 pub(crate) mod writing;

@@ -2,5 +2,8 @@
 pub mod Causes
 pub mod Choices
 pub mod Faults
+pub mod Faultless
+pub mod Reasons
+pub mod Refused
 pub mod Spelled
 pub mod Texts

@@ -3,4 +3,5 @@ pub mod GameCauses
 pub mod Laws
 pub mod Places
 pub mod SolutionCauses
+pub mod SolutionReasons
 pub mod private

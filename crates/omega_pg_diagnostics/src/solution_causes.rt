@@ -29,7 +29,8 @@ use std::alloc::Global;
 /// The header comes first, then line after line: the line at each place is to be that of the node there, in rising
 /// order of identifiers, and its choice is to fit the winner. Last come the nodes behind the last line. The first of
 /// these that is at fault decides. If nothing is, or if `text` is not in the grammar, there is no line and the result
-/// is empty. The cost is linear in the text and the game.
+/// is empty. By the law `laws::solution_causes_are_of_refusals` the line tells a reason for the refusal. The cost is
+/// linear in the text and the game.
 pub fn solution_cause(alloc: Global, game: &ForwardGame, text: &[u8]) -> Result<Vec<u8>, Refusal>
     ensures cause { IfOk result (λ line. IsSolutionCause game.now text.now line.items) }
     ensures memory { IsOkUnless result Refusal.Memory }

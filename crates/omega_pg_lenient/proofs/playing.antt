@@ -4,4 +4,5 @@ pub mod Choices
 pub mod Completed
 pub mod Forth
 pub mod Opened
+pub mod Plays
 pub mod Rearranged

@@ -7,11 +7,18 @@ ghost use Rattle.omega_pg_lenient.specs.Laws.{LenientRefusalsAreOne, LenientText
 ghost use Rattle.omega_pg_lenient.specs.Laws.{PlainTextsKeepPlaces, StrictTextsAreLenient};
 ghost use Rattle.omega_pg_lenient.specs.Parts.{BlockCommentsAreBlank, LineCommentsAreBlank, LoneSlashesStay};
 ghost use Rattle.omega_pg_lenient.specs.Parts.{NamesAreShown, OtherBytesStay, UnclosedCommentsStay};
+ghost use Rattle.omega_pg_lenient.specs.SolutionParts.{EarlyAndLateHyphensStay, EarlyNamesStay};
+ghost use Rattle.omega_pg_lenient.specs.SolutionParts.{EarlyQuotesStay, InnerNamesStay, InnerNoChoicesStay};
+ghost use Rattle.omega_pg_lenient.specs.SolutionParts.{LastNamesAreBlank, LoneHyphensStay};
+ghost use Rattle.omega_pg_lenient.specs.SolutionParts.{NamedNoChoicesAreBlank, NoChoicesAreBlank};
+ghost use Rattle.omega_pg_lenient.specs.SolutionParts.{OpenNamesStay, OtherLinesStay};
 ghost use Rattle.omega_pg_lenient.specs.SolutionText.{BareTextsKeepPlaces, StrictSolutionsAreLenient};
+ghost use Rattle.omega_pg_lenient.specs.OpenPlays.{OpenWinningMeansAllPlays};
 ghost use Rattle.omega_pg_lenient.specs.Playing.{CompletionKeepsWinners, LenientGamesKeepWinners};
 
 use crate::kind::LenientKind;
 use crate::syntax::LenientSyntax;
+use omega_game_region_laws::winning_means_all_plays;
 use omega_game_values::{
     games_exist, games_have_no_fault, games_keep_limits, specifications_have_one_game,
 };
@@ -41,6 +48,23 @@ pub fn plain_texts_show_parts()
     ensures others { OtherBytesStay }
     ensures slashes { LoneSlashesStay }
     ensures unclosed { UnclosedCommentsStay }
+{}
+
+/// States what stands for each part of a line of a solution text in its bare text: spaces for a `-1` in the place of a
+/// successor and for a name that ends the line. Each other byte stays, and so does a `-1` or a name that stands
+/// elsewhere.
+pub fn bare_texts_show_parts()
+    ensures lines { OtherLinesStay }
+    ensures names { LastNamesAreBlank }
+    ensures no_choices { NoChoicesAreBlank }
+    ensures named_no_choices { NamedNoChoicesAreBlank }
+    ensures early_and_late_hyphens { EarlyAndLateHyphensStay }
+    ensures lone_hyphens { LoneHyphensStay }
+    ensures inner_no_choices { InnerNoChoicesStay }
+    ensures early_quotes { EarlyQuotesStay }
+    ensures early_names { EarlyNamesStay }
+    ensures inner_names { InnerNamesStay }
+    ensures open_names { OpenNamesStay }
 {}
 
 /// States that a text describes at most one game.
@@ -109,3 +133,11 @@ pub fn completion_keeps_winners()
 pub fn lenient_games_keep_winners()
     ensures { LenientGamesKeepWinners }
 {}
+
+/// States that a strategy wins from a node of a game with dead ends exactly if its player loses no play under it from
+/// there. A play that stops in a dead end is lost by the owner of that node, and by no one else.
+pub fn open_winning_means_all_plays()
+    ensures { OpenWinningMeansAllPlays }
+{
+    winning_means_all_plays();
+}

@@ -1,5 +1,5 @@
 -- The answers of solving for both players in turns, and the raises of measures that lead to them.
-use Rattle.std.specs.Prelude.{◌≡◌, ◌⊎◌, ℕ, ◌-◌, ◌<◌, ◌≤◌, ◌^◌, Bool, IsSome, List}
+use Rattle.std.specs.Prelude.{◌≡◌, ◌⊎◌, ℕ, ◌-◌, ◌<◌, ◌≤◌, ◌^◌, Bool, false, IsSome, List}
 use Rattle.std.specs.Prelude.{[], ◌∷◌, None, Option, length, min, slice_set}
 use Rattle.omega_game_values.specs.declared.player.Player.{Player}
 use Rattle.omega_game_values.specs.Bound.{bound_of}
@@ -10,7 +10,7 @@ use Rattle.omega_lift_laws.specs.Allowance.{measure_at}
 use Rattle.omega_lift_laws.specs.Answer.{AreChoices, won_in}
 use Rattle.omega_lift_laws.specs.Measure.{Measure}
 use Rattle.omega_lift_laws.specs.Run.{IsStable, Lifts, zero_table}
-use Rattle.omega_measure.specs.Table.{IsPrepareRefusal}
+use Rattle.omega_measure.specs.Table.{IsPrepareRefusal, is_too_wide}
 use Rattle.omega_game_values.specs.declared.Refusal.{Refusal}
 use Rattle.omega_solve.specs.Headline.{IsExact}
 use Rattle.omega_solve.specs.LeastTables.{IsLedTo}
@@ -25,6 +25,10 @@ pub record IsAnswerOfRun (nodes : List Node) (player : Player) (won : List Bool)
   pub finished : IsStable nodes player table
   pub below_top : won ≡ won_in table
   pub chosen : AreChoices nodes player table choices
+
+-- the game is too wide for neither player
+abbrev pub IsNarrow : List Node → Type 0
+IsNarrow nodes = (player : Player) → is_too_wide player (priorities nodes) ≡ false
 
 -- the refusal of solving for both players in turns: too wide for one of them, or memory
 abbrev pub IsTurnsRefusal : List ℕ → Refusal → Type 0

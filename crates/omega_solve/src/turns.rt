@@ -1,11 +1,11 @@
 //! Solves for both players in turns. Each turn makes some lifts for one player, finds places that this player has won
 //! by then, and hands them on to the other player, for whom they are lost without a further lift.
-ghost use Rattle.std.specs.Prelude.{◌≡◌, length, IfOk, IfErr, IfSome, IsOkUnless, IsTrue};
+ghost use Rattle.std.specs.Prelude.{◌≡◌, false, length, IfOk, IfErr, IfSome, IsOk, IsOkUnless, IsTrue};
 ghost use Rattle.omega_game_values.specs.declared.player.Player.TheVariants.{One, Zero};
 ghost use Rattle.omega_game_values.specs.Game.{IsGame, IsWithinLimits, priorities};
 ghost use Rattle.omega_game_values.specs.Player.{opponent_of};
-ghost use Rattle.omega_measure.specs.Table.{IsPrepareRefusal, zero_content};
-ghost use Rattle.omega_solve.specs.Turns.{EndsRaised, IsAnswerOfRun, IsTurnsRefusal};
+ghost use Rattle.omega_measure.specs.Table.{IsPrepareRefusal, is_too_wide, zero_content};
+ghost use Rattle.omega_solve.specs.Turns.{EndsRaised, IsAnswerOfRun, IsNarrow, IsTurnsRefusal};
 ghost use Rattle.omega_solve.specs.private.turning.Side.{HasEnded, IsSide};
 
 mod handing;
@@ -70,6 +70,7 @@ pub fn solve_in_turns<T: MeasureTable, S: Schedule>(
         (λ found. IfSome found (λ both. EndsRaised game.now Zero both.zero.raises)) }
     ensures one_raises { IfOk result
         (λ found. IfSome found (λ both. EndsRaised game.now One both.one.raises)) }
+    ensures fits { IsOk result → IsNarrow game.now }
     ensures refused { IfErr result (IsTurnsRefusal (priorities game.now)) }
 {
     game.keeps_limits();
@@ -95,6 +96,7 @@ fn new_side<T: MeasureTable, S: Schedule>(
     requires { IsGame game.now }
     ensures side { IfOk result
         (λ side. IsSide game.now player (T.content side.table) (S.waiting side.schedule) side.raises) }
+    ensures fits { IsOk result → is_too_wide player (priorities game.now) ≡ false }
     ensures refused { IfErr result (IsPrepareRefusal player (priorities game.now)) }
 {
     zero_tables_are_tables();

@@ -1,11 +1,11 @@
 -- The solution text, and when it is right.
-use Rattle.std.specs.Prelude.{◌≡◌, false, List, ℕ}
+use Rattle.std.specs.Prelude.{◌≡◌, List, ℕ}
 use Rattle.omega_game_values.specs.declared.player.Player.{Player}
 use Rattle.omega_game_values.specs.declared.solution.Solution.{Solution}
-use Rattle.omega_game_values.specs.Game.{Node, priorities}
+use Rattle.omega_game_values.specs.Game.{Node}
 use Rattle.omega_game_values.specs.Solution.{IsExactSolution}
-use Rattle.omega_measure.specs.Table.{is_too_wide}
 use Rattle.omega_pg.specs.solution.Canonical.{solution_text}
+use Rattle.omega_solve.specs.Turns.{IsNarrow}
 use Rattle.omega_solve.specs.budget.Within.{EndsWithin}
 
 -- the text of an exact solution
@@ -13,10 +13,6 @@ pub record IsExactSolutionOf (nodes : List Node) (output : List ℕ) : Type 0 wh
   pub solution : Solution
   pub exact : IsExactSolution nodes solution
   pub written : output ≡ solution_text nodes solution
-
--- the game is too wide for neither player
-abbrev pub IsNarrow : List Node → Type 0
-IsNarrow nodes = (player : Player) → is_too_wide player (priorities nodes) ≡ false
 
 -- an exact solution of a game that is too wide for neither player,
 -- and for each player a lifting run within the budget ends

@@ -7,9 +7,10 @@ ghost use Rattle.omega_text.specs.declared.refusal.task.TaskFault.TheVariants.{T
 ghost use Rattle.omega_game_values.specs.Solution.{IsExactSolution};
 ghost use Rattle.omega_answers_game.specs.solve.Refusing.{IsSolveGameRefusal, IsTooWide, IsWideRefusal};
 ghost use Rattle.omega_solve.specs.Limits.{most_lifts};
+ghost use Rattle.omega_solve.specs.Turns.{IsNarrow};
 ghost use Rattle.omega_text.specs.declared.refusal.Refusal.TheVariants.{Task};
 ghost use Rattle.omega_answers_game.specs.declared.solve.asked.Asked.TheVariants.{Both};
-ghost use Rattle.omega_answers_game.specs.solve.Solution.{IsNarrow, IsRight, IsSolutionOf};
+ghost use Rattle.omega_answers_game.specs.solve.Solution.{IsRight, IsSolutionOf};
 ghost use Rattle.omega_answers_game.specs.solve.Winners.{winners_of};
 ghost use Rattle.omega_answers_game.specs.private.steps.Bounds.{AreBoundsWithin, IsRightByBounds};
 ghost use Rattle.omega_answers_game.specs.private.steps.Lifts.{LiftsWholeGame};
@@ -116,6 +117,7 @@ fn is_bound_within(game: &ForwardGame, player: Player, budget: u64) -> bool
 /// none if the turns do not suffice; no contract says when they do. Fails with [TaskFault::TooWide].
 pub fn solution_in_turns(alloc: Global, game: &ForwardGame) -> Result<Option<Solution>, Refusal>
     ensures exact { IfOk result (λ found. IfSome found (IsExactSolution game.now)) }
+    ensures narrow { IsOk result → IsNarrow game.now }
     ensures refused { IfErr result (IsWideRefusal game.now Both) }
 {
     fits_both(game)?;

@@ -9,9 +9,13 @@ use Rattle.std.proofs.lemmas.List.FromFn.{fill_by_all, get_or-map-range_with_len
 use Rattle.std.proofs.lemmas.List.Kept.{AllPairs-from_increasing}
 use Rattle.std.proofs.lemmas.Simd.{map-map}
 use Rattle.omega_text.specs.Cut.{CutsAreOne}
-use Rattle.omega_text.specs.Syntax.{TextFaultsAreOne, TextsHaveNoFault}
+use Rattle.omega_text.specs.Cases.{never, or_task, or_text}
+use Rattle.omega_text.specs.Syntax.{IsTextFault, TextFaultsAreOne, TextsHaveNoFault}
 use Rattle.omega_text.specs.pg.Format.{pg_format}
+use Rattle.omega_text.specs.declared.refusal.Refusal.{Refusal}
 use Rattle.omega_text.specs.declared.refusal.Refusal.TheVariants.{Automaton, Game, Io, Memory, Task, Text}
+use Rattle.omega_text.specs.declared.refusal.task.TaskFault.TheVariants.{BadSolution}
+use Rattle.omega_text.specs.declared.refusal.text.TextFault.{TextFault}
 use Rattle.omega_game_values.specs.Game.{IsGame, Node, identifiers, no_node, owner_at, successors_at, identifier_at}
 use Rattle.omega_game_values.specs.declared.player.Player.{Player}
 use Rattle.omega_game_values.specs.declared.player.Player.TheVariants.{One, Zero}
@@ -19,6 +23,7 @@ use Rattle.omega_pg.specs.solution.BadSolution.{IsNoSolution, IsWrongSuccessor}
 use Rattle.omega_pg.specs.solution.Grammar.{SolutionLine, RawSolution, no_line, solution_syntax}
 use Rattle.omega_game_values.specs.Solution.{IsSolution, choices_of, winner_at}
 use Rattle.omega_game_values.specs.Winning.{choice_at}
+use Rattle.omega_pg.specs.solution.Refusing.{IsBadSolution}
 use Rattle.omega_pg.specs.solution.Text.{line_at, raw_solution}
 use Rattle.omega_pg.specs.solution.Laws.{ReasonsAreExact, SolutionRefusalsAreOne, SolutionsAreNotRefused, SolutionsOfTextsAreOne}
 use Rattle.omega_game_values.specs.declared.solution.Solution.{Solution}
@@ -29,7 +34,7 @@ use Rattle.omega_pg.proofs.solutions.Grammar.{decides_solutions}
 use Rattle.omega_pg.proofs.solutions.Choices.{Chooses-from_choice, chosen_inside}
 
 -- the lines of a solution bear the identifiers of the game
-written_identifiers : (nodes : List Node) (solution : Solution) → map (λ (line : SolutionLine). line.identifier) (raw_solution nodes solution).lines ≡ identifiers nodes
+pub written_identifiers : (nodes : List Node) (solution : Solution) → map (λ (line : SolutionLine). line.identifier) (raw_solution nodes solution).lines ≡ identifiers nodes
 written_identifiers nodes solution =
     map-map (λ (line : SolutionLine). line.identifier) (line_at nodes solution) (range_with_len 0 (length nodes))
     ∙ sym (fill_by_all (identifier_at nodes) (identifiers nodes) (length nodes) 0 (length-map nodes (λ (node : Node). node.identifier))
@@ -88,23 +93,28 @@ solutions_apart cuts none nodes source solution (Task fault) text refused =
 solutions_apart cuts none nodes source solution Memory text refused = refused
 solutions_apart cuts none nodes source solution Io text refused = refused
 
+-- two refusals are one, if texts of the grammar are refused with `BadSolution` alone
+pub refusals_one_by : (source : List ℕ) (IsBad : Type 0) → TextFaultsAreOne solution_syntax
+    → ((fault : TextFault) → IsBad → IsTextFault solution_syntax source fault → ⊥) → (one other : Refusal)
+    → or_text (IsTextFault solution_syntax source) (or_task (λ fault. (fault ≡ BadSolution) × IsBad) never) one
+    → or_text (IsTextFault solution_syntax source) (or_task (λ fault. (fault ≡ BadSolution) × IsBad) never) other → one ≡ other
+refusals_one_by source IsBad same none (Text a) (Text b) x y = ap (λ fault. Text fault) (same source a b x y)
+refusals_one_by source IsBad same none (Text a) (Task b) x y = absurd (none a y.1 x)
+refusals_one_by source IsBad same none (Task a) (Text b) x y = absurd (none b x.1 y)
+refusals_one_by source IsBad same none (Task a) (Task b) x y = ap (λ fault. Task fault) (x.0 ∙ sym y.0)
+refusals_one_by source IsBad same none (Game a) other x y = absurd x
+refusals_one_by source IsBad same none (Automaton a) other x y = absurd x
+refusals_one_by source IsBad same none Memory other x y = absurd x
+refusals_one_by source IsBad same none Io other x y = absurd x
+refusals_one_by source IsBad same none one (Game b) x y = absurd y
+refusals_one_by source IsBad same none one (Automaton b) x y = absurd y
+refusals_one_by source IsBad same none one Memory x y = absurd y
+refusals_one_by source IsBad same none one Io x y = absurd y
+
 -- a text has at most one refusal
 pub solution_refusals_one : TextFaultsAreOne solution_syntax → TextsHaveNoFault solution_syntax → SolutionRefusalsAreOne
-solution_refusals_one same none nodes source (Text a) (Text b) x y =
-    ap (λ fault. Text fault) (same source a b x y)
-solution_refusals_one same none nodes source (Text a) (Task b) x y =
-    absurd (none source y.1.raw a y.1.short y.1.writes x)
-solution_refusals_one same none nodes source (Task a) (Text b) x y =
-    absurd (none source x.1.raw b x.1.short x.1.writes y)
-solution_refusals_one same none nodes source (Task a) (Task b) x y = ap (λ fault. Task fault) (x.0 ∙ sym y.0)
-solution_refusals_one same none nodes source (Game a) other x y = absurd x
-solution_refusals_one same none nodes source (Automaton a) other x y = absurd x
-solution_refusals_one same none nodes source Memory other x y = absurd x
-solution_refusals_one same none nodes source Io other x y = absurd x
-solution_refusals_one same none nodes source one (Game b) x y = absurd y
-solution_refusals_one same none nodes source one (Automaton b) x y = absurd y
-solution_refusals_one same none nodes source one Memory x y = absurd y
-solution_refusals_one same none nodes source one Io x y = absurd y
+solution_refusals_one same none nodes source one other x y =
+    refusals_one_by source (IsBadSolution nodes source) same (λ fault bad faulty. none source bad.raw fault bad.short bad.writes faulty) one other x y
 
 -- no two nodes of a game have one identifier
 identifiers_apart : (nodes : List Node) (v w : ℕ) → IsGame nodes → v < length nodes → w < length nodes → identifier_at nodes v ≡ identifier_at nodes w → v ≡ w

@@ -7,7 +7,7 @@ use Rattle.std.proofs.lemmas.Bool.{eq-eqb, eqb-false, eqb-true, le-ltb, lt-ltb, 
 use Rattle.std.proofs.lemmas.Bool.Decides.{eqb_tells}
 use Rattle.std.proofs.lemmas.List.Sums.{sum_by-append, sum_by-cons}
 use Rattle.omega_pg_diagnostics.specs.GameCauses.{IsCauseOf, IsFirstRepeat, NamesAbove, NamesRepeat, NamesUndefined, first_above, first_undefined, is_among, listed_pairs, specified_ids}
-use Rattle.omega_pg_diagnostics.specs.Laws.{IsCauseFor}
+use Rattle.omega_pg_diagnostics.proofs.games.FaultLines.{IsCauseForAny}
 use Rattle.omega_game_values.specs.Building.{has_duplicate, has_undefined, listed_successors, specified_times}
 use Rattle.omega_game_values.specs.Limits.{most_nodes, most_successors}
 use Rattle.omega_game_values.specs.declared.node_spec.NodeSpec.{NodeSpec}
@@ -164,22 +164,22 @@ chosen duplicate undefined small nodes edges =
     if edges then Some TooManyEdges else
     None
 
-repeat_told : (d u s n e : Bool) (raw : RawGame) (line : List ℕ) → d ≡ true → NamesRepeat raw.specs line → IsCauseFor (chosen d u s n e) raw line
+repeat_told : (d u s n e : Bool) (raw : RawGame) (line : List ℕ) → d ≡ true → NamesRepeat raw.specs line → IsCauseForAny (chosen d u s n e) raw line
 repeat_told true u s n e raw line is names = names
 repeat_told false u s n e raw line is names = absurd (cc)
 
-undefined_told : (d u s n e : Bool) (raw : RawGame) (line : List ℕ) → d ≡ false → u ≡ true → NamesUndefined raw.specs line → IsCauseFor (chosen d u s n e) raw line
+undefined_told : (d u s n e : Bool) (raw : RawGame) (line : List ℕ) → d ≡ false → u ≡ true → NamesUndefined raw.specs line → IsCauseForAny (chosen d u s n e) raw line
 undefined_told true u s n e raw line single is names = absurd (cc)
 undefined_told false true s n e raw line single is names = names
 undefined_told false false s n e raw line single is names = absurd (cc)
 
-above_told : (d u s n e : Bool) (raw : RawGame) (line : List ℕ) → d ≡ false → u ≡ false → s ≡ true → NamesAbove raw.header raw.specs line → IsCauseFor (chosen d u s n e) raw line
+above_told : (d u s n e : Bool) (raw : RawGame) (line : List ℕ) → d ≡ false → u ≡ false → s ≡ true → NamesAbove raw.header raw.specs line → IsCauseForAny (chosen d u s n e) raw line
 above_told true u s n e raw line single none is names = absurd (cc)
 above_told false true s n e raw line single none is names = absurd (cc)
 above_told false false true n e raw line single none is names = names
 above_told false false false n e raw line single none is names = absurd (cc)
 
-nothing_told : (d u s n e : Bool) (raw : RawGame) (line : List ℕ) → d ≡ false → u ≡ false → s ≡ false → line ≡ [] → IsCauseFor (chosen d u s n e) raw line
+nothing_told : (d u s n e : Bool) (raw : RawGame) (line : List ℕ) → d ≡ false → u ≡ false → s ≡ false → line ≡ [] → IsCauseForAny (chosen d u s n e) raw line
 nothing_told true u s n e raw line single none low said = absurd (cc)
 nothing_told false true s n e raw line single none low said = absurd (cc)
 nothing_told false false true n e raw line single none low said = absurd (cc)
@@ -188,7 +188,7 @@ nothing_told false false false false true raw line single none low said = said
 nothing_told false false false false false raw line single none low said = said
 
 -- the cause of what is written is that of its fault
-pub cause_for : (raw : RawGame) (line : List ℕ) → IsCauseOf raw line → IsCauseFor (fault_in raw) raw line
+pub cause_for : (raw : RawGame) (line : List ℕ) → IsCauseOf raw line → IsCauseForAny (fault_in raw) raw line
 cause_for raw line cause =
     let duplicate = has_duplicate raw.specs in
     let undefined = has_undefined raw.specs in

@@ -25,11 +25,11 @@ use Rattle.omega_pg_lenient.specs.declared.line_place.LinePlace.{LinePlace}
 use Rattle.omega_pg_lenient.proofs.texts.StrictPlain.{strict_plain}
 
 -- neither a quote nor a hyphen
-abbrev IsClean : ℕ → Type 0
+abbrev pub IsClean : ℕ → Type 0
 IsClean byte = (byte ≢ 34) × (byte ≢ 45)
 
 -- outside names, and not in `-1`
-abbrev is_outside : LineContext → Bool
+abbrev pub is_outside : LineContext → Bool
 is_outside Between = true
 is_outside Number = true
 is_outside Name = false
@@ -44,7 +44,7 @@ not_passed Passed outside = cc
 not_passed Choice outside = cc
 
 -- after a clean byte a line is outside names
-after_clean : (context : LineContext) (numbers byte : ℕ) (rest : List ℕ) → IsClean byte → is_outside (after_byte context numbers byte rest).context ≡ true
+pub after_clean : (context : LineContext) (numbers byte : ℕ) (rest : List ℕ) → IsClean byte → is_outside (after_byte context numbers byte rest).context ≡ true
 after_clean context numbers byte rest clean =
     cond_both (is_digit byte) (place_in_line Number (counted context numbers)) _ (λ (p : LinePlace). is_outside p.context ≡ true) (λ _. refl) (λ _.
     cond_both (byte == 59) (place_in_line Between 0) _ (λ (p : LinePlace). is_outside p.context ≡ true) (λ _. refl) (λ _.
@@ -54,7 +54,7 @@ after_clean context numbers byte rest clean =
     (λ _. refl))))
 
 -- such a byte stays
-shown_clean : (context next : LineContext) (byte : ℕ) → is_outside context ≡ true → is_outside next ≡ true → shown_in_line context next byte ≡ byte
+pub shown_clean : (context next : LineContext) (byte : ℕ) → is_outside context ≡ true → is_outside next ≡ true → shown_in_line context next byte ≡ byte
 shown_clean context next byte here there =
     ap₂ (λ s t. if s || t then 32 else byte) (not_passed context here) (not_passed next there)
 
@@ -80,7 +80,7 @@ clean_join [] ys front back = back
 clean_join (x ∷ xs) ys front back = (front.0, clean_join xs ys front.1 back)
 
 -- a byte that passes a test which neither a quote nor a hyphen passes
-clean_from : (test : ℕ → Bool) (byte : ℕ) → test 34 ≡ false → test 45 ≡ false → test byte ≡ true → IsClean byte
+pub clean_from : (test : ℕ → Bool) (byte : ℕ) → test 34 ≡ false → test 45 ≡ false → test byte ≡ true → IsClean byte
 clean_from test byte quote hyphen passes = (
   (λ same. (let clash : true ≡ false = sym passes ∙ ap test same ∙ quote in cc)),
   (λ same. (let clash : true ≡ false = sym passes ∙ ap test same ∙ hyphen in cc)),

@@ -1,5 +1,5 @@
 -- The answer of a lifting run in the reordered game, read by place, is one that is found with some number of lifts.
-use Rattle.std.proofs.Common.{◌≡◌, ℕ, ◌≤◌, Bool, true, List, Option, Err, length, refl, subst, arith}
+use Rattle.std.proofs.Common.{◌≡◌, ◌∙◌, ℕ, ◌≤◌, Bool, true, List, Option, Err, length, refl, subst, sym, arith}
 use Rattle.omega_text.specs.declared.refusal.Refusal.{Refusal}
 use Rattle.omega_game_values.specs.declared.player.Player.{Player}
 use Rattle.omega_game_values.specs.Bound.{bound_of}
@@ -11,7 +11,7 @@ use Rattle.omega_solve.specs.declared.outcome.Outcome.TheVariants.{Done}
 use Rattle.omega_solve.specs.declared.turns.TurnsAnswer.{TurnsAnswer}
 use Rattle.omega_solve.specs.Headline.{Headline}
 use Rattle.omega_solve.specs.Solver.{SolverState, solver_state}
-use Rattle.omega_solve.specs.Turns.{IsAnswerOfRun, IsTurnsRefusal}
+use Rattle.omega_solve.specs.Turns.{IsAnswerOfRun, IsNarrow, IsTurnsRefusal}
 use Rattle.omega_solve.specs.declared.budget.found.Found.{Found}
 use Rattle.omega_solve.specs.budget.Laws.{ReorderingsKeepBounds, ReorderingsKeepStates}
 use Rattle.omega_solve.specs.budget.Reordering.{IsReordering, measures_by_place, state_by_place}
@@ -19,7 +19,7 @@ use Rattle.omega_solve.specs.budget.Within.{IsFound, IsFoundUncounted}
 use Rattle.omega_solve.specs.budget.private.steps.Lifting.{HasLifted}
 use Rattle.omega_solve.specs.budget.private.steps.Reordering.{choices_by_place}
 use Rattle.omega_solve.proofs.within_budget.Exactness.{choices_here, exact_here}
-use Rattle.omega_solve.proofs.within_budget.Games.{refusals_same}
+use Rattle.omega_solve.proofs.within_budget.Games.{refusals_same, widths_same}
 use Rattle.omega_solve.proofs.within_budget.Within.{found_within, lifted_by_place}
 
 -- a solver that made the lifts of the run
@@ -83,3 +83,8 @@ pub turns_refused : (nodes other : List Node) (positions places : List ℕ) → 
     → IsTurnsRefusal (priorities other) refusal → IsTurnsRefusal (priorities nodes) refusal
 turns_refused nodes other positions places reordering refusal refused =
     (refused.0, refusals_same {A = Unit {0}} nodes other positions places reordering refused.0 (Err refusal) refused.1)
+
+-- if the reordered game is too wide for neither player, then so is the game that was given
+pub narrow_given : (nodes other : List Node) (positions places : List ℕ) → IsReordering nodes other positions places → IsNarrow other → IsNarrow nodes
+narrow_given nodes other positions places reordering narrow player =
+    sym (widths_same nodes other positions places reordering player) ∙ narrow player

@@ -1,8 +1,8 @@
 //! Solves the game for both players in turns.
-ghost use Rattle.std.specs.Prelude.{◌≡◌, IfOk, IfErr, IfSome, IsOkUnless};
+ghost use Rattle.std.specs.Prelude.{◌≡◌, IfOk, IfErr, IfSome, IsOk, IsOkUnless};
 ghost use Rattle.omega_game_values.specs.declared.player.Player.TheVariants.{One, Zero};
 ghost use Rattle.omega_game_values.specs.Game.{priorities};
-ghost use Rattle.omega_solve.specs.Turns.{EndsRaised, IsAnswerOfRun, IsTurnsRefusal};
+ghost use Rattle.omega_solve.specs.Turns.{EndsRaised, IsAnswerOfRun, IsNarrow, IsTurnsRefusal};
 ghost use Rattle.omega_solve.specs.budget.Within.{IsFoundUncounted};
 
 use crate::budget::answering::{choices_of, won_by_place};
@@ -29,6 +29,7 @@ impl Reordered<'_> {
             (λ found. IfSome found (λ both. EndsRaised self.now.reordered Zero both.zero.raises)) }
         ensures one_raises { IfOk result
             (λ found. IfSome found (λ both. EndsRaised self.now.reordered One both.one.raises)) }
+        ensures fits { IsOk result → IsNarrow self.now.given }
         ensures refused { IfErr result (IsTurnsRefusal (priorities self.now.given)) }
     {
         self.keeps_nodes();

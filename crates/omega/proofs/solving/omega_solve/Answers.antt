@@ -1,5 +1,6 @@
 -- `omega_solve`: what the call that it hands on gives, as an outcome.
-use Rattle.std.proofs.Common.{Bool, inl, inr, refl, subst}
+use Rattle.std.proofs.Common.{◌≡◌, Bool, false, inl, inr, refl, subst}
+use Rattle.omega_solve.specs.Turns.{IsNarrow}
 use Rattle.omega_arrays.specs.Arrays.{GameArrays, nodes_in}
 use Rattle.omega_arrays.specs.Solving.{AreLifts, budget_of}
 use Rattle.omega.specs.Solving.{IsSolveOutcome}
@@ -14,6 +15,7 @@ returns-in-Ok c =
       record {
         shape = c.in-Ok.ensures.faultless refl;
         sized = c.in-Ok.ensures.sized refl;
+        narrow = subst (λ (b : Bool). b ≡ false → IsNarrow (nodes_in c.arrays.result)) c.asks.ensures (c.in-Ok.ensures.narrow refl);
         exact = c.in-Ok.ensures.exact;
         players = c.in-Ok.ensures.players;
         lifted = subst (λ (b : Bool). AreLifts b (nodes_in c.arrays.result) (budget_of c.args.budget) c.in-Ok.made) c.asks.ensures c.in-Ok.ensures.lifts;
