@@ -3,6 +3,8 @@ use Rattle.std.proofs.Common.{◌≡◌, ℕ, ◌<◌, Bool, false, List, [], le
 use Rattle.std.proofs.lemmas.List.Elements.{Contains-get_or}
 use Rattle.omega_hoa_automaton.specs.Automaton.{Description, IsAutomaton}
 use Rattle.omega_hoa_automaton.specs.Branching.{has_universal_branching}
+use Rattle.omega_synth_controllers.specs.Controllers.{Answers}
+use Rattle.omega_synth_game.proofs.Those.{those_members}
 use Rattle.omega_synth_game.specs.Making.{AreQuestionsOf}
 use Rattle.omega_synth_game.specs.RoundsOf.{holds_in, letter_of}
 use Rattle.omega_synth_check.specs.Judging.{IsAnswered}
@@ -15,7 +17,8 @@ module _ (a : Description) (controlled numbers : List ℕ) (letters answers : Li
   pub none_answers : (at : ℕ) → at < length answers → get_or answers at [] ≡ [] → NoneAnswers a controlled numbers (letter_of letters at)
   none_answers at below empty number has answer =
       let asked : at < length letters = omega (arith, below, are.answered.entries) in
-      let listed : Contains [] number = subst (λ (list : List ℕ). Contains list number) empty ((are.answered.each at asked number).1 (has, answer)) in
+      let listed : Contains [] number = subst (λ (list : List ℕ). Contains list number) empty
+      ((those_members (λ n. Answers a controlled n (holds_in (letter_of letters at))) numbers (get_or answers at []) (are.answered.each at asked) number).1 (has, answer)) in
       absurd (omega (arith, listed.1))
 
   -- each question has an answer

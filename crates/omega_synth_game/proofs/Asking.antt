@@ -118,9 +118,9 @@ module _ (law : EdgesAreTakenWhereTrue) (a : Description) (controlled numbers : 
       entries = count_is ∙ sym letter_count;
       each = λ question below.
           (let within : question < length firsts = omega (arith, below, letter_count) in
-          subst (λ (list : List ℕ). AreAnswersAmong a controlled numbers (holds_in (letter_of letters question)) list) (sym (answers_at question within))
-          (subst (λ (letter : List ℕ). AreAnswersAmong a controlled numbers (holds_in letter) (list_at all (get_or firsts question 0))) (sym (letter_is question within))
-          (members (get_or firsts question 0) (low question within))));
+          subst (λ (list : List ℕ). AreAnswersInOrder a controlled (holds_in (letter_of letters question)) numbers list) (sym (answers_at question within))
+          (subst (λ (letter : List ℕ). AreAnswersInOrder a controlled (holds_in letter) numbers (list_at all (get_or firsts question 0))) (sym (letter_is question within))
+          (are.each (get_or firsts question 0) (low question within))));
     };
     every = every;
     apart = λ one other one_below other_below same.

@@ -11,7 +11,7 @@ use Rattle.omega_synth_rounds.specs.declared.rounds.RoundEdge.{RoundEdge}
 use Rattle.omega_synth_rounds.specs.declared.rounds.Rounds.{Rounds}
 use Rattle.omega_synth_game.specs.Classes.{AreEdgesFrom, IsLeaving}
 use Rattle.omega_synth_game.specs.Letters.{holds_in, letter_of}
-use Rattle.omega_synth_game.specs.Making.{AreLeaving, AreRoundEdges, AreStatesAsked, LeavesBelow, StatesLeave}
+use Rattle.omega_synth_game.specs.Making.{AreAskedByState, AreAskedInTurn, AreLeaving, AreRoundEdges, AreStatesAsked, LeavesBelow, StatesLeave}
 use Rattle.omega_synth_game.specs.RoundsOf.{AreRoundsOf, IsAnswerOf}
 
 -- there is an edge of each number below the count
@@ -119,6 +119,22 @@ module _ (a : Description) (kind : ParityKind) (edges : List RoundEdge) (are : A
               leave = edges_from state (omega (arith, below, leaving.entries));
               first = asked.least state question below (is.from, is.until);
             });
+        rising = asked.rising;
+      }
+
+      pub by_state : AreAskedInTurn a controlled lists (length lists) ranges answers → AreAskedByState a controlled made
+      by_state turn = record {
+        classes = turn.classes;
+        all = turn.entries ∙ leaving.entries;
+        each = λ state below.
+            (let listed : state < length lists = omega (arith, below, turn.entries) in
+            record {
+              numbers = get_or lists state [];
+              leave = edges_from state (omega (arith, listed, leaving.entries));
+              are = turn.each state listed;
+            });
+        questions = turn.listed;
+        ranges = turn.ranged;
       }
 
       pub are_rounds : IsRounds made
@@ -143,10 +159,12 @@ pub gathered : (a : Description) (kind : ParityKind) (controlled : List ℕ)
     → (count : ℕ) → count ≡ a.states → (lists shown : List (List ℕ)) → shown ≡ lists → AreLeaving lent count (length lent) lists
     → (ranges states : List QuestionRange) → states ≡ ranges → (answers questions : List (List ℕ)) → questions ≡ answers
     → (letters its : List (List ℕ)) → its ≡ letters → AreStatesAsked a controlled shown (length shown) ranges letters answers
+    → AreAskedInTurn a controlled shown (length shown) ranges answers
     → AreRoundsOf a controlled kind (record { states = states; edges = held; questions = questions }) its
     × IsRounds (record { states = states; edges = held; questions = questions })
+    × AreAskedByState a controlled (record { states = states; edges = held; questions = questions })
 gathered a kind controlled edges lent held lent_is held_is are count count_is lists shown shown_is leaving ranges states states_is answers questions
-    questions_is letters its its_is asked =
+    questions_is letters its its_is asked turn =
     let held_are : AreRoundEdges a kind (edge_count a) held = subst (λ (list : List RoundEdge). AreRoundEdges a kind (edge_count a) list) (sym held_is) are in
     let left : AreLeaving held a.states (length held) lists =
     subst (λ (list : List RoundEdge). AreLeaving list a.states (length list) lists) (lent_is ∙ sym held_is)
@@ -158,7 +176,14 @@ gathered a kind controlled edges lent held lent_is held_is are count count_is li
     let three : AreStatesAsked a controlled lists (length lists) states its answers =
     subst (λ (list : List (List ℕ)). AreStatesAsked a controlled lists (length lists) states list answers) (sym its_is) two in
     let all : AreStatesAsked a controlled lists (length lists) states its questions =
-    subst (λ (list : List (List ℕ)). AreStatesAsked a controlled lists (length lists) states its list) (sym questions_is) three in (
+    subst (λ (list : List (List ℕ)). AreStatesAsked a controlled lists (length lists) states its list) (sym questions_is) three in
+    let first : AreAskedInTurn a controlled lists (length lists) ranges answers =
+    subst (λ (list : List (List ℕ)). AreAskedInTurn a controlled list (length list) ranges answers) shown_is turn in
+    let second : AreAskedInTurn a controlled lists (length lists) states answers =
+    subst (λ (list : List QuestionRange). AreAskedInTurn a controlled lists (length lists) list answers) (sym states_is) first in
+    let turns : AreAskedInTurn a controlled lists (length lists) states questions =
+    subst (λ (list : List (List ℕ)). AreAskedInTurn a controlled lists (length lists) states list) (sym questions_is) second in (
       rounds_are a kind held held_are lists left controlled states its questions all,
       are_rounds a kind held held_are lists left controlled states its questions all,
+      by_state a kind held held_are lists left controlled states its questions all turns,
     )

@@ -9,6 +9,7 @@ pub mod Classes
 pub mod RoundsOf
 pub mod Laws
 pub mod Making
+pub mod Sizes
 pub mod Firsts
 pub mod Lanes
 pub mod EdgeWords

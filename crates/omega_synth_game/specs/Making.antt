@@ -1,8 +1,9 @@
 -- How the rounds of an automaton are made: their edges, the edges that leave each state, and for each state a question
 -- for each class of letters.
 pub use Rattle.omega_synth_game.specs.Classes.{IsLeaving, inputs_of}
-use Rattle.std.specs.Prelude.{◌≡◌, ◌⊎◌, ◌↔◌, ℕ, ◌<◌, ◌≤◌, Bool, List, [], Contains}
-use Rattle.std.specs.Prelude.{Some, length, slice_index, slice_index_or, sum}
+use Rattle.std.specs.Prelude.{◌≡◌, ◌⊎◌, ◌↔◌, ℕ, ◌+◌, ◌<◌, ◌≤◌, Bool, List, [], ◌∷◌, Contains}
+use Rattle.std.specs.Prelude.{Some, length, slice_index_or, sum_by}
+use Rattle.std.specs.List.{flat_map}
 use Rattle.std.specs.List.Sorted.{IsStrictlyIncreasing}
 use Rattle.omega_text.specs.Cases.{never, or_game, or_memory, or_task}
 use Rattle.omega_text.specs.Limits.{most_number}
@@ -18,6 +19,7 @@ use Rattle.omega_synth_rounds.specs.Extracting.{HaveSameNumbers}
 use Rattle.omega_synth_rounds.specs.Rounds.{no_edge, no_range}
 use Rattle.omega_synth_rounds.specs.declared.rounds.QuestionRange.{QuestionRange}
 use Rattle.omega_synth_rounds.specs.declared.rounds.RoundEdge.{RoundEdge}
+use Rattle.omega_synth_rounds.specs.declared.rounds.Rounds.{Rounds}
 use Rattle.omega_synth_game.specs.Answering.{AreAnswersAmong, AreAnswersInOrder, IsUnjudged, whole_label}
 use Rattle.omega_synth_game.specs.Classes.{AreEdgesFrom, IsFirstLetter}
 use Rattle.omega_synth_game.specs.Letters.{holds_in, letter_numbered, letter_of}
@@ -55,12 +57,12 @@ abbrev pub HasManyInputs : Description → List ℕ → List ℕ → Refusal →
 HasManyInputs a controlled numbers = or_task (λ fault. (fault ≡ TooManyPropositions)
     × (most_mentioned < length (inputs_of a controlled numbers))) (or_memory never)
 
--- each of the letters up to an end has its answers among edges, given by number
+-- each of the letters up to an end has its answers among edges, given by number, in the order of these numbers
 pub record AreAnswered (a : Description) (controlled numbers : List ℕ) (letters : List (List ℕ))
     (end : ℕ) (answers : List (List ℕ)) : Type 0 where
   pub entries : length answers ≡ end
-  pub each : (question : ℕ) → question < end → AreAnswersAmong a controlled numbers
-      (holds_in (letter_of letters question)) (slice_index_or answers question [])
+  pub each : (question : ℕ) → question < end → AreAnswersInOrder a controlled
+      (holds_in (letter_of letters question)) numbers (slice_index_or answers question [])
 
 -- for each letter over inputs, by its number up to an end, the edges with these numbers that answer it, in order
 pub record AreAnswersByLetter (a : Description) (controlled numbers inputs : List ℕ) (end : ℕ)
@@ -83,12 +85,21 @@ pub record AreQuestionsOf (a : Description) (controlled numbers : List ℕ)
   pub least : (question : ℕ) → question < length letters
       → IsFirstLetter a controlled numbers (letter_of letters question)
 
--- the letters have so many classes where the edges with these numbers answer them
-pub record HasClasses (a : Description) (controlled numbers : List ℕ) (count : ℕ) : Type 0 where
+-- the classes of the letters that the edges with these numbers answer, each given by those of the edges that answer it
+pub record AreClasses (a : Description) (controlled numbers : List ℕ)
+    (classes : List (List ℕ)) : Type 0 where
   pub letters : List (List ℕ)
-  pub answers : List (List ℕ)
-  pub questions : AreQuestionsOf a controlled numbers letters answers
-  pub counted : length answers ≡ count
+  pub questions : AreQuestionsOf a controlled numbers letters classes
+
+-- how many classes states have, where each has these
+abbrev pub class_count : List (List (List ℕ)) → ℕ
+class_count classes = sum_by (λ here. length here) classes
+
+-- the ranges of the questions of states from a first question on, where each class of a state is a question
+abbrev pub ranges_from : ℕ → List (List (List ℕ)) → List QuestionRange
+ranges_from first [] = []
+ranges_from first (here ∷ rest) =
+    record { first = first; end = first + length here } ∷ ranges_from (first + length here) rest
 
 -- the label of one of the edges with these numbers cannot be judged in some letter
 abbrev pub IsSomeUnjudged : Description → List ℕ → List ℕ → TaskFault → Type 0
@@ -141,6 +152,19 @@ pub record AreStatesAsked (a : Description) (controlled : List ℕ) (leaving : L
       → HaveSameNumbers (slice_index_or answers one []) (slice_index_or answers other []) → one ≡ other
   pub least : (state question : ℕ) → state < states → IsInRange (range_of ranges state) question
       → IsFirstLetter a controlled (slice_index_or leaving state []) (letter_of letters question)
+  pub rising : (question : ℕ) → question < length answers
+      → IsStrictlyIncreasing (slice_index_or answers question [])
+
+-- the questions of the first states, which the edges with the numbers listed leave, are the classes of these states, one
+-- state after another
+pub record AreAskedInTurn (a : Description) (controlled : List ℕ) (leaving : List (List ℕ))
+    (states : ℕ) (ranges : List QuestionRange) (answers : List (List ℕ)) : Type 0 where
+  pub classes : List (List (List ℕ))
+  pub entries : length classes ≡ states
+  pub each : (state : ℕ) → state < states → AreClasses a controlled
+      (slice_index_or leaving state []) (slice_index_or classes state [])
+  pub listed : answers ≡ flat_map (λ here. here) classes
+  pub ranged : ranges ≡ ranges_from 0 classes
 
 -- the edges with these numbers leave the state
 abbrev pub AllLeave : Description → ℕ → List ℕ → Type 0
@@ -152,19 +176,32 @@ StatesLeave a lists =
     (length lists ≡ a.states)
     × ((state : ℕ) → state < length lists → AreEdgesFrom a state (slice_index_or lists state []))
 
--- in the state the letters have so many classes
-pub record HasClassesIn (a : Description) (controlled : List ℕ) (state count : ℕ) : Type 0 where
+-- the classes of letters in a state, each given by the numbers of the edges that answer it, in rising order
+pub record AreClassesIn (a : Description) (controlled : List ℕ) (state : ℕ)
+    (classes : List (List ℕ)) : Type 0 where
   pub numbers : List ℕ
   pub leave : AreEdgesFrom a state numbers
-  pub classes : HasClasses a controlled numbers count
+  pub are : AreClasses a controlled numbers classes
+
+-- the classes of letters in each of the first states
+abbrev pub AreClassesOf : Description → List ℕ → List (List (List ℕ)) → Type 0
+AreClassesOf a controlled classes = (state : ℕ) → state < length classes
+    → AreClassesIn a controlled state (slice_index_or classes state [])
 
 -- the first states have more questions, one for each class of letters, than a game may have nodes
 pub record HasManyQuestions (a : Description) (controlled : List ℕ) : Type 0 where
-  pub counts : List ℕ
-  pub few : length counts ≤ a.states
-  pub each : (state : ℕ) → state < length counts
-      → HasClassesIn a controlled state (slice_index counts state)
-  pub many : most_nodes < sum counts
+  pub classes : List (List (List ℕ))
+  pub few : length classes ≤ a.states
+  pub each : AreClassesOf a controlled classes
+  pub many : most_nodes < class_count classes
+
+-- the questions of the rounds are the classes of the states, those of one state after those of the state before
+pub record AreAskedByState (a : Description) (controlled : List ℕ) (rounds : Rounds) : Type 0 where
+  pub classes : List (List (List ℕ))
+  pub all : length classes ≡ a.states
+  pub each : AreClassesOf a controlled classes
+  pub questions : rounds.questions ≡ flat_map (λ here. here) classes
+  pub ranges : rounds.states ≡ ranges_from 0 classes
 
 -- the fault of the questions of some state
 pub record IsMakingFault (a : Description) (controlled : List ℕ) (fault : TaskFault) : Type 0 where

@@ -4,7 +4,7 @@ ghost use Rattle.std.specs.Prelude.{◌≡◌, ◌+◌, ◌<◌, ◌≤◌, ◌+
 ghost use Rattle.std.specs.Prelude.{IfErr, IfOk, IsOkUnless, OnOk, length};
 ghost use Rattle.omega_game_values.specs.Limits.{most_nodes};
 ghost use Rattle.omega_lang_runs.specs.Places.{ArePlaces};
-ghost use Rattle.omega_synth_game.specs.Making.{AllLeave, AreQuestionsOf};
+ghost use Rattle.omega_synth_game.specs.Making.{AllLeave, AreAskedInTurn, AreQuestionsOf};
 ghost use Rattle.omega_synth_game.specs.Making.{AreStatesAsked, IsUnmade, StatesLeave};
 
 use crate::questions::{Questions, questions_of};
@@ -36,6 +36,8 @@ pub(crate) fn states_asked(
     requires leaving { StatesLeave automaton.now leaving.now }
     ensures asked { IfOk result (λ asked. AreStatesAsked automaton.now controlled.now leaving.now
         (length leaving.now) asked.ranges.items asked.letters.items asked.answers.items) }
+    ensures in_turn { IfOk result (λ asked. AreAskedInTurn automaton.now controlled.now
+        leaving.now (length leaving.now) asked.ranges.items asked.answers.items) }
     ensures refused { IfErr result (IsUnmade automaton.now controlled.now) }
 {
     let mut asked = StatesAsked {

@@ -2,6 +2,7 @@
 -- Lemmas of solving games in rounds.
 pub mod Gamed
 pub mod Realized
+pub mod Sized
 pub mod Refused
 pub mod Filled
 pub mod Unnamed

@@ -1,12 +1,12 @@
 ghost use Rattle.std.specs.Prelude.{◌≡◌, ◌≤◌, ◌<◌, ◌↔◌, ℕ, IfErr, IfOk, IsOk};
-ghost use Rattle.std.specs.Prelude.{IsTrue, Some, false, true, length, slice_get};
+ghost use Rattle.std.specs.Prelude.{IsTrue, OnOk, Some, false, true, length, slice_get};
 ghost use Rattle.omega_game_values.specs.Game.{priorities};
 ghost use Rattle.omega_measure.specs.Table.{is_too_wide};
 ghost use Rattle.omega_solve.specs.Headline.{IsExact};
 ghost use Rattle.omega_solve.specs.Limits.{most_lifts};
 ghost use Rattle.omega_solve.specs.budget.Observing.{IsObserved, ReportsSolving, refusal_in};
 ghost use Rattle.omega_synth_rounds.specs.Rounds.{IsRounds};
-ghost use Rattle.omega_synth_rounds.specs.RoundsGame.{IsRoundsGame};
+ghost use Rattle.omega_synth_rounds.specs.RoundsGame.{FitsAGame, IsRoundsGame};
 ghost use Rattle.omega_synth_realize.specs.Solving.{IsLiftingRefusal, IsNarrow, IsOutcome};
 ghost use Rattle.omega_synth_realize.specs.Solving.{IsUndecided, IsWide, LiftsGame, LiftsRounds};
 
@@ -39,6 +39,7 @@ pub fn lift_rounds<L, W: Reporter<L>>(
     requires start { start < length rounds.now.states }
     requires budget { budget ≤ most_lifts }
     ensures outcome { IfOk result (IsOutcome rounds.now start) }
+    ensures fits { OnOk result (FitsAGame rounds.now) }
     ensures refused { IfErr result (IsUndecided rounds.now budget) }
     ensures reported { IsObserved (LiftsRounds rounds.now) (refusal_in result)
         (W.tells reporter.now) (W.pace reporter.now) budget observer.old observer.new }

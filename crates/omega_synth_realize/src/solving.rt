@@ -1,8 +1,8 @@
-ghost use Rattle.std.specs.Prelude.{◌<◌, IfErr, IfOk, IsOkUnless, length};
+ghost use Rattle.std.specs.Prelude.{◌<◌, IfErr, IfOk, IsOkUnless, OnOk, length};
 ghost use Rattle.omega_game_values.specs.Solution.{IsExactSolution};
 ghost use Rattle.omega_solve.specs.Limits.{most_lifts};
 ghost use Rattle.omega_synth_rounds.specs.Rounds.{IsRounds};
-ghost use Rattle.omega_synth_rounds.specs.RoundsGame.{IsRoundsGame};
+ghost use Rattle.omega_synth_rounds.specs.RoundsGame.{FitsAGame, IsRoundsGame};
 ghost use Rattle.omega_synth_realize.specs.Solving.{IsOutcome, IsUndecided};
 
 use crate::lifting::lift_in;
@@ -25,6 +25,7 @@ pub fn solve_rounds(alloc: Global, rounds: &Rounds, start: u32) -> Result<Outcom
     requires rounds { IsRounds rounds.now }
     requires start { start < length rounds.now.states }
     ensures outcome { IfOk result (IsOutcome rounds.now start) }
+    ensures fits { OnOk result (FitsAGame rounds.now) }
     ensures refused { IfErr result (IsUndecided rounds.now most_lifts) }
 {
     let game = rounds_game(alloc, rounds)?;

@@ -1,9 +1,7 @@
-use Rattle.std.proofs.Common.{length}
-use Rattle.omega_synth_game.specs.Making.{AreStatesAsked}
-use Rattle.omega_synth_game.proofs.Gathering.{AreCounted}
+use Rattle.omega_synth_game.specs.Making.{AreAskedInTurn, AreStatesAsked}
 use Rattle.omega_synth_game.proofs.states.states_asked.Given as goal
 
 abbrev pub invariant-loop-numbers : goal.invariant-loop-numbers
 invariant-loop-numbers l =
     AreStatesAsked l.automaton l.controlled l.leaving l.numbers-index l.asked.ranges.items l.asked.letters.items l.asked.answers.items
-    × AreCounted l.automaton l.controlled l.leaving l.numbers-index (length l.asked.answers.items)
+    × AreAskedInTurn l.automaton l.controlled l.leaving l.numbers-index l.asked.ranges.items l.asked.answers.items

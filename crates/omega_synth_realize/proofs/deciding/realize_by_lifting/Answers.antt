@@ -1,9 +1,10 @@
 -- the refusals of the steps, and the runs, if there is a start
-use Rattle.std.proofs.Common.{inr}
+use Rattle.std.proofs.Common.{inl, inr}
 use Rattle.std.proofs.lemmas.Result.{err_from_is_err_and}
 use Rattle.omega_solve.proofs.within_budget.Observed.{none_observed, observed_alike, observed_as, spares}
 use Rattle.omega_synth_realize.specs.Refusing.{IsUnparted}
 use Rattle.omega_synth_realize.proofs.Refused.{on_ok_of, undecided_unrealized, unlifted, unparted_spares, unparted_unrealized}
+use Rattle.omega_synth_realize.proofs.Sized.{on_ok_weaker}
 use Rattle.omega_synth_realize.proofs.deciding.realize_by_lifting.Goals as goal
 
 pub returns-in_err-found-clause-refused : goal.returns-in_err-found-clause-refused
@@ -32,3 +33,9 @@ returns-in-Some-clause-refused g c =
 pub returns-in-Some-clause-reported : goal.returns-in-Some-clause-reported
 returns-in-Some-clause-reported g c =
     observed_as _ _ _ _ _ _ _ _ (λ nodes players lifted. inr lifted) c.lift_parted.ensures.reported
+
+pub returns-in-None-clause-small : goal.returns-in-None-clause-small
+returns-in-None-clause-small g c = inl (rw c.in-None.is at c.in_ok-found.ensures.none)
+
+pub returns-in-Some-clause-small : goal.returns-in-Some-clause-small
+returns-in-Some-clause-small g c = on_ok_weaker c.lift_parted.result _ _ (λ fits. inr fits) c.lift_parted.ensures.small
