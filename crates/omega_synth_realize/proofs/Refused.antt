@@ -118,7 +118,7 @@ module _ (a : Description) (controlled : List ℕ) where
   undecided_unrealized budget (Err Io) refused = absurd refused
 
   module _ (rounds : Rounds) (letters : List (List ℕ)) (start budget : ℕ) where
-    pub rounds_undecided : (e : Refusal) → IsParted a controlled rounds letters start → IsJudgeable a → IsUndecided rounds budget e
+    pub rounds_undecided : (e : Refusal) → IsParted a controlled rounds letters start → IsJudgeable a → IsUndecided rounds start budget e
         → IsUndecidedRounds a controlled budget e
     rounds_undecided (Game fault) parted judgeable hard = large a controlled rounds letters start parted judgeable fault hard
     rounds_undecided (Task fault) parted judgeable hard = record { rounds = rounds; letters = letters; start = start; parted = parted; is = hard }

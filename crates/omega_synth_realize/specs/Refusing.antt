@@ -86,10 +86,14 @@ abbrev pub IsUnparted : Description → List ℕ → Refusal → Type 0
 IsUnparted a controlled =
     or_game (IsLargeFault a controlled) (or_task (IsPartingFault a controlled) (or_memory never))
 
--- lifting in the game of the rounds within the budget has this fault
-abbrev pub IsUnsolvedFault : Description → List ℕ → ℕ → TaskFault → Type 0
-IsUnsolvedFault a controlled budget fault =
-    OfRounds a controlled (λ rounds. IsUnsolved rounds budget fault)
+-- lifting in the game of rounds of the automaton, from its start, within the budget has this fault
+pub record IsUnsolvedFault (a : Description) (controlled : List ℕ) (budget : ℕ)
+    (fault : TaskFault) : Type 0 where
+  pub rounds : Rounds
+  pub letters : List (List ℕ)
+  pub start : ℕ
+  pub parted : IsParted a controlled rounds letters start
+  pub is : IsUnsolved rounds start budget fault
 
 -- the refusal of rounds that are not decided
 abbrev pub IsUndecidedRounds : Description → List ℕ → ℕ → Refusal → Type 0
