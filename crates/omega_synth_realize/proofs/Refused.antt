@@ -143,6 +143,11 @@ module _ (a : Description) (controlled : List ℕ) where
     is = (lifted.is.0, lifted_refused refusal other players lifted.is.1);
   }
 
+  pub lifts_refused : (refusal : Refusal) → refusal ≢ Task Budget → (nodes : List Node) (players : List Player)
+      → LiftsAutomaton a controlled None nodes players → LiftsAutomaton a controlled (Some refusal) nodes players
+  lifts_refused refusal other nodes players (inl none) = inl none
+  lifts_refused refusal other nodes players (inr lifted) = inr (parted_refused refusal other nodes players lifted)
+
   -- before there are rounds no budget is used up
   judging_spares : (fault : TaskFault) → IsJudgingFault a fault → fault ≡ Budget → ⊥
   judging_spares fault (branches is) e = cc

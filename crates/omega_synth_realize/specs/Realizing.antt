@@ -1,5 +1,5 @@
 -- Whether an automaton is realizable, with a controller or a counter-strategy.
-use Rattle.std.specs.Prelude.{List, ℕ}
+use Rattle.std.specs.Prelude.{◌≡◌, List, ℕ, length}
 use Rattle.std.specs.List.Sorted.{IsStrictlyIncreasing}
 use Rattle.omega_hoa_automaton.specs.Automaton.{Description}
 use Rattle.omega_synth_controllers.specs.Controllers.{IsController, IsCounterStrategy}
@@ -8,11 +8,11 @@ use Rattle.omega_synth_realize.specs.declared.realizability.Realizability.{Reali
 use Rattle.omega_synth_realize.specs.declared.realizability.Realizability.TheVariants.{Realizable}
 use Rattle.omega_synth_realize.specs.declared.realizability.Realizability.TheVariants.{Unrealizable}
 
--- the answer is right: its edges are a controller, or with its letters a counter-strategy, each letter the first of
--- those that the same edges answer; the edges are listed in rising order, each once
+-- the answer is right: its edges are a controller, or with its letters, one for each state, a counter-strategy, each
+-- letter the first of those that the same edges answer; the edges are listed in rising order, each once
 abbrev pub IsRealizability : Description → List ℕ → Realizability → Type 0
 IsRealizability a controlled (Realizable kept) =
     IsController a controlled kept × IsStrictlyIncreasing kept
 IsRealizability a controlled (Unrealizable kept letters) =
     IsCounterStrategy a controlled kept (letters_by_state letters) × IsStrictlyIncreasing kept
-    × AreLeastLetters a controlled kept letters
+    × AreLeastLetters a controlled kept letters × (length letters ≡ a.states)

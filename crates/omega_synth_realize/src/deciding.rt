@@ -51,7 +51,7 @@ pub fn realize(
 {
     let found = parted_rounds(alloc, automaton, controlled)?;
     match found {
-        None => Ok(without_start(alloc, automaton, controlled)),
+        None => without_start(alloc, automaton, controlled),
         Some(parted) => realize_parted(alloc, automaton, controlled, &parted),
     }
 }
@@ -98,7 +98,7 @@ pub fn realize_by_lifting<L, W: Reporter<L>>(
 {
     let found = parted_rounds(alloc, automaton, controlled)?;
     match found {
-        None => Ok(without_start(alloc, automaton, controlled)),
+        None => without_start(alloc, automaton, controlled),
         Some(parted) => lift_parted(
             alloc, automaton, controlled, &parted, budget, reporter, observer,
         ),

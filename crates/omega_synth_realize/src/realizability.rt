@@ -12,7 +12,7 @@ pub enum Realizability {
     Unrealizable {
         /// The numbers of the edges that answer its letters, each once, in rising order.
         kept: Seq<u32>,
-        /// For each state the environment's letter: the propositions that hold.
+        /// For each state, by number, the environment's letter: the propositions that hold.
         letters: Seq<Numbers>,
     },
 }

@@ -47,20 +47,22 @@ pub(crate) fn realizability_of(
     }
 }
 
-/// Returns the counter-strategy of an automaton without a start, which keeps no edges.
+/// Returns the counter-strategy of an automaton without a start, which keeps no edges. Its letters are empty.
 pub(crate) fn without_start(
     alloc: Global,
-    _automaton: &Automaton,
+    automaton: &Automaton,
     _controlled: &[u32],
-) -> Realizability
-    requires { _automaton.now.starts ≡ [] }
-    ensures { IsRealizability _automaton.now _controlled.now result }
+) -> Result<Realizability, Refusal>
+    requires { automaton.now.starts ≡ [] }
+    ensures realizability { IfOk result (IsRealizability automaton.now _controlled.now) }
+    ensures memory { IsOkUnless result Refusal.Memory }
 {
     no_start_is_refused();
-    Realizability::Unrealizable {
+    let letters = letters_by_state(alloc, automaton.state_count(), &[], &[])?;
+    Ok(Realizability::Unrealizable {
         kept: Seq::new(alloc),
-        letters: Seq::new(alloc),
-    }
+        letters,
+    })
 }
 
 /// Returns for each of `count` states the letter of the question `asked` in it.

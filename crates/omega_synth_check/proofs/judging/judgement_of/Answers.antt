@@ -15,3 +15,14 @@ returns-in-Contained c =
       },
       subst (IsContainment a c.args._specification.now) c.in-Contained.is c.requires.contained,
     )
+
+pub returns-in-NotContained : goal.returns-in-NotContained
+returns-in-NotContained c =
+    let a = c.args.controller.now in
+    let some : 0 < length a.starts = omega (arith, c.if-starts-eq0.false, ap length c.starts.ensures) in (
+      record {
+        begins = first_start a c.keeps_limits.ensures c.requires.plain some;
+        answered = subst (IsLackOf a c.args._controlled.now) c.in-None.is c.requires.lack;
+      },
+      subst (IsContainment a c.args._specification.now) c.in-NotContained.is c.requires.contained,
+    )
