@@ -37,4 +37,4 @@ pub startless : NoStartIsRefused → (a : Description) (controlled kept : List �
 startless refused a controlled kept letters none nothing entries =
     let counter = refused a controlled letters none in
     subst (λ (edges : List ℕ). IsRealizability a controlled (Unrealizable edges letters)) (sym nothing)
-    (counter.0, λ k within. absurd (omega (arith, within)), counter.1, entries)
+    (counter.0, λ k within. absurd (omega (arith, within)), counter.1, entries, λ number has. absurd (omega (arith, has.1)))

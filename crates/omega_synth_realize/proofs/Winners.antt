@@ -47,7 +47,7 @@ module _ (entries : ChoicesAreEntries) (answers_win : ChosenAnswersWin) (questio
       let kept : List ℕ = kept_answers parted.rounds won.0 (chosen_entry won.0) in (
         kept,
         controllers a controlled parted.rounds parted.letters parted.start kept parted.parted
-            (answers_win parted.rounds plain won.0 kept parted.start parted.rounds_kept plain_game below won.1 (answers_chosen parted.rounds won.0 (chosen_entry won.0))),
+            (answers_win parted.rounds plain won.0 kept parted.start parted.rounds_kept plain_game below won.1 (answers_chosen parted.rounds won.0 (chosen_entry won.0))).0,
       )
 
   one_counters : InRegion parted.whole One parted.start → HasCounterStrategy a controlled
@@ -59,7 +59,7 @@ module _ (entries : ChoicesAreEntries) (answers_win : ChosenAnswersWin) (questio
         kept,
         letters_by_state by_state,
         (counters a controlled parted.rounds parted.letters parted.start kept asked by_state parted.parted
-            (questions_win parted.rounds plain won.0 kept asked parted.start parted.rounds_kept plain_game below won.1 (questions_chosen parted.rounds won.0 (chosen_entry won.0)))
+            (questions_win parted.rounds plain won.0 kept asked parted.start parted.rounds_kept plain_game below won.1 (questions_chosen parted.rounds won.0 (chosen_entry won.0))).0
             (letters_are a.states parted.letters asked by_state refl)).0,
       )
 

@@ -12,18 +12,19 @@ use Rattle.omega_game_values.specs.declared.player.Player.TheVariants.{One, Zero
 use Rattle.omega_measure.specs.Table.{is_too_wide}
 use Rattle.omega_solve.specs.budget.Observing.{AreMade}
 use Rattle.omega_solve.specs.budget.Within.{GoesOnAfter}
-use Rattle.omega_synth_rounds.specs.Rounds.{IsAnswering, IsAsking}
+use Rattle.omega_synth_rounds.specs.Rounds.{AreMetAnswers, IsAnswering, IsAsking}
 use Rattle.omega_synth_rounds.specs.RoundsGame.{IsRoundsFault, IsRoundsGame}
 use Rattle.omega_synth_rounds.specs.declared.rounds.Rounds.{Rounds}
 use Rattle.omega_synth_realize.specs.declared.outcome.Outcome.{Outcome}
 use Rattle.omega_synth_realize.specs.declared.outcome.Outcome.TheVariants.{Answered, Asked}
 
--- an outcome is right: player 0 wins by the kept edges, or player 1 by the questions asked; the kept edges are listed
--- in rising order, each once
+-- an outcome is right: player 0 wins by the kept edges, or player 1 by the questions asked. The kept edges answer
+-- questions in states to which they lead, and are listed in rising order, each once
 abbrev pub IsOutcome : Rounds → ℕ → Outcome → Type 0
-IsOutcome rounds start (Answered kept) = IsAnswering rounds start kept × IsStrictlyIncreasing kept
+IsOutcome rounds start (Answered kept) = IsAnswering rounds start kept
+    × IsStrictlyIncreasing kept × AreMetAnswers rounds start kept
 IsOutcome rounds start (Asked kept asked) =
-    IsAsking rounds start kept asked × IsStrictlyIncreasing kept
+    IsAsking rounds start kept asked × IsStrictlyIncreasing kept × AreMetAnswers rounds start kept
 
 -- the game is too wide for neither player
 abbrev pub IsNarrow : List Node → Type 0

@@ -12,6 +12,7 @@ mod deciding;
 mod games;
 mod laws;
 mod lifting;
+mod met;
 mod outcome;
 mod parting;
 mod posing;

@@ -11,7 +11,8 @@ use crate::parting::Parted;
 use crate::realizability::Realizability;
 use omega_hoa_automaton::Automaton;
 use omega_synth_game::{
-    answerings_are_controllers, askings_are_counter_strategies, no_start_is_refused,
+    answerings_are_controllers, askings_are_counter_strategies, met_answers_are_met,
+    no_start_is_refused,
 };
 use omega_text::{Numbers, Refusal, Seq};
 use std::alloc::Global;
@@ -32,6 +33,7 @@ pub(crate) fn realizability_of(
 {
     answerings_are_controllers();
     askings_are_counter_strategies();
+    met_answers_are_met();
     match outcome {
         Outcome::Answered { kept } => Ok(Realizability::Realizable { kept }),
         Outcome::Asked { kept, asked } => {

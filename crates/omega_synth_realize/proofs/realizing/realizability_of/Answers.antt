@@ -15,6 +15,8 @@ returns-in-Answered-clause-realizability c =
       c.answerings_are_controllers.ensures c.args.automaton.now c.args._controlled.now parted.rounds parted.letters parted.start
           c.in-Answered.kept c.requires.parted won.0,
       won.1,
+      c.met_answers_are_met.ensures c.args.automaton.now c.args._controlled.now parted.rounds parted.letters parted.start
+          c.in-Answered.kept c.requires.parted won.2,
     )
 
 pub returns-in_ok-letters-in-Asked-clause-realizability :
@@ -33,4 +35,10 @@ returns-in_ok-letters-in-Asked-clause-realizability c =
     c.askings_are_counter_strategies.ensures a c.args._controlled.now parted.rounds letters parted.start
     c.in-Asked.kept c.in-Asked.asked c.in_ok-letters-in-Asked.letters c.requires.parted won.0
     (letters_are a.states letters c.in-Asked.asked c.in_ok-letters-in-Asked.letters found) in
-    (won_by.0, won.1, won_by.1, letters_count a.states letters c.in-Asked.asked c.in_ok-letters-in-Asked.letters found)
+    (
+      won_by.0,
+      won.1,
+      won_by.1,
+      letters_count a.states letters c.in-Asked.asked c.in_ok-letters-in-Asked.letters found,
+      c.met_answers_are_met.ensures a c.args._controlled.now parted.rounds letters parted.start c.in-Asked.kept c.requires.parted won.2,
+    )
