@@ -11,6 +11,7 @@ pub mod Literals
 pub mod Reported
 pub mod ControllerStated
 pub mod Exact
+mod WhoWins
 pub mod GivenLetters
 pub mod Rows
 pub mod Numbers

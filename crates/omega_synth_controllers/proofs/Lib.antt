@@ -9,6 +9,7 @@ pub mod Realizing
 pub mod Numbers
 pub mod Moving
 pub mod Refuting
+pub mod Beating
 mod Only
 mod ControlledNumbers
 mod Stated
