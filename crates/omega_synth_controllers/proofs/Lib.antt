@@ -10,6 +10,7 @@ pub mod Numbers
 pub mod Moving
 pub mod Refuting
 pub mod Beating
+pub mod Starts
 mod Only
 mod ControlledNumbers
 mod Stated

@@ -15,7 +15,7 @@ use Rattle.omega_synth_game.specs.Making.{AreAskedByState, AreAskedInTurn, AreLe
 use Rattle.omega_synth_game.specs.RoundsOf.{AreRoundsOf, IsAnswerOf}
 
 -- there is an edge of each number below the count
-edge_there : (edges : List BodyEdge) (k : ℕ) → k < length edges → (edge : BodyEdge) × (slice_get edges k ≡ Some edge)
+pub edge_there : (edges : List BodyEdge) (k : ℕ) → k < length edges → (edge : BodyEdge) × (slice_get edges k ≡ Some edge)
 edge_there [] k below = absurd (omega arith)
 edge_there (x ∷ xs) zero below = (x, refl)
 edge_there (x ∷ xs) (suc k) below = edge_there xs k (omega arith)
@@ -31,25 +31,25 @@ module _ (a : Description) (kind : ParityKind) (edges : List RoundEdge) (are : A
       same_default (x ∷ xs) zero d e below = refl
       same_default (x ∷ xs) (suc k) d e below = same_default xs k d e (omega arith)
 
+  pub leaves_from : (state number : ℕ) → LeavesBelow edges (length edges) state number → IsLeaving a state number
+  leaves_from state number leaves =
+      let below : number < edge_count a = omega (arith, leaves.0, are.entries) in
+      let found = edge_there (edges_of a) number below in
+      record {
+        edge = found.0;
+        numbered = found.1;
+        leaves = sym ((are.each number below).each found.0 found.1).source ∙ leaves.1;
+      }
+
+  -- an edge that leaves a state has a number below the end
+  pub leaves_below : (state number : ℕ) → IsLeaving a state number → LeavesBelow edges (length edges) state number
+  leaves_below state number leaving_it =
+      let below : number < edge_count a = slice_get_within (edges_of a) number leaving_it.edge leaving_it.numbered in (
+        omega (arith, below, are.entries),
+        ((are.each number below).each leaving_it.edge leaving_it.numbered).source ∙ leaving_it.leaves,
+      )
+
   module _ (lists : List (List ℕ)) (leaving : AreLeaving edges a.states (length edges) lists) where
-    leaves_from : (state number : ℕ) → LeavesBelow edges (length edges) state number → IsLeaving a state number
-    leaves_from state number leaves =
-        let below : number < edge_count a = omega (arith, leaves.0, are.entries) in
-        let found = edge_there (edges_of a) number below in
-        record {
-          edge = found.0;
-          numbered = found.1;
-          leaves = sym ((are.each number below).each found.0 found.1).source ∙ leaves.1;
-        }
-
-    -- an edge that leaves a state has a number below the end
-    leaves_below : (state number : ℕ) → IsLeaving a state number → LeavesBelow edges (length edges) state number
-    leaves_below state number leaving_it =
-        let below : number < edge_count a = slice_get_within (edges_of a) number leaving_it.edge leaving_it.numbered in (
-          omega (arith, below, are.entries),
-          ((are.each number below).each leaving_it.edge leaving_it.numbered).source ∙ leaving_it.leaves,
-        )
-
     pub edges_from : (state : ℕ) → state < a.states → AreEdgesFrom a state (get_or lists state [])
     edges_from state below = record {
       rising = leaving.rising state below;

@@ -2,7 +2,7 @@
 use Rattle.std.proofs.Common.{◌<◌, length, ap, subst, arith}
 use Rattle.omega_lang_inclusion.specs.Containing.{IsContainment}
 use Rattle.omega_synth_check.specs.private.Searching.{IsLackOf}
-use Rattle.omega_synth_check.proofs.MetStates.{first_start}
+use Rattle.omega_synth_controllers.proofs.Starts.{first_start}
 use Rattle.omega_synth_check.proofs.judging.judgement_of.Goals as goal
 
 pub returns-in-Contained : goal.returns-in-Contained
