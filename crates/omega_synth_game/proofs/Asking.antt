@@ -1,6 +1,6 @@
 -- Letters that have their answers, one more; and the questions of a state, by the first letter of each class.
 use Rattle.std.proofs.Common.{◌≡◌, ◌↔◌, ℕ, zero, suc, ◌+◌, ◌^◌, ◌<◌, inl, inr, All, Bool, List, [], ◌∷◌, ◌++◌, length, map, get_or, Contains, sym, ap, refl, ◌∙◌, subst, arith, length-append, Result, Ok, Err}
-use Rattle.std.specs.Prelude.{IfOk}
+use Rattle.std.specs.Prelude.{IfOk, OnOk}
 use Rattle.std.proofs.Math.Seq.{get_or-append_seam}
 use Rattle.std.proofs.lemmas.Bool.{cases_eq, cases_order}
 use Rattle.std.proofs.lemmas.List.{get_or-map, get_or_append_left, length-map}
@@ -189,3 +189,8 @@ all_below lists firsts places is first k d below =
     any_default [] k d e below = absurd (omega arith)
     any_default (x ∷ xs) zero d e below = refl
     any_default (x ∷ xs) (suc k) d e below = any_default xs k d e (omega arith)
+
+-- what holds, holds where there is an answer
+pub on_ok_of : {X : Type 0} (r : Result X Refusal) (P : Type 0) → P → OnOk r P
+on_ok_of (Ok x) P p = p
+on_ok_of (Err e) P p = tt

@@ -158,7 +158,7 @@ module _ (a : Description) (kind : ParityKind) (automaton : IsAutomaton a) (plai
           are = subst (λ (n : ℕ). AreStatesAsked a controlled lists n longer (before.letters ++ of.letters) (before.answers ++ fresh)) more
               (states_more a controlled lists states before.ranges before.letters before.answers before.are numbers refl rises of.letters fresh of.questions);
           turn = subst (λ (n : ℕ). AreAskedInTurn a controlled lists n longer (before.answers ++ fresh)) more
-              (turn_more a controlled lists states before.ranges before.answers numbers of.letters fresh before.turn refl of.questions longer refl
+              (turn_more a controlled lists states before.ranges before.answers numbers of.letters fresh before.turn refl of.questions of.few longer refl
               (before.answers ++ fresh) refl);
         }
 

@@ -1,6 +1,6 @@
 -- The questions of one state more.
-use Rattle.std.proofs.Common.{◌≡◌, ℕ, zero, suc, ◌+◌, ◌-◌, ◌<◌, ◌≤◌, inl, inr, Bool, false, All, List, [], ◌∷◌, ◌++◌, length, get_or, sym, ap, refl, ◌∙◌, subst, arith, length-append, Result, Ok, Err}
-use Rattle.std.specs.Prelude.{IfErr, sum_by}
+use Rattle.std.proofs.Common.{◌≡◌, ℕ, zero, suc, ◌+◌, ◌-◌, ◌<◌, ◌≤◌, inl, inr, Bool, false, All, List, [], ◌∷◌, ◌++◌, length, get_or, sym, ap, refl, ◌∙◌, subst, arith, length-append}
+use Rattle.std.specs.Prelude.{sum_by}
 use Rattle.std.specs.List.{flat_map}
 use Rattle.std.specs.List.Sorted.{IsStrictlyIncreasing}
 use Rattle.std.proofs.Math.Seq.{get_or-append_seam}
@@ -20,8 +20,8 @@ use Rattle.omega_synth_rounds.specs.Rounds.{no_range}
 use Rattle.omega_synth_rounds.specs.declared.rounds.QuestionRange.{QuestionRange}
 use Rattle.omega_synth_controllers.specs.Controllers.{Answers}
 use Rattle.omega_synth_game.specs.Answering.{AreAnswersAmong}
-use Rattle.omega_synth_game.specs.Classes.{IsFirstLetter}
-use Rattle.omega_synth_game.specs.Making.{AllLeave, AreAskedInTurn, AreClasses, AreQuestionsOf, AreStatesAsked, HasManyQuestions, IsInRange, IsUnasked, IsUnmade, StatesLeave, class_count, range_of, ranges_from}
+use Rattle.omega_synth_game.specs.Classes.{AreEdgesFrom, IsFirstLetter}
+use Rattle.omega_synth_game.specs.Making.{AllLeave, AreAskedInTurn, AreClasses, AreClassesOf, AreQuestionsOf, AreStatesAsked, HasManyQuestions, HaveFewInputs, IsInRange, IsUnasked, IsUnmade, StatesLeave, class_count, range_of, ranges_from}
 use Rattle.omega_synth_game.specs.Letters.{holds_in, letter_of}
 use Rattle.omega_synth_game.proofs.Those.{those_members, those_rising}
 
@@ -228,9 +228,10 @@ ranges_more first (here ∷ rest) fresh =
 -- the classes of one state more
 pub turn_more : (a : Description) (controlled : List ℕ) (leaving : List (List ℕ)) (index : ℕ) (ranges : List QuestionRange) (answers : List (List ℕ))
     (numbers : List ℕ) (ls fresh : List (List ℕ)) → AreAskedInTurn a controlled leaving index ranges answers → numbers ≡ get_or leaving index []
-    → AreQuestionsOf a controlled numbers ls fresh → (rs : List QuestionRange) → rs ≡ ranges ++ range_with (length answers) (length fresh) ∷ []
+    → AreQuestionsOf a controlled numbers ls fresh → HaveFewInputs a controlled numbers
+    → (rs : List QuestionRange) → rs ≡ ranges ++ range_with (length answers) (length fresh) ∷ []
     → (xs : List (List ℕ)) → xs ≡ answers ++ fresh → AreAskedInTurn a controlled leaving (index + 1) rs xs
-turn_more a controlled leaving index ranges answers numbers ls fresh are here of rs rs_is xs xs_is =
+turn_more a controlled leaving index ranges answers numbers ls fresh are here of few rs rs_is xs xs_is =
     let counted : length answers ≡ 0 + class_count are.classes =
     ap length are.listed ∙ length-flat_map (λ (those : List (List ℕ)). those) are.classes ∙ omega arith in
     record {
@@ -242,7 +243,7 @@ turn_more a controlled leaving index ranges answers numbers ls fresh are here of
             sym (ap (λ n. get_or (are.classes ++ fresh ∷ []) n []) (same ∙ sym are.entries) ∙ get_or-append_seam are.classes fresh [] []) in
             subst (λ (classes : List (List ℕ)). AreClasses a controlled (get_or leaving state []) classes) last
             (subst (λ (list : List ℕ). AreClasses a controlled list fresh) (here ∙ ap (λ n. get_or leaving n []) (sym same))
-            (record { letters = ls; questions = of }))
+            (record { letters = ls; questions = of; few = few }))
         | inr apart ↦
             let earlier : state < index = omega (arith, below, apart) in
             subst (λ (classes : List (List ℕ)). AreClasses a controlled (get_or leaving state []) classes)
@@ -273,6 +274,18 @@ pub listed : (leaving : List (List ℕ)) (index : ℕ) (item numbers : List ℕ)
     → numbers ≡ get_or leaving index []
 listed leaving index item numbers below here is = is ∙ here ∙ item_is leaving index item [] below
 
+-- the classes of the first states
+classes_of : (a : Description) (controlled : List ℕ) (leaving : List (List ℕ)) (states : ℕ) (ranges : List QuestionRange) (answers : List (List ℕ))
+    → StatesLeave a leaving → states ≤ length leaving → (are : AreAskedInTurn a controlled leaving states ranges answers)
+    → AreClassesOf a controlled are.classes
+classes_of a controlled leaving states ranges answers leave within are state below =
+    let early : state < states = omega (arith, below, are.entries) in
+    record { numbers = get_or leaving state []; leave = leave.1 state (omega (arith, early, within)); are = are.each state early }
+
+counted : (a : Description) (controlled : List ℕ) (leaving : List (List ℕ)) (states : ℕ) (ranges : List QuestionRange) (answers : List (List ℕ))
+    → (are : AreAskedInTurn a controlled leaving states ranges answers) → length answers ≡ class_count are.classes
+counted a controlled leaving states ranges answers are = ap length are.listed ∙ length-flat_map (λ (those : List (List ℕ)). those) are.classes
+
 -- the first states have too many questions
 pub many : (a : Description) (controlled : List ℕ) (leaving : List (List ℕ)) (states : ℕ) (ranges : List QuestionRange) (answers : List (List ℕ))
     → StatesLeave a leaving → states ≤ length leaving → AreAskedInTurn a controlled leaving states ranges answers → most_nodes < length answers
@@ -280,20 +293,26 @@ pub many : (a : Description) (controlled : List ℕ) (leaving : List (List ℕ))
 many a controlled leaving states ranges answers leave within are more = record {
   classes = are.classes;
   few = omega (arith, are.entries, leave.0, within);
-  each = λ state below.
-      (let early : state < states = omega (arith, below, are.entries) in
-      record { numbers = get_or leaving state []; leave = leave.1 state (omega (arith, early, within)); are = are.each state early });
-  many = omega (arith, more, ap length are.listed, length-flat_map (λ (those : List (List ℕ)). those) are.classes);
+  each = classes_of a controlled leaving states ranges answers leave within are;
+  many = omega (arith, more, counted a controlled leaving states ranges answers are);
 }
 
--- what hinders the questions of a state hinders the rounds
-pub state_unmade : {X : Type 0} (a : Description) (controlled : List ℕ) (state : ℕ) (numbers : List ℕ) (r : Result X Refusal) → AllLeave a state numbers
-    → IfErr r (IsUnasked a controlled numbers) → IfErr r (IsUnmade a controlled)
-state_unmade a controlled state numbers (Ok x) leave refused = tt
-state_unmade a controlled state numbers (Err e) leave refused = go e refused
+-- what hinders the questions of the next state hinders the rounds
+pub state_unmade : (a : Description) (controlled : List ℕ) (leaving : List (List ℕ)) (states : ℕ) (ranges : List QuestionRange) (answers : List (List ℕ))
+    (numbers : List ℕ) (e : Refusal) → StatesLeave a leaving → states < length leaving → AreAskedInTurn a controlled leaving states ranges answers
+    → length answers ≤ most_nodes → numbers ≡ get_or leaving states [] → IsUnasked a controlled numbers e → IsUnmade a controlled e
+state_unmade a controlled leaving states ranges answers numbers e leave within are few here refused = go e refused
   where
     go : (e : Refusal) → IsUnasked a controlled numbers e → IsUnmade a controlled e
-    go (Task fault) asking = record { state = state; numbers = numbers; leave = leave; asking = asking }
+    go (Task fault) asking = record {
+      before = are.classes;
+      each = classes_of a controlled leaving states ranges answers leave (omega (arith, within)) are;
+      fit = omega (arith, few, counted a controlled leaving states ranges answers are);
+      numbers = numbers;
+      leave = subst (λ (n : ℕ). AreEdgesFrom a n numbers) (sym are.entries)
+          (subst (λ (list : List ℕ). AreEdgesFrom a states list) (sym here) (leave.1 states within));
+      asking = asking;
+    }
     go Memory asking = asking
     go (Text fault) asking = absurd asking
     go (Game fault) asking = absurd asking

@@ -85,11 +85,17 @@ pub record AreQuestionsOf (a : Description) (controlled numbers : List ℕ)
   pub least : (question : ℕ) → question < length letters
       → IsFirstLetter a controlled numbers (letter_of letters question)
 
--- the classes of the letters that the edges with these numbers answer, each given by those of the edges that answer it
+-- the labels of the edges with these numbers mention no more inputs than the limit
+abbrev pub HaveFewInputs : Description → List ℕ → List ℕ → Type 0
+HaveFewInputs a controlled numbers = length (inputs_of a controlled numbers) ≤ most_mentioned
+
+-- the classes of the letters that the edges with these numbers answer, each given by those of the edges that answer it;
+-- the labels mention few inputs
 pub record AreClasses (a : Description) (controlled numbers : List ℕ)
     (classes : List (List ℕ)) : Type 0 where
   pub letters : List (List ℕ)
   pub questions : AreQuestionsOf a controlled numbers letters classes
+  pub few : HaveFewInputs a controlled numbers
 
 -- how many classes states have, where each has these
 abbrev pub class_count : List (List (List ℕ)) → ℕ
@@ -112,12 +118,12 @@ abbrev pub IsSomeLetterUnanswered : Description → List ℕ → List ℕ → Re
 IsSomeLetterUnanswered a controlled numbers =
     or_task (IsSomeUnjudged a controlled numbers) (or_memory never)
 
--- the fault of the questions of a state that the edges with these numbers leave: too many inputs, or an edge that
+-- the fault of the questions of a state that the edges with these numbers leave: too many inputs, or else an edge that
 -- cannot be judged in some letter
 abbrev pub IsAskingFault : Description → List ℕ → List ℕ → TaskFault → Type 0
 IsAskingFault a controlled numbers fault =
     ((fault ≡ TooManyPropositions) × (most_mentioned < length (inputs_of a controlled numbers)))
-    ⊎ IsSomeUnjudged a controlled numbers fault
+    ⊎ (HaveFewInputs a controlled numbers × IsSomeUnjudged a controlled numbers fault)
 
 -- the refusal of the questions of a state
 abbrev pub IsUnasked : Description → List ℕ → List ℕ → Refusal → Type 0
@@ -203,14 +209,17 @@ pub record AreAskedByState (a : Description) (controlled : List ℕ) (rounds : R
   pub questions : rounds.questions ≡ flat_map (λ here. here) classes
   pub ranges : rounds.states ≡ ranges_from 0 classes
 
--- the fault of the questions of some state
+-- the fault of the questions of a state: all states before it have classes, which are not too many
 pub record IsMakingFault (a : Description) (controlled : List ℕ) (fault : TaskFault) : Type 0 where
-  pub state : ℕ
+  pub before : List (List (List ℕ))
+  pub each : AreClassesOf a controlled before
+  pub fit : class_count before ≤ most_nodes
   pub numbers : List ℕ
-  pub leave : AllLeave a state numbers
+  pub leave : AreEdgesFrom a (length before) numbers
   pub asking : IsAskingFault a controlled numbers fault
 
--- the refusal of the rounds: too many questions, the fault of the questions of a state, or want of memory
+-- the refusal of the rounds, in the order of the states: the fault of the questions of a state, or too many questions
+-- up to a state; or want of memory
 abbrev pub IsUnmade : Description → List ℕ → Refusal → Type 0
 IsUnmade a controlled =
     or_game (λ fault. (fault ≡ TooManyNodes) × HasManyQuestions a controlled)

@@ -5,7 +5,8 @@ ghost use Rattle.std.specs.Prelude.{IfErr, IfOk, IsOkUnless, OnOk, length};
 ghost use Rattle.omega_game_values.specs.Limits.{most_nodes};
 ghost use Rattle.omega_lang_runs.specs.Places.{ArePlaces};
 ghost use Rattle.omega_synth_game.specs.Making.{AllLeave, AreAskedInTurn, AreQuestionsOf};
-ghost use Rattle.omega_synth_game.specs.Making.{AreStatesAsked, IsUnmade, StatesLeave};
+ghost use Rattle.omega_synth_game.specs.Making.{AreStatesAsked, HaveFewInputs, IsUnasked, IsUnmade};
+ghost use Rattle.omega_synth_game.specs.Making.{StatesLeave};
 
 use crate::questions::{Questions, questions_of};
 use omega_game_values::MOST_NODES;
@@ -67,7 +68,8 @@ fn asked_in(
     requires leave { (state : ℕ) × AllLeave automaton.now state numbers.now }
     ensures questions { IfOk result (λ questions. AreQuestionsOf automaton.now controlled.now
         numbers.now questions.letters.items questions.answers.items) }
-    ensures refused { IfErr result (IsUnmade automaton.now controlled.now) }
+    ensures few { OnOk result (HaveFewInputs automaton.now controlled.now numbers.now) }
+    ensures refused { IfErr result (IsUnasked automaton.now controlled.now numbers.now) }
 {
     questions_of(alloc, automaton, places, numbers, controlled)
 }
