@@ -5,7 +5,7 @@ use Rattle.omega_hoa_automaton.specs.Automaton.{Description, IsAutomaton}
 use Rattle.omega_hoa_automaton.specs.Branching.{has_universal_branching}
 use Rattle.omega_synth_controllers.specs.Controllers.{Answers}
 use Rattle.omega_synth_game.proofs.Those.{those_members}
-use Rattle.omega_synth_game.specs.Making.{AreQuestionsOf}
+use Rattle.omega_synth_game.specs.Making.{AreQuestionsOf, HaveFewInputs}
 use Rattle.omega_synth_game.specs.RoundsOf.{holds_in, letter_of}
 use Rattle.omega_synth_check.specs.Judging.{IsAnswered}
 use Rattle.omega_synth_check.specs.private.Leaving.{AreLeavers}
@@ -44,7 +44,8 @@ module _ (a : Description) (automaton : IsAutomaton a) (plain : has_universal_br
       let step = answer_steps a automaton plain controlled state some.0 given ((leavers some.0).0 some.1) some.2 in
       record { number = some.0; next = step.0; step = step.1; answers = some.2 }
 
-  pub visited : (found : Option (List ℕ)) → ((letter : List ℕ) → found ≡ Some letter → NoneAnswers a controlled numbers letter)
+  pub visited : (found : Option (List ℕ)) → HaveFewInputs a controlled numbers
+      → ((letter : List ℕ) → found ≡ Some letter → NoneAnswers a controlled numbers letter)
       → (found ≡ None → (given : ℕ → Bool) → SomeAnswers a controlled numbers given) → IsVisited a controlled state found
-  visited None unanswered answered = answers_each (answered refl)
-  visited (Some letter) unanswered answered = lacks letter (unanswered letter refl)
+  visited None few unanswered answered = (answers_each (answered refl), record { numbers = numbers; leave = leavers; few = few })
+  visited (Some letter) few unanswered answered = lacks letter (unanswered letter refl)
