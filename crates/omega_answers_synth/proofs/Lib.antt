@@ -12,6 +12,7 @@ pub mod Reported
 pub mod ControllerStated
 pub mod Exact
 mod WhoWins
+mod Excluding
 pub mod GivenLetters
 pub mod Rows
 pub mod Numbers

@@ -6,6 +6,9 @@ use Rattle.omega_synth_controllers.specs.Controllable.{IsControlled}
 use Rattle.omega_synth_controllers.specs.Strategies.{Beats, Environment, Realizes, System}
 use Rattle.omega_synth_check.specs.Judging.{IsControllerFor}
 use Rattle.omega_synth_check.specs.Laws.{IsKeptPart}
+use Rattle.omega_synth_check.specs.Refusing.{AcceptsAll}
+use Rattle.omega_synth_controllers.specs.Controllers.{IsCounterStrategy}
+use Rattle.omega_hoa_edges.specs.Determinism.{IsDeterministic}
 use Rattle.omega_hoa.specs.Alone.{IsAutomatonText}
 use Rattle.omega_io.specs.declared.exit.Exit.{Exit}
 use Rattle.omega_io.specs.declared.exit.Exit.TheVariants.{Done, No}
@@ -18,6 +21,7 @@ use Rattle.omega_text.specs.Omniscience.{LimitedPrincipleOfOmniscience}
 use Rattle.omega_answers.specs.Answer.{IsYes}
 use Rattle.omega_answers_synth.specs.Decide.{IsDecisionAnswer}
 use Rattle.omega_answers_synth.specs.Letter.{letter_text}
+use Rattle.omega_answers_synth.specs.Parting.{IsParted, has_item}
 use Rattle.omega_answers_synth.specs.Verify.{IsControllerAnswer}
 use Rattle.omega_answers_synth.specs.Winner.{IsWinnerAnswer}
 
@@ -61,6 +65,26 @@ WinnerAnswersAreExact = LimitedPrincipleOfOmniscience → (text output : List �
     (a : Description) (controlled : List ℕ)
     → IsWinnerAnswer text exit output → IsAutomatonText text a → IsControlled a controlled
     → TellsWhoWins a controlled exit
+
+-- no automaton is a controller for a deterministic specification that has a counter-strategy, if the item of the
+-- specification says which propositions the system controls
+abbrev pub ControllersForExcludeCounterStrategies : Type 0
+ControllersForExcludeCounterStrategies =
+    (specification controller : Description) (controlled stated kept : List ℕ)
+    (letters : ℕ → ℕ → Bool) → IsAutomaton specification → IsDeterministic specification
+    → IsAutomaton controller → AcceptsAll controller
+    → IsParted specification controller controlled → has_item specification ≡ true
+    → IsControllerFor specification controller controlled → IsControlled specification stated
+    → IsCounterStrategy specification stated kept letters → ⊥
+
+-- so, by the limited principle of omniscience, `yes` is written of no automaton for a specification with the item of
+-- which `unrealizable` is written
+abbrev pub YesExcludesUnrealizable : Type 0
+YesExcludesUnrealizable = LimitedPrincipleOfOmniscience
+    → (file input output line : List ℕ) (explain : Bool) (exit other : Exit)
+    (specification : Description) → IsControllerAnswer file input explain exit output
+    → IsDecisionAnswer file other line → IsAutomatonText file specification
+    → has_item specification ≡ true → IsYes exit output → other ≡ No → ⊥
 
 -- the environment gives a letter: its propositions hold as the letter says
 abbrev pub GivesLetter : Description → (controlled letter : List ℕ) → (ℕ → Bool) → Type 0
