@@ -11,9 +11,10 @@ use Rattle.omega_synth_controllers.specs.Controllers.{Answers}
 use Rattle.omega_synth_rounds.specs.Extracting.{HaveSameNumbers}
 use Rattle.omega_synth_game.specs.Answering.{AreAnswersAmong, AreAnswersInOrder, HaveSameAnswers}
 use Rattle.omega_synth_game.specs.Classes.{inputs_of}
-use Rattle.omega_synth_game.specs.Firsts.{AreFirstPlaces, list_at}
+use Rattle.omega_synth_game.specs.private.Firsts.{AreFirstPlaces, list_at}
 use Rattle.omega_synth_game.specs.Letters.{holds_in, letter_numbered, letter_of}
-use Rattle.omega_synth_game.specs.Making.{AreAnswersByLetter, AreQuestionsOf}
+use Rattle.omega_synth_game.specs.Making.{AreQuestionsOf}
+use Rattle.omega_synth_game.specs.private.Making.{AreAnswersByLetter}
 use Rattle.omega_synth_game.specs.declared.questions.Questions.{Questions}
 use Rattle.omega_synth_game.proofs.Agreeing.{choice_same}
 use Rattle.omega_synth_game.proofs.Lettering.{numbered}

@@ -25,7 +25,7 @@ use Rattle.omega_lang_runs.proofs.Kept.{edge_kept, marks_are, marks_low}
 use Rattle.omega_lang_runs.proofs.SingleTargets.{EntersOne, enters_one}
 use Rattle.omega_synth_rounds.specs.Rounds.{no_edge}
 use Rattle.omega_synth_rounds.specs.declared.rounds.RoundEdge.{RoundEdge}
-use Rattle.omega_synth_game.specs.Making.{AreRoundEdges, IsRoundEdgeAt}
+use Rattle.omega_synth_game.specs.private.Making.{AreRoundEdges, IsRoundEdgeAt}
 use Rattle.omega_synth_game.specs.RoundsOf.{IsRoundEdgeOf}
 
 beyond_low : (count : ℕ) (xs : List ℕ) → All (λ mark. mark < count) xs → beyond xs ≤ count

@@ -20,7 +20,8 @@ use Rattle.omega_synth_rounds.specs.declared.rounds.RoundEdge.{RoundEdge}
 use Rattle.omega_synth_rounds.specs.declared.rounds.Rounds.{Rounds}
 use Rattle.omega_synth_game.specs.Classes.{AreEdgesFrom}
 use Rattle.omega_synth_game.specs.Laws.{IsParted}
-use Rattle.omega_synth_game.specs.Making.{AreAskedInTurn, AreClasses, AreClassesOf, AreLeaving, AreRoundEdges, AreStatesAsked, IsRoundEdgeAt}
+use Rattle.omega_synth_game.specs.Making.{AreClasses, AreClassesOf}
+use Rattle.omega_synth_game.specs.private.Making.{AreAskedInTurn, AreLeaving, AreRoundEdges, AreStatesAsked, IsRoundEdgeAt}
 use Rattle.omega_synth_game.specs.RoundsOf.{IsRoundEdgeOf}
 use Rattle.omega_synth_game.proofs.EdgesMade.{count_low, priority_low}
 use Rattle.omega_synth_game.proofs.Gathering.{range_with, states_more, states_none, turn_more, turn_none}

@@ -21,7 +21,8 @@ use Rattle.omega_synth_rounds.specs.declared.rounds.QuestionRange.{QuestionRange
 use Rattle.omega_synth_controllers.specs.Controllers.{Answers}
 use Rattle.omega_synth_game.specs.Answering.{AreAnswersAmong}
 use Rattle.omega_synth_game.specs.Classes.{AreEdgesFrom, IsFirstLetter}
-use Rattle.omega_synth_game.specs.Making.{AllLeave, AreAskedInTurn, AreClasses, AreClassesOf, AreQuestionsOf, AreStatesAsked, HasManyQuestions, HaveFewInputs, IsInRange, IsUnasked, IsUnmade, StatesLeave, class_count, range_of, ranges_from}
+use Rattle.omega_synth_game.specs.Making.{AllLeave, AreClasses, AreClassesOf, AreQuestionsOf, HasManyQuestions, HaveFewInputs, IsUnasked, IsUnmade, class_count, ranges_from}
+use Rattle.omega_synth_game.specs.private.Making.{AreAskedInTurn, AreStatesAsked, IsInRange, StatesLeave, range_of}
 use Rattle.omega_synth_game.specs.Letters.{holds_in, letter_of}
 use Rattle.omega_synth_game.proofs.Those.{those_members, those_rising}
 

@@ -11,7 +11,8 @@ use Rattle.omega_synth_rounds.specs.declared.rounds.RoundEdge.{RoundEdge}
 use Rattle.omega_synth_rounds.specs.declared.rounds.Rounds.{Rounds}
 use Rattle.omega_synth_game.specs.Classes.{AreEdgesFrom, IsLeaving}
 use Rattle.omega_synth_game.specs.Letters.{holds_in, letter_of}
-use Rattle.omega_synth_game.specs.Making.{AreAskedByState, AreAskedInTurn, AreLeaving, AreRoundEdges, AreStatesAsked, LeavesBelow, StatesLeave}
+use Rattle.omega_synth_game.specs.Making.{AreAskedByState}
+use Rattle.omega_synth_game.specs.private.Making.{AreAskedInTurn, AreLeaving, AreRoundEdges, AreStatesAsked, LeavesBelow, StatesLeave}
 use Rattle.omega_synth_game.specs.RoundsOf.{AreRoundsOf, IsAnswerOf}
 
 -- there is an edge of each number below the count

@@ -10,8 +10,4 @@ pub mod RoundsOf
 pub mod Laws
 pub mod Making
 pub mod Sizes
-pub mod Firsts
-pub mod Lanes
-pub mod EdgeWords
-pub mod Exclusive
 pub mod private

@@ -11,7 +11,7 @@ ghost use Rattle.omega_hoa_satisfiable.specs.Satisfiable.{each_once};
 ghost use Rattle.omega_hoa_satisfiable.specs.private.Words.{mask, pattern, top_word, word_among};
 ghost use Rattle.omega_hoa_satisfiable.specs.private.Words.{word_of, word_of_truth, words_after};
 ghost use Rattle.omega_synth_game.specs.Answering.{is_controlled};
-ghost use Rattle.omega_synth_game.specs.Lanes.{AreInputsFor, IsAnswerWord, IsFolded, most_free};
+ghost use Rattle.omega_synth_game.specs.private.Lanes.{AreInputsFor, IsAnswerWord, IsFolded, most_free};
 
 use crate::answering::is_among;
 use crate::inputs::letter_count;

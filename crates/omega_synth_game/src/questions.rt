@@ -5,10 +5,12 @@ ghost use Rattle.std.specs.Prelude.{OnOk, length, map};
 ghost use Rattle.omega_hoa_expression.specs.Limits.{most_mentioned};
 ghost use Rattle.omega_lang_runs.specs.Places.{ArePlaces};
 ghost use Rattle.omega_synth_game.specs.Classes.{inputs_of};
-ghost use Rattle.omega_synth_game.specs.Firsts.{list_at};
+ghost use Rattle.omega_synth_game.specs.private.Firsts.{list_at};
 ghost use Rattle.omega_synth_game.specs.Letters.{letter_numbered};
-ghost use Rattle.omega_synth_game.specs.Making.{AreAnswersByLetter, AreQuestionsOf, HaveFewInputs};
-ghost use Rattle.omega_synth_game.specs.Making.{IsSomeLetterUnanswered, IsUnasked};
+ghost use Rattle.omega_synth_game.specs.Making.{AreQuestionsOf, HaveFewInputs};
+ghost use Rattle.omega_synth_game.specs.private.Making.{AreAnswersByLetter};
+ghost use Rattle.omega_synth_game.specs.Making.{IsUnasked};
+ghost use Rattle.omega_synth_game.specs.private.Making.{IsSomeLetterUnanswered};
 
 use crate::edge_words::words_at;
 use crate::firsts::first_places;

@@ -4,9 +4,11 @@ ghost use Rattle.std.specs.Prelude.{◌≡◌, ◌+◌, ◌<◌, ◌≤◌, ◌+
 ghost use Rattle.std.specs.Prelude.{IfErr, IfOk, IsOkUnless, OnOk, length};
 ghost use Rattle.omega_game_values.specs.Limits.{most_nodes};
 ghost use Rattle.omega_lang_runs.specs.Places.{ArePlaces};
-ghost use Rattle.omega_synth_game.specs.Making.{AllLeave, AreAskedInTurn, AreQuestionsOf};
-ghost use Rattle.omega_synth_game.specs.Making.{AreStatesAsked, HaveFewInputs, IsUnasked, IsUnmade};
-ghost use Rattle.omega_synth_game.specs.Making.{StatesLeave};
+ghost use Rattle.omega_synth_game.specs.Making.{AllLeave, AreQuestionsOf};
+ghost use Rattle.omega_synth_game.specs.private.Making.{AreAskedInTurn};
+ghost use Rattle.omega_synth_game.specs.Making.{HaveFewInputs, IsUnasked, IsUnmade};
+ghost use Rattle.omega_synth_game.specs.private.Making.{AreStatesAsked};
+ghost use Rattle.omega_synth_game.specs.private.Making.{StatesLeave};
 
 use crate::questions::{Questions, questions_of};
 use omega_game_values::MOST_NODES;

@@ -6,7 +6,7 @@ use Rattle.omega_hoa_label.specs.Label.{propositions}
 use Rattle.omega_hoa_satisfiable.specs.Satisfiable.{each_once}
 use Rattle.omega_hoa_satisfiable.specs.private.Words.{propositions_of}
 use Rattle.omega_synth_game.specs.Answering.{is_controlled}
-use Rattle.omega_synth_game.specs.Lanes.{most_free}
+use Rattle.omega_synth_game.specs.private.Lanes.{most_free}
 use Rattle.omega_synth_game.proofs.lanes.inputs_and_free.Given as goal
 
 abbrev pub invariant-loop-node : goal.invariant-loop-node

@@ -2,7 +2,7 @@
 use Rattle.std.proofs.Common.{ℕ, List, length, sym, ap, subst, arith}
 use Rattle.omega_hoa_automaton.specs.Automaton.{edge_count}
 use Rattle.omega_synth_rounds.specs.declared.rounds.RoundEdge.{RoundEdge}
-use Rattle.omega_synth_game.specs.Making.{AreLeaving, AreRoundEdges, StatesLeave}
+use Rattle.omega_synth_game.specs.private.Making.{AreLeaving, AreRoundEdges, StatesLeave}
 use Rattle.omega_synth_game.proofs.Rounding.{gathered, states_leave}
 use Rattle.omega_synth_game.proofs.making.rounds_of.Goals as goal
 

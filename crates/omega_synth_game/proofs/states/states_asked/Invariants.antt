@@ -1,6 +1,6 @@
 use Rattle.std.proofs.Common.{◌≤◌, length}
 use Rattle.omega_game_values.specs.Limits.{most_nodes}
-use Rattle.omega_synth_game.specs.Making.{AreAskedInTurn, AreStatesAsked}
+use Rattle.omega_synth_game.specs.private.Making.{AreAskedInTurn, AreStatesAsked}
 use Rattle.omega_synth_game.proofs.states.states_asked.Given as goal
 
 abbrev pub invariant-loop-numbers : goal.invariant-loop-numbers
