@@ -3,5 +3,4 @@ pub mod About
 pub mod Chosen
 pub mod OneText
 pub mod Refusals
-pub mod Told
 pub mod TwoTexts

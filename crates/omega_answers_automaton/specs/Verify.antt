@@ -16,11 +16,11 @@ use Rattle.omega_lang_lasso_check.specs.Refusing.{RefusesToJudge}
 use Rattle.omega_lang_lasso_check.specs.declared.fault.LassoFault.{LassoFault}
 use Rattle.omega_lang_lasso_text.specs.Lines.{IsLassoLines, IsLassoLinesRefusal}
 use Rattle.omega_lang_lasso_text.specs.declared.lasso.LassoText.{LassoText}
-use Rattle.omega_answers.specs.Answer.{IsReply, no_for}
+use Rattle.omega_io.specs.Answer.{IsReply, no_for}
 use Rattle.omega_answers.specs.OneAutomaton.{IsRefusalOfText}
 use Rattle.omega_answers.specs.TwoTexts.{IsEitherRefused, OfBoth}
-use Rattle.omega_answers.specs.declared.answer.Answer.{Answer}
-use Rattle.omega_answers.specs.declared.answer.Answer.TheVariants.{Yes}
+use Rattle.omega_io.specs.declared.answer.Answer.{Answer}
+use Rattle.omega_io.specs.declared.answer.Answer.TheVariants.{Yes}
 
 -- the line that says a fault
 abbrev pub fault_line : LassoFault → List ℕ

@@ -2,7 +2,7 @@ ghost use Rattle.std.specs.Prelude.{◌≡◌, ◌++◌, false, IfErr, IfOk, IsO
 ghost use Rattle.omega_text.specs.Cases.{or_memory};
 ghost use Rattle.omega_hoa_automaton.specs.Branching.{has_universal_branching};
 ghost use Rattle.omega_lang_lasso_check.specs.Refusing.{IsJudgeRefusal};
-ghost use Rattle.omega_answers.specs.Answer.{explained};
+ghost use Rattle.omega_io.specs.Answer.{explained};
 ghost use Rattle.omega_answers.specs.OneAutomaton.{IsRefusalOfText};
 ghost use Rattle.omega_answers_automaton.specs.Verify.{IsLassoAnswer, IsLassoRefused, IsLassoVerdict};
 ghost use Rattle.omega_answers_automaton.specs.Verify.{IsPlainText, RefusesBranching};

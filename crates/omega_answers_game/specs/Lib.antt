@@ -19,3 +19,4 @@ pub mod Components
 pub mod LeastPriorityLaws
 pub mod Turning
 pub mod Winning
+pub use Rattle.omega_pg.specs.game.Refusing

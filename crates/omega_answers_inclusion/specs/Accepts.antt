@@ -12,11 +12,11 @@ use Rattle.omega_lang_inclusion.specs.Membership.{IsDecided, IsMembership}
 use Rattle.omega_lang_inclusion.specs.WordRefusing.{IsMembershipRefusal}
 use Rattle.omega_lang_inclusion.specs.declared.membership.Membership.{Membership}
 use Rattle.omega_lang_inclusion.specs.declared.membership.Membership.TheVariants.{Accepted, Rejected}
-use Rattle.omega_answers.specs.Answer.{IsReply, no_for}
+use Rattle.omega_io.specs.Answer.{IsReply, no_for}
 use Rattle.omega_answers.specs.Choice.{IsRefusedFor}
 use Rattle.omega_answers.specs.TwoTexts.{IsEitherRefused, OfBoth}
-use Rattle.omega_answers.specs.declared.answer.Answer.{Answer}
-use Rattle.omega_answers.specs.declared.answer.Answer.TheVariants.{Yes}
+use Rattle.omega_io.specs.declared.answer.Answer.{Answer}
+use Rattle.omega_io.specs.declared.answer.Answer.TheVariants.{Yes}
 
 -- the line of words
 abbrev pub word_line : List ℕ → List ℕ

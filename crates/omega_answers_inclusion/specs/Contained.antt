@@ -12,11 +12,11 @@ use Rattle.omega_lang_inclusion.specs.declared.containment.Containment.TheVarian
 use Rattle.omega_io.specs.declared.exit.Exit.{Exit}
 use Rattle.omega_io.specs.declared.refused.Refused.{Refused}
 use Rattle.omega_io.specs.declared.refused.Which.TheVariants.{File}
-use Rattle.omega_answers.specs.Answer.{IsReply, no_for}
+use Rattle.omega_io.specs.Answer.{IsReply, no_for}
 use Rattle.omega_answers.specs.Choice.{IsRefusedFor}
 use Rattle.omega_answers.specs.TwoAutomata.{IsRefusalOfTexts, OfAutomata}
-use Rattle.omega_answers.specs.declared.answer.Answer.{Answer}
-use Rattle.omega_answers.specs.declared.answer.Answer.TheVariants.{Yes}
+use Rattle.omega_io.specs.declared.answer.Answer.{Answer}
+use Rattle.omega_io.specs.declared.answer.Answer.TheVariants.{Yes}
 use Rattle.omega_answers_inclusion.specs.Example.{example_lines}
 
 -- `yes`, or `no`, explained by the counterexample

@@ -1,6 +1,6 @@
 ghost use Rattle.std.specs.Prelude.{◌≡◌, ◌++◌, IfErr, IfOk, IsOkUnless};
 ghost use Rattle.omega_lang_inclusion.specs.WordRefusing.{IsMembershipRefusal};
-ghost use Rattle.omega_answers.specs.Answer.{explained};
+ghost use Rattle.omega_io.specs.Answer.{explained};
 ghost use Rattle.omega_answers.specs.Choice.{IsRefusedFor};
 ghost use Rattle.omega_answers_inclusion.specs.Accepts.{IsAcceptsAnswer, IsAcceptsRefused};
 ghost use Rattle.omega_answers_inclusion.specs.Accepts.{IsMembershipVerdict, membership_answer, word_line};

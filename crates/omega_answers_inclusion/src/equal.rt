@@ -2,7 +2,7 @@ ghost use Rattle.std.specs.Prelude.{◌≡◌, IfErr, IfOk, IsOkUnless, OnOk};
 ghost use Rattle.omega_lang_inclusion.specs.Containing.{IsContainment};
 ghost use Rattle.omega_lang_inclusion.specs.Equality.{AreEquatable, IsEquality};
 ghost use Rattle.omega_lang_inclusion.specs.Refusing.{AreComparable};
-ghost use Rattle.omega_answers.specs.Answer.{IsReply};
+ghost use Rattle.omega_io.specs.Answer.{IsReply};
 ghost use Rattle.omega_answers_inclusion.specs.Equal.{IsEqualAnswer, IsEqualRefused};
 ghost use Rattle.omega_answers_inclusion.specs.Equal.{IsEqualityRefused, IsEqualityVerdict, equality_answer};
 

@@ -1,5 +1,5 @@
 ghost use Rattle.std.specs.Prelude.{◌≡◌, ◌++◌, IfOk, IsOkUnless, OnOk};
-ghost use Rattle.omega_answers.specs.Answer.{explained};
+ghost use Rattle.omega_io.specs.Answer.{explained};
 ghost use Rattle.omega_answers_inclusion.specs.Example.{example_lines};
 
 use omega_lang_inclusion::Counterexample;

@@ -10,3 +10,4 @@ pub mod Asking
 pub mod Several
 pub mod Telling
 pub mod private
+pub use Rattle.omega_hoa.specs.Stream

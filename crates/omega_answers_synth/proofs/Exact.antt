@@ -8,7 +8,7 @@ use Rattle.omega_synth_check.specs.declared.judgement.Judgement.{Judgement}
 use Rattle.omega_synth_check.specs.declared.judgement.Judgement.TheVariants.{Controls, NoStart, NotAccepted, Unanswered}
 use Rattle.omega_hoa.specs.Laws.{AutomataAreOne}
 use Rattle.omega_io.specs.declared.exit.Exit.TheVariants.{Done, No}
-use Rattle.omega_answers.specs.Answer.{answer_text, exit_of}
+use Rattle.omega_io.specs.Answer.{answer_text, exit_of}
 use Rattle.omega_answers_synth.specs.Laws.{ControllerAnswersAreExact}
 use Rattle.omega_answers_synth.specs.Reason.{judgement_answer}
 use Rattle.omega_answers_synth.proofs.ControllerStated.{controlled_one}

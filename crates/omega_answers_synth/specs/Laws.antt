@@ -18,7 +18,7 @@ use Rattle.omega_synth_game.specs.RoundsOf.{holds_in}
 use Rattle.omega_synth_text.specs.Reaching.{TellsReached}
 use Rattle.omega_synth_text.specs.Winner.{winner}
 use Rattle.omega_text.specs.Omniscience.{LimitedPrincipleOfOmniscience}
-use Rattle.omega_answers.specs.Answer.{IsYes}
+use Rattle.omega_io.specs.Answer.{IsYes}
 use Rattle.omega_answers_synth.specs.Decide.{IsDecisionAnswer}
 use Rattle.omega_answers_synth.specs.Letter.{letter_text}
 use Rattle.omega_answers_synth.specs.Parting.{IsParted, has_item}

@@ -6,9 +6,9 @@ use Rattle.omega_synth_check.specs.declared.judgement.Judgement.{Judgement}
 use Rattle.omega_synth_check.specs.declared.judgement.Judgement.TheVariants.{Controls, NoStart, NotAccepted}
 use Rattle.omega_synth_check.specs.declared.judgement.Judgement.TheVariants.{Unanswered}
 use Rattle.omega_synth_check.specs.declared.judgement.Lack.{Lack}
-use Rattle.omega_answers.specs.Answer.{no_for}
-use Rattle.omega_answers.specs.declared.answer.Answer.{Answer}
-use Rattle.omega_answers.specs.declared.answer.Answer.TheVariants.{Yes}
+use Rattle.omega_io.specs.Answer.{no_for}
+use Rattle.omega_io.specs.declared.answer.Answer.{Answer}
+use Rattle.omega_io.specs.declared.answer.Answer.TheVariants.{Yes}
 use Rattle.omega_lang_lasso_text.specs.Written.{numbers_text}
 use Rattle.omega_answers_synth.specs.Letter.{letter_text}
 

@@ -16,7 +16,7 @@ use Rattle.omega_io.specs.Refused.{about_none}
 use Rattle.omega_io.specs.declared.refused.Refused.{Refused}
 use Rattle.omega_io.specs.declared.refused.Which.{Which}
 use Rattle.omega_io.specs.declared.refused.Which.TheVariants.{File, Input}
-use Rattle.omega_answers.specs.Answer.{IsReply}
+use Rattle.omega_io.specs.Answer.{IsReply}
 use Rattle.omega_answers.specs.TwoAutomata.{IsRefusalOfTexts, OfAutomata}
 use Rattle.omega_answers_synth.specs.Parting.{AreAlike, IsParted, has_item}
 use Rattle.omega_answers_synth.specs.Reason.{judgement_answer}

@@ -1,7 +1,7 @@
 //! What is written of a judgement.
 
 ghost use Rattle.std.specs.Prelude.{◌≡◌, ◌++◌, IfOk, IsOkUnless, OnOk, codes};
-ghost use Rattle.omega_answers.specs.Answer.{explained};
+ghost use Rattle.omega_io.specs.Answer.{explained};
 ghost use Rattle.omega_answers_synth.specs.Reason.{judgement_answer, lack_lines};
 
 use crate::letter::write_letter;

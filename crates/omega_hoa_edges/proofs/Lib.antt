@@ -16,3 +16,4 @@ pub mod Full
 pub mod Judged
 pub mod Rows
 pub mod StateNumbers
+pub mod Summarized

@@ -12,5 +12,6 @@ pub mod Letters
 pub mod Judged
 pub mod Determinism
 pub mod Refusing
+pub mod Summaries
 pub use Rattle.omega_text.specs.Cases
 pub use Rattle.omega_text.specs.Refusal

@@ -1,15 +1,14 @@
 //! Whether two labels can be true together.
 
-ghost use Rattle.std.specs.Prelude.{◌↔◌, IsTrue, IfErr, IfOk, IfSome, OnOk};
+ghost use Rattle.std.specs.Prelude.{◌↔◌, IsTrue, IfErr, IfOk, OnOk};
 ghost use Rattle.omega_hoa_label.specs.Label.{conjunction};
 ghost use Rattle.omega_hoa_label.specs.Shape.{FitsALabel};
 ghost use Rattle.omega_hoa_satisfiable.specs.Satisfiable.{IsSatisfiable};
-ghost use Rattle.omega_hoa_satisfiable.specs.Tables.{IsTruthTable};
 ghost use Rattle.omega_hoa_edges.specs.Fitting.{IsUnjudged};
 
 use crate::fitting::fitting_conjunction;
 use omega_hoa_label::Label;
-use omega_hoa_satisfiable::{TruthTable, is_satisfiable, satisfiable_together};
+use omega_hoa_satisfiable::{is_satisfiable, satisfiable_together};
 use omega_text::Refusal;
 use std::alloc::Global;
 
@@ -32,18 +31,6 @@ pub fn can_hold_together(alloc: Global, one: &Label, other: &Label) -> Result<bo
         can_small_hold(alloc, one, other)
     } else {
         can_conjunction_hold(alloc, one, other)
-    }
-}
-
-/// Returns the truth table of a label with at most 127 atoms and operators, or none if it mentions a proposition from
-/// six on. Two labels with tables are together never too deep nor too large, so that their tables alone judge them.
-pub fn table_of(label: &Label) -> Option<TruthTable>
-    ensures { IfSome result (IsTruthTable label.now) }
-{
-    if label.size() <= MOST_SMALL {
-        TruthTable::of(label)
-    } else {
-        None
     }
 }
 

@@ -2,9 +2,11 @@
 pub mod Branching
 pub mod Cubes
 pub mod Leading
+pub mod LiteralBits
 pub mod Parities
 pub mod Parts
 pub mod Remaining
 pub mod TruthTables
 pub mod Valuations
+pub mod WideTables
 pub mod WordLemmas

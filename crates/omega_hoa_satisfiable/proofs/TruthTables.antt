@@ -14,11 +14,11 @@ use Rattle.omega_hoa_satisfiable.specs.private.Words.{is_few, propositions_of, w
 use Rattle.omega_hoa_satisfiable.proofs.Valuations.{among, mask-bit, number_of, number_of-lt, truth-agree, word_among-bit}
 use Rattle.omega_hoa_satisfiable.proofs.WordLemmas.{held_in, lane-off, lane-on, on, on-and, on-word_of}
 
-both-true : (a b : Bool) → (a && b) ≡ true → (a ≡ true) × (b ≡ true)
+pub both-true : (a b : Bool) → (a && b) ≡ true → (a ≡ true) × (b ≡ true)
 both-true true b is = (refl, is)
 both-true false b is = absurd (false≢true is)
 
-true-both : (a b : Bool) → a ≡ true → b ≡ true → (a && b) ≡ true
+pub true-both : (a b : Bool) → a ≡ true → b ≡ true → (a && b) ≡ true
 true-both true b is is-b = is-b
 true-both false b is is-b = absurd (false≢true is)
 
@@ -27,7 +27,7 @@ abbrev pub six : List ℕ
 six = 0 ∷ 1 ∷ 2 ∷ 3 ∷ 4 ∷ 5 ∷ []
 
 -- what all numbers of a list are, one of them is
-all-among : (test : ℕ → Bool) (number : ℕ) (numbers : List ℕ) → list_all test numbers ≡ true → among number numbers ≡ true → test number ≡ true
+pub all-among : (test : ℕ → Bool) (number : ℕ) (numbers : List ℕ) → list_all test numbers ≡ true → among number numbers ≡ true → test number ≡ true
 all-among test number [] all is = absurd (false≢true is)
 all-among test number (next ∷ rest) all is = elim (or_cases (eqb next number) (among number rest) is) [
   | inl here ↦ ap test (sym (eqb-true next number here)) ∙ (both-true (test next) (list_all test rest) all).0

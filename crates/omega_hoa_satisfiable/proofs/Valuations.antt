@@ -104,14 +104,14 @@ number_of-lt held [] = omega arith
 number_of-lt held (next ∷ rest) = omega (arith, number_of-lt held rest, digit-lt (held next), pow-suc 2 (length rest))
 
 -- the lowest bit is the first proposition's
-number_of-lowest : (held : ℕ → Bool) (next : ℕ) (rest : List ℕ) → eqb (bit_at (number_of held (next ∷ rest)) 0) 1 ≡ held next
+pub number_of-lowest : (held : ℕ → Bool) (next : ℕ) (rest : List ℕ) → eqb (bit_at (number_of held (next ∷ rest)) 0) 1 ≡ held next
 number_of-lowest held next rest =
     let small = digit-lt (held next) in
     let low : number_of held (next ∷ rest) % 2 ≡ digit (held next) = omega arith in
     ap (λ bit. eqb bit 1) (bit_at_lowest (number_of held (next ∷ rest)) ∙ low) ∙ digit-is (held next)
 
 -- the others are those of the propositions after it
-number_of-higher : (held : ℕ → Bool) (next : ℕ) (rest : List ℕ) (place : ℕ)
+pub number_of-higher : (held : ℕ → Bool) (next : ℕ) (rest : List ℕ) (place : ℕ)
     → bit_at (number_of held (next ∷ rest)) (suc place) ≡ bit_at (number_of held rest) place
 number_of-higher held next rest place =
     let small = digit-lt (held next) in
@@ -129,7 +129,7 @@ mask-bit (suc (suc (suc (suc (suc zero))))) lane low within = agree_below_at (λ
 mask-bit (suc (suc (suc (suc (suc (suc place)))))) lane low within = absurd (omega arith)
 
 -- the lane of a valuation has the bit of the valuation's number
-pattern-bit : (valuation place : ℕ) → on (pattern (valuation / 64) place) (valuation % 64) ≡ on valuation place
+pub pattern-bit : (valuation place : ℕ) → on (pattern (valuation / 64) place) (valuation % 64) ≡ on valuation place
 pattern-bit valuation place =
     let split : valuation ≡ valuation / 64 * 2 ^ 6 + valuation % 64 = omega arith in
     let within : valuation % 64 < 64 = omega arith in

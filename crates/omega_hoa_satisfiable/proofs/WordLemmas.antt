@@ -134,7 +134,7 @@ on-and-bits (suc (suc p)) q a b = absurd (omega arith)
 on-and-bits zero (suc (suc q)) a b = absurd (omega arith)
 on-and-bits (suc zero) (suc (suc q)) a b = absurd (omega arith)
 
-on-or-bits : (p q : ℕ) → p < 2 → q < 2 → eqb (max p q) 1 ≡ (eqb p 1 || eqb q 1)
+pub on-or-bits : (p q : ℕ) → p < 2 → q < 2 → eqb (max p q) 1 ≡ (eqb p 1 || eqb q 1)
 on-or-bits zero zero a b = refl
 on-or-bits zero (suc zero) a b = refl
 on-or-bits (suc zero) zero a b = refl

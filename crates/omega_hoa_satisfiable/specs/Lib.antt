@@ -2,6 +2,7 @@
 pub mod Cubes
 pub mod Laws
 pub mod Limits
+pub mod Literals
 pub mod Satisfiable
 pub mod Tables
 pub mod Undecided

@@ -5,6 +5,8 @@ pub mod Branching
 pub mod Leading
 pub mod Encoding
 pub mod Pending
+pub mod ReadLiterals
 pub mod Remaining
 pub mod Visits
+pub mod WideWords
 pub mod Words

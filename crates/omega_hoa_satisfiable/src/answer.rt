@@ -7,6 +7,7 @@ ghost use Rattle.omega_hoa_satisfiable.specs.Undecided.{GivesUpOn, IsHard, IsUnd
 
 use crate::encoding::append_label;
 use crate::exits::Exits;
+use crate::literals::Literals;
 use crate::satisfying::satisfiable;
 use crate::search::search;
 use crate::steps::{DONE, STUCK, first_steps};
@@ -16,15 +17,19 @@ use std::alloc::Global;
 
 /// Whether some set of propositions makes `label` true.
 ///
-/// A label that mentions at most `MOST_MENTIONED` propositions is judged by [`satisfiable`], without memory. For others
-/// a DPLL-like search assumes the first literal that it needs and goes on; if this fails it backtracks. It visits at
-/// most [`MOST_VISITED`](crate::MOST_VISITED) steps. It needs at most two for each literal of the label's disjunctive
-/// normal form, and one more. Fails with [`TaskFault::TooManyPropositions`] if the steps do not suffice. They do for
-/// each label that is in that form ([`normal_forms_are_decided`](crate::normal_forms_are_decided)).
+/// A conjunction of literals over the propositions below 64 is judged by their bits, and any other label that mentions
+/// at most `MOST_MENTIONED` propositions by [`satisfiable`]; both take no memory. For others a DPLL-like search assumes
+/// the first literal that it needs and goes on; if this fails it backtracks. It visits at most
+/// [`MOST_VISITED`](crate::MOST_VISITED) steps. It needs at most two for each literal of the label's disjunctive normal
+/// form, and one more. Fails with [`TaskFault::TooManyPropositions`] if the steps do not suffice. They do for each label
+/// that is in that form ([`normal_forms_are_decided`](crate::normal_forms_are_decided)).
 pub fn is_satisfiable(alloc: Global, label: &Label) -> Result<bool, Refusal>
     ensures ok { IfOk result (λ possible. IsTrue possible ↔ IsSatisfiable label.now) }
     ensures err { IfErr result (IsUndecidedLabel label.now) }
 {
+    if let Some(literals) = Literals::of(label) {
+        return Ok(literals.can_hold());
+    }
     match satisfiable(label) {
         Ok(possible) => Ok(possible),
         Err(_) => match answer_by_search(alloc, label)? {

@@ -76,7 +76,11 @@ fn append_constant(value: bool, part: LabelPart, steps: &mut Vec<Step>) -> Resul
 }
 
 /// Appends the step of the literal of `proposition` as `part`, and returns its place.
-fn append_literal(proposition: u32, part: LabelPart, steps: &mut Vec<Step>) -> Result<usize, Refusal>
+fn append_literal(
+    proposition: u32,
+    part: LabelPart,
+    steps: &mut Vec<Step>,
+) -> Result<usize, Refusal>
     requires planned { ArePlanned steps.old.items }
     requires exits { AreExits steps.old.items part.exits }
     ensures ok { IfOk result (IsEncoded steps.old.items steps.new.items

@@ -48,6 +48,16 @@ impl Mentioned {
         Mentioned { numbers, count: 6 }
     }
 
+    /// Makes the set of the propositions below twelve.
+    pub(crate) fn first_twelve() -> Self
+        ensures { result ≡ 0 ∷ 1 ∷ 2 ∷ 3 ∷ 4 ∷ 5 ∷ 6 ∷ 7 ∷ 8 ∷ 9 ∷ 10 ∷ 11 ∷ [] }
+    {
+        Mentioned {
+            numbers: [0, 1, 2, 3, 4, 5, 6, 7, 8, 9, 10, 11],
+            count: 12,
+        }
+    }
+
     /// Returns the number of propositions.
     pub(crate) fn len(&self) -> usize
         ensures len { result ≡ length self.now }

@@ -49,7 +49,7 @@ impl TruthTable {
 }
 
 /// Returns the bits that are set in both words.
-fn bits_in_both(one: u64, other: u64) -> u64
+pub(crate) fn bits_in_both(one: u64, other: u64) -> u64
     ensures { result ≡ bit_and one other }
 {
     one & other

@@ -1,2 +1,3 @@
 -- Lemmas by theme.
+pub mod Told
 pub mod Transfers

@@ -2,6 +2,7 @@
 pub use Rattle.omega_text.specs.Cases
 pub use Rattle.omega_text.specs.Limits
 pub use Rattle.omega_text.specs.Refusal
+pub mod Answer
 pub mod Exit
 pub mod Failures
 pub mod Lines

@@ -1,9 +1,10 @@
-//! Inputs and outputs of the program, with their failures counted and why they came, and reports of how it ended: exit
-//! statuses, the lines of refusals, and the text or file that a refusal is about.
+//! Inputs and outputs of the program, with their failures counted and why they came, and reports of how it ended: answers of
+//! yes or no, exit statuses, the lines of refusals, and the text or file that a refusal is about.
 //!
 //! docs/formats.md says when each `Refusal` comes.
 #![tactic(auto)]
 
+mod answer;
 mod exit;
 mod failure;
 mod input;
@@ -17,6 +18,7 @@ mod refused;
 mod unread;
 mod writing;
 
+pub use answer::Answer;
 pub use exit::{Exit, exit_code};
 pub use failure::{Failure, failure_of};
 pub use input::{FromRead, Input};

@@ -1,29 +1,27 @@
-//! Edges with the truth tables of their labels, by which most pairs of edges are judged.
+//! Edges with what is known of their labels, by which most pairs of edges are judged.
 
-ghost use Rattle.std.specs.Prelude.{◌≡◌, IfErr, IfOk, IfSome};
+ghost use Rattle.std.specs.Prelude.{◌≡◌, IfErr, IfOk, IsOkUnless};
 ghost use Rattle.omega_text.specs.Cases.{never, or_memory, or_task};
-ghost use Rattle.omega_hoa_satisfiable.specs.Tables.{IsTruthTable};
+ghost use Rattle.omega_hoa_edges.specs.Summaries.{IsSummaryOf};
 ghost use Rattle.omega_lang_product.specs.Pairs.{can_meet};
 ghost use Rattle.omega_lang_product.specs.private.Meeting.{IsUnmet};
 
 use crate::transition::Transition;
-use omega_hoa_edges::{can_hold_together, table_of};
+use omega_hoa_edges::{LabelSummary, can_summaries_meet};
 use omega_hoa_label::Label;
-use omega_hoa_satisfiable::TruthTable;
 use omega_text::Refusal;
 use std::alloc::Global;
 use std::marker::Model;
 
-/// An edge with the truth table of its label, if that is small and mentions few propositions. Contracts see the edge.
+/// An edge with what is known of its label. Contracts see the edge.
 #[derive(Debug, Drop)]
 pub(crate) struct Tabled {
     transition: Transition,
-    table: Option<TruthTable>,
+    summary: LabelSummary,
 }
 
 impl Model for Tabled {
-    ghost use Rattle.std.specs.Prelude.{IfSome};
-    ghost use Rattle.omega_hoa_satisfiable.specs.Tables.{IsTruthTable};
+    ghost use Rattle.omega_hoa_edges.specs.Summaries.{IsSummaryOf};
     ghost use Rattle.omega_lang_product.specs.contracts.transition.Transition as seen_transition;
     ghost use Rattle.omega_lang_product.specs.declared.transition.Transition.{Transition};
 
@@ -33,16 +31,20 @@ impl Model for Tabled {
 
     ghost view = { λ t. t.transition };
 
-    ghost invariant = { λ t. IfSome t.table (IsTruthTable t.transition.label) };
+    ghost invariant = { λ t. IsSummaryOf t.transition.label t.summary };
 }
 
 impl Tabled {
-    /// Adds the truth table of its label to an edge.
-    pub(crate) fn of(transition: Transition) -> Tabled
-        ensures { result ≡ transition }
+    /// Adds to an edge what is known of its label.
+    pub(crate) fn of(alloc: Global, transition: Transition) -> Result<Tabled, Refusal>
+        ensures edge { IfOk result (λ edge. edge ≡ transition) }
+        ensures memory { IsOkUnless result Refusal.Memory }
     {
-        let table = table_of(&transition.label);
-        Tabled { transition, table }
+        let summary = LabelSummary::of(alloc, &transition.label)?;
+        Ok(Tabled {
+            transition,
+            summary,
+        })
     }
 
     /// Returns the label.
@@ -72,38 +74,21 @@ impl Tabled {
         ensures ok { IfOk result (λ meets. meets ≡ can_meet self.now other.now) }
         ensures err { IfErr result (or_task (IsUnmet self.now other.now) (or_memory never)) }
     {
-        match self.meets_by_table(other) {
-            Some(meets) => Ok(meets),
-            None => self.judged_with(alloc, other),
-        }
-    }
-
-    /// Whether it can be taken together with `other`, if both have truth tables.
-    fn meets_by_table(&self, other: &Tabled) -> Option<bool>
-        ensures { IfSome result (λ meets. meets ≡ can_meet self.now other.now) }
-    {
-        let Some(table) = self.known_table() else {
-            return None;
-        };
-        let Some(table_of_other) = other.known_table() else {
-            return None;
-        };
-        Some(table.meets(table_of_other))
-    }
-
-    /// Returns the truth table of its label, if it is known.
-    fn known_table(&self) -> Option<TruthTable>
-        ensures { IfSome result (IsTruthTable self.now.label) }
-    {
-        self.table
-    }
-
-    /// Whether it can be taken together with `other`, judged by the labels of both.
-    fn judged_with(&self, alloc: Global, other: &Tabled) -> Result<bool, Refusal>
-        ensures ok { IfOk result (λ meets. meets ≡ can_meet self.now other.now) }
-        ensures err { IfErr result (or_task (IsUnmet self.now other.now) (or_memory never)) }
-    {
-        let possible = can_hold_together(alloc, self.label(), other.label())?;
+        let (one, another) = (self.label(), other.label());
+        let possible = can_summaries_meet(
+            alloc,
+            one,
+            self.label_summary(),
+            another,
+            other.label_summary(),
+        )?;
         Ok(possible)
+    }
+
+    /// Returns what is known of its label.
+    fn label_summary(&self) -> &LabelSummary
+        ensures { IsSummaryOf self.now.label result.now }
+    {
+        &self.summary
     }
 }

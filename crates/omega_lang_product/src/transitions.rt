@@ -30,7 +30,8 @@ pub(crate) fn transitions_of(
     for at in 0..state.edges.len() {
         let edge = state.edges.edge(at);
         let transition = transition_of(alloc, state, &edge, at, renumbering)?;
-        row.push(Tabled::of(transition))?;
+        let tabled = Tabled::of(alloc, transition)?;
+        row.push(tabled)?;
     }
     Ok(Seq::from_vec(row))
 }

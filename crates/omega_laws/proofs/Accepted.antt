@@ -26,7 +26,7 @@ use Rattle.omega_lang_inclusion.specs.WordRefusing.{IsMembershipRefusal}
 use Rattle.omega_lang_inclusion.specs.declared.membership.Membership.{Membership}
 use Rattle.omega_lang_inclusion.specs.declared.membership.Membership.TheVariants.{Accepted, Rejected}
 use Rattle.omega_lang_inclusion.proofs.Going.{goes_along}
-use Rattle.omega_answers.specs.Answer.{IsReply, IsYes}
+use Rattle.omega_io.specs.Answer.{IsReply, IsYes}
 use Rattle.omega_answers.proofs.Chosen.{chosen, told_refusal}
 use Rattle.omega_answers_inclusion.specs.Accepts.{IsAcceptsAnswer, IsAcceptsRefused, IsMembershipVerdict, membership_answer}
 use Rattle.omega_laws.specs.WrittenWords.{IsOpenChoice, IsWrittenWord, WrittenWordsAreAccepted}

@@ -4,7 +4,7 @@ use Rattle.omega_hoa_syntax.specs.declared.header_value.HeaderValue.TheVariants 
 use Rattle.omega_hoa_automaton.specs.Automaton.{Description, IsAutomaton}
 use Rattle.omega_hoa_automaton.specs.Laws.{MeaningsAreAutomata}
 use Rattle.omega_synth_controllers.specs.Controllable.{IsControlled}
-use Rattle.omega_answers.specs.Answer.{IsYes, answer_text, exit_of}
+use Rattle.omega_io.specs.Answer.{IsYes, answer_text, exit_of}
 use Rattle.omega_answers_synth.specs.Laws.{WrittenControllersAreParts}
 use Rattle.omega_answers_synth.specs.Reason.{judgement_answer}
 use Rattle.omega_answers_synth.specs.Verify.{IsControllerAnswer}

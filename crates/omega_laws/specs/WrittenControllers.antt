@@ -9,7 +9,7 @@ use Rattle.omega_io.specs.declared.exit.Exit.TheVariants.{Done}
 use Rattle.omega_io.specs.declared.refused.Refused.{Refused}
 use Rattle.omega_text.specs.Omniscience.{LimitedPrincipleOfOmniscience}
 use Rattle.omega_answers_synth.specs.Winner.{IsWinnerAnswer}
-use Rattle.omega_answers.specs.Answer.{IsYes}
+use Rattle.omega_io.specs.Answer.{IsYes}
 use Rattle.omega_answers_synth.specs.Verify.{IsControllerAnswer, IsControllerRefused}
 
 -- a text is what is written of a specification as a controller, and it is within the limit of texts

@@ -16,7 +16,7 @@ use Rattle.omega_lang_lasso_word.specs.declared.symbolic_word.SymbolicWord.{Symb
 use Rattle.omega_lang_word_text.specs.Text.{IsWordRefusal, IsWordText}
 use Rattle.omega_lang_inclusion.specs.OneWord.{HasOpenLetter}
 use Rattle.omega_lang_inclusion.specs.WordRefusing.{HasChoice}
-use Rattle.omega_answers.specs.Answer.{IsYes}
+use Rattle.omega_io.specs.Answer.{IsYes}
 use Rattle.omega_answers_inclusion.specs.Accepts.{IsAcceptsAnswer, IsAcceptsRefused}
 
 -- of a lasso the line `word` is wanted, and not that of its run

@@ -10,7 +10,7 @@ use Rattle.omega_cli_command.specs.declared.other.Other.{Other}
 use Rattle.omega_cli_command.specs.declared.stream.Stream.{Stream}
 use Rattle.omega_cli_command.specs.declared.two_texts.TwoTexts.{TwoTexts}
 use Rattle.omega_cli_command.specs.declared.two_texts.TwoTexts.TheVariants.{ContainedStream}
-use Rattle.omega_hoa.specs.Alone.{IsAutomatonRefusal}
+use Rattle.omega_answers.specs.Alone.{IsAutomatonRefusal}
 use Rattle.omega_answers_stream_questions.specs.Contained as stream
 use Rattle.omega_io.specs.declared.exit.Exit.{Exit}
 use Rattle.omega_io.specs.declared.refused.Refused.{Refused}

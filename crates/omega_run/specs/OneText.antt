@@ -1,7 +1,7 @@
 -- What each command answers to its one text, and why it refuses it.
 use Rattle.std.specs.Prelude.{◌≡◌, Bool, false, true, List, Option, Some, None, Result, Ok, Err, ℕ}
 use Rattle.omega_text.specs.declared.refusal.Refusal.{Refusal}
-use Rattle.omega_pg.specs.game.Refusing.{IsRefusal}
+use Rattle.omega_answers_game.specs.Refusing.{IsRefusal}
 use Rattle.omega_game_values.specs.declared.player.Player.{Player}
 use Rattle.omega_cli_command.specs.declared.one_text.OneText.{OneText}
 use Rattle.omega_cli_command.specs.declared.one_text.OneText.TheVariants.{Canon, CanonLeast, CanonPart}
@@ -36,7 +36,7 @@ use Rattle.omega_answers_synth.specs.Decide.{IsDecisionAnswer}
 use Rattle.omega_answers_synth.specs.Game.{IsGameAnswer, IsGameRefusal}
 use Rattle.omega_answers_synth.specs.Refusing.{IsRealizeRefusal}
 use Rattle.omega_answers_synth.specs.Winner.{IsWinnerAnswer}
-use Rattle.omega_hoa.specs.Alone.{IsAutomatonRefusal}
+use Rattle.omega_answers.specs.Alone.{IsAutomatonRefusal}
 use Rattle.omega_solve.specs.Limits.{most_lifts}
 
 -- for which players a game is solved: for one, or for both if none is named

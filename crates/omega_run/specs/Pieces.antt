@@ -22,7 +22,7 @@ abbrev pub IsStreamRefusal : Stream → ℕ → (unread_before unread_after : Op
     → Refusal → Type 0
 IsStreamRefusal stream budget unread_before unread_after = or_memory (or_io
     (λ refusal.
-        ReadsText unread_before unread_after (λ text. AnswersStream stream budget text (Err refusal))))
+    ReadsText unread_before unread_after (λ text. AnswersStream stream budget text (Err refusal))))
 
 -- the whole input was read, and the whole answer to it was written
 abbrev pub Completes : Stream → ℕ → Streams → Streams → Exit → Type 0

@@ -14,7 +14,7 @@ use Rattle.omega_answers_stream_questions.specs.Items.{exit_for}
 use Rattle.omega_answers_stream_questions.specs.Empty.{AreLiftingAnswers, AreSearchAnswers}
 use Rattle.omega_answers_stream_questions.specs.Empty.{IsLiftingStreamRefusal, IsSearchStreamRefusal}
 use Rattle.omega_answers_stream_questions.specs.Trim.{AreTrimAnswers, IsTrimStreamRefusal}
-use Rattle.omega_hoa.specs.Stream.{IsStreamRefusal}
+use Rattle.omega_answers_stream.specs.Stream.{IsStreamRefusal}
 use Rattle.omega_run.specs.OneText.{Concludes, Replies, lines_for}
 
 -- the answers to the automata of a stream, and how they end: if that is to tell, as `No` if one of them is `no`

@@ -28,7 +28,7 @@ use Rattle.omega_answers_stream_questions.specs.Contained as stream
 use Rattle.omega_answers_synth.specs.Verify.{IsControllerAnswer, IsControllerRefused}
 use Rattle.omega_answers_walk.specs.Draw.{IsWalkDrawingAnswer, RefusesWalk}
 use Rattle.omega_answers_walk.specs.Verify.{IsNamedVerifyAnswer}
-use Rattle.omega_hoa.specs.Alone.{IsAutomatonRefusal}
+use Rattle.omega_answers.specs.Alone.{IsAutomatonRefusal}
 use Rattle.omega_run.specs.Streams.{EndsEach}
 
 -- the text of the file is refused, or else that of the stream, or else an automaton of the stream with that of the file

@@ -1,5 +1,6 @@
 -- What the limited principle of omniscience says of tests that pass infinitely often.
-use Rattle.std.specs.Prelude.{◌≡◌, ◌⊎◌, ℕ, ◌≤◌, Bool, true, false, IsTrue, inl, inr}
+use Rattle.std.specs.Prelude.{IsTrue}
+use Rattle.std.proofs.Common.{◌≡◌, ◌⊎◌, inl, inr, ℕ, ◌+◌, ◌-◌, ◌≤◌, Bool, true, false, subst, arith}
 use Rattle.omega_text.specs.Omniscience.{LimitedPrincipleOfOmniscience}
 
 -- a test of numbers passes infinitely often, or from some number on no more
@@ -8,7 +9,7 @@ RecursOrCeases test = ((i : ℕ) → (j : ℕ) × (i ≤ j) × IsTrue (test j))
     ⊎ ((from : ℕ) × ((j : ℕ) → from ≤ j → test j ≡ false))
 
 -- whether a test passes at an index or behind it
-Coming : (ℕ → Bool) → ℕ → Type 0
+abbrev Coming : (ℕ → Bool) → ℕ → Type 0
 Coming test i = ((j : ℕ) × (i ≤ j) × IsTrue (test j)) ⊎ ((j : ℕ) → i ≤ j → test j ≡ false)
 
 -- whether it passes no more

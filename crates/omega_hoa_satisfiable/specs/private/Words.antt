@@ -31,6 +31,15 @@ abbrev pub is_few : LabelNode → Bool
 is_few (Proposition number) = nat_lt number 6
 is_few other = true
 
+-- whether a node is no proposition from twelve on
+abbrev pub is_low : LabelNode → Bool
+is_low (Proposition number) = nat_lt number 12
+is_low other = true
+
+-- the first twelve propositions
+abbrev pub twelve : List ℕ
+twelve = 0 ∷ 1 ∷ 2 ∷ 3 ∷ 4 ∷ 5 ∷ 6 ∷ 7 ∷ 8 ∷ 9 ∷ 10 ∷ 11 ∷ []
+
 -- the word of a label, if each proposition has a word
 abbrev pub word_of : (ℕ → ℕ) → LabelTree → ℕ
 word_of words (constant value) = word_of_truth value

@@ -1,6 +1,6 @@
 -- the fault that the judge of lassos found is told, or that there is none
 use Rattle.std.proofs.lemmas.Result.{IfErr-weaker, IfOk-weaker}
-use Rattle.omega_answers.proofs.Told.{told}
+use Rattle.omega_io.proofs.Told.{told}
 use Rattle.omega_answers_automaton.proofs.Faults.{first_fault}
 use Rattle.omega_answers_automaton.proofs.verify.verdict_on.Goals as goal
 

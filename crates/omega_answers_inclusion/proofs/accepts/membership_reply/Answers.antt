@@ -1,7 +1,7 @@
 -- the membership that was decided is told, or memory is wanting
 use Rattle.std.proofs.lemmas.Result.{IfErr-weaker, IfOk-weaker}
 use Rattle.omega_lang_inclusion.specs.WordRefusing.{oversized}
-use Rattle.omega_answers.proofs.Told.{told}
+use Rattle.omega_io.proofs.Told.{told}
 use Rattle.omega_answers_inclusion.proofs.accepts.membership_reply.Goals as goal
 
 pub returns-clause-verdict : goal.returns-clause-verdict

@@ -1,7 +1,7 @@
 -- the containment that was decided is told, or memory is wanting
 use Rattle.std.proofs.lemmas.Result.{IfErr-weaker, IfOk-weaker}
 use Rattle.omega_lang_inclusion.specs.Refusing.{no_memory}
-use Rattle.omega_answers.proofs.Told.{told}
+use Rattle.omega_io.proofs.Told.{told}
 use Rattle.omega_answers_inclusion.proofs.contained.contained_automata.Goals as goal
 
 pub returns-clause-verdict : goal.returns-clause-verdict

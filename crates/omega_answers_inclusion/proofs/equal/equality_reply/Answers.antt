@@ -1,6 +1,6 @@
 -- the equality is told
 use Rattle.std.proofs.lemmas.Result.{IfOk-weaker}
-use Rattle.omega_answers.proofs.Told.{told}
+use Rattle.omega_io.proofs.Told.{told}
 use Rattle.omega_answers_inclusion.proofs.equal.equality_reply.Goals as goal
 
 pub returns-clause-reply : goal.returns-clause-reply

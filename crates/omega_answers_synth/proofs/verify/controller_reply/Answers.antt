@@ -2,7 +2,7 @@
 use Rattle.std.proofs.Common.{subst, sym}
 use Rattle.std.proofs.lemmas.Result.{IfErr-weaker, IfOk-weaker}
 use Rattle.omega_hoa_edges.proofs.Refusals.{passed_on}
-use Rattle.omega_answers.proofs.Told.{told}
+use Rattle.omega_io.proofs.Told.{told}
 use Rattle.omega_synth_check.specs.Refusing.{IsJudgeRefusal, no_memory}
 use Rattle.omega_answers_synth.proofs.verify.controller_reply.Goals as goal
 

@@ -12,7 +12,7 @@ pub loop-at-preserved : goal.loop-at-preserved
 loop-at-preserved c =
     let below : c.loop-at.at < length c.args.state.now.edges = omega (arith, c.loop-at-test.true, c.len-at-end.ensures) in
     c.in_ok-push.ensures.items
-    ∙ ap (λ (t : Transition). c.loop-at.row.items ++ t ∷ []) c.of.ensures
+    ∙ ap (λ (t : Transition). c.loop-at.row.items ++ t ∷ []) c.in_ok-tabled.ensures.edge
     ∙ ap (λ (t : Transition). c.loop-at.row.items ++ t ∷ []) c.in_ok-transition.ensures.ok
     ∙ ap (λ (row : List Transition). row ++ transition_of (view_of c.args.renumbering.now) c.args.state.now c.loop-at.at c.edge-edge.result ∷ []) c.loop-at.invariant
     ∙ sym (transitions_more (view_of c.args.renumbering.now) c.args.state.now c.args.state.now.edges c.loop-at.at c.edge-edge.result below c.edge-edge.ensures)

@@ -1,8 +1,8 @@
 ghost use Rattle.std.specs.Prelude.{◌≡◌, IfOk, IsOkUnless};
-ghost use Rattle.omega_answers.specs.Answer.{IsReply, answer_text, exit_of};
-ghost use Rattle.omega_answers.specs.declared.answer.Answer.TheVariants.{No};
+ghost use Rattle.omega_io.specs.Answer.{IsReply, answer_text, exit_of};
+ghost use Rattle.omega_io.specs.declared.answer.Answer.TheVariants.{No};
 
-use omega_io::Exit;
+use crate::exit::Exit;
 use omega_text::{Refusal, Seq};
 use std::alloc::Global;
 

@@ -1,7 +1,7 @@
 -- How an answer of yes or no is told.
 use Rattle.std.specs.Prelude.{◌≡◌, ◌++◌, Bool, true, false, List, ℕ, [], codes}
-use Rattle.omega_answers.specs.declared.answer.Answer.{Answer}
-use Rattle.omega_answers.specs.declared.answer.Answer.TheVariants.{No, Yes}
+use Rattle.omega_io.specs.declared.answer.Answer.{Answer}
+use Rattle.omega_io.specs.declared.answer.Answer.TheVariants.{No, Yes}
 use Rattle.omega_io.specs.declared.exit.Exit.{Exit}
 use Rattle.omega_io.specs.declared.exit.Exit.TheVariants as exit
 

@@ -1,7 +1,7 @@
 -- What is told of an answer.
 use Rattle.std.proofs.Common.{◌≡◌, ℕ, List, subst}
-use Rattle.omega_answers.specs.Answer.{IsReply}
-use Rattle.omega_answers.specs.declared.answer.Answer.{Answer}
+use Rattle.omega_io.specs.Answer.{IsReply}
+use Rattle.omega_io.specs.declared.answer.Answer.{Answer}
 use Rattle.omega_io.specs.declared.exit.Exit.{Exit}
 
 -- the same is told of the same answer

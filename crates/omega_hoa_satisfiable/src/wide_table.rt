@@ -1,0 +1,134 @@
+//! Truth tables of labels that mention none but the first twelve propositions.
+
+ghost use Rattle.std.specs.Prelude.{◌≡◌, ◌≤◌, ◌↔◌, get_or};
+ghost use Rattle.std.specs.Prelude.{IfOk, IfSome, IsOkUnless, IsTrue};
+ghost use Rattle.std.specs.List.{list_all};
+ghost use Rattle.omega_hoa_expression.specs.Limits.{most_depth};
+ghost use Rattle.omega_hoa_label.specs.Label.{LabelTree, conjunction};
+ghost use Rattle.omega_hoa_satisfiable.specs.Satisfiable.{IsSatisfiable};
+ghost use Rattle.omega_hoa_satisfiable.specs.Tables.{IsWideTable, MentionsLow};
+ghost use Rattle.omega_hoa_satisfiable.specs.private.Words.{is_low, peak};
+ghost use Rattle.omega_hoa_satisfiable.specs.private.WideWords.{AreNodesOf, AreWords};
+
+use crate::mentioned::Mentioned;
+use crate::satisfying::word_of;
+use crate::tables::bits_in_both;
+use omega_hoa_expression::MOST_MENTIONED;
+use omega_hoa_label::{Label, LabelNode, ROOM};
+use omega_text::Refusal;
+use std::alloc::Global;
+
+/// How many words have the valuations of twelve propositions.
+const WORDS: u64 = 64;
+
+/// The truth table of a label over the propositions below twelve. Bit k of word j says whether the label is true if
+/// exactly the propositions hold whose bit of 64 j + k is set.
+#[derive(Debug, Drop)]
+pub struct WideTable {
+    words: Vec<u64>,
+}
+
+impl WideTable {
+    /// Returns the truth table of `label`, or none if it mentions a proposition from twelve on. Takes 64 passes over
+    /// the label.
+    pub fn of(alloc: Global, label: &Label) -> Result<Option<WideTable>, Refusal>
+        ensures table { IfOk result (λ table. IfSome table (IsWideTable label.now)) }
+        ensures memory { IsOkUnless result Refusal.Memory }
+    {
+        if !mentions_low(label) {
+            return Ok(None);
+        }
+        let mut room = ROOM;
+        let words = words_of(alloc, label.nodes(&mut room))?;
+        Ok(Some(WideTable { words }))
+    }
+
+    /// Whether two labels can be true together, by the truth tables of both.
+    pub fn meets(&self, other: &WideTable) -> bool
+        ensures { (one : LabelTree) (another : LabelTree) → IsWideTable one self.now
+            → IsWideTable another other.now → IsTrue result ↔ IsSatisfiable (conjunction one another) }
+    {
+        for block in 0..WORDS {
+            let word = word_at(self.words.as_slice(), block);
+            if bits_in_both(word, word_at(other.words.as_slice(), block)) != 0 {
+                return true;
+            }
+        }
+        false
+    }
+
+    /// Whether the label of this table and `label` can be true together, or none if `label` mentions a proposition from
+    /// twelve on. Takes no memory, and at most 64 passes over `label`.
+    pub fn meets_label(&self, label: &Label) -> Option<bool>
+        ensures { IfSome result (λ possible. (one : LabelTree) → IsWideTable one self.now
+            → IsTrue possible ↔ IsSatisfiable (conjunction one label.now)) }
+    {
+        if !mentions_low(label) {
+            return None;
+        }
+        let mut room = ROOM;
+        Some(self.meets_nodes(label.nodes(&mut room)))
+    }
+
+    /// Whether the label of this table and that of `nodes`, in postfix order, can be true together.
+    fn meets_nodes(&self, nodes: &[LabelNode]) -> bool
+        requires { peak 0 nodes.now ≤ most_depth }
+        ensures { (one : LabelTree) (another : LabelTree) → IsWideTable one self.now → MentionsLow another
+            → AreNodesOf nodes.now another → IsTrue result ↔ IsSatisfiable (conjunction one another) }
+    {
+        let low = Mentioned::first_twelve();
+        for block in 0..WORDS {
+            let word = word_at(self.words.as_slice(), block);
+            if bits_in_both(word, word_of(nodes, &low, block)) != 0 {
+                return true;
+            }
+        }
+        false
+    }
+}
+
+/// Returns the word at `block`, 0 past the last.
+fn word_at(words: &[u64], block: u64) -> u64
+    ensures { result ≡ get_or words.now block 0 }
+{
+    words.get(block as usize).copied().unwrap_or(0)
+}
+
+/// Returns the words of the truth table of the label of `nodes`, in postfix order.
+fn words_of(alloc: Global, nodes: &[LabelNode]) -> Result<Vec<u64>, Refusal>
+    requires { peak 0 nodes.now ≤ most_depth }
+    ensures words { IfOk result (λ words. AreWords nodes.now words.items 64) }
+    ensures memory { IsOkUnless result Refusal.Memory }
+{
+    let low = Mentioned::first_twelve();
+    let mut words = Vec::with_capacity(alloc, WORDS as usize)?;
+    for block in 0..WORDS {
+        words.push(word_of(nodes, &low, block))?;
+    }
+    Ok(words)
+}
+
+/// Whether `label` mentions no proposition from twelve on.
+fn mentions_low(label: &Label) -> bool
+    ensures { IsTrue result → MentionsLow label.now }
+{
+    let mut room = ROOM;
+    all_low(label.nodes(&mut room))
+}
+
+/// Whether no node is a proposition from twelve on.
+fn all_low(nodes: &[LabelNode]) -> bool
+    ensures { result ≡ list_all is_low nodes.now }
+{
+    nodes.iter().all(|node| is_low(*node))
+}
+
+/// Whether `node` is no proposition from twelve on.
+fn is_low(node: LabelNode) -> bool
+    ensures { result ≡ is_low node }
+{
+    match node {
+        LabelNode::Proposition(number) => (number as usize) < MOST_MENTIONED,
+        _ => true,
+    }
+}
