@@ -24,7 +24,8 @@ use Rattle.omega_synth_check.specs.Refusing.{AcceptsAll}
 use Rattle.omega_hoa.specs.Laws.{AutomataAreOne}
 use Rattle.omega_io.specs.declared.exit.Exit.{Exit}
 use Rattle.omega_io.specs.declared.exit.Exit.TheVariants.{Done, No}
-use Rattle.omega_answers_synth.specs.Decide.{HasCounterStrategy, IsVerdict}
+use Rattle.omega_answers_synth.specs.Decide.{IsVerdict}
+use Rattle.omega_synth_controllers.specs.Controllers.{HasCounterStrategy}
 use Rattle.omega_answers_synth.specs.Laws.{ControllersForExcludeCounterStrategies, YesExcludesUnrealizable}
 use Rattle.omega_answers_synth.specs.Parting.{AreAlike, IsParted, has_item}
 use Rattle.omega_answers_synth.proofs.ControllerStated.{controlled_one}

@@ -12,7 +12,8 @@ use Rattle.omega_hoa.specs.Alone.{IsAutomatonText}
 use Rattle.omega_hoa.specs.Laws.{AutomataAreOne}
 use Rattle.omega_io.specs.declared.exit.Exit.{Exit}
 use Rattle.omega_io.specs.declared.exit.Exit.TheVariants.{Done, No}
-use Rattle.omega_answers_synth.specs.Decide.{HasController, HasCounterStrategy, IsVerdict}
+use Rattle.omega_answers_synth.specs.Decide.{IsVerdict}
+use Rattle.omega_synth_controllers.specs.Controllers.{HasController, HasCounterStrategy}
 use Rattle.omega_answers_synth.specs.Laws.{IsBeatenBySome, IsRealizedBySome, RealizeAnswersAreExact, TellsWhoWins, WinnerAnswersAreExact}
 use Rattle.omega_answers_synth.specs.Winner.{IsWinner}
 use Rattle.omega_answers_synth.proofs.ControllerStated.{controlled_one}

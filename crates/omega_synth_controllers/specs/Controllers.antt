@@ -69,3 +69,12 @@ pub record IsCounterStrategy (a : Description) (controlled kept : List ℕ)
       → Contains kept number → Answers a controlled number (letters state)
   pub refused : (state : ℕ) (cycle : List ℕ) → IsKeptCycle a kept state cycle
       → is_accepted a cycle ≡ false
+
+-- there is a controller
+abbrev pub HasController : Description → List ℕ → Type 0
+HasController a controlled = (kept : List ℕ) × IsController a controlled kept
+
+-- there is a counter-strategy
+abbrev pub HasCounterStrategy : Description → List ℕ → Type 0
+HasCounterStrategy a controlled =
+    (kept : List ℕ) × (letters : ℕ → ℕ → Bool) × IsCounterStrategy a controlled kept letters

@@ -22,7 +22,8 @@ use Rattle.omega_synth_controllers.proofs.Starts.{first_start}
 use Rattle.omega_synth_game.proofs.Existing.{rounds_exist}
 use Rattle.omega_synth_realize.specs.Refusing.{HasNoLargeGame, IsJudgeable}
 use Rattle.omega_synth_realize.specs.Gaming.{IsPartedGame}
-use Rattle.omega_synth_realize.specs.Laws.{DecidesAt, GamesDecide, HasController, HasCounterStrategy, IsDecided, start_place}
+use Rattle.omega_synth_realize.specs.Laws.{DecidesAt, GamesDecide, IsDecided, start_place}
+use Rattle.omega_synth_controllers.specs.Controllers.{HasController, HasCounterStrategy}
 use Rattle.omega_synth_realize.proofs.Chosen.{answers_chosen, asked_by, kept_answers, kept_questions, questions_chosen}
 use Rattle.omega_synth_realize.proofs.Filled.{region_won}
 use Rattle.omega_synth_realize.proofs.Gamed.{named_count}

@@ -6,18 +6,9 @@ use Rattle.omega_game_values.specs.Game.{Node}
 use Rattle.omega_game_values.specs.Places.{new_place}
 use Rattle.omega_game_values.specs.Winning.{InRegion}
 use Rattle.omega_game_values.specs.declared.player.Player.TheVariants.{One, Zero}
-use Rattle.omega_synth_controllers.specs.Controllers.{IsController, IsCounterStrategy}
+use Rattle.omega_synth_controllers.specs.Controllers.{HasController, HasCounterStrategy}
 use Rattle.omega_synth_realize.specs.Gaming.{IsPartedGame}
 use Rattle.omega_synth_realize.specs.Refusing.{HasNoLargeGame, IsJudgeable}
-
--- there is a controller
-abbrev pub HasController : Description → List ℕ → Type 0
-HasController a controlled = (kept : List ℕ) × IsController a controlled kept
-
--- there is a counter-strategy
-abbrev pub HasCounterStrategy : Description → List ℕ → Type 0
-HasCounterStrategy a controlled =
-    (kept : List ℕ) × (letters : ℕ → ℕ → Bool) × IsCounterStrategy a controlled kept letters
 
 -- there is one or the other, and not both
 pub record IsDecided (a : Description) (controlled : List ℕ) : Type 0 where
