@@ -1,5 +1,6 @@
 -- Those of a list that have a property: their members, that they are one list, and that they rise if the list does.
 use Rattle.std.proofs.Common.{◌≡◌, ◌↔◌, ℕ, zero, suc, ◌+◌, ◌<◌, inl, inr, List, [], ◌∷◌, length, Contains, sym, ap, refl, ◌∙◌, subst, arith}
+use Rattle.std.specs.Prelude.{slice_index}
 use Rattle.std.specs.List.Sorted.{IsStrictlyIncreasing}
 use Rattle.std.proofs.lemmas.List.Kept.{AllPairs-from_increasing}
 use Rattle.omega_synth_game.specs.Those.{AreThoseWith}
@@ -77,7 +78,9 @@ tail_rising x xs rising k within =
 rising_before : (x : ℕ) (xs : List ℕ) → ((n : ℕ) → Contains xs n → x < n) → IsStrictlyIncreasing xs → IsStrictlyIncreasing (x ∷ xs)
 rising_before x [] below rising k within = absurd (omega arith)
 rising_before x (y ∷ ys) below rising zero within = below y (in_front y ys)
-rising_before x (y ∷ ys) below rising (suc k) within = rising k (omega arith)
+rising_before x (y ∷ ys) below rising (suc k) within =
+    let same : suc k + 1 ≡ suc (k + 1) = omega arith in
+    subst (λ (n : ℕ). slice_index (y ∷ ys) k < slice_index (x ∷ y ∷ ys) n) (sym same) (rising k (omega arith))
 
 nothing_rises : IsStrictlyIncreasing []
 nothing_rises k within = absurd (omega arith)

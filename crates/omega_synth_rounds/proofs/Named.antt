@@ -1,5 +1,5 @@
 -- Names of nodes, and that games with names have the faults of those without.
-use Rattle.std.proofs.Common.{◌≡◌, ◌==◌, ℕ, ◌+◌, ◌-◌, ◌^◌, ◌<◌, ◌≤◌, ◌%◌, inl, inr, Bool, cond, List, [], ◌∷◌, ◌++◌, length, map, nat_lt, Option, Some, Result, Ok, Err, sym, ap, refl, ◌∙◌, subst, arith}
+use Rattle.std.proofs.Common.{◌≡◌, ◌==◌, ℕ, ◌+◌, ◌-◌, ◌^◌, ◌<◌, ◌≤◌, ◌%◌, inl, inr, Bool, cond, List, [], ◌∷◌, ◌++◌, length, map, nat_lt, Option, Some, None, Result, Ok, Err, sym, ap, refl, ◌∙◌, subst, arith}
 use Rattle.std.specs.Prelude.{IfErr, OnOk, codes, decimal, slice_index_or, sum_by}
 use Rattle.std.specs.List.{All, list_any, range_with_len}
 use Rattle.std.proofs.lemmas.Bool.{cases_eq, cases_lt, eq-eqb, le-ltb, lt-ltb, ne_eqb}
