@@ -7,6 +7,6 @@ pub mod Refused
 pub mod Filled
 pub mod Unnamed
 pub mod Chosen
-pub mod Met
+pub mod MetEdges
 pub mod Winners
 pub mod Strategies

@@ -86,19 +86,25 @@ module _ (a : Description) (controlled : List ℕ) (rounds : Rounds) (letters : 
 
   -- a game of rounds that is too large is too large by these sizes
   pub large : IsJudgeable a → (fault : GameFault) → IsRoundsFault rounds fault → IsLargeFault a controlled fault
-  large judgeable TooManyNodes many = (posed judgeable, record {
-    classes = classes;
-    few = omega (arith, parted.by_state.all);
-    each = parted.by_state.each;
-    many = omega (arith, many, nodes_are);
-  })
-  large judgeable TooManyEdges many = (posed judgeable, record {
-    classes = classes;
-    all = parted.by_state.all;
-    each = parted.by_state.each;
-    few = omega (arith, many.0, nodes_are);
-    many = omega (arith, many.1, edges_are);
-  })
+  large judgeable TooManyNodes many = (
+    posed judgeable,
+    record {
+      classes = classes;
+      few = omega (arith, parted.by_state.all);
+      each = parted.by_state.each;
+      many = omega (arith, many, nodes_are);
+    },
+  )
+  large judgeable TooManyEdges many = (
+    posed judgeable,
+    record {
+      classes = classes;
+      all = parted.by_state.all;
+      each = parted.by_state.each;
+      few = omega (arith, many.0, nodes_are);
+      many = omega (arith, many.1, edges_are);
+    },
+  )
   large judgeable DuplicateNode is = absurd is
   large judgeable UndefinedSuccessor is = absurd is
   large judgeable HeaderTooSmall is = absurd is

@@ -1,4 +1,4 @@
-ghost use Rattle.std.specs.Prelude.{◌≡◌, [], IfOk, IsOkUnless, map};
+ghost use Rattle.std.specs.Prelude.{◌≡◌, [], IfOk, IsOkUnless, length, map};
 ghost use Rattle.std.specs.List.{range_with_len};
 ghost use Rattle.omega_synth_rounds.specs.Rounds.{asked_in};
 ghost use Rattle.omega_synth_realize.specs.Solving.{IsOutcome};
@@ -76,6 +76,7 @@ fn letters_by_state(
 ) -> Result<Seq<Numbers>, Refusal>
     ensures letters { IfOk result (λ found. found ≡ map
         (λ state. letter_of letters.now (asked_in asked.now state)) (range_with_len 0 count)) }
+    ensures entries { IfOk result (λ found. length found ≡ count) }
     ensures memory { IsOkUnless result Refusal.Memory }
 {
     let mut found = Vec::new(alloc);

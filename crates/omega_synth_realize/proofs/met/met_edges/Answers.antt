@@ -1,12 +1,12 @@
 -- the flags tell which states are reached
-use Rattle.std.proofs.Common.{◌≡◌, ◌<◌, ℕ, All, List, [], ◌∷◌, length, ap, subst, sym, ◌∙◌, arith}
+use Rattle.std.proofs.Common.{◌≡◌, ◌<◌, ℕ, All, List, [], ◌∷◌, ◌++◌, length, ap, subst, sym, ◌∙◌, arith}
 use Rattle.std.specs.Prelude.{filter}
 use Rattle.std.specs.List.{range_with_len}
 use Rattle.std.proofs.lemmas.Result.{IfOk-weaker}
 use Rattle.std.specs.List.Sorted.{IsStrictlyIncreasing}
 use Rattle.std.proofs.lemmas.List.Kept.{IsStrictlyIncreasing-filter}
 use Rattle.omega_synth_realize.specs.private.Met.{AreMetAmong, leaves_flagged}
-use Rattle.omega_synth_realize.proofs.Met.{all_places, flagged_met, start_alone}
+use Rattle.omega_synth_realize.proofs.MetEdges.{all_places, flagged_met, start_alone}
 use Rattle.omega_synth_realize.proofs.met.met_edges.Goals as goal
 
 pub reached_flags-requires-clause-edges : goal.reached_flags-requires-clause-edges
@@ -18,7 +18,7 @@ reached_flags-requires-clause-edges c =
 pub reached_flags-requires-clause-sources : goal.reached_flags-requires-clause-sources
 reached_flags-requires-clause-sources c =
     subst (λ (states : List ℕ). All (λ state. state < c.in_ok-graph.graph.states) states)
-    (sym (c.as_slice-2.ensures.value ∙ c.in_ok-push.ensures.items))
+    (sym (c.as_slice-2.ensures.value ∙ c.in_ok-push.ensures.items ∙ ap (λ (list : List ℕ). list ++ c.args.start ∷ []) c.new-sources.ensures.items))
     (start_alone c.args.start c.in_ok-graph.graph.states (omega (arith, c.requires.start, c.in_ok-graph.ensures.graph.states_are)))
 
 pub returns-clause-met : goal.returns-clause-met
@@ -30,7 +30,7 @@ returns-clause-met c =
     (λ found is. subst (λ (list : List ℕ). AreMetAmong rounds c.args.start c.args.kept.now list)
     (sym (is ∙ ap (λ flags. filter (leaves_flagged rounds flags) c.args.kept.now) c.as_slice-3.ensures.value))
     (flagged_met rounds c.requires.rounds c.args.start c.args.kept.now c.requires.answers c.in_ok-graph.graph c.in_ok-graph.ensures.graph
-    c.as_slice.result.now c.as_slice-2.result.now c.in_ok-reached.reached.items all (c.as_slice-2.ensures.value ∙ c.in_ok-push.ensures.items) c.in_ok-reached.ensures.reached))
+    c.as_slice.result.now c.as_slice-2.result.now c.in_ok-reached.reached.items all (c.as_slice-2.ensures.value ∙ c.in_ok-push.ensures.items ∙ ap (λ (list : List ℕ). list ++ c.args.start ∷ []) c.new-sources.ensures.items) c.in_ok-reached.ensures.reached))
     c.edges_from.ensures.found
 
 pub returns-clause-rising : goal.returns-clause-rising

@@ -34,8 +34,7 @@ returns-in_ok-letters-in-Asked-clause-realizability c =
     let won_by =
     c.askings_are_counter_strategies.ensures a c.args._controlled.now parted.rounds letters parted.start
     c.in-Asked.kept c.in-Asked.asked c.in_ok-letters-in-Asked.letters c.requires.parted won.0
-    (letters_are a.states letters c.in-Asked.asked c.in_ok-letters-in-Asked.letters found) in
-    (
+    (letters_are a.states letters c.in-Asked.asked c.in_ok-letters-in-Asked.letters found) in (
       won_by.0,
       won.1,
       won_by.1,

@@ -2,7 +2,7 @@
 use Rattle.std.proofs.Common.{List, ℕ, sym, ◌∙◌, subst, arith}
 use Rattle.std.specs.List.Sorted.{IsStrictlyIncreasing}
 use Rattle.omega_synth_rounds.specs.Rounds.{AreAnswers, AreMetAnswers, IsAnswering}
-use Rattle.omega_synth_realize.proofs.Met.{answering_met, answers_met}
+use Rattle.omega_synth_realize.proofs.MetEdges.{answering_met, answers_met}
 use Rattle.omega_synth_realize.proofs.Strategies.{game_count}
 use Rattle.omega_synth_realize.proofs.winning.controller_outcome.Goals as goal
 

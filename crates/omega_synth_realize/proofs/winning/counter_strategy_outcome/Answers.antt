@@ -2,7 +2,7 @@
 use Rattle.std.proofs.Common.{List, ℕ, sym, ◌∙◌, subst, arith}
 use Rattle.std.specs.List.Sorted.{IsStrictlyIncreasing}
 use Rattle.omega_synth_rounds.specs.Rounds.{AreAnswers, AreMetAnswers, IsAsking}
-use Rattle.omega_synth_realize.proofs.Met.{answers_met, asking_met}
+use Rattle.omega_synth_realize.proofs.MetEdges.{answers_met, asking_met}
 use Rattle.omega_synth_realize.proofs.Strategies.{game_count}
 use Rattle.omega_synth_realize.proofs.winning.counter_strategy_outcome.Goals as goal
 
