@@ -19,14 +19,14 @@ pub hard_refused : (a : Description) (controlled : List ℕ) (state : ℕ) (numb
 hard_refused a controlled state numbers reached leave refusal refused =
     task_weaker (λ fault. (fault ≡ TooManyPropositions) × HaveHardEdge a numbers) (IsLetterFault a controlled)
     (λ fault hard. subst (IsLetterFault a controlled) (sym hard.0)
-    (hard_label (record { state = state; number = hard.1; reached = reached; leaving = leave hard.1 hard.2; hard = hard.3 }))) refusal refused
+    (hard_label (record { state = state; number = hard.1.0; reached = reached; leaving = leave hard.1.0 hard.1.1; hard = hard.1.2 }))) refusal refused
 
 -- an edge that is given up is one of the edges
 pub hard_among : (a : Description) (numbers : List ℕ) (number : ℕ) → Contains numbers number → (refusal : Refusal) → GivesUpOn (IsHardEdge a number) refusal
     → GivesUpOn (HaveHardEdge a numbers) refusal
 hard_among a numbers number has refusal refused =
     task_weaker (λ fault. (fault ≡ TooManyPropositions) × IsHardEdge a number) (λ fault. (fault ≡ TooManyPropositions) × HaveHardEdge a numbers)
-    (λ fault hard. (hard.0, number, has, hard.1)) refusal refused
+    (λ fault hard. (hard.0, (number, has, hard.1))) refusal refused
 
 -- the letters were searched to the end
 pub letters_searched : (a : Description) (controlled : List ℕ) (found : Option Lack) → IsLackOf a controlled found → IsLetterSearched a controlled
