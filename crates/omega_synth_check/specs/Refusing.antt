@@ -80,6 +80,11 @@ IsLetterSearched controller controlled = ((lack : Lack) × IsLack controller con
     ⊎ ((HasManyStates controller → ⊥)
     × ((state : ℕ) → IsReached controller state → MentionsFew controller controlled state))
 
+-- the automaton can be read as a controller, and its letters were searched to the end
+pub record AreLettersJudged (controller : Description) (controlled : List ℕ) : Type 0 where
+  pub readable : IsReadable controller
+  pub searched : IsLetterSearched controller controlled
+
 -- the refusal of the judge, in the order of its steps; memory can be wanting in each
 pub data IsJudgeRefusal (specification controller : Description)
     (controlled : List ℕ) : Refusal → Type 0 where
@@ -91,6 +96,6 @@ pub data IsJudgeRefusal (specification controller : Description)
   not_searched : (refusal : Refusal) → IsReadable controller
       → IsLetterRefusal controller controlled refusal
       → IsJudgeRefusal specification controller controlled refusal
-  not_contained : (refusal : Refusal) → IsReadable controller
-      → IsLetterSearched controller controlled → IsContainmentRefusal controller specification refusal
+  not_contained : (refusal : Refusal) → AreLettersJudged controller controlled
+      → IsContainmentRefusal controller specification refusal
       → IsJudgeRefusal specification controller controlled refusal

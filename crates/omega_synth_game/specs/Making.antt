@@ -66,12 +66,12 @@ IsSomeUnjudged a controlled numbers fault = (letter : List ℕ) × (number : ℕ
     × Contains numbers number × (edge : BodyEdge) × (edge_at a number ≡ Some edge)
     × IsUnjudged controlled letter (whole_label a number edge) fault
 
--- the fault of the questions of a state that the edges with these numbers leave: too many inputs, or else an edge that
+-- the fault of the questions of a state that the edges with these numbers leave: too many inputs, or an edge that
 -- cannot be judged in some letter
 abbrev pub IsAskingFault : Description → List ℕ → List ℕ → TaskFault → Type 0
 IsAskingFault a controlled numbers fault =
     ((fault ≡ TooManyPropositions) × (most_mentioned < length (inputs_of a controlled numbers)))
-    ⊎ (HaveFewInputs a controlled numbers × IsSomeUnjudged a controlled numbers fault)
+    ⊎ IsSomeUnjudged a controlled numbers fault
 
 -- the refusal of the questions of a state
 abbrev pub IsUnasked : Description → List ℕ → List ℕ → Refusal → Type 0

@@ -17,8 +17,10 @@ returns-in_err-lack-clause-refused c =
 pub returns-in_err-containment-clause-refused : goal.returns-in_err-containment-clause-refused
 returns-in_err-containment-clause-refused c =
     passed_on c.from_residual-in_err-containment.result _ _ c.from_residual-in_err-containment.ensures.1
-    (not_contained _ c.in_ok-judge_form.ensures.readable
-    (letters_searched c.args.controller.now c.args.controlled.now c.in_ok-lack.lack c.in_ok-lack.ensures.lack) c.in_err-containment.ensures.refused)
+    (not_contained _ (record {
+      readable = c.in_ok-judge_form.ensures.readable;
+      searched = letters_searched c.args.controller.now c.args.controlled.now c.in_ok-lack.lack c.in_ok-lack.ensures.lack;
+    }) c.in_err-containment.ensures.refused)
 
 pub returns-clause-given : goal.returns-clause-given
 returns-clause-given c = record { readable = c.in_ok-judge_form.ensures.readable; comparable = c.in_ok-containment.ensures.given }

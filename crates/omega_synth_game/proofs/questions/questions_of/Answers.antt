@@ -1,8 +1,6 @@
 -- the first letter of each class
-use Rattle.std.proofs.Common.{◌≤◌, ◌^◌, inr, ℕ, List, length, ap, arith}
+use Rattle.std.proofs.Common.{◌≤◌, ◌^◌, length, ap, arith}
 use Rattle.std.proofs.Math.Pow.{pow_mono}
-use Rattle.omega_hoa_edges.proofs.Refusals.{passed_on, task_weaker}
-use Rattle.omega_synth_game.specs.Making.{HaveFewInputs, IsAskingFault, IsSomeUnjudged}
 use Rattle.omega_synth_game.proofs.Asking.{all_below, on_ok_of, questions_held}
 use Rattle.omega_synth_game.proofs.questions.questions_of.Goals as goal
 
@@ -25,12 +23,3 @@ returns-clause-questions c =
 pub returns-clause-few : goal.returns-clause-few
 returns-clause-few c =
     on_ok_of c.questions_at.result _ (omega (arith, c.in_ok-mentioned.ensures.few, ap length c.in_ok-mentioned.ensures.inputs))
-
-pub returns-in_err-listed-clause-refused : goal.returns-in_err-listed-clause-refused
-returns-in_err-listed-clause-refused c =
-    let a = c.args.automaton.now in
-    let controlled : List ℕ = c.args.controlled.now in
-    let numbers : List ℕ = c.args.numbers.now in
-    let few : HaveFewInputs a controlled numbers = omega (arith, c.in_ok-mentioned.ensures.few, ap length c.in_ok-mentioned.ensures.inputs) in
-    passed_on c.from_residual-in_err-listed.result _ _ c.from_residual-in_err-listed.ensures.1
-    (task_weaker (IsSomeUnjudged a controlled numbers) (IsAskingFault a controlled numbers) (λ fault some. inr (few, some)) _ c.in_err-listed.ensures.refused)
