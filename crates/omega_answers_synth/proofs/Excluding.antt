@@ -165,7 +165,7 @@ controllers_for_exclude_counter_strategies realize beat specification controller
     })
 
 pub yes_excludes_unrealizable : AutomataAreOne → MeaningsAreAutomata → JudgementsAreExact → ControllersForExcludeCounterStrategies → YesExcludesUnrealizable
-yes_excludes_unrealizable one means exact excludes decided file input output line explain exit other specification answer verdict read item yes unrealizable =
+yes_excludes_unrealizable one means exact excludes decided file input output line explain exit other specification answer verdict read item told unrealizable =
     let same : answer.file ≡ specification = one file answer.file specification answer.file_read read in
     let also : verdict.automaton ≡ specification = one file verdict.automaton specification verdict.read read in
     let controller : Description = answer.input in
@@ -174,7 +174,7 @@ yes_excludes_unrealizable one means exact excludes decided file input output lin
     subst (λ (s : Description). IsJudgement s controller right.controlled right.judgement) same right.right in
     let for : IsControllerFor specification controller right.controlled =
     (exact decided specification controller right.controlled right.judgement judged).0
-    (done_controls explain controller right.controlled right.judgement (sym right.reply.0 ∙ yes.0)) in
+    (done_controls explain controller right.controlled right.judgement (sym right.reply.0 ∙ told.0)) in
     let parted : IsParted specification controller right.controlled =
     subst (λ (s : Description). IsParted s controller right.controlled) same right.parted in
     let stated : IsControlled specification verdict.holds.controlled =
