@@ -17,7 +17,7 @@ no_done : No ≡ Done → ⊥
 no_done e = cc
 
 -- the program is done only where the judgement is that it controls
-done_controls : (explain : Bool) (controller : Description) (controlled : List ℕ) (judgement : Judgement)
+pub done_controls : (explain : Bool) (controller : Description) (controlled : List ℕ) (judgement : Judgement)
     → exit_of (judgement_answer explain controller controlled judgement) ≡ Done → judgement ≡ Controls
 done_controls explain controller controlled Controls done = refl
 done_controls explain controller controlled NoStart done = absurd (no_done done)

@@ -11,6 +11,8 @@ pub mod Literals
 pub mod Reported
 pub mod ControllerStated
 pub mod Exact
+mod WhoWins
+mod Excluding
 pub mod GivenLetters
 pub mod Rows
 pub mod Numbers

@@ -45,6 +45,7 @@ counter_strategy_wins decided listed edges kept given letters text is found same
         kept = kept;
         letters = letters;
         counter_strategy = right.0;
+        least = right.2;
         written = subst (λ (all : List (List ℕ)). IsCounterStrategyText a controlled kept all text) same_letters
             (subst (λ (numbers : List ℕ). IsCounterStrategyText a controlled numbers given text) same_edges
             (subst (λ (numbers : List ℕ). IsCounterStrategyText a numbers edges given text) same_listed written));

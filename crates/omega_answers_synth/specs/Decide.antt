@@ -2,20 +2,11 @@
 use Rattle.std.specs.Prelude.{◌≡◌, Bool, List, ℕ, codes}
 use Rattle.omega_hoa_automaton.specs.Automaton.{Description}
 use Rattle.omega_synth_controllers.specs.Controllable.{IsControlled}
-use Rattle.omega_synth_controllers.specs.Controllers.{IsController, IsCounterStrategy}
+use Rattle.omega_synth_controllers.specs.Controllers.{HasController, HasCounterStrategy}
 use Rattle.omega_io.specs.declared.exit.Exit.{Exit}
 use Rattle.omega_io.specs.declared.exit.Exit.TheVariants.{Done, No}
 use Rattle.omega_synth_realize.specs.Refusing.{IsJudgeable}
 use Rattle.omega_answers.specs.OneAutomaton.{OfAutomaton}
-
--- an automaton has a controller, where the system controls these propositions
-abbrev pub HasController : Description → List ℕ → Type 0
-HasController a controlled = (kept : List ℕ) × IsController a controlled kept
-
--- an automaton has a counter-strategy, where the system controls these propositions
-abbrev pub HasCounterStrategy : Description → List ℕ → Type 0
-HasCounterStrategy a controlled =
-    (kept : List ℕ) × ((letters : ℕ → ℕ → Bool) × IsCounterStrategy a controlled kept letters)
 
 -- `realizable` if there is a controller, and `unrealizable`, with an exit of its own, if there is a counter-strategy
 abbrev pub IsVerdict : Description → List ℕ → Exit → List ℕ → Type 0

@@ -1,11 +1,17 @@
--- Laws of the answers of `verify --specification`: which texts they call a controller, and what a letter says.
-use Rattle.std.specs.Prelude.{◌≡◌, ◌↔◌, ℕ, ◌<◌, Bool, true, List, Contains, None, length}
+-- Laws of the answers of `realize` and of `verify --specification`: who wins the automaton of a text, which texts are
+-- called a controller, and what a letter says.
+use Rattle.std.specs.Prelude.{◌≡◌, ◌↔◌, ℕ, ◌<◌, Bool, true, List, Contains, None, codes, length}
 use Rattle.omega_hoa_automaton.specs.Automaton.{Description, IsAutomaton}
 use Rattle.omega_synth_controllers.specs.Controllable.{IsControlled}
+use Rattle.omega_synth_controllers.specs.Strategies.{Beats, Environment, Realizes, System}
 use Rattle.omega_synth_check.specs.Judging.{IsControllerFor}
 use Rattle.omega_synth_check.specs.Laws.{IsKeptPart}
+use Rattle.omega_synth_check.specs.Refusing.{AcceptsAll}
+use Rattle.omega_synth_controllers.specs.Controllers.{IsCounterStrategy}
+use Rattle.omega_hoa_edges.specs.Determinism.{IsDeterministic}
 use Rattle.omega_hoa.specs.Alone.{IsAutomatonText}
 use Rattle.omega_io.specs.declared.exit.Exit.{Exit}
+use Rattle.omega_io.specs.declared.exit.Exit.TheVariants.{Done, No}
 use Rattle.omega_lang_lasso_word.specs.Formulas.{HasTruth, formula}
 use Rattle.omega_lang_lasso_word.specs.Laws.{HasStrings, by_number}
 use Rattle.omega_synth_game.specs.RoundsOf.{holds_in}
@@ -13,8 +19,11 @@ use Rattle.omega_synth_text.specs.Reaching.{TellsReached}
 use Rattle.omega_synth_text.specs.Winner.{winner}
 use Rattle.omega_text.specs.Omniscience.{LimitedPrincipleOfOmniscience}
 use Rattle.omega_io.specs.Answer.{IsYes}
+use Rattle.omega_answers_synth.specs.Decide.{IsDecisionAnswer}
 use Rattle.omega_answers_synth.specs.Letter.{letter_text}
+use Rattle.omega_answers_synth.specs.Parting.{IsParted, has_item}
 use Rattle.omega_answers_synth.specs.Verify.{IsControllerAnswer}
+use Rattle.omega_answers_synth.specs.Winner.{IsWinnerAnswer}
 
 -- by the limited principle of omniscience, `yes` is written exactly if the one text is that of a controller for the
 -- specification of the other
@@ -25,6 +34,57 @@ ControllerAnswersAreExact = LimitedPrincipleOfOmniscience → (file input output
     → IsControllerAnswer file input explain exit output → IsAutomatonText file specification
     → IsAutomatonText input controller → IsControlled controller controlled
     → IsYes exit output ↔ IsControllerFor specification controller controlled
+
+-- some strategy of the system realizes the automaton
+abbrev pub IsRealizedBySome : Description → List ℕ → Type 0
+IsRealizedBySome a controlled = (system : System) × Realizes a controlled system
+
+-- some strategy of the environment beats it
+abbrev pub IsBeatenBySome : Description → List ℕ → Type 0
+IsBeatenBySome a controlled = (environment : Environment) × Beats a controlled environment
+
+-- the program ends with `Done` exactly if some strategy of the system realizes the automaton, and with `No` exactly if
+-- some strategy of the environment beats it
+pub record TellsWhoWins (a : Description) (controlled : List ℕ) (exit : Exit) : Type 0 where
+  pub realized : (exit ≡ Done) ↔ IsRealizedBySome a controlled
+  pub beaten : (exit ≡ No) ↔ IsBeatenBySome a controlled
+
+-- by the limited principle of omniscience, `realizable` is written exactly if some strategy of the system realizes the
+-- automaton of the text, and `unrealizable` exactly if some strategy of the environment beats it
+abbrev pub RealizeAnswersAreExact : Type 0
+RealizeAnswersAreExact = LimitedPrincipleOfOmniscience → (text output : List ℕ) (exit : Exit)
+    (a : Description) (controlled : List ℕ)
+    → IsDecisionAnswer text exit output → IsAutomatonText text a → IsControlled a controlled
+    → TellsWhoWins a controlled exit
+    × ((exit ≡ Done) ↔ (output ≡ codes "realizable\n"))
+    × ((exit ≡ No) ↔ (output ≡ codes "unrealizable\n"))
+
+-- by that principle, the exit of `realize --controller` says the same
+abbrev pub WinnerAnswersAreExact : Type 0
+WinnerAnswersAreExact = LimitedPrincipleOfOmniscience → (text output : List ℕ) (exit : Exit)
+    (a : Description) (controlled : List ℕ)
+    → IsWinnerAnswer text exit output → IsAutomatonText text a → IsControlled a controlled
+    → TellsWhoWins a controlled exit
+
+-- no automaton is a controller for a deterministic specification that has a counter-strategy, if the item of the
+-- specification says which propositions the system controls
+abbrev pub ControllersForExcludeCounterStrategies : Type 0
+ControllersForExcludeCounterStrategies =
+    (specification controller : Description) (controlled stated kept : List ℕ)
+    (letters : ℕ → ℕ → Bool) → IsAutomaton specification → IsDeterministic specification
+    → IsAutomaton controller → AcceptsAll controller
+    → IsParted specification controller controlled → has_item specification ≡ true
+    → IsControllerFor specification controller controlled → IsControlled specification stated
+    → IsCounterStrategy specification stated kept letters → ⊥
+
+-- so, by the limited principle of omniscience, `yes` is written of no automaton for a specification with the item of
+-- which `unrealizable` is written
+abbrev pub YesExcludesUnrealizable : Type 0
+YesExcludesUnrealizable = LimitedPrincipleOfOmniscience
+    → (file input output line : List ℕ) (explain : Bool) (exit other : Exit)
+    (specification : Description) → IsControllerAnswer file input explain exit output
+    → IsDecisionAnswer file other line → IsAutomatonText file specification
+    → has_item specification ≡ true → IsYes exit output → other ≡ No → ⊥
 
 -- the environment gives a letter: its propositions hold as the letter says
 abbrev pub GivesLetter : Description → (controlled letter : List ℕ) → (ℕ → Bool) → Type 0

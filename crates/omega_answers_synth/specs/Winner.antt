@@ -5,7 +5,7 @@ use Rattle.omega_synth_controllers.specs.Controllable.{IsControlled}
 use Rattle.omega_synth_controllers.specs.Controllers.{IsController, IsCounterStrategy}
 use Rattle.omega_io.specs.declared.exit.Exit.{Exit}
 use Rattle.omega_io.specs.declared.exit.Exit.TheVariants.{Done, No}
-use Rattle.omega_synth_game.specs.RoundsOf.{letters_by_state}
+use Rattle.omega_synth_game.specs.RoundsOf.{AreLeastLetters, letters_by_state}
 use Rattle.omega_synth_realize.specs.Refusing.{IsJudgeable}
 use Rattle.omega_answers.specs.OneAutomaton.{OfAutomaton}
 use Rattle.omega_synth_text.specs.Winner.{IsControllerText, IsCounterStrategyText}
@@ -16,11 +16,12 @@ pub record IsControllerWritten (a : Description) (controlled text : List ℕ) : 
   pub controller : IsController a controlled kept
   pub written : IsControllerText a controlled kept text
 
--- the text is that of a counter-strategy
+-- the text is that of a counter-strategy, the letter of each state the first of those that the same edges answer
 pub record IsCounterStrategyWritten (a : Description) (controlled text : List ℕ) : Type 0 where
   pub kept : List ℕ
   pub letters : List (List ℕ)
   pub counter_strategy : IsCounterStrategy a controlled kept (letters_by_state letters)
+  pub least : AreLeastLetters a controlled kept letters
   pub written : IsCounterStrategyText a controlled kept letters text
 
 -- a controller, or, with an exit of its own, a counter-strategy

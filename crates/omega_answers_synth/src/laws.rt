@@ -1,10 +1,16 @@
 //! Laws of answers. No code that runs.
 
 ghost use Rattle.omega_answers_synth.specs.Laws.{ControllerAnswersAreExact, LettersAreTrueWhereGiven};
-ghost use Rattle.omega_answers_synth.specs.Laws.{WrittenControllersAreParts};
+ghost use Rattle.omega_answers_synth.specs.Laws.{ControllersForExcludeCounterStrategies};
+ghost use Rattle.omega_answers_synth.specs.Laws.{RealizeAnswersAreExact, WinnerAnswersAreExact};
+ghost use Rattle.omega_answers_synth.specs.Laws.{WrittenControllersAreParts, YesExcludesUnrealizable};
 
 use omega_hoa::automata_are_one;
-use omega_synth_check::judgements_are_exact;
+use omega_hoa_automaton::meanings_are_automata;
+use omega_synth_check::{controllers_realize_specifications, judgements_are_exact};
+use omega_synth_controllers::{
+    beating_excludes_realizing, controllers_realize, counter_strategies_beat,
+};
 
 /// States that `verify_controller` returns `yes` exactly if the one text is that of a controller for the specification
 /// of the other, with the premise of `judgements_are_exact`.
@@ -13,6 +19,51 @@ pub fn controller_answers_are_exact()
 {
     automata_are_one();
     judgements_are_exact();
+}
+
+/// States that `decide_realizability` returns `realizable` exactly if some strategy of the system realizes the automaton
+/// of the text, and `unrealizable` exactly if some strategy of the environment beats it. It has the premise of
+/// `controllers_realize`.
+pub fn realize_answers_are_exact()
+    ensures { RealizeAnswersAreExact }
+{
+    automata_are_one();
+    meanings_are_automata();
+    controllers_realize();
+    counter_strategies_beat();
+    beating_excludes_realizing();
+}
+
+/// States that `write_winner` returns [Exit::Done] and [Exit::No] exactly then, with the same premise.
+pub fn winner_answers_are_exact()
+    ensures { WinnerAnswersAreExact }
+{
+    automata_are_one();
+    meanings_are_automata();
+    controllers_realize();
+    counter_strategies_beat();
+    beating_excludes_realizing();
+}
+
+/// States that no automaton is a controller for a deterministic specification that has a counter-strategy, if the
+/// specification says itself which propositions the system controls. Without its item it leaves that to the controller.
+pub fn controllers_for_exclude_counter_strategies()
+    ensures { ControllersForExcludeCounterStrategies }
+{
+    controllers_realize_specifications();
+    counter_strategies_beat();
+}
+
+/// States that `verify_controller` does not return `yes` of any automaton for a specification of which
+/// `decide_realizability` returns `unrealizable`, if the specification has the item `controllable-AP:`. It has the
+/// premise of `judgements_are_exact`.
+pub fn yes_excludes_unrealizable()
+    ensures { YesExcludesUnrealizable }
+{
+    automata_are_one();
+    meanings_are_automata();
+    judgements_are_exact();
+    controllers_for_exclude_counter_strategies();
 }
 
 /// States that the letter in an answer is a formula over the names of the propositions, and that it is true exactly

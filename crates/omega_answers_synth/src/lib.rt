@@ -22,7 +22,9 @@ mod winner;
 pub use decide::{decide_realizability, decide_realizability_by_lifting};
 pub use game::write_realizability_game;
 pub use laws::{
-    controller_answers_are_exact, letters_are_true_where_given, written_controllers_are_parts,
+    controller_answers_are_exact, controllers_for_exclude_counter_strategies,
+    letters_are_true_where_given, realize_answers_are_exact, winner_answers_are_exact,
+    written_controllers_are_parts, yes_excludes_unrealizable,
 };
 pub use omega_answers::Exit;
 pub use verify::verify_controller;

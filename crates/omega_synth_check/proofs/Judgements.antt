@@ -27,5 +27,5 @@ judgements_are_exact decided specification controller controlled (Unanswered lac
 )
 judgements_are_exact decided specification controller controlled (NotAccepted example) right = (
   λ is. absurd (word_controls example is),
-  λ for. absurd (right.outside.not_accepted (for.accepted right.word right.outside.accepted)),
+  λ for. absurd (right.1.outside.not_accepted (for.accepted right.1.word right.1.outside.accepted)),
 )

@@ -137,28 +137,6 @@ starts_more states more starts index first extends below is here before start ha
     single_same : (x y : ℕ) (xs : List ℕ) → xs ≡ x ∷ [] → xs ≡ y ∷ [] → x ≡ y
     single_same x y xs one other = ap (λ list. get_or list 0 0) (sym one ∙ other)
 
--- a start lists one state
-pub one_start : (a : Description) → IsAutomaton a → has_universal_branching a ≡ false → (index : ℕ) (start : List ℕ) → index < length a.starts
-    → start ≡ get_or a.starts index start → (0 < length start) × (start ≡ get_or start 0 0 ∷ [])
-one_start a automaton plain index start below here =
-    let listed : AreTargets a start =
-    subst (AreTargets a) (sym here) (automaton.starts index start below) in
-    let single : length start ≤ 1 =
-    ltb-false 1 (length start) (none_passes (λ (s : List ℕ). ltb 1 (length s)) a.starts index start (or_parts (list_any (λ (s : List ℕ). ltb 1 (length s)) a.starts) (list_any state_branches a.defined) plain).0 below here) in
-    (listed.listed, alone start listed.listed single)
-  where
-    alone : (xs : List ℕ) → 0 < length xs → length xs ≤ 1 → xs ≡ get_or xs 0 0 ∷ []
-    alone [] some single = absurd (omega arith)
-    alone (x ∷ []) some single = refl
-    alone (x ∷ y ∷ ys) some single = absurd (omega arith)
-
--- so the first of them is a start
-pub first_start : (a : Description) → IsAutomaton a → has_universal_branching a ≡ false → 0 < length a.starts → (start : ℕ) × IsStart a start
-first_start a automaton plain some =
-    let first : List ℕ = get_or a.starts 0 [] in
-    let one = one_start a automaton plain 0 first some (get_or_default a.starts 0 [] first some) in
-    (get_or first 0 0, subst (λ (s : List ℕ). Contains a.starts s) one.1 (Contains-get_or a.starts 0 [] some))
-
--- without one there is none
+-- without a start there is none
 pub no_start : (a : Description) → length a.starts ≡ 0 → (start : ℕ) → ¬ IsStart a start
 no_start a none start begins = omega (arith, begins.1, none)

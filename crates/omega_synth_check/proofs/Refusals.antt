@@ -1,22 +1,37 @@
 -- Refusals of the steps are refusals of the search and of the judge.
-use Rattle.std.proofs.Common.{◌≡◌, inl, inr, ℕ, List, sym, subst}
+use Rattle.std.proofs.Common.{◌≡◌, inl, inr, ℕ, List, Contains, Option, None, Some, sym, subst}
 use Rattle.omega_text.specs.declared.refusal.Refusal.{Refusal}
 use Rattle.omega_text.specs.declared.refusal.Refusal.TheVariants.{Automaton, Game, Io, Memory, Task, Text}
 use Rattle.omega_text.specs.declared.refusal.task.TaskFault.{TaskFault}
 use Rattle.omega_text.specs.declared.refusal.task.TaskFault.TheVariants.{TooManyPropositions}
 use Rattle.omega_hoa_automaton.specs.Automaton.{Description}
-use Rattle.omega_lang_runs.specs.Judging.{GivesUpOn, HasHardLabel}
+use Rattle.omega_lang_runs.specs.Judging.{GivesUpOn}
 use Rattle.omega_synth_game.specs.Making.{AllLeave, IsAskingFault, IsUnasked}
 use Rattle.omega_hoa_edges.proofs.Refusals.{task_weaker}
 use Rattle.omega_synth_check.specs.Judging.{IsReached}
-use Rattle.omega_synth_check.specs.Refusing.{IsJudgeRefusal, IsLetterFault, IsLetterRefusal, branches, hard_label, not_all, not_asked}
-use Rattle.omega_synth_check.specs.private.Searching.{IsFormFault, IsFormRefusal}
+use Rattle.omega_synth_check.specs.Refusing.{IsHardEdge, IsJudgeRefusal, IsLetterFault, IsLetterRefusal, IsLetterSearched, branches, hard_label, not_all, not_asked}
+use Rattle.omega_synth_check.specs.private.Searching.{HaveHardEdge, IsFormFault, IsFormRefusal, IsLackOf}
+use Rattle.omega_synth_check.specs.declared.judgement.Lack.{Lack}
 
--- a label that is given up
-pub hard_refused : (a : Description) (controlled : List ℕ) (refusal : Refusal) → GivesUpOn (HasHardLabel a) refusal → IsLetterRefusal a controlled refusal
-hard_refused a controlled refusal refused =
-    task_weaker (λ fault. (fault ≡ TooManyPropositions) × HasHardLabel a) (IsLetterFault a controlled)
-    (λ fault hard. subst (IsLetterFault a controlled) (sym hard.0) (hard_label hard.1)) refusal refused
+-- a label of an edge of a state that is reached is given up
+pub hard_refused : (a : Description) (controlled : List ℕ) (state : ℕ) (numbers : List ℕ) → IsReached a state → AllLeave a state numbers → (refusal : Refusal)
+    → GivesUpOn (HaveHardEdge a numbers) refusal → IsLetterRefusal a controlled refusal
+hard_refused a controlled state numbers reached leave refusal refused =
+    task_weaker (λ fault. (fault ≡ TooManyPropositions) × HaveHardEdge a numbers) (IsLetterFault a controlled)
+    (λ fault hard. subst (IsLetterFault a controlled) (sym hard.0)
+    (hard_label (record { state = state; number = hard.1.0; reached = reached; leaving = leave hard.1.0 hard.1.1; hard = hard.1.2 }))) refusal refused
+
+-- an edge that is given up is one of the edges
+pub hard_among : (a : Description) (numbers : List ℕ) (number : ℕ) → Contains numbers number → (refusal : Refusal) → GivesUpOn (IsHardEdge a number) refusal
+    → GivesUpOn (HaveHardEdge a numbers) refusal
+hard_among a numbers number has refusal refused =
+    task_weaker (λ fault. (fault ≡ TooManyPropositions) × IsHardEdge a number) (λ fault. (fault ≡ TooManyPropositions) × HaveHardEdge a numbers)
+    (λ fault hard. (hard.0, (number, has, hard.1))) refusal refused
+
+-- the letters were searched to the end
+pub letters_searched : (a : Description) (controlled : List ℕ) (found : Option Lack) → IsLackOf a controlled found → IsLetterSearched a controlled
+letters_searched a controlled None settled = inr (settled.0, λ state reached. (settled.1 state reached).1)
+letters_searched a controlled (Some lack) lacks = inl (lack, lacks)
 
 -- the letters of a state that is reached
 pub unasked_refused : (a : Description) (controlled : List ℕ) (state : ℕ) (numbers : List ℕ) → IsReached a state → AllLeave a state numbers → (refusal : Refusal)

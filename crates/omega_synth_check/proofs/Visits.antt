@@ -3,7 +3,9 @@ use Rattle.std.proofs.Common.{◌≡◌, ℕ, ◌<◌, Bool, false, List, [], le
 use Rattle.std.proofs.lemmas.List.Elements.{Contains-get_or}
 use Rattle.omega_hoa_automaton.specs.Automaton.{Description, IsAutomaton}
 use Rattle.omega_hoa_automaton.specs.Branching.{has_universal_branching}
-use Rattle.omega_synth_game.specs.Making.{AreQuestionsOf}
+use Rattle.omega_synth_controllers.specs.Controllers.{Answers}
+use Rattle.omega_synth_game.proofs.Those.{those_members}
+use Rattle.omega_synth_game.specs.Making.{AreQuestionsOf, HaveFewInputs}
 use Rattle.omega_synth_game.specs.RoundsOf.{holds_in, letter_of}
 use Rattle.omega_synth_check.specs.Judging.{IsAnswered}
 use Rattle.omega_synth_check.specs.private.Leaving.{AreLeavers}
@@ -15,7 +17,8 @@ module _ (a : Description) (controlled numbers : List ℕ) (letters answers : Li
   pub none_answers : (at : ℕ) → at < length answers → get_or answers at [] ≡ [] → NoneAnswers a controlled numbers (letter_of letters at)
   none_answers at below empty number has answer =
       let asked : at < length letters = omega (arith, below, are.answered.entries) in
-      let listed : Contains [] number = subst (λ (list : List ℕ). Contains list number) empty ((are.answered.each at asked number).1 (has, answer)) in
+      let listed : Contains [] number = subst (λ (list : List ℕ). Contains list number) empty
+      ((those_members (λ n. Answers a controlled n (holds_in (letter_of letters at))) numbers (get_or answers at []) (are.answered.each at asked) number).1 (has, answer)) in
       absurd (omega (arith, listed.1))
 
   -- each question has an answer
@@ -41,7 +44,8 @@ module _ (a : Description) (automaton : IsAutomaton a) (plain : has_universal_br
       let step = answer_steps a automaton plain controlled state some.0 given ((leavers some.0).0 some.1) some.2 in
       record { number = some.0; next = step.0; step = step.1; answers = some.2 }
 
-  pub visited : (found : Option (List ℕ)) → ((letter : List ℕ) → found ≡ Some letter → NoneAnswers a controlled numbers letter)
+  pub visited : (found : Option (List ℕ)) → HaveFewInputs a controlled numbers
+      → ((letter : List ℕ) → found ≡ Some letter → NoneAnswers a controlled numbers letter)
       → (found ≡ None → (given : ℕ → Bool) → SomeAnswers a controlled numbers given) → IsVisited a controlled state found
-  visited None unanswered answered = answers_each (answered refl)
-  visited (Some letter) unanswered answered = lacks letter (unanswered letter refl)
+  visited None few unanswered answered = (answers_each (answered refl), record { numbers = numbers; leave = leavers; few = few })
+  visited (Some letter) few unanswered answered = lacks letter (unanswered letter refl)

@@ -47,7 +47,8 @@ pub record IsLack (controller : Description) (controlled : List ℕ) (lack : Lac
   pub unanswered : ¬ IsAnswered controller controlled lack.state (holds_in lack.letter)
 
 -- a judgement is right. `Controls`: a controller for the specification, where what is said of the words that it accepts
--- is what containment says of them; any other judgement says why it is none
+-- is what containment says of them. Any other judgement says why it is none, the words last: `NotAccepted` only if each
+-- letter is answered
 abbrev pub IsJudgement : (specification controller : Description) (controlled : List ℕ) → Judgement
     → Type 0
 IsJudgement specification controller controlled Controls =
@@ -55,4 +56,4 @@ IsJudgement specification controller controlled Controls =
 IsJudgement specification controller controlled NoStart = (start : ℕ) → ¬ IsStart controller start
 IsJudgement specification controller controlled (Unanswered lack) = IsLack controller controlled lack
 IsJudgement specification controller controlled (NotAccepted example) =
-    IsCounterexample controller specification example
+    AnswersAll controller controlled × IsCounterexample controller specification example

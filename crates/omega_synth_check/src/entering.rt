@@ -2,12 +2,13 @@
 
 ghost use Rattle.std.specs.Prelude.{◌≡◌, ◌<◌, ℕ, Contains, IfErr, IfNone, IfOk, IfSome, OnOk, false, length};
 ghost use Rattle.omega_hoa_automaton.specs.Branching.{has_universal_branching};
-ghost use Rattle.omega_lang_runs.specs.Judging.{GivesUpOn, HasHardLabel};
+ghost use Rattle.omega_lang_runs.specs.Judging.{GivesUpOn};
 ghost use Rattle.omega_lang_runs.specs.Lasso.{IsStep};
 ghost use Rattle.omega_lang_runs.specs.Places.{EdgeStandsAt};
 ghost use Rattle.omega_synth_game.specs.Making.{AllLeave, IsLeaving};
 ghost use Rattle.omega_synth_check.specs.private.Meeting.{Extends, HasEntered, IsMetOf, state_at};
-ghost use Rattle.omega_synth_check.specs.private.Searching.{IsSearch};
+ghost use Rattle.omega_synth_check.specs.Refusing.{IsHardEdge};
+ghost use Rattle.omega_synth_check.specs.private.Searching.{HaveHardEdge, IsSearch};
 
 use crate::meeting::{MetStates, StateEntry};
 use crate::search::ControllerSearch;
@@ -32,7 +33,7 @@ pub(crate) fn enter_all(
     ensures extends { OnOk result (Extends met.old.states.keys met.new.states.keys) }
     ensures entered { OnOk result (HasEntered search.now.automaton.now
         (state_at met.old.states.keys at) numbers.now met.new.states.keys) }
-    ensures refused { IfErr result (GivesUpOn (HasHardLabel search.now.automaton.now)) }
+    ensures refused { IfErr result (GivesUpOn (HaveHardEdge search.now.automaton.now numbers.now)) }
 {
     for number in numbers {
         enter(alloc, search, met, at, *number)?;
@@ -57,7 +58,7 @@ fn enter(
     ensures entered { OnOk result
         ((next : ℕ) → IsStep search.now.automaton.now (state_at met.old.states.keys at) number next
         → Contains met.new.states.keys next) }
-    ensures refused { IfErr result (GivesUpOn (HasHardLabel search.now.automaton.now)) }
+    ensures refused { IfErr result (GivesUpOn (IsHardEdge search.now.automaton.now number)) }
 {
     match target(alloc, search, number)? {
         None => Ok(()),
@@ -82,7 +83,7 @@ fn target(alloc: Global, search: &ControllerSearch<'_>, number: u32) -> Result<O
         → IsStep search.now.automaton.now state number target)) }
     ensures none { IfOk result (λ found. IfNone found ((state next : ℕ) →
         ¬ IsStep search.now.automaton.now state number next)) }
-    ensures refused { IfErr result (GivesUpOn (HasHardLabel search.now.automaton.now)) }
+    ensures refused { IfErr result (GivesUpOn (IsHardEdge search.now.automaton.now number)) }
 {
     let place = search.leaving.places[number as usize];
     target_at(alloc, search.automaton, place, number)
@@ -102,7 +103,7 @@ fn target_at(
         IsLeaving automaton.now state _number → IsStep automaton.now state _number target)) }
     ensures none { IfOk result
         (λ found. IfNone found ((state next : ℕ) → ¬ IsStep automaton.now state _number next)) }
-    ensures refused { IfErr result (GivesUpOn (HasHardLabel automaton.now)) }
+    ensures refused { IfErr result (GivesUpOn (IsHardEdge automaton.now _number)) }
 {
     automaton.keeps_limits();
     let state = &automaton.defined()[place.state];

@@ -6,14 +6,14 @@ use Rattle.omega_synth_controllers.specs.Controllers.{AgreeOnInputs}
 use Rattle.omega_synth_controllers.specs.Strategies.{is_controlled, joined}
 
 -- a proposition is listed exactly if it is found
-found_listed : (controlled : List ℕ) (p : ℕ) → is_controlled controlled p ≡ true → Contains controlled p
+pub found_listed : (controlled : List ℕ) (p : ℕ) → is_controlled controlled p ≡ true → Contains controlled p
 found_listed [] p found = absurd (true≢false (sym found))
 found_listed (other ∷ controlled) p found = elim (or_cases (other == p) (is_controlled controlled p) found) [
   | inl here ↦ (0, omega arith, eqb-true other p here)
   | inr later ↦ let rest = found_listed controlled p later in (suc rest.0, omega (arith, rest.1), rest.2)
 ]
 
-listed_found : (controlled : List ℕ) (p : ℕ) → Contains controlled p → is_controlled controlled p ≡ true
+pub listed_found : (controlled : List ℕ) (p : ℕ) → Contains controlled p → is_controlled controlled p ≡ true
 listed_found [] p (k, below, is) = absurd (omega arith)
 listed_found (other ∷ controlled) p (zero, below, is) = or_left (other == p) (is_controlled controlled p) (eq-eqb other p is)
 listed_found (other ∷ controlled) p (suc k, below, is) =

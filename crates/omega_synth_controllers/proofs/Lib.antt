@@ -9,6 +9,8 @@ pub mod Realizing
 pub mod Numbers
 pub mod Moving
 pub mod Refuting
+pub mod Beating
+pub mod Starts
 mod Only
 mod ControlledNumbers
 mod Stated

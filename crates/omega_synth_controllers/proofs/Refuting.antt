@@ -9,8 +9,8 @@ use Rattle.omega_lang_runs.specs.Words.{IsAccepted}
 use Rattle.omega_lang_runs.proofs.Kept.{edge_kept}
 use Rattle.omega_hoa_edges.specs.Determinism.{IsDeterministic}
 use Rattle.omega_synth_controllers.specs.Controllers.{AgreeOnInputs, Answers, IsCounterStrategy, IsMet}
-use Rattle.omega_synth_controllers.specs.Laws.{CounterStrategiesRefute, RealizingExcludesCounterStrategies}
-use Rattle.omega_synth_controllers.specs.Strategies.{System, joined, so_far, word_of}
+use Rattle.omega_synth_controllers.specs.Laws.{CounterStrategiesBeat, CounterStrategiesRefute, RealizingExcludesCounterStrategies}
+use Rattle.omega_synth_controllers.specs.Strategies.{Environment, System, joined, so_far, word_of}
 use Rattle.omega_synth_controllers.proofs.Accepting.{Holds, holds_somewhere}
 use Rattle.omega_synth_controllers.proofs.Letters.{agrees_joined}
 use Rattle.omega_synth_controllers.proofs.Moving.{leads_there, next_state}
@@ -38,8 +38,56 @@ module _ (a : Description) (is_automaton : IsAutomaton a) where
       let below : AreBelow a.states (to ∷ []) = subst (AreBelow a.states) step.enters (edge_kept a is_automaton number step.edge step.numbered).1.targets.below in
       All-contains (λ (m : ℕ). m < a.states) (to ∷ []) to below (0, omega arith, refl)
 
+-- a play in which the environment gives the letter of the state that the automaton has come to, whatever the system gives
 module _ (a : Description) (controlled kept : List ℕ) (letters : ℕ → ℕ → Bool) (is_automaton : IsAutomaton a) (deterministic : IsDeterministic a)
-    (counter : IsCounterStrategy a controlled kept letters) (system : System) where
+    (counter : IsCounterStrategy a controlled kept letters) (own : ℕ → ℕ → Bool) (at : ℕ → ℕ) (first : at 0 ≡ start_of a)
+    (goes_on : (i : ℕ) → at (suc i) ≡ next_state a (at i) (joined controlled (own i) (letters (at i))))
+    (accepted : IsAccepted a (λ i. joined controlled (own i) (letters (at i)))) where
+  abbrev letter : ℕ → ℕ → Bool
+  letter i = joined controlled (own i) (letters (at i))
+
+  step : (i : ℕ) → IsStep a (accepted.states i) (accepted.edges i) (accepted.states (suc i))
+  step i = subst (λ n. IsStep a (accepted.states i) (accepted.edges i) (accepted.states n)) next (accepted.accepting.run.steps i)
+    where
+      next : i + 1 ≡ suc i
+      next = omega arith
+
+  -- the run is in the states of the play
+  together : (i : ℕ) → (accepted.states i ≡ at i) × (accepted.states i < a.states)
+  together zero = (
+    only_start a.starts (accepted.states 0) deterministic.one_start accepted.accepting.run.begins ∙ sym first,
+    start_within a is_automaton (accepted.states 0) accepted.accepting.run.begins,
+  )
+  together (suc i) =
+      let here = together i in (
+        sym (leads_there a is_automaton (accepted.states i) (accepted.edges i) (accepted.states (suc i)) (letter i) (deterministic.apart (accepted.states i) here.1) (step i) (accepted.taken i))
+            ∙ ap (λ state. next_state a state (letter i)) here.0 ∙ sym (goes_on i),
+        step_within a is_automaton (accepted.states i) (accepted.edges i) (accepted.states (suc i)) (step i),
+      )
+
+  answers : (i : ℕ) → Answers a controlled (accepted.edges i) (letters (accepted.states i))
+  answers i = record {
+    letter = letter i;
+    agrees = subst (λ state. AgreeOnInputs controlled (letters state) (letter i)) (sym (together i).0)
+        (agrees_joined controlled (own i) (letters (at i)));
+    taken = accepted.taken i;
+  }
+
+  kept_at : (i : ℕ) → IsMet a kept (accepted.states i) → Contains kept (accepted.edges i)
+  kept_at i met = counter.answers_kept (accepted.states i) (accepted.edges i) (accepted.states (suc i)) met (step i) (answers i)
+
+  met_at : (i : ℕ) → IsMet a kept (accepted.states i)
+  met_at zero = met_first a kept (accepted.states 0) accepted.accepting.run.begins
+  met_at (suc i) = met_next a kept (accepted.states i) (accepted.edges i) (accepted.states (suc i)) (met_at i) (kept_at i (met_at i)) (step i)
+
+  pub never_accepted : ⊥
+  never_accepted =
+      let holds : Holds a kept accepted.states accepted.edges accepted.accepting.run (λ i. kept_at i (met_at i)) a.acceptance =
+      holds_somewhere a kept accepted.states accepted.edges accepted.accepting.run (λ i. kept_at i (met_at i)) a.acceptance accepted.accepting.accepted in
+      true≢false (sym holds.accepted ∙ counter.refused holds.state holds.cycle holds.is_cycle)
+
+-- against one strategy of the system the environment plays so by letters alone
+module _ (a : Description) (controlled : List ℕ) (letters : ℕ → ℕ → Bool) (system : System) where
   -- the letter of the round in a state, after letters of the environment
   abbrev letter_in : ℕ → List (ℕ → Bool) → ℕ → Bool
   letter_in state before = joined controlled (system (letters state ∷ before)) (letters state)
@@ -56,57 +104,32 @@ module _ (a : Description) (controlled kept : List ℕ) (letters : ℕ → ℕ �
   given_so_far zero = refl
   given_so_far (suc i) = ap (λ (before : List (ℕ → Bool)). given i ∷ before) (given_so_far i)
 
-  abbrev word : ℕ → ℕ → Bool
-  word = word_of controlled system given
-
-  letter_is : (i : ℕ) → letter_in (play i).0 (play i).1 ≡ word i
-  letter_is i = ap (letter_in (play i).0) (given_so_far i)
-
-  module _ (accepted : IsAccepted a word) where
-    step : (i : ℕ) → IsStep a (accepted.states i) (accepted.edges i) (accepted.states (suc i))
-    step i = subst (λ n. IsStep a (accepted.states i) (accepted.edges i) (accepted.states n)) next (accepted.accepting.run.steps i)
-      where
-        next : i + 1 ≡ suc i
-        next = omega arith
-
-    -- the run is in the states of the play
-    together : (i : ℕ) → (accepted.states i ≡ (play i).0) × (accepted.states i < a.states)
-    together zero = (
-      only_start a.starts (accepted.states 0) deterministic.one_start accepted.accepting.run.begins,
-      start_within a is_automaton (accepted.states 0) accepted.accepting.run.begins,
-    )
-    together (suc i) =
-        let at = together i in (
-          sym (leads_there a is_automaton (accepted.states i) (accepted.edges i) (accepted.states (suc i)) (word i) (deterministic.apart (accepted.states i) at.1) (step i) (accepted.taken i))
-              ∙ ap₂ (next_state a) at.0 (sym (letter_is i)),
-          step_within a is_automaton (accepted.states i) (accepted.edges i) (accepted.states (suc i)) (step i),
-        )
-
-    answers : (i : ℕ) → Answers a controlled (accepted.edges i) (letters (accepted.states i))
-    answers i = record {
-      letter = word i;
-      agrees = subst (λ state. AgreeOnInputs controlled (letters state) (word i)) (sym (together i).0)
-          (agrees_joined controlled (system (so_far given (suc i))) (given i));
-      taken = accepted.taken i;
-    }
-
-    kept_at : (i : ℕ) → IsMet a kept (accepted.states i) → Contains kept (accepted.edges i)
-    kept_at i met = counter.answers_kept (accepted.states i) (accepted.edges i) (accepted.states (suc i)) met (step i) (answers i)
-
-    met_at : (i : ℕ) → IsMet a kept (accepted.states i)
-    met_at zero = met_first a kept (accepted.states 0) accepted.accepting.run.begins
-    met_at (suc i) = met_next a kept (accepted.states i) (accepted.edges i) (accepted.states (suc i)) (met_at i) (kept_at i (met_at i)) (step i)
-
-    pub never_accepted : ⊥
-    never_accepted =
-        let holds : Holds a kept accepted.states accepted.edges accepted.accepting.run (λ i. kept_at i (met_at i)) a.acceptance =
-        holds_somewhere a kept accepted.states accepted.edges accepted.accepting.run (λ i. kept_at i (met_at i)) a.acceptance accepted.accepting.accepted in
-        true≢false (sym holds.accepted ∙ counter.refused holds.state holds.cycle holds.is_cycle)
+  play_goes_on : (i : ℕ) → (play (suc i)).0 ≡ next_state a (play i).0 (word_of controlled system given i)
+  play_goes_on i = ap (λ (before : List (ℕ → Bool)). next_state a (play i).0 (letter_in (play i).0 before)) (given_so_far i)
 
 pub counter_strategies_refute : CounterStrategiesRefute
 counter_strategies_refute a controlled kept letters is_automaton deterministic counter system = (
-  given a controlled kept letters is_automaton deterministic counter system,
-  never_accepted a controlled kept letters is_automaton deterministic counter system,
+  given a controlled letters system,
+  never_accepted a controlled kept letters is_automaton deterministic counter (λ i. system (so_far (given a controlled letters system) (suc i)))
+      (λ i. (play a controlled letters system i).0) refl (play_goes_on a controlled letters system),
+)
+
+-- against all of them it plays so by the system's letters of the rounds before
+module _ (a : Description) (controlled : List ℕ) (letters : ℕ → ℕ → Bool) where
+  -- the state that the automaton has come to after letters of the system
+  abbrev state_after : List (ℕ → Bool) → ℕ
+  state_after [] = start_of a
+  state_after (own ∷ before) = next_state a (state_after before) (joined controlled own (letters (state_after before)))
+
+  abbrev giving : Environment
+  giving before = letters (state_after before)
+
+pub counter_strategies_beat : CounterStrategiesBeat
+counter_strategies_beat a controlled kept letters is_automaton deterministic counter = (
+  giving a controlled letters,
+  λ own.
+      never_accepted a controlled kept letters is_automaton deterministic counter own
+      (λ i. state_after a controlled letters (so_far own i)) refl (λ i. refl),
 )
 
 pub realizing_excludes_counter_strategies : RealizingExcludesCounterStrategies

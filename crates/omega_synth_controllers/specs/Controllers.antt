@@ -25,6 +25,11 @@ pub record IsMet (a : Description) (kept : List ℕ) (state : ℕ) : Type 0 wher
   pub all_kept : All (Contains kept) numbers
   pub leads : Leads a start numbers state
 
+-- each kept edge is usable and leaves a state that is met
+abbrev pub AreEdgesMet : Description → List ℕ → Type 0
+AreEdgesMet a kept = (number : ℕ) → Contains kept number
+    → (state : ℕ) × (next : ℕ) × IsMet a kept state × IsStep a state number next
+
 -- a closed walk of at least one kept edge, from a state that is met back to it
 pub record IsKeptCycle (a : Description) (kept : List ℕ) (state : ℕ) (cycle : List ℕ) : Type 0 where
   pub met : IsMet a kept state
@@ -64,3 +69,12 @@ pub record IsCounterStrategy (a : Description) (controlled kept : List ℕ)
       → Contains kept number → Answers a controlled number (letters state)
   pub refused : (state : ℕ) (cycle : List ℕ) → IsKeptCycle a kept state cycle
       → is_accepted a cycle ≡ false
+
+-- there is a controller
+abbrev pub HasController : Description → List ℕ → Type 0
+HasController a controlled = (kept : List ℕ) × IsController a controlled kept
+
+-- there is a counter-strategy
+abbrev pub HasCounterStrategy : Description → List ℕ → Type 0
+HasCounterStrategy a controlled =
+    (kept : List ℕ) × (letters : ℕ → ℕ → Bool) × IsCounterStrategy a controlled kept letters

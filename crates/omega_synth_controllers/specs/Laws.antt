@@ -5,8 +5,8 @@ use Rattle.omega_lang_runs.specs.Lasso.{marks_at}
 use Rattle.omega_lang_runs.specs.Runs.{IsRun, Satisfies}
 use Rattle.omega_hoa_edges.specs.Determinism.{IsDeterministic}
 use Rattle.omega_synth_controllers.specs.Controllers.{IsController, IsCounterStrategy}
-use Rattle.omega_synth_controllers.specs.Strategies.{HasKeptRun, IsRefuted, Realizes}
-use Rattle.omega_synth_controllers.specs.Strategies.{RealizesBy, System, word_of}
+use Rattle.omega_synth_controllers.specs.Strategies.{Beats, Environment, HasKeptRun, IsRefuted}
+use Rattle.omega_synth_controllers.specs.Strategies.{Realizes, RealizesBy, System, word_of}
 use Rattle.omega_text.specs.Omniscience.{LimitedPrincipleOfOmniscience}
 
 -- no automaton has both a controller and a counter-strategy
@@ -48,3 +48,16 @@ RealizingExcludesCounterStrategies =
     (a : Description) (controlled kept : List ℕ) (letters : ℕ → ℕ → Bool) (system : System)
     → IsAutomaton a → IsDeterministic a → Realizes a controlled system
     → IsCounterStrategy a controlled kept letters → ⊥
+
+-- the environment has one strategy that beats a deterministic automaton with a counter-strategy
+abbrev pub CounterStrategiesBeat : Type 0
+CounterStrategiesBeat =
+    (a : Description) (controlled kept : List ℕ) (letters : ℕ → ℕ → Bool) → IsAutomaton a
+    → IsDeterministic a → IsCounterStrategy a controlled kept letters
+    → (environment : Environment) × Beats a controlled environment
+
+-- no automaton has both a strategy of the environment that beats it and one of the system that realizes it
+abbrev pub BeatingExcludesRealizing : Type 0
+BeatingExcludesRealizing =
+    (a : Description) (controlled : List ℕ) (environment : Environment) (system : System)
+    → Beats a controlled environment → Realizes a controlled system → ⊥

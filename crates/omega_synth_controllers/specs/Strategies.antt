@@ -1,12 +1,12 @@
--- Strategies of the system, and the words that come of them. In each round the environment gives its letter, and then
--- the system gives its own.
+-- Strategies of the system and of the environment, and the words that come of them. In each round the environment gives
+-- its letter, and then the system gives its own. So the system is a Mealy machine, and the environment a Moore machine.
 use Rattle.std.specs.Prelude.{ℕ, zero, suc, Bool, ◌==◌, if◌then◌else◌, List, [], ◌∷◌, Contains}
 use Rattle.std.specs.List.{list_any}
 use Rattle.omega_hoa_automaton.specs.Automaton.{Description}
 use Rattle.omega_lang_runs.specs.Runs.{IsRun}
 use Rattle.omega_lang_runs.specs.Words.{CanBeTaken, IsAccepted}
 
--- the environment's letters of the first `rounds` rounds, the last first
+-- one side's letters of the first `rounds` rounds, the last first
 abbrev pub so_far : (ℕ → ℕ → Bool) → ℕ → List (ℕ → Bool)
 so_far given zero = []
 so_far given (suc rounds) = given rounds ∷ so_far given rounds
@@ -55,3 +55,17 @@ RealizesBy a controlled kept system =
 abbrev pub IsRefuted : Description → List ℕ → Type 0
 IsRefuted a controlled =
     (system : System) → (given : ℕ → ℕ → Bool) × ¬ IsAccepted a (word_of controlled system given)
+
+-- a strategy of the environment: its letter of a round, from the system's letters of the rounds before, the last first
+abbrev pub Environment : Type 0
+Environment = List (ℕ → Bool) → ℕ → Bool
+
+-- the word of the system's letters, one for each round, and of what a strategy of the environment gives
+abbrev pub word_against : List ℕ → Environment → (ℕ → ℕ → Bool) → ℕ → ℕ → Bool
+word_against controlled environment own round =
+    joined controlled (own round) (environment (so_far own round))
+
+-- a strategy of the environment beats an automaton: whatever the system answers, the word of the two is not accepted
+abbrev pub Beats : Description → List ℕ → Environment → Type 0
+Beats a controlled environment =
+    (own : ℕ → ℕ → Bool) → ¬ IsAccepted a (word_against controlled environment own)

@@ -1,8 +1,9 @@
 //! Laws of controllers and of counter-strategies. A controller realizes, a counter-strategy refutes, and no automaton
 //! has both.
 
-ghost use Rattle.omega_synth_controllers.specs.Laws.{ControllersAnswer, ControllersExcludeCounterStrategies};
-ghost use Rattle.omega_synth_controllers.specs.Laws.{ControllersRealize, CounterStrategiesRefute};
+ghost use Rattle.omega_synth_controllers.specs.Laws.{BeatingExcludesRealizing, ControllersAnswer};
+ghost use Rattle.omega_synth_controllers.specs.Laws.{ControllersExcludeCounterStrategies, ControllersRealize};
+ghost use Rattle.omega_synth_controllers.specs.Laws.{CounterStrategiesBeat, CounterStrategiesRefute};
 ghost use Rattle.omega_synth_controllers.specs.Laws.{KeptRunsAreAccepting};
 ghost use Rattle.omega_synth_controllers.specs.Laws.{RealizingExcludesCounterStrategies};
 
@@ -40,4 +41,16 @@ pub fn counter_strategies_refute()
 /// States that no strategy of the system realizes a deterministic automaton that has a counter-strategy.
 pub fn realizing_excludes_counter_strategies()
     ensures { RealizingExcludesCounterStrategies }
+{}
+
+/// States that the environment has one strategy that beats a deterministic automaton with a counter-strategy. It knows
+/// the system's letters of earlier rounds alone, and no word of what it gives and of answers of the system is accepted.
+pub fn counter_strategies_beat()
+    ensures { CounterStrategiesBeat }
+{}
+
+/// States that no automaton has both a strategy of the environment that beats it and one of the system that realizes
+/// it.
+pub fn beating_excludes_realizing()
+    ensures { BeatingExcludesRealizing }
 {}

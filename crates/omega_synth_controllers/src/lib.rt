@@ -11,7 +11,8 @@ mod laws;
 
 pub use controllable::controlled_propositions;
 pub use laws::{
-    controllers_answer, controllers_exclude_counter_strategies, controllers_realize,
-    counter_strategies_refute, kept_runs_are_accepting, realizing_excludes_counter_strategies,
+    beating_excludes_realizing, controllers_answer, controllers_exclude_counter_strategies,
+    controllers_realize, counter_strategies_beat, counter_strategies_refute,
+    kept_runs_are_accepting, realizing_excludes_counter_strategies,
 };
 pub use omega_hoa_automaton::{Automaton, Refusal};

@@ -8,7 +8,8 @@ use Rattle.omega_hoa_automaton.specs.Automaton.{BodyEdge, Description, edge_at}
 use Rattle.omega_lang_runs.specs.Laws.{EdgesAreTakenWhereTrue}
 use Rattle.omega_lang_runs.specs.Words.{CanBeTaken}
 use Rattle.omega_synth_controllers.specs.Controllers.{Answers}
-use Rattle.omega_synth_game.specs.Answering.{CanAnswer, HaveSameAnswers, is_controlled, whole_label}
+use Rattle.omega_synth_game.specs.Answering.{CanAnswer, HaveSameAnswers, whole_label}
+use Rattle.omega_synth_controllers.specs.Strategies.{is_controlled}
 use Rattle.omega_synth_game.specs.Classes.{input_mentions, inputs_of, label_of_number}
 use Rattle.omega_synth_game.specs.Letters.{holds_in}
 use Rattle.omega_synth_game.proofs.Mentions.{among, among_flat, each_kept, passing, truth_agrees}

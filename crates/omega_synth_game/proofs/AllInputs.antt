@@ -6,9 +6,9 @@ use Rattle.std.proofs.lemmas.List.Folds.{list_any-append}
 use Rattle.omega_hoa_label.specs.Label.{LabelTree, propositions}
 use Rattle.omega_hoa_satisfiable.specs.Satisfiable.{each_once}
 use Rattle.omega_hoa_automaton.specs.Automaton.{BodyEdge, Description, edge_at}
-use Rattle.omega_synth_game.specs.Answering.{is_controlled}
+use Rattle.omega_synth_controllers.specs.Strategies.{is_controlled}
 use Rattle.omega_synth_game.specs.Classes.{input_mentions, inputs_of, label_of_number}
-use Rattle.omega_synth_game.specs.Lanes.{AreApart, AreInputsFor, is_one_of}
+use Rattle.omega_synth_game.specs.private.Lanes.{AreApart, AreInputsFor, is_one_of}
 use Rattle.omega_synth_game.proofs.Agreeing.{input_among, label_is}
 use Rattle.omega_synth_game.proofs.Mentions.{none_once, none_passing}
 

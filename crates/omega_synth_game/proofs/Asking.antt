@@ -1,6 +1,6 @@
 -- Letters that have their answers, one more; and the questions of a state, by the first letter of each class.
 use Rattle.std.proofs.Common.{◌≡◌, ◌↔◌, ℕ, zero, suc, ◌+◌, ◌^◌, ◌<◌, inl, inr, All, Bool, List, [], ◌∷◌, ◌++◌, length, map, get_or, Contains, sym, ap, refl, ◌∙◌, subst, arith, length-append, Result, Ok, Err}
-use Rattle.std.specs.Prelude.{IfOk}
+use Rattle.std.specs.Prelude.{IfOk, OnOk}
 use Rattle.std.proofs.Math.Seq.{get_or-append_seam}
 use Rattle.std.proofs.lemmas.Bool.{cases_eq, cases_order}
 use Rattle.std.proofs.lemmas.List.{get_or-map, get_or_append_left, length-map}
@@ -11,9 +11,10 @@ use Rattle.omega_synth_controllers.specs.Controllers.{Answers}
 use Rattle.omega_synth_rounds.specs.Extracting.{HaveSameNumbers}
 use Rattle.omega_synth_game.specs.Answering.{AreAnswersAmong, AreAnswersInOrder, HaveSameAnswers}
 use Rattle.omega_synth_game.specs.Classes.{inputs_of}
-use Rattle.omega_synth_game.specs.Firsts.{AreFirstPlaces, list_at}
+use Rattle.omega_synth_game.specs.private.Firsts.{AreFirstPlaces, list_at}
 use Rattle.omega_synth_game.specs.Letters.{holds_in, letter_numbered, letter_of}
-use Rattle.omega_synth_game.specs.Making.{AreAnswersByLetter, AreQuestionsOf}
+use Rattle.omega_synth_game.specs.Making.{AreQuestionsOf}
+use Rattle.omega_synth_game.specs.private.Making.{AreAnswersByLetter}
 use Rattle.omega_synth_game.specs.declared.questions.Questions.{Questions}
 use Rattle.omega_synth_game.proofs.Agreeing.{choice_same}
 use Rattle.omega_synth_game.proofs.Lettering.{numbered}
@@ -118,9 +119,9 @@ module _ (law : EdgesAreTakenWhereTrue) (a : Description) (controlled numbers : 
       entries = count_is ∙ sym letter_count;
       each = λ question below.
           (let within : question < length firsts = omega (arith, below, letter_count) in
-          subst (λ (list : List ℕ). AreAnswersAmong a controlled numbers (holds_in (letter_of letters question)) list) (sym (answers_at question within))
-          (subst (λ (letter : List ℕ). AreAnswersAmong a controlled numbers (holds_in letter) (list_at all (get_or firsts question 0))) (sym (letter_is question within))
-          (members (get_or firsts question 0) (low question within))));
+          subst (λ (list : List ℕ). AreAnswersInOrder a controlled (holds_in (letter_of letters question)) numbers list) (sym (answers_at question within))
+          (subst (λ (letter : List ℕ). AreAnswersInOrder a controlled (holds_in letter) numbers (list_at all (get_or firsts question 0))) (sym (letter_is question within))
+          (are.each (get_or firsts question 0) (low question within))));
     };
     every = every;
     apart = λ one other one_below other_below same.
@@ -189,3 +190,8 @@ all_below lists firsts places is first k d below =
     any_default [] k d e below = absurd (omega arith)
     any_default (x ∷ xs) zero d e below = refl
     any_default (x ∷ xs) (suc k) d e below = any_default xs k d e (omega arith)
+
+-- what holds, holds where there is an answer
+pub on_ok_of : {X : Type 0} (r : Result X Refusal) (P : Type 0) → P → OnOk r P
+on_ok_of (Ok x) P p = p
+on_ok_of (Err e) P p = tt

@@ -8,7 +8,7 @@ use Rattle.std.proofs.lemmas.Nat.{div-add-mod', pow-add, pow_pos}
 use Rattle.omega_hoa_label.specs.Label.{LabelTree}
 use Rattle.omega_hoa_satisfiable.specs.private.Words.{word_among, word_of}
 use Rattle.omega_hoa_satisfiable.proofs.WordLemmas.{lane-off, on}
-use Rattle.omega_synth_game.specs.Lanes.{AreInputsFor, IsAnswerWord, IsFolded}
+use Rattle.omega_synth_game.specs.private.Lanes.{AreInputsFor, IsAnswerWord, IsFolded}
 use Rattle.omega_synth_game.proofs.LaneWords.{answer_lane, free_of, lane_answers, on-or}
 use Rattle.omega_synth_game.proofs.Lettering.{numbered}
 

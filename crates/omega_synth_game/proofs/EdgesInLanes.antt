@@ -12,10 +12,10 @@ use Rattle.omega_hoa_automaton.specs.Automaton.{BodyEdge, Description, edge_at}
 use Rattle.omega_synth_controllers.specs.Controllers.{Answers}
 use Rattle.omega_lang_runs.specs.Laws.{EdgesAreTakenWhereTrue}
 use Rattle.omega_synth_game.specs.Answering.{AreAnswersInOrder, IsUnanswered, whole_label}
-use Rattle.omega_synth_game.specs.EdgeWords.{AreEdgeWords, IsEdgeUnanswered, IsEdgeWord, set_in_lane}
-use Rattle.omega_synth_game.specs.Lanes.{IsAnswerWord, is_set}
+use Rattle.omega_synth_game.specs.private.EdgeWords.{AreEdgeWords, IsEdgeUnanswered, IsEdgeWord, set_in_lane}
+use Rattle.omega_synth_game.specs.private.Lanes.{IsAnswerWord, is_set}
 use Rattle.omega_synth_game.specs.Letters.{holds_in, letter_numbered}
-use Rattle.omega_synth_game.specs.Making.{IsSomeLetterUnanswered}
+use Rattle.omega_synth_game.specs.private.Making.{IsSomeLetterUnanswered}
 use Rattle.omega_synth_game.proofs.Whole.{answers_is}
 
 module _ (a : Description) (controlled inputs : List ℕ) (block : ℕ) where

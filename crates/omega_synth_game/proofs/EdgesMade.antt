@@ -25,7 +25,7 @@ use Rattle.omega_lang_runs.proofs.Kept.{edge_kept, marks_are, marks_low}
 use Rattle.omega_lang_runs.proofs.SingleTargets.{EntersOne, enters_one}
 use Rattle.omega_synth_rounds.specs.Rounds.{no_edge}
 use Rattle.omega_synth_rounds.specs.declared.rounds.RoundEdge.{RoundEdge}
-use Rattle.omega_synth_game.specs.Making.{AreRoundEdges, IsRoundEdgeAt}
+use Rattle.omega_synth_game.specs.private.Making.{AreRoundEdges, IsRoundEdgeAt}
 use Rattle.omega_synth_game.specs.RoundsOf.{IsRoundEdgeOf}
 
 beyond_low : (count : ℕ) (xs : List ℕ) → All (λ mark. mark < count) xs → beyond xs ≤ count
@@ -41,7 +41,7 @@ least_from_low parity count = go (has_parity parity count)
     go false = omega arith
 
 -- a priority is at most one more than the count of sets
-priority_low : (kind : ParityKind) (xs : List ℕ) → All (λ mark. mark < kind.count) xs → priority_of kind xs ≤ kind.count + 1
+pub priority_low : (kind : ParityKind) (xs : List ℕ) → All (λ mark. mark < kind.count) xs → priority_of kind xs ≤ kind.count + 1
 priority_low kind xs below = go kind.order kind.parity
   where
     go : (order : Order) (parity : Parity) → priority_by order parity kind.count xs ≤ kind.count + 1

@@ -20,8 +20,8 @@ use Rattle.omega_hoa_edges.specs.AutomatonLabels.{labels_of, state_among, undefi
 use Rattle.omega_hoa_edges.specs.Letters.{AreExclusive, IsPair}
 use Rattle.omega_hoa_edges.proofs.Rows.{each_at}
 use Rattle.omega_synth_game.specs.Classes.{input_mentions}
-use Rattle.omega_synth_game.specs.Exclusive.{AreApartIn, AreMentionedBelow, HasLabelAt, block_word}
-use Rattle.omega_synth_game.specs.Lanes.{is_one_of, is_set}
+use Rattle.omega_synth_game.specs.private.Exclusive.{AreApartIn, AreMentionedBelow, HasLabelAt, block_word}
+use Rattle.omega_synth_game.specs.private.Lanes.{is_one_of, is_set}
 use Rattle.omega_synth_game.specs.Letters.{holds_in, letter_numbered}
 use Rattle.omega_synth_game.proofs.AllInputs.{once_apart}
 use Rattle.omega_synth_game.proofs.LaneWords.{input_lane, on-or}

@@ -1,10 +1,13 @@
 -- The questions of one state more.
-use Rattle.std.proofs.Common.{◌≡◌, ℕ, zero, suc, ◌+◌, ◌-◌, ◌<◌, ◌≤◌, inl, inr, Bool, false, All, List, [], ◌∷◌, ◌++◌, length, get_or, sym, ap, refl, ◌∙◌, subst, arith, length-append, Result, Ok, Err}
-use Rattle.std.specs.Prelude.{IfErr, sum}
+use Rattle.std.proofs.Common.{◌≡◌, ℕ, zero, suc, ◌+◌, ◌-◌, ◌<◌, ◌≤◌, inl, inr, Bool, false, All, List, [], ◌∷◌, ◌++◌, length, get_or, sym, ap, refl, ◌∙◌, subst, arith, length-append}
+use Rattle.std.specs.Prelude.{sum_by}
+use Rattle.std.specs.List.{flat_map}
+use Rattle.std.specs.List.Sorted.{IsStrictlyIncreasing}
 use Rattle.std.proofs.Math.Seq.{get_or-append_seam}
 use Rattle.std.proofs.lemmas.Bool.{cases_eq, cases_lt}
-use Rattle.std.proofs.lemmas.List.{get_or-append-add, get_or_append_left}
-use Rattle.std.proofs.lemmas.List.Sums.{sum_by-append}
+use Rattle.std.proofs.lemmas.List.{flat_map_more, get_or-append-add, get_or_append_left}
+use Rattle.std.proofs.lemmas.List.Concat.{length-flat_map}
+use Rattle.std.proofs.lemmas.List.Sums.{sum_by-cons}
 use Rattle.std.proofs.lemmas.Option.{slice_get_within}
 use Rattle.omega_text.specs.declared.refusal.Refusal.{Refusal}
 use Rattle.omega_text.specs.declared.refusal.Refusal.TheVariants.{Automaton, Game, Io, Memory, Task, Text}
@@ -15,10 +18,13 @@ use Rattle.omega_lang_runs.specs.declared.place.EdgePlace.{EdgePlace}
 use Rattle.omega_synth_rounds.specs.Extracting.{HaveSameNumbers}
 use Rattle.omega_synth_rounds.specs.Rounds.{no_range}
 use Rattle.omega_synth_rounds.specs.declared.rounds.QuestionRange.{QuestionRange}
+use Rattle.omega_synth_controllers.specs.Controllers.{Answers}
 use Rattle.omega_synth_game.specs.Answering.{AreAnswersAmong}
-use Rattle.omega_synth_game.specs.Classes.{IsFirstLetter}
-use Rattle.omega_synth_game.specs.Making.{AllLeave, AreQuestionsOf, AreStatesAsked, HasClasses, HasManyQuestions, IsInRange, IsUnasked, IsUnmade, StatesLeave, range_of}
+use Rattle.omega_synth_game.specs.Classes.{AreEdgesFrom, IsFirstLetter}
+use Rattle.omega_synth_game.specs.Making.{AllLeave, AreClasses, AreClassesOf, AreQuestionsOf, HasManyQuestions, HaveFewInputs, IsUnasked, IsUnmade, class_count, ranges_from}
+use Rattle.omega_synth_game.specs.private.Making.{AreAskedInTurn, AreStatesAsked, IsInRange, StatesLeave, range_of}
 use Rattle.omega_synth_game.specs.Letters.{holds_in, letter_of}
+use Rattle.omega_synth_game.proofs.Those.{those_members, those_rising}
 
 same_default : (xs : List ℕ) (k : ℕ) (d e : ℕ) → k < length xs → get_or xs k d ≡ get_or xs k e
 same_default [] k d e below = absurd (omega arith)
@@ -53,7 +59,8 @@ module _ (a : Description) (controlled : List ℕ) where
 
   module _ (leaving : List (List ℕ)) (index : ℕ) (ranges : List QuestionRange) (letters answers : List (List ℕ))
       (are : AreStatesAsked a controlled leaving index ranges letters answers)
-      (numbers : List ℕ) (here : numbers ≡ get_or leaving index []) (ls fresh : List (List ℕ)) (of : AreQuestionsOf a controlled numbers ls fresh) where
+      (numbers : List ℕ) (here : numbers ≡ get_or leaving index []) (rises : IsStrictlyIncreasing numbers) (ls fresh : List (List ℕ))
+      (of : AreQuestionsOf a controlled numbers ls fresh) where
     abbrev next : QuestionRange
     next = record { first = length answers; end = length answers + length fresh }
 
@@ -122,7 +129,8 @@ module _ (a : Description) (controlled : List ℕ) where
             let is : q ≡ length answers + k = omega (arith, own.0) in
             moved numbers (get_or leaving s []) (letter_of ls k) (letter_of (letters ++ ls) q) (get_or fresh k []) (get_or (answers ++ fresh) q [])
             (here ∙ ap (λ n. get_or leaving n []) (sym same)) (new_letter k q is) (new_answer k q is)
-            (of.answered.each k (omega (arith, own.0, own.1, of.answered.entries)))
+            (those_members (λ n. Answers a controlled n (holds_in (letter_of ls k))) numbers (get_or fresh k [])
+            (of.answered.each k (omega (arith, own.0, own.1, of.answered.entries))))
         | inr apart ↦
             let earlier : s < index = omega (arith, below, apart) in
             let own : IsInRange (range_of ranges s) q = in_old s q earlier inside in
@@ -184,6 +192,14 @@ module _ (a : Description) (controlled : List ℕ) where
             moved_first (get_or leaving s []) (get_or leaving s []) (letter_of letters q) (letter_of (letters ++ ls) q)
             refl (old_letter q (omega (arith, own.1, are.within s earlier))) (are.least s q earlier own)
       ];
+      rising = λ q below. elim (cases_lt q (length answers)) [
+        | inl early ↦ subst IsStrictlyIncreasing (old_answer q early) (are.rising q early)
+        | inr late ↦
+            let k : ℕ = q - length answers in
+            let asked : k < length ls = omega (arith, late, below, length-append answers fresh, of.answered.entries) in
+            subst IsStrictlyIncreasing (new_answer k q (omega (arith, late)))
+            (those_rising (λ n. Answers a controlled n (holds_in (letter_of ls k))) numbers (get_or fresh k []) rises (of.answered.each k asked))
+      ];
     }
 
     pub states_at : (rs : List QuestionRange) (its xs : List (List ℕ)) → rs ≡ longer → its ≡ letters ++ ls → xs ≡ answers ++ fresh
@@ -193,41 +209,60 @@ module _ (a : Description) (controlled : List ℕ) where
         (subst (λ (list : List (List ℕ)). AreStatesAsked a controlled leaving (index + 1) rs list (answers ++ fresh)) (sym q)
         (subst (λ (list : List QuestionRange). AreStatesAsked a controlled leaving (index + 1) list (letters ++ ls) (answers ++ fresh)) (sym p) states_more))
 
--- the classes of the first states, counted
-pub record AreCounted (a : Description) (controlled : List ℕ) (leaving : List (List ℕ)) (states total : ℕ) : Type 0 where
-  pub counts : List ℕ
-  pub entries : length counts ≡ states
-  pub each : (state : ℕ) → state < states → HasClasses a controlled (get_or leaving state []) (get_or counts state 0)
-  pub total_is : sum counts ≡ total
+-- a range of so many questions
+abbrev pub range_with : ℕ → ℕ → QuestionRange
+range_with first count = record { first = first; end = first + count }
 
--- those of one state more
-pub counted_more : (a : Description) (controlled : List ℕ) (leaving : List (List ℕ)) (index total : ℕ) (numbers : List ℕ) (ls fresh : List (List ℕ))
-    → AreCounted a controlled leaving index total → numbers ≡ get_or leaving index [] → AreQuestionsOf a controlled numbers ls fresh
-    → AreCounted a controlled leaving (index + 1) (total + length fresh)
-counted_more a controlled leaving index total numbers ls fresh are here of = record {
-  counts = are.counts ++ length fresh ∷ [];
-  entries = length-append are.counts (length fresh ∷ []) ∙ omega (arith, are.entries);
-  each = λ state below. elim (cases_eq state index) [
-    | inl same ↦
-        let last : length fresh ≡ get_or (are.counts ++ length fresh ∷ []) state 0 =
-        sym (ap (λ n. get_or (are.counts ++ length fresh ∷ []) n 0) (same ∙ sym are.entries) ∙ get_or-append_seam are.counts (length fresh) [] 0) in
-        subst (λ (count : ℕ). HasClasses a controlled (get_or leaving state []) count) last
-        (subst (λ (list : List ℕ). HasClasses a controlled list (length fresh)) (here ∙ ap (λ n. get_or leaving n []) (sym same))
-        (record { letters = ls; answers = fresh; questions = of; counted = refl }))
-    | inr apart ↦
-        let earlier : state < index = omega (arith, below, apart) in
-        subst (λ (count : ℕ). HasClasses a controlled (get_or leaving state []) count)
-        (sym (get_or_append_left are.counts (length fresh ∷ []) 0 state (omega (arith, earlier, are.entries)))) (are.each state earlier)
-  ];
-  total_is = sum_by-append (λ n. n) are.counts (length fresh ∷ []) ∙ omega (arith, are.total_is);
-}
+-- the range of one state more
+ranges_more : (first : ℕ) (classes : List (List (List ℕ))) (fresh : List (List ℕ))
+    → ranges_from first (classes ++ fresh ∷ []) ≡ ranges_from first classes ++ range_with (first + class_count classes) (length fresh) ∷ []
+ranges_more first [] fresh =
+    let same : first ≡ first + class_count [] = omega arith in
+    ap (λ n. range_with n (length fresh) ∷ []) same
+ranges_more first (here ∷ rest) fresh =
+    let next : ℕ = first + length here in
+    let same : next + class_count rest ≡ first + class_count (here ∷ rest) =
+    omega (arith, sum_by-cons (λ (those : List (List ℕ)). length those) here rest) in
+    ap (λ (list : List QuestionRange). range_with first (length here) ∷ list)
+    (ranges_more next rest fresh ∙ ap (λ n. ranges_from next rest ++ range_with n (length fresh) ∷ []) same)
 
-pub counted_none : (a : Description) (controlled : List ℕ) (leaving : List (List ℕ)) → AreCounted a controlled leaving 0 0
-counted_none a controlled leaving = record {
-  counts = [];
+-- the classes of one state more
+pub turn_more : (a : Description) (controlled : List ℕ) (leaving : List (List ℕ)) (index : ℕ) (ranges : List QuestionRange) (answers : List (List ℕ))
+    (numbers : List ℕ) (ls fresh : List (List ℕ)) → AreAskedInTurn a controlled leaving index ranges answers → numbers ≡ get_or leaving index []
+    → AreQuestionsOf a controlled numbers ls fresh → HaveFewInputs a controlled numbers
+    → (rs : List QuestionRange) → rs ≡ ranges ++ range_with (length answers) (length fresh) ∷ []
+    → (xs : List (List ℕ)) → xs ≡ answers ++ fresh → AreAskedInTurn a controlled leaving (index + 1) rs xs
+turn_more a controlled leaving index ranges answers numbers ls fresh are here of few rs rs_is xs xs_is =
+    let counted : length answers ≡ 0 + class_count are.classes =
+    ap length are.listed ∙ length-flat_map (λ (those : List (List ℕ)). those) are.classes ∙ omega arith in
+    record {
+      classes = are.classes ++ fresh ∷ [];
+      entries = length-append are.classes (fresh ∷ []) ∙ omega (arith, are.entries);
+      each = λ state below. elim (cases_eq state index) [
+        | inl same ↦
+            let last : fresh ≡ get_or (are.classes ++ fresh ∷ []) state [] =
+            sym (ap (λ n. get_or (are.classes ++ fresh ∷ []) n []) (same ∙ sym are.entries) ∙ get_or-append_seam are.classes fresh [] []) in
+            subst (λ (classes : List (List ℕ)). AreClasses a controlled (get_or leaving state []) classes) last
+            (subst (λ (list : List ℕ). AreClasses a controlled list fresh) (here ∙ ap (λ n. get_or leaving n []) (sym same))
+            (record { letters = ls; questions = of; few = few }))
+        | inr apart ↦
+            let earlier : state < index = omega (arith, below, apart) in
+            subst (λ (classes : List (List ℕ)). AreClasses a controlled (get_or leaving state []) classes)
+            (sym (get_or_append_left are.classes (fresh ∷ []) [] state (omega (arith, earlier, are.entries)))) (are.each state earlier)
+      ];
+      listed = xs_is ∙ ap (λ (list : List (List ℕ)). list ++ fresh) are.listed ∙ flat_map_more (λ (those : List (List ℕ)). those) [] are.classes fresh;
+      ranged =
+          rs_is ∙ ap (λ (list : List QuestionRange). list ++ range_with (length answers) (length fresh) ∷ []) are.ranged
+          ∙ ap (λ n. ranges_from 0 are.classes ++ range_with n (length fresh) ∷ []) counted ∙ sym (ranges_more 0 are.classes fresh);
+    }
+
+pub turn_none : (a : Description) (controlled : List ℕ) (leaving : List (List ℕ)) → AreAskedInTurn a controlled leaving 0 [] []
+turn_none a controlled leaving = record {
+  classes = [];
   entries = refl;
   each = λ state below. absurd (omega (arith, below));
-  total_is = refl;
+  listed = refl;
+  ranged = refl;
 }
 
 item_is : (xs : List (List ℕ)) (k : ℕ) (d e : List ℕ) → k < length xs → get_or xs k d ≡ get_or xs k e
@@ -240,26 +275,45 @@ pub listed : (leaving : List (List ℕ)) (index : ℕ) (item numbers : List ℕ)
     → numbers ≡ get_or leaving index []
 listed leaving index item numbers below here is = is ∙ here ∙ item_is leaving index item [] below
 
+-- the classes of the first states
+classes_of : (a : Description) (controlled : List ℕ) (leaving : List (List ℕ)) (states : ℕ) (ranges : List QuestionRange) (answers : List (List ℕ))
+    → StatesLeave a leaving → states ≤ length leaving → (are : AreAskedInTurn a controlled leaving states ranges answers)
+    → AreClassesOf a controlled are.classes
+classes_of a controlled leaving states ranges answers leave within are state below =
+    let early : state < states = omega (arith, below, are.entries) in
+    record { numbers = get_or leaving state []; leave = leave.1 state (omega (arith, early, within)); are = are.each state early }
+
+counted : (a : Description) (controlled : List ℕ) (leaving : List (List ℕ)) (states : ℕ) (ranges : List QuestionRange) (answers : List (List ℕ))
+    → (are : AreAskedInTurn a controlled leaving states ranges answers) → length answers ≡ class_count are.classes
+counted a controlled leaving states ranges answers are = ap length are.listed ∙ length-flat_map (λ (those : List (List ℕ)). those) are.classes
+
 -- the first states have too many questions
-pub many : (a : Description) (controlled : List ℕ) (leaving : List (List ℕ)) (states total : ℕ) → StatesLeave a leaving → states ≤ length leaving
-    → AreCounted a controlled leaving states total → most_nodes < total → HasManyQuestions a controlled
-many a controlled leaving states total leave within are more = record {
-  counts = are.counts;
-  few = omega (arith, are.entries, leave.0);
-  each = λ state below.
-      (let early : state < states = omega (arith, below, are.entries) in
-      record { numbers = get_or leaving state []; leave = leave.1 state (omega (arith, early)); classes = are.each state early });
-  many = omega (arith, are.total_is);
+pub many : (a : Description) (controlled : List ℕ) (leaving : List (List ℕ)) (states : ℕ) (ranges : List QuestionRange) (answers : List (List ℕ))
+    → StatesLeave a leaving → states ≤ length leaving → AreAskedInTurn a controlled leaving states ranges answers → most_nodes < length answers
+    → HasManyQuestions a controlled
+many a controlled leaving states ranges answers leave within are more = record {
+  classes = are.classes;
+  few = omega (arith, are.entries, leave.0, within);
+  each = classes_of a controlled leaving states ranges answers leave within are;
+  many = omega (arith, more, counted a controlled leaving states ranges answers are);
 }
 
--- what hinders the questions of a state hinders the rounds
-pub state_unmade : {X : Type 0} (a : Description) (controlled : List ℕ) (state : ℕ) (numbers : List ℕ) (r : Result X Refusal) → AllLeave a state numbers
-    → IfErr r (IsUnasked a controlled numbers) → IfErr r (IsUnmade a controlled)
-state_unmade a controlled state numbers (Ok x) leave refused = tt
-state_unmade a controlled state numbers (Err e) leave refused = go e refused
+-- what hinders the questions of the next state hinders the rounds
+pub state_unmade : (a : Description) (controlled : List ℕ) (leaving : List (List ℕ)) (states : ℕ) (ranges : List QuestionRange) (answers : List (List ℕ))
+    (numbers : List ℕ) (e : Refusal) → StatesLeave a leaving → states < length leaving → AreAskedInTurn a controlled leaving states ranges answers
+    → length answers ≤ most_nodes → numbers ≡ get_or leaving states [] → IsUnasked a controlled numbers e → IsUnmade a controlled e
+state_unmade a controlled leaving states ranges answers numbers e leave within are few here refused = go e refused
   where
     go : (e : Refusal) → IsUnasked a controlled numbers e → IsUnmade a controlled e
-    go (Task fault) asking = record { state = state; numbers = numbers; leave = leave; asking = asking }
+    go (Task fault) asking = record {
+      before = are.classes;
+      each = classes_of a controlled leaving states ranges answers leave (omega (arith, within)) are;
+      fit = omega (arith, few, counted a controlled leaving states ranges answers are);
+      numbers = numbers;
+      leave = subst (λ (n : ℕ). AreEdgesFrom a n numbers) (sym are.entries)
+          (subst (λ (list : List ℕ). AreEdgesFrom a states list) (sym here) (leave.1 states within));
+      asking = asking;
+    }
     go Memory asking = asking
     go (Text fault) asking = absurd asking
     go (Game fault) asking = absurd asking
@@ -278,4 +332,5 @@ states_none a controlled leaving = record {
   every = λ s given below. absurd (omega (arith, below));
   apart = λ s one other below in_one in_other have. absurd (omega (arith, below));
   least = λ s q below inside. absurd (omega (arith, below));
+  rising = λ q below. absurd (omega (arith, below));
 }

@@ -10,8 +10,9 @@ use Rattle.omega_hoa_label.specs.Label.{LabelTree, propositions}
 use Rattle.omega_hoa_satisfiable.specs.Satisfiable.{each_once}
 use Rattle.omega_hoa_satisfiable.specs.private.Words.{mask, pattern, word_among, word_of, word_of_truth}
 use Rattle.omega_hoa_satisfiable.proofs.WordLemmas.{held_in, on, on-truth, on-word_of}
-use Rattle.omega_synth_game.specs.Answering.{CanAnswer, is_controlled}
-use Rattle.omega_synth_game.specs.Lanes.{AreApart, AreInputsFor, is_one_of}
+use Rattle.omega_synth_game.specs.Answering.{CanAnswer}
+use Rattle.omega_synth_controllers.specs.Strategies.{is_controlled}
+use Rattle.omega_synth_game.specs.private.Lanes.{AreApart, AreInputsFor, is_one_of}
 use Rattle.omega_synth_game.specs.Letters.{holds_in, letter_numbered}
 use Rattle.omega_synth_game.proofs.AllInputs.{once_apart}
 use Rattle.omega_synth_game.proofs.Mentions.{among-left, among-right, each_kept, none_once, none_passing, once_behind, passing, truth_agrees}

@@ -7,7 +7,7 @@ use Rattle.std.proofs.lemmas.List.{get_or-replicate, get_or-set_other, get_or-se
 use Rattle.std.proofs.lemmas.List.Elements.{Contains-append_left, Contains-get_or, Contains-push, Contains-push_cases}
 use Rattle.omega_synth_rounds.specs.Rounds.{no_edge}
 use Rattle.omega_synth_rounds.specs.declared.rounds.RoundEdge.{RoundEdge}
-use Rattle.omega_synth_game.specs.Making.{AreLeaving, LeavesBelow}
+use Rattle.omega_synth_game.specs.private.Making.{AreLeaving, LeavesBelow}
 
 pub leaving_none : (edges : List RoundEdge) (states : ℕ) (lists : List (List ℕ)) → lists ≡ replicate states [] → AreLeaving edges states 0 lists
 leaving_none edges states lists is = record {

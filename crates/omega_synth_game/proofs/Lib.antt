@@ -19,3 +19,4 @@ pub mod EdgesInLanes
 pub mod ExclusiveStates
 pub mod Gathering
 pub mod Rounding
+pub mod Existing

@@ -3,7 +3,7 @@ use Rattle.std.proofs.Common.{◌≡◌, ◌↔◌, ℕ, zero, suc, ◌%◌, ◌
 use Rattle.std.specs.Prelude.{slice_index_or}
 use Rattle.std.proofs.lemmas.Bool.{false_from_ne_true}
 use Rattle.std.proofs.lemmas.List.{length-map}
-use Rattle.std.proofs.lemmas.List.Elements.{All-map}
+use Rattle.std.proofs.lemmas.List.Elements.{All-head, All-map, All-tail}
 use Rattle.std.proofs.lemmas.Option.{slice_get_within}
 use Rattle.omega_hoa_parity_kind.specs.Priority.{greatest_number, priority_of}
 use Rattle.omega_hoa_acceptance.specs.Acceptance.{accepts}
@@ -14,10 +14,10 @@ use Rattle.omega_hoa_automaton.specs.Automaton.{AreBelow, BodyEdge, Description,
 use Rattle.omega_lang_runs.specs.Lasso.{IsStep, IsUsable, Leads, label_of, marks_at}
 use Rattle.omega_lang_runs.specs.Words.{Allows, CanBeTaken}
 use Rattle.omega_lang_runs.proofs.Kept.{edge_kept, marks_are, marks_low}
-use Rattle.omega_synth_controllers.specs.Controllers.{Answers, IsController, IsCounterStrategy, IsKeptCycle, IsMet, is_accepted}
-use Rattle.omega_synth_rounds.specs.Rounds.{IsAnswering, IsAsking, IsKeptRound, IsReached, IsRoundStep, LeadOn, asked_in, edge_at as round_edge_at, greatest_priority}
+use Rattle.omega_synth_controllers.specs.Controllers.{Answers, AreEdgesMet, IsController, IsCounterStrategy, IsKeptCycle, IsMet, is_accepted}
+use Rattle.omega_synth_rounds.specs.Rounds.{AreMetAnswers, IsAnswer, IsAnswering, IsAsking, IsKeptRound, IsReached, IsRoundStep, LeadOn, asked_in, edge_at as round_edge_at, greatest_priority}
 use Rattle.omega_synth_rounds.specs.declared.rounds.Rounds.{Rounds}
-use Rattle.omega_synth_game.specs.Laws.{AnsweringsAreControllers, AskingsAreCounterStrategies, IsParted, NoStartIsRefused}
+use Rattle.omega_synth_game.specs.Laws.{AnsweringsAreControllers, AskingsAreCounterStrategies, IsParted, MetAnswersAreMet, NoStartIsRefused}
 use Rattle.omega_synth_game.specs.Classes.{IsLeastInState}
 use Rattle.omega_synth_game.specs.Letters.{holds_in, letter_of}
 use Rattle.omega_synth_game.specs.RoundsOf.{AreLeastLetters, AreLettersAsked, IsAnswerOf, IsAskedBy, letters_by_state}
@@ -156,6 +156,50 @@ module _ (parity : ParityIsPriority) (a : Description) (controlled : List ℕ) (
         (accepted_is state cycle state kept_cycle.leads kept_cycle.longer).1 (answering.even state cycle (round_from kept state cycle kept_cycle));
   }
 
+  module _ (kept : List ℕ) (met : AreMetAnswers rounds start kept) where
+    -- a kept edge of the rounds is an edge of the automaton that can be taken
+    step_back : (from number to : ℕ) → Contains kept number → IsRoundStep rounds from number to → IsStep a from number to
+    step_back from number to has step =
+        let answer : IsAnswer rounds number = (met number has).0 in
+        let its : IsAnswerOf a controlled answer.state number (holds_in (letter_of letters answer.question)) =
+        (parted.rounds_are.asked answer.state answer.question number answer.asked).0 answer.answers in
+        let same = parted.rounds_are.each number its.edge its.numbered in
+        record {
+          edge = its.edge;
+          numbered = its.numbered;
+          usable = answer_usable a controlled number (holds_in (letter_of letters answer.question)) its.edge its.numbered its.answers;
+          leaves = sym same.source ∙ step.leaves;
+          enters = same.target ∙ ap (λ (state : ℕ). state ∷ []) step.enters;
+        }
+
+    leads_back : (from : ℕ) (numbers : List ℕ) (to : ℕ) → All (Contains kept) numbers → LeadOn rounds from numbers to → Leads a from numbers to
+    leads_back from [] to all leads = leads
+    leads_back from (number ∷ numbers) to all leads = (
+      leads.0,
+      step_back from number leads.0 (All-head (Contains kept) number numbers all) leads.1,
+      leads_back leads.0 numbers to (All-tail (Contains kept) number numbers all) leads.2,
+    )
+
+    pub edges_met : AreEdgesMet a kept
+    edges_met number has =
+        let both = met number has in
+        let state : ℕ = (round_edge_at rounds number).source in
+        let answer : IsAnswer rounds number = both.0 in
+        let its : IsAnswerOf a controlled answer.state number (holds_in (letter_of letters answer.question)) =
+        (parted.rounds_are.asked answer.state answer.question number answer.asked).0 answer.answers in
+        let below : number < length rounds.edges = omega (arith, parted.rounds_are.edges, slice_get_within (edges_of a) number its.edge its.numbered) in (
+          state,
+          (round_edge_at rounds number).target,
+          record {
+            start = start;
+            begins = parted.begins;
+            numbers = both.1.numbers;
+            all_kept = both.1.all_kept;
+            leads = leads_back start both.1.numbers state both.1.all_kept both.1.leads;
+          },
+          step_back state number (round_edge_at rounds number).target has (record { below = below; leaves = refl; enters = refl }),
+        )
+
   module _ (kept asked : List ℕ) (by_state : List (List ℕ)) (asking : IsAsking rounds start kept asked)
       (are : AreLettersAsked a.states letters asked by_state) where
     -- the letter of a state that is met is that of its question
@@ -187,6 +231,9 @@ module _ (parity : ParityIsPriority) (a : Description) (controlled : List ℕ) (
     least_letters state met =
         subst (λ (letter : List ℕ). IsLeastInState a controlled state letter) (letter_is state met)
         (parted.rounds_are.least state (asked_in asked state) (asking.asks state (reached_from kept state met)))
+
+pub met_answers_are_met : ParityIsPriority → MetAnswersAreMet
+met_answers_are_met parity a controlled rounds letters start kept parted met = edges_met parity a controlled rounds letters start parted kept met
 
 pub answerings_are_controllers : ParityIsPriority → AnsweringsAreControllers
 answerings_are_controllers parity a controlled rounds letters start kept parted answering =

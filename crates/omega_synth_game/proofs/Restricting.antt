@@ -15,7 +15,8 @@ use Rattle.omega_hoa_label.specs.declared.label.LabelNode.TheVariants.{And, Cons
 use Rattle.omega_hoa_edges.proofs.Refusals.{not_deeper}
 use Rattle.omega_hoa_satisfiable.specs.Satisfiable.{IsSatisfiable}
 use Rattle.omega_synth_controllers.specs.Controllers.{AgreeOnInputs}
-use Rattle.omega_synth_game.specs.Answering.{CanAnswer, is_controlled, restricted}
+use Rattle.omega_synth_game.specs.Answering.{CanAnswer, restricted}
+use Rattle.omega_synth_controllers.specs.Strategies.{is_controlled}
 use Rattle.omega_synth_game.specs.Letters.{holds_in}
 use Rattle.omega_synth_game.specs.private.Restricted.{restricted_node}
 

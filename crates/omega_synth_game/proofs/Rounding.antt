@@ -11,11 +11,12 @@ use Rattle.omega_synth_rounds.specs.declared.rounds.RoundEdge.{RoundEdge}
 use Rattle.omega_synth_rounds.specs.declared.rounds.Rounds.{Rounds}
 use Rattle.omega_synth_game.specs.Classes.{AreEdgesFrom, IsLeaving}
 use Rattle.omega_synth_game.specs.Letters.{holds_in, letter_of}
-use Rattle.omega_synth_game.specs.Making.{AreLeaving, AreRoundEdges, AreStatesAsked, LeavesBelow, StatesLeave}
+use Rattle.omega_synth_game.specs.Making.{AreAskedByState}
+use Rattle.omega_synth_game.specs.private.Making.{AreAskedInTurn, AreLeaving, AreRoundEdges, AreStatesAsked, LeavesBelow, StatesLeave}
 use Rattle.omega_synth_game.specs.RoundsOf.{AreRoundsOf, IsAnswerOf}
 
 -- there is an edge of each number below the count
-edge_there : (edges : List BodyEdge) (k : ℕ) → k < length edges → (edge : BodyEdge) × (slice_get edges k ≡ Some edge)
+pub edge_there : (edges : List BodyEdge) (k : ℕ) → k < length edges → (edge : BodyEdge) × (slice_get edges k ≡ Some edge)
 edge_there [] k below = absurd (omega arith)
 edge_there (x ∷ xs) zero below = (x, refl)
 edge_there (x ∷ xs) (suc k) below = edge_there xs k (omega arith)
@@ -31,25 +32,25 @@ module _ (a : Description) (kind : ParityKind) (edges : List RoundEdge) (are : A
       same_default (x ∷ xs) zero d e below = refl
       same_default (x ∷ xs) (suc k) d e below = same_default xs k d e (omega arith)
 
+  pub leaves_from : (state number : ℕ) → LeavesBelow edges (length edges) state number → IsLeaving a state number
+  leaves_from state number leaves =
+      let below : number < edge_count a = omega (arith, leaves.0, are.entries) in
+      let found = edge_there (edges_of a) number below in
+      record {
+        edge = found.0;
+        numbered = found.1;
+        leaves = sym ((are.each number below).each found.0 found.1).source ∙ leaves.1;
+      }
+
+  -- an edge that leaves a state has a number below the end
+  pub leaves_below : (state number : ℕ) → IsLeaving a state number → LeavesBelow edges (length edges) state number
+  leaves_below state number leaving_it =
+      let below : number < edge_count a = slice_get_within (edges_of a) number leaving_it.edge leaving_it.numbered in (
+        omega (arith, below, are.entries),
+        ((are.each number below).each leaving_it.edge leaving_it.numbered).source ∙ leaving_it.leaves,
+      )
+
   module _ (lists : List (List ℕ)) (leaving : AreLeaving edges a.states (length edges) lists) where
-    leaves_from : (state number : ℕ) → LeavesBelow edges (length edges) state number → IsLeaving a state number
-    leaves_from state number leaves =
-        let below : number < edge_count a = omega (arith, leaves.0, are.entries) in
-        let found = edge_there (edges_of a) number below in
-        record {
-          edge = found.0;
-          numbered = found.1;
-          leaves = sym ((are.each number below).each found.0 found.1).source ∙ leaves.1;
-        }
-
-    -- an edge that leaves a state has a number below the end
-    leaves_below : (state number : ℕ) → IsLeaving a state number → LeavesBelow edges (length edges) state number
-    leaves_below state number leaving_it =
-        let below : number < edge_count a = slice_get_within (edges_of a) number leaving_it.edge leaving_it.numbered in (
-          omega (arith, below, are.entries),
-          ((are.each number below).each leaving_it.edge leaving_it.numbered).source ∙ leaving_it.leaves,
-        )
-
     pub edges_from : (state : ℕ) → state < a.states → AreEdgesFrom a state (get_or lists state [])
     edges_from state below = record {
       rising = leaving.rising state below;
@@ -119,6 +120,22 @@ module _ (a : Description) (kind : ParityKind) (edges : List RoundEdge) (are : A
               leave = edges_from state (omega (arith, below, leaving.entries));
               first = asked.least state question below (is.from, is.until);
             });
+        rising = asked.rising;
+      }
+
+      pub by_state : AreAskedInTurn a controlled lists (length lists) ranges answers → AreAskedByState a controlled made
+      by_state turn = record {
+        classes = turn.classes;
+        all = turn.entries ∙ leaving.entries;
+        each = λ state below.
+            (let listed : state < length lists = omega (arith, below, turn.entries) in
+            record {
+              numbers = get_or lists state [];
+              leave = edges_from state (omega (arith, listed, leaving.entries));
+              are = turn.each state listed;
+            });
+        questions = turn.listed;
+        ranges = turn.ranged;
       }
 
       pub are_rounds : IsRounds made
@@ -143,10 +160,12 @@ pub gathered : (a : Description) (kind : ParityKind) (controlled : List ℕ)
     → (count : ℕ) → count ≡ a.states → (lists shown : List (List ℕ)) → shown ≡ lists → AreLeaving lent count (length lent) lists
     → (ranges states : List QuestionRange) → states ≡ ranges → (answers questions : List (List ℕ)) → questions ≡ answers
     → (letters its : List (List ℕ)) → its ≡ letters → AreStatesAsked a controlled shown (length shown) ranges letters answers
+    → AreAskedInTurn a controlled shown (length shown) ranges answers
     → AreRoundsOf a controlled kind (record { states = states; edges = held; questions = questions }) its
     × IsRounds (record { states = states; edges = held; questions = questions })
+    × AreAskedByState a controlled (record { states = states; edges = held; questions = questions })
 gathered a kind controlled edges lent held lent_is held_is are count count_is lists shown shown_is leaving ranges states states_is answers questions
-    questions_is letters its its_is asked =
+    questions_is letters its its_is asked turn =
     let held_are : AreRoundEdges a kind (edge_count a) held = subst (λ (list : List RoundEdge). AreRoundEdges a kind (edge_count a) list) (sym held_is) are in
     let left : AreLeaving held a.states (length held) lists =
     subst (λ (list : List RoundEdge). AreLeaving list a.states (length list) lists) (lent_is ∙ sym held_is)
@@ -158,7 +177,14 @@ gathered a kind controlled edges lent held lent_is held_is are count count_is li
     let three : AreStatesAsked a controlled lists (length lists) states its answers =
     subst (λ (list : List (List ℕ)). AreStatesAsked a controlled lists (length lists) states list answers) (sym its_is) two in
     let all : AreStatesAsked a controlled lists (length lists) states its questions =
-    subst (λ (list : List (List ℕ)). AreStatesAsked a controlled lists (length lists) states its list) (sym questions_is) three in (
+    subst (λ (list : List (List ℕ)). AreStatesAsked a controlled lists (length lists) states its list) (sym questions_is) three in
+    let first : AreAskedInTurn a controlled lists (length lists) ranges answers =
+    subst (λ (list : List (List ℕ)). AreAskedInTurn a controlled list (length list) ranges answers) shown_is turn in
+    let second : AreAskedInTurn a controlled lists (length lists) states answers =
+    subst (λ (list : List QuestionRange). AreAskedInTurn a controlled lists (length lists) list answers) (sym states_is) first in
+    let turns : AreAskedInTurn a controlled lists (length lists) states questions =
+    subst (λ (list : List (List ℕ)). AreAskedInTurn a controlled lists (length lists) states list) (sym questions_is) second in (
       rounds_are a kind held held_are lists left controlled states its questions all,
       are_rounds a kind held held_are lists left controlled states its questions all,
+      by_state a kind held held_are lists left controlled states its questions all turns,
     )

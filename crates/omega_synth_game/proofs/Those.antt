@@ -1,5 +1,8 @@
--- Those of a list that have a property: their members, and that they are one list.
-use Rattle.std.proofs.Common.{◌≡◌, ◌↔◌, ℕ, zero, suc, inl, inr, List, [], ◌∷◌, length, Contains, sym, ap, refl, ◌∙◌, subst, arith}
+-- Those of a list that have a property: their members, that they are one list, and that they rise if the list does.
+use Rattle.std.proofs.Common.{◌≡◌, ◌↔◌, ℕ, zero, suc, ◌+◌, ◌<◌, inl, inr, List, [], ◌∷◌, length, Contains, sym, ap, refl, ◌∙◌, subst, arith}
+use Rattle.std.specs.Prelude.{slice_index}
+use Rattle.std.specs.List.Sorted.{IsStrictlyIncreasing}
+use Rattle.std.proofs.lemmas.List.Kept.{AllPairs-from_increasing}
 use Rattle.omega_synth_game.specs.Those.{AreThoseWith}
 
 -- what a longer list contains
@@ -59,3 +62,35 @@ those_one P Q (x ∷ xs) ys zs alike one other =
         | inr lacks ↦ those_one P Q xs ys zs rest there.1 lacks.1
       ]
     ]
+
+-- the first number of a rising list is below the others, which rise
+head_below : (x : ℕ) (xs : List ℕ) (n : ℕ) → IsStrictlyIncreasing (x ∷ xs) → Contains xs n → x < n
+head_below x xs n rising has =
+    let later : suc has.0 < length (x ∷ xs) = omega (arith, has.1) in
+    subst (λ (m : ℕ). x < m) has.2 (AllPairs-from_increasing (x ∷ xs) rising 0 (suc has.0) n (omega arith) later)
+
+tail_rising : (x : ℕ) (xs : List ℕ) → IsStrictlyIncreasing (x ∷ xs) → IsStrictlyIncreasing xs
+tail_rising x xs rising k within =
+    let later : suc (k + 1) < length (x ∷ xs) = omega arith in
+    AllPairs-from_increasing (x ∷ xs) rising (suc k) (suc (k + 1)) 0 (omega arith) later
+
+-- a number below those of a rising list
+rising_before : (x : ℕ) (xs : List ℕ) → ((n : ℕ) → Contains xs n → x < n) → IsStrictlyIncreasing xs → IsStrictlyIncreasing (x ∷ xs)
+rising_before x [] below rising k within = absurd (omega arith)
+rising_before x (y ∷ ys) below rising zero within = below y (in_front y ys)
+rising_before x (y ∷ ys) below rising (suc k) within =
+    let same : suc k + 1 ≡ suc (k + 1) = omega arith in
+    subst (λ (n : ℕ). slice_index (y ∷ ys) k < slice_index (x ∷ y ∷ ys) n) (sym same) (rising k (omega arith))
+
+nothing_rises : IsStrictlyIncreasing []
+nothing_rises k within = absurd (omega arith)
+
+pub those_rising : (P : ℕ → Type 0) (xs ys : List ℕ) → IsStrictlyIncreasing xs → AreThoseWith P xs ys → IsStrictlyIncreasing ys
+those_rising P [] ys rising are = subst IsStrictlyIncreasing (sym are) nothing_rises
+those_rising P (x ∷ xs) ys rising are = elim are [
+  | inl here ↦
+      subst IsStrictlyIncreasing (sym here.2)
+      (rising_before x here.0 (λ n has. head_below x xs n rising ((those_members P xs here.0 here.3 n).0 has).0)
+      (those_rising P xs here.0 (tail_rising x xs rising) here.3))
+  | inr there ↦ those_rising P xs ys (tail_rising x xs rising) there.1
+]

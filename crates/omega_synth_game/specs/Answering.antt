@@ -1,7 +1,6 @@
 -- Labels that can be true where the environment's propositions are given: those of the system are free.
-use Rattle.std.specs.Prelude.{◌≡◌, ◌⊎◌, ◌↔◌, ℕ, ◌==◌, Bool, if◌then◌else◌}
+use Rattle.std.specs.Prelude.{◌≡◌, ◌⊎◌, ◌↔◌, ℕ, Bool, if◌then◌else◌}
 use Rattle.std.specs.Prelude.{IsTrue, List, Contains, Some, length}
-use Rattle.std.specs.List.{list_any}
 use Rattle.std.specs.Option.{unwrap_or}
 use Rattle.omega_text.specs.Cases.{never, or_memory, or_task}
 use Rattle.omega_text.specs.declared.refusal.Refusal.{Refusal}
@@ -16,12 +15,9 @@ use Rattle.omega_hoa_edges.specs.Labels.{valuation_label}
 use Rattle.omega_lang_runs.specs.Lasso.{label_of}
 use Rattle.omega_lang_runs.specs.Words.{index_in}
 use Rattle.omega_synth_controllers.specs.Controllers.{AgreeOnInputs, Answers}
+use Rattle.omega_synth_controllers.specs.Strategies.{is_controlled}
 use Rattle.omega_synth_game.specs.Letters.{holds_in}
 use Rattle.omega_synth_game.specs.Those.{AreThoseWith}
-
--- whether the system controls a proposition
-abbrev pub is_controlled : List ℕ → ℕ → Bool
-is_controlled controlled p = list_any (λ q. q == p) controlled
 
 -- the label is true at some letter that agrees with the environment's letter on the inputs
 pub record CanAnswer (controlled : List ℕ) (label : LabelTree) (given : ℕ → Bool) : Type 0 where

@@ -7,7 +7,8 @@ use Rattle.std.specs.Option.{unwrap_or}
 use Rattle.omega_hoa_label.specs.Label.{LabelTree, constant, propositions}
 use Rattle.omega_hoa_satisfiable.specs.Satisfiable.{each_once}
 use Rattle.omega_hoa_automaton.specs.Automaton.{BodyEdge, Description, edge_at}
-use Rattle.omega_synth_game.specs.Answering.{HaveSameAnswers, is_controlled, whole_label}
+use Rattle.omega_synth_game.specs.Answering.{HaveSameAnswers, whole_label}
+use Rattle.omega_synth_controllers.specs.Strategies.{is_controlled}
 use Rattle.omega_synth_game.specs.Letters.{holds_in, letter_numbered}
 
 -- the inputs of a label from left to right, each as often as it occurs

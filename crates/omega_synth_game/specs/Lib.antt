@@ -9,8 +9,5 @@ pub mod Classes
 pub mod RoundsOf
 pub mod Laws
 pub mod Making
-pub mod Firsts
-pub mod Lanes
-pub mod EdgeWords
-pub mod Exclusive
+pub mod Sizes
 pub mod private

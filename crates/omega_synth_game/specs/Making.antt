@@ -1,74 +1,29 @@
--- How the rounds of an automaton are made: their edges, the edges that leave each state, and for each state a question
--- for each class of letters.
+-- How the rounds of an automaton are made: for each state a question for each class of letters, and the refusals.
 pub use Rattle.omega_synth_game.specs.Classes.{IsLeaving, inputs_of}
-use Rattle.std.specs.Prelude.{◌≡◌, ◌⊎◌, ◌↔◌, ℕ, ◌<◌, ◌≤◌, Bool, List, [], Contains}
-use Rattle.std.specs.Prelude.{Some, length, slice_index, slice_index_or, sum}
-use Rattle.std.specs.List.Sorted.{IsStrictlyIncreasing}
+use Rattle.std.specs.Prelude.{◌≡◌, ◌⊎◌, ℕ, ◌+◌, ◌<◌, ◌≤◌, Bool, List, [], ◌∷◌, Contains}
+use Rattle.std.specs.Prelude.{Some, length, slice_index_or, sum_by}
+use Rattle.std.specs.List.{flat_map}
 use Rattle.omega_text.specs.Cases.{never, or_game, or_memory, or_task}
-use Rattle.omega_text.specs.Limits.{most_number}
 use Rattle.omega_text.specs.declared.refusal.Refusal.{Refusal}
 use Rattle.omega_text.specs.declared.refusal.game.GameFault.TheVariants.{TooManyNodes}
 use Rattle.omega_text.specs.declared.refusal.task.TaskFault.{TaskFault}
 use Rattle.omega_text.specs.declared.refusal.task.TaskFault.TheVariants.{TooManyPropositions}
 use Rattle.omega_hoa_expression.specs.Limits.{most_mentioned}
-use Rattle.omega_hoa_parity_kind.specs.declared.kind.ParityKind.{ParityKind}
 use Rattle.omega_hoa_automaton.specs.Automaton.{BodyEdge, Description, edge_at}
 use Rattle.omega_game_values.specs.Limits.{most_nodes}
 use Rattle.omega_synth_rounds.specs.Extracting.{HaveSameNumbers}
-use Rattle.omega_synth_rounds.specs.Rounds.{no_edge, no_range}
 use Rattle.omega_synth_rounds.specs.declared.rounds.QuestionRange.{QuestionRange}
-use Rattle.omega_synth_rounds.specs.declared.rounds.RoundEdge.{RoundEdge}
+use Rattle.omega_synth_rounds.specs.declared.rounds.Rounds.{Rounds}
 use Rattle.omega_synth_game.specs.Answering.{AreAnswersAmong, AreAnswersInOrder, IsUnjudged, whole_label}
 use Rattle.omega_synth_game.specs.Classes.{AreEdgesFrom, IsFirstLetter}
-use Rattle.omega_synth_game.specs.Letters.{holds_in, letter_numbered, letter_of}
-use Rattle.omega_synth_game.specs.RoundsOf.{IsRoundEdgeOf}
+use Rattle.omega_synth_game.specs.Letters.{holds_in, letter_of}
 
--- the edge of the rounds for the edge of the automaton with a number
-pub record IsRoundEdgeAt (a : Description) (kind : ParityKind) (number : ℕ)
-    (round_edge : RoundEdge) : Type 0 where
-  pub each : (edge : BodyEdge) → edge_at a number ≡ Some edge → IsRoundEdgeOf kind edge round_edge
-  pub source : round_edge.source < a.states
-  pub target : round_edge.target < a.states
-  pub priority : round_edge.priority ≤ most_number
-
--- the edges of the rounds up to a number
-pub record AreRoundEdges (a : Description) (kind : ParityKind) (end : ℕ)
-    (edges : List RoundEdge) : Type 0 where
-  pub entries : length edges ≡ end
-  pub each : (number : ℕ) → number < end
-      → IsRoundEdgeAt a kind number (slice_index_or edges number no_edge)
-
--- an edge with a number below the end leaves the state
-abbrev pub LeavesBelow : List RoundEdge → ℕ → ℕ → ℕ → Type 0
-LeavesBelow edges end state number =
-    (number < end) × ((slice_index_or edges number no_edge).source ≡ state)
-
--- the numbers of the edges below the end that leave a state, by state
-pub record AreLeaving (edges : List RoundEdge) (states end : ℕ) (lists : List (List ℕ)) : Type 0 where
-  pub entries : length lists ≡ states
-  pub each : (state number : ℕ) → state < states
-      → Contains (slice_index_or lists state []) number ↔ LeavesBelow edges end state number
-  pub rising : (state : ℕ) → state < states → IsStrictlyIncreasing (slice_index_or lists state [])
-
--- the refusal of edges that mention more inputs than the limit, or want of memory
-abbrev pub HasManyInputs : Description → List ℕ → List ℕ → Refusal → Type 0
-HasManyInputs a controlled numbers = or_task (λ fault. (fault ≡ TooManyPropositions)
-    × (most_mentioned < length (inputs_of a controlled numbers))) (or_memory never)
-
--- each of the letters up to an end has its answers among edges, given by number
+-- each of the letters up to an end has its answers among edges, given by number, in the order of these numbers
 pub record AreAnswered (a : Description) (controlled numbers : List ℕ) (letters : List (List ℕ))
     (end : ℕ) (answers : List (List ℕ)) : Type 0 where
   pub entries : length answers ≡ end
-  pub each : (question : ℕ) → question < end → AreAnswersAmong a controlled numbers
-      (holds_in (letter_of letters question)) (slice_index_or answers question [])
-
--- for each letter over inputs, by its number up to an end, the edges with these numbers that answer it, in order
-pub record AreAnswersByLetter (a : Description) (controlled numbers inputs : List ℕ) (end : ℕ)
-    (answers : List (List ℕ)) : Type 0 where
-  pub entries : length answers ≡ end
-  pub each : (letter : ℕ) → letter < end
-      → AreAnswersInOrder a controlled (holds_in (letter_numbered inputs letter)) numbers
-      (slice_index_or answers letter [])
+  pub each : (question : ℕ) → question < end → AreAnswersInOrder a controlled
+      (holds_in (letter_of letters question)) numbers (slice_index_or answers question [])
 
 -- the questions of a state that the edges with these numbers leave: one for each class of letters, whose letter is the
 -- first of the class
@@ -83,23 +38,33 @@ pub record AreQuestionsOf (a : Description) (controlled numbers : List ℕ)
   pub least : (question : ℕ) → question < length letters
       → IsFirstLetter a controlled numbers (letter_of letters question)
 
--- the letters have so many classes where the edges with these numbers answer them
-pub record HasClasses (a : Description) (controlled numbers : List ℕ) (count : ℕ) : Type 0 where
+-- the labels of the edges with these numbers mention no more inputs than the limit
+abbrev pub HaveFewInputs : Description → List ℕ → List ℕ → Type 0
+HaveFewInputs a controlled numbers = length (inputs_of a controlled numbers) ≤ most_mentioned
+
+-- the classes of the letters that the edges with these numbers answer, each given by those of the edges that answer it;
+-- the labels mention few inputs
+pub record AreClasses (a : Description) (controlled numbers : List ℕ)
+    (classes : List (List ℕ)) : Type 0 where
   pub letters : List (List ℕ)
-  pub answers : List (List ℕ)
-  pub questions : AreQuestionsOf a controlled numbers letters answers
-  pub counted : length answers ≡ count
+  pub questions : AreQuestionsOf a controlled numbers letters classes
+  pub few : HaveFewInputs a controlled numbers
+
+-- how many classes states have, where each has these
+abbrev pub class_count : List (List (List ℕ)) → ℕ
+class_count classes = sum_by (λ here. length here) classes
+
+-- the ranges of the questions of states from a first question on, where each class of a state is a question
+abbrev pub ranges_from : ℕ → List (List (List ℕ)) → List QuestionRange
+ranges_from first [] = []
+ranges_from first (here ∷ rest) =
+    record { first = first; end = first + length here } ∷ ranges_from (first + length here) rest
 
 -- the label of one of the edges with these numbers cannot be judged in some letter
 abbrev pub IsSomeUnjudged : Description → List ℕ → List ℕ → TaskFault → Type 0
 IsSomeUnjudged a controlled numbers fault = (letter : List ℕ) × (number : ℕ)
     × Contains numbers number × (edge : BodyEdge) × (edge_at a number ≡ Some edge)
     × IsUnjudged controlled letter (whole_label a number edge) fault
-
--- one of the edges cannot be judged in some letter, or want of memory
-abbrev pub IsSomeLetterUnanswered : Description → List ℕ → List ℕ → Refusal → Type 0
-IsSomeLetterUnanswered a controlled numbers =
-    or_task (IsSomeUnjudged a controlled numbers) (or_memory never)
 
 -- the fault of the questions of a state that the edges with these numbers leave: too many inputs, or an edge that
 -- cannot be judged in some letter
@@ -112,68 +77,48 @@ IsAskingFault a controlled numbers fault =
 abbrev pub IsUnasked : Description → List ℕ → List ℕ → Refusal → Type 0
 IsUnasked a controlled numbers = or_task (IsAskingFault a controlled numbers) (or_memory never)
 
--- the question is in the range
-abbrev pub IsInRange : QuestionRange → ℕ → Type 0
-IsInRange range question = (range.first ≤ question) × (question < range.end)
-
--- the range of a state
-abbrev pub range_of : List QuestionRange → ℕ → QuestionRange
-range_of ranges state = slice_index_or ranges state no_range
-
--- the questions of the first states, which the edges with the numbers listed leave
-pub record AreStatesAsked (a : Description) (controlled : List ℕ) (leaving : List (List ℕ))
-    (states : ℕ) (ranges : List QuestionRange) (letters answers : List (List ℕ)) : Type 0 where
-  pub entries : length ranges ≡ states
-  pub paired : length answers ≡ length letters
-  pub some : (state : ℕ) → state < states
-      → (range_of ranges state).first < (range_of ranges state).end
-  pub within : (state : ℕ) → state < states → (range_of ranges state).end ≤ length answers
-  pub owned : (question : ℕ) → question < length answers
-      → (state : ℕ) × (state < states) × IsInRange (range_of ranges state) question
-  pub each : (state question : ℕ) → state < states → IsInRange (range_of ranges state) question
-      → AreAnswersAmong a controlled (slice_index_or leaving state [])
-      (holds_in (letter_of letters question)) (slice_index_or answers question [])
-  pub every : (state : ℕ) (given : ℕ → Bool) → state < states
-      → (question : ℕ) × IsInRange (range_of ranges state) question × AreAnswersAmong a controlled
-      (slice_index_or leaving state []) given (slice_index_or answers question [])
-  pub apart : (state one other : ℕ) → state < states → IsInRange (range_of ranges state) one
-      → IsInRange (range_of ranges state) other
-      → HaveSameNumbers (slice_index_or answers one []) (slice_index_or answers other []) → one ≡ other
-  pub least : (state question : ℕ) → state < states → IsInRange (range_of ranges state) question
-      → IsFirstLetter a controlled (slice_index_or leaving state []) (letter_of letters question)
-
 -- the edges with these numbers leave the state
 abbrev pub AllLeave : Description → ℕ → List ℕ → Type 0
 AllLeave a state numbers = (number : ℕ) → Contains numbers number → IsLeaving a state number
 
--- for each state the numbers of the edges that leave it
-abbrev pub StatesLeave : Description → List (List ℕ) → Type 0
-StatesLeave a lists =
-    (length lists ≡ a.states)
-    × ((state : ℕ) → state < length lists → AreEdgesFrom a state (slice_index_or lists state []))
-
--- in the state the letters have so many classes
-pub record HasClassesIn (a : Description) (controlled : List ℕ) (state count : ℕ) : Type 0 where
+-- the classes of letters in a state, each given by the numbers of the edges that answer it, in rising order
+pub record AreClassesIn (a : Description) (controlled : List ℕ) (state : ℕ)
+    (classes : List (List ℕ)) : Type 0 where
   pub numbers : List ℕ
   pub leave : AreEdgesFrom a state numbers
-  pub classes : HasClasses a controlled numbers count
+  pub are : AreClasses a controlled numbers classes
+
+-- the classes of letters in each of the first states
+abbrev pub AreClassesOf : Description → List ℕ → List (List (List ℕ)) → Type 0
+AreClassesOf a controlled classes = (state : ℕ) → state < length classes
+    → AreClassesIn a controlled state (slice_index_or classes state [])
 
 -- the first states have more questions, one for each class of letters, than a game may have nodes
 pub record HasManyQuestions (a : Description) (controlled : List ℕ) : Type 0 where
-  pub counts : List ℕ
-  pub few : length counts ≤ a.states
-  pub each : (state : ℕ) → state < length counts
-      → HasClassesIn a controlled state (slice_index counts state)
-  pub many : most_nodes < sum counts
+  pub classes : List (List (List ℕ))
+  pub few : length classes ≤ a.states
+  pub each : AreClassesOf a controlled classes
+  pub many : most_nodes < class_count classes
 
--- the fault of the questions of some state
+-- the questions of the rounds are the classes of the states, those of one state after those of the state before
+pub record AreAskedByState (a : Description) (controlled : List ℕ) (rounds : Rounds) : Type 0 where
+  pub classes : List (List (List ℕ))
+  pub all : length classes ≡ a.states
+  pub each : AreClassesOf a controlled classes
+  pub questions : rounds.questions ≡ flat_map (λ here. here) classes
+  pub ranges : rounds.states ≡ ranges_from 0 classes
+
+-- the fault of the questions of a state: all states before it have classes, which are not too many
 pub record IsMakingFault (a : Description) (controlled : List ℕ) (fault : TaskFault) : Type 0 where
-  pub state : ℕ
+  pub before : List (List (List ℕ))
+  pub each : AreClassesOf a controlled before
+  pub fit : class_count before ≤ most_nodes
   pub numbers : List ℕ
-  pub leave : AllLeave a state numbers
+  pub leave : AreEdgesFrom a (length before) numbers
   pub asking : IsAskingFault a controlled numbers fault
 
--- the refusal of the rounds: too many questions, the fault of the questions of a state, or want of memory
+-- the refusal of the rounds, in the order of the states: the fault of the questions of a state, or too many questions
+-- up to a state; or want of memory
 abbrev pub IsUnmade : Description → List ℕ → Refusal → Type 0
 IsUnmade a controlled =
     or_game (λ fault. (fault ≡ TooManyNodes) × HasManyQuestions a controlled)

@@ -2,6 +2,7 @@
 -- automaton; a question is a class of the environment's letters, and its answers are the edges that answer them.
 pub use Rattle.omega_synth_game.specs.Letters.{holds_in, letter_of}
 use Rattle.std.specs.Prelude.{◌≡◌, ◌↔◌, ℕ, ◌<◌, Bool, List, [], ◌∷◌, Contains, Some, length}
+use Rattle.std.specs.List.Sorted.{IsStrictlyIncreasing}
 use Rattle.omega_hoa_parity_kind.specs.Priority.{priority_of}
 use Rattle.omega_hoa_parity_kind.specs.declared.kind.ParityKind.{ParityKind}
 use Rattle.omega_hoa_automaton.specs.Automaton.{BodyEdge, Description, edge_at, edge_count}
@@ -37,7 +38,7 @@ pub record IsAskedBy (a : Description) (controlled : List ℕ) (rounds : Rounds)
 
 -- the rounds of an automaton for its kind, with a letter for each question: the answers of a state's question are the
 -- edges of the state that answer its letter. Each environment's letter has one question with just its answers. The
--- letter of the question is the first of those that have it.
+-- letter of the question is the first of those that have it, and answers are listed in rising order, each once.
 pub record AreRoundsOf (a : Description) (controlled : List ℕ) (kind : ParityKind) (rounds : Rounds)
     (letters : List (List ℕ)) : Type 0 where
   pub states : length rounds.states ≡ a.states
@@ -53,6 +54,8 @@ pub record AreRoundsOf (a : Description) (controlled : List ℕ) (kind : ParityK
       → HaveSameNumbers (answers_of rounds one) (answers_of rounds other) → one ≡ other
   pub least : (state question : ℕ) → IsAskedIn rounds state question
       → IsLeastInState a controlled state (letter_of letters question)
+  pub rising : (question : ℕ) → question < length rounds.questions
+      → IsStrictlyIncreasing (answers_of rounds question)
 
 -- the environment's letter of each state, by the propositions that hold
 abbrev pub letters_by_state : List (List ℕ) → ℕ → ℕ → Bool

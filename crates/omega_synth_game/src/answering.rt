@@ -3,7 +3,8 @@
 ghost use Rattle.std.specs.Prelude.{◌≡◌, ◌↔◌, IfErr, IfOk, IsOkUnless, IsTrue, map};
 ghost use Rattle.omega_hoa_label.specs.declared.label.LabelNode.TheVariants.{Proposition};
 ghost use Rattle.omega_hoa_satisfiable.specs.Undecided.{IsUndecidedLabel};
-ghost use Rattle.omega_synth_game.specs.Answering.{CanAnswer, is_controlled, restricted};
+ghost use Rattle.omega_synth_game.specs.Answering.{CanAnswer, restricted};
+ghost use Rattle.omega_synth_controllers.specs.Strategies.{is_controlled};
 ghost use Rattle.omega_synth_game.specs.Letters.{holds_in};
 ghost use Rattle.omega_synth_game.specs.private.Restricted.{restricted_node};
 

@@ -4,9 +4,9 @@ ghost use Rattle.std.specs.Prelude.{◌≡◌, ◌<◌, ◌≤◌, ◌*◌, ◌^
 ghost use Rattle.omega_hoa_expression.specs.Limits.{most_mentioned};
 ghost use Rattle.omega_lang_runs.specs.Places.{ArePlaces, EdgeStandsAt};
 ghost use Rattle.omega_synth_game.specs.Classes.{inputs_of, label_of_number};
-ghost use Rattle.omega_synth_game.specs.EdgeWords.{AreEdgeWords, IsEdgeUnanswered, IsEdgeWord};
-ghost use Rattle.omega_synth_game.specs.Lanes.{AreInputsFor};
-ghost use Rattle.omega_synth_game.specs.Making.{IsSomeLetterUnanswered};
+ghost use Rattle.omega_synth_game.specs.private.EdgeWords.{AreEdgeWords, IsEdgeUnanswered, IsEdgeWord};
+ghost use Rattle.omega_synth_game.specs.private.Lanes.{AreInputsFor};
+ghost use Rattle.omega_synth_game.specs.private.Making.{IsSomeLetterUnanswered};
 
 use crate::inputs::letter_numbered;
 use crate::lanes::{Lanes, answer_word};

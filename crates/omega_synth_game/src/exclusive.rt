@@ -5,7 +5,7 @@ ghost use Rattle.omega_hoa_expression.specs.Limits.{most_mentioned};
 ghost use Rattle.omega_hoa_edges.specs.Determinism.{AreExclusiveBelow};
 ghost use Rattle.omega_hoa_edges.specs.AutomatonLabels.{labels_of};
 ghost use Rattle.omega_hoa_edges.specs.Letters.{AreExclusive};
-ghost use Rattle.omega_synth_game.specs.Exclusive.{AreApartIn, AreMentionedBelow};
+ghost use Rattle.omega_synth_game.specs.private.Exclusive.{AreApartIn, AreMentionedBelow};
 
 use crate::inputs::add_inputs_of;
 use crate::lanes::{blocks, label_word};

@@ -1,7 +1,7 @@
 //! Lists that occur for the first time.
 
 ghost use Rattle.std.specs.Prelude.{◌≡◌, ◌<◌, ◌^◌, [], IfOk, IsOkUnless, length};
-ghost use Rattle.omega_synth_game.specs.Firsts.{AreFirstPlaces};
+ghost use Rattle.omega_synth_game.specs.private.Firsts.{AreFirstPlaces};
 
 use indexmap::IndexSet;
 use omega_text::{Numbers, Refusal};

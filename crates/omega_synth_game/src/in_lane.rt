@@ -1,8 +1,8 @@
 //! The edges of which a lane is set.
 
 ghost use Rattle.std.specs.Prelude.{◌≡◌, ◌<◌, length, IfOk, IsOkUnless};
-ghost use Rattle.omega_synth_game.specs.EdgeWords.{set_in_lane};
-ghost use Rattle.omega_synth_game.specs.Lanes.{is_set};
+ghost use Rattle.omega_synth_game.specs.private.EdgeWords.{set_in_lane};
+ghost use Rattle.omega_synth_game.specs.private.Lanes.{is_set};
 
 use omega_text::{Numbers, Refusal};
 use std::alloc::Global;

@@ -7,7 +7,7 @@ ghost use Rattle.omega_lang_runs.specs.Places.{ArePlaces, EdgeStandsAt};
 ghost use Rattle.omega_hoa_satisfiable.specs.Satisfiable.{each_once};
 ghost use Rattle.omega_synth_game.specs.Classes.{input_mentions, inputs_of, label_of_number};
 ghost use Rattle.omega_synth_game.specs.Letters.{letter_numbered};
-ghost use Rattle.omega_synth_game.specs.Making.{HasManyInputs};
+ghost use Rattle.omega_synth_game.specs.private.Making.{HasManyInputs};
 
 use crate::answering::is_among;
 use omega_hoa_automaton::Automaton;

@@ -10,8 +10,8 @@ ghost use Rattle.omega_hoa_label.specs.Label.{propositions};
 ghost use Rattle.omega_hoa_satisfiable.specs.Satisfiable.{each_once};
 ghost use Rattle.omega_hoa_satisfiable.specs.private.Words.{mask, pattern, top_word, word_among};
 ghost use Rattle.omega_hoa_satisfiable.specs.private.Words.{word_of, word_of_truth, words_after};
-ghost use Rattle.omega_synth_game.specs.Answering.{is_controlled};
-ghost use Rattle.omega_synth_game.specs.Lanes.{AreInputsFor, IsAnswerWord, IsFolded, most_free};
+ghost use Rattle.omega_synth_controllers.specs.Strategies.{is_controlled};
+ghost use Rattle.omega_synth_game.specs.private.Lanes.{AreInputsFor, IsAnswerWord, IsFolded, most_free};
 
 use crate::answering::is_among;
 use crate::inputs::letter_count;

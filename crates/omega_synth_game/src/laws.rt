@@ -1,7 +1,7 @@
 //! Laws of the rounds of an automaton.
 
 ghost use Rattle.omega_synth_game.specs.Laws.{AnsweringsAreControllers};
-ghost use Rattle.omega_synth_game.specs.Laws.{AskingsAreCounterStrategies, NoStartIsRefused};
+ghost use Rattle.omega_synth_game.specs.Laws.{AskingsAreCounterStrategies, MetAnswersAreMet, NoStartIsRefused};
 
 use omega_hoa_acceptance::parity_is_priority;
 
@@ -16,6 +16,14 @@ pub fn answerings_are_controllers()
 /// their letters, each the first of its class.
 pub fn askings_are_counter_strategies()
     ensures { AskingsAreCounterStrategies }
+{
+    parity_is_priority();
+}
+
+/// States that kept edges of the rounds of an automaton that answer questions, each of a state that kept edges lead to,
+/// are usable edges of states that are met.
+pub fn met_answers_are_met()
+    ensures { MetAnswersAreMet }
 {
     parity_is_priority();
 }

@@ -2,7 +2,7 @@
 
 ghost use Rattle.std.specs.Prelude.{◌≡◌, ◌^◌, ◌<◌, ◌++◌, ◌∷◌, [], All, IfOk, IsOkUnless};
 ghost use Rattle.std.specs.Prelude.{OnOk, length, replicate, set, slice_index_or};
-ghost use Rattle.omega_synth_game.specs.Making.{AreLeaving};
+ghost use Rattle.omega_synth_game.specs.private.Making.{AreLeaving};
 
 use omega_synth_rounds::RoundEdge;
 use omega_text::{Numbers, Refusal};

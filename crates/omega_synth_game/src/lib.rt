@@ -21,6 +21,9 @@ mod stack;
 mod states;
 
 pub use exclusive::are_seen_apart;
-pub use laws::{answerings_are_controllers, askings_are_counter_strategies, no_start_is_refused};
+pub use laws::{
+    answerings_are_controllers, askings_are_counter_strategies, met_answers_are_met,
+    no_start_is_refused,
+};
 pub use making::{LetteredRounds, rounds_of};
 pub use questions::{Questions, questions_of};

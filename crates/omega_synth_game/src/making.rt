@@ -5,7 +5,7 @@ ghost use Rattle.omega_hoa_automaton.specs.AcceptanceKind.{HasKind};
 ghost use Rattle.omega_hoa_automaton.specs.Branching.{has_universal_branching};
 ghost use Rattle.omega_hoa_acceptance.specs.declared.kind.AccKind.TheVariants as kinds;
 ghost use Rattle.omega_synth_rounds.specs.Rounds.{IsRounds};
-ghost use Rattle.omega_synth_game.specs.Making.{IsUnmade};
+ghost use Rattle.omega_synth_game.specs.Making.{AreAskedByState, IsUnmade};
 ghost use Rattle.omega_synth_game.specs.RoundsOf.{AreRoundsOf};
 
 use crate::leaving::leaving_edges;
@@ -28,7 +28,8 @@ pub struct LetteredRounds {
 }
 
 /// Returns the rounds of `automaton`, whose parity kind is `kind`, where the system controls the propositions
-/// `controlled`: in each state a question for each class of letters that the same of its edges answer.
+/// `controlled`: in each state a question for each class of letters that the same of its edges answer. The questions of
+/// a state come after those of the state before.
 ///
 /// Fails with [GameFault::TooManyNodes] if there are more questions than a game may have nodes, and as `questions_of`
 /// does.
@@ -43,6 +44,7 @@ pub fn rounds_of(
     ensures rounds_of { IfOk result
         (λ made. AreRoundsOf automaton.now controlled.now kind made.rounds made.letters) }
     ensures rounds { IfOk result (λ made. IsRounds made.rounds) }
+    ensures by_state { IfOk result (λ made. AreAskedByState automaton.now controlled.now made.rounds) }
     ensures refused { IfErr result (IsUnmade automaton.now controlled.now) }
 {
     automaton.keeps_limits();

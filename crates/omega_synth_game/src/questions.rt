@@ -1,13 +1,16 @@
 //! The questions of states: a class of letters each, with the edges that answer them.
 
-ghost use Rattle.std.specs.Prelude.{◌≡◌, ◌^◌, ◌<◌, ◌≤◌, All, IfErr, IfOk, IsOkUnless, length, map};
+ghost use Rattle.std.specs.Prelude.{◌≡◌, ◌^◌, ◌<◌, ◌≤◌, All, IfErr, IfOk, IsOkUnless};
+ghost use Rattle.std.specs.Prelude.{OnOk, length, map};
 ghost use Rattle.omega_hoa_expression.specs.Limits.{most_mentioned};
 ghost use Rattle.omega_lang_runs.specs.Places.{ArePlaces};
 ghost use Rattle.omega_synth_game.specs.Classes.{inputs_of};
-ghost use Rattle.omega_synth_game.specs.Firsts.{list_at};
+ghost use Rattle.omega_synth_game.specs.private.Firsts.{list_at};
 ghost use Rattle.omega_synth_game.specs.Letters.{letter_numbered};
-ghost use Rattle.omega_synth_game.specs.Making.{AreAnswersByLetter, AreQuestionsOf};
-ghost use Rattle.omega_synth_game.specs.Making.{IsSomeLetterUnanswered, IsUnasked};
+ghost use Rattle.omega_synth_game.specs.Making.{AreQuestionsOf, HaveFewInputs};
+ghost use Rattle.omega_synth_game.specs.private.Making.{AreAnswersByLetter};
+ghost use Rattle.omega_synth_game.specs.Making.{IsUnasked};
+ghost use Rattle.omega_synth_game.specs.private.Making.{IsSomeLetterUnanswered};
 
 use crate::edge_words::words_at;
 use crate::firsts::first_places;
@@ -48,6 +51,7 @@ pub fn questions_of(
     requires numbers { All (λ number. number < length places.now) numbers.now }
     ensures questions { IfOk result (λ questions. AreQuestionsOf automaton.now controlled.now
         numbers.now questions.letters.items questions.answers.items) }
+    ensures few { OnOk result (HaveFewInputs automaton.now controlled.now numbers.now) }
     ensures refused { IfErr result (IsUnasked automaton.now controlled.now numbers.now) }
 {
     edges_are_taken_where_true();

@@ -6,7 +6,7 @@ ghost use Rattle.omega_hoa_automaton.specs.Automaton.{edge_count};
 ghost use Rattle.omega_hoa_automaton.specs.Branching.{has_universal_branching};
 ghost use Rattle.omega_hoa_acceptance.specs.declared.kind.AccKind.TheVariants as kinds;
 ghost use Rattle.omega_lang_runs.specs.Places.{ArePlaces, EdgeStandsAt};
-ghost use Rattle.omega_synth_game.specs.Making.{AreRoundEdges, IsRoundEdgeAt};
+ghost use Rattle.omega_synth_game.specs.private.Making.{AreRoundEdges, IsRoundEdgeAt};
 
 use omega_hoa_acceptance::{ParityKind, priority};
 use omega_hoa_automaton::{Automaton, Refusal};

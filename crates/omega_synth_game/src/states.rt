@@ -5,7 +5,10 @@ ghost use Rattle.std.specs.Prelude.{IfErr, IfOk, IsOkUnless, OnOk, length};
 ghost use Rattle.omega_game_values.specs.Limits.{most_nodes};
 ghost use Rattle.omega_lang_runs.specs.Places.{ArePlaces};
 ghost use Rattle.omega_synth_game.specs.Making.{AllLeave, AreQuestionsOf};
-ghost use Rattle.omega_synth_game.specs.Making.{AreStatesAsked, IsUnmade, StatesLeave};
+ghost use Rattle.omega_synth_game.specs.private.Making.{AreAskedInTurn};
+ghost use Rattle.omega_synth_game.specs.Making.{HaveFewInputs, IsUnasked, IsUnmade};
+ghost use Rattle.omega_synth_game.specs.private.Making.{AreStatesAsked};
+ghost use Rattle.omega_synth_game.specs.private.Making.{StatesLeave};
 
 use crate::questions::{Questions, questions_of};
 use omega_game_values::MOST_NODES;
@@ -36,6 +39,8 @@ pub(crate) fn states_asked(
     requires leaving { StatesLeave automaton.now leaving.now }
     ensures asked { IfOk result (λ asked. AreStatesAsked automaton.now controlled.now leaving.now
         (length leaving.now) asked.ranges.items asked.letters.items asked.answers.items) }
+    ensures in_turn { IfOk result (λ asked. AreAskedInTurn automaton.now controlled.now
+        leaving.now (length leaving.now) asked.ranges.items asked.answers.items) }
     ensures refused { IfErr result (IsUnmade automaton.now controlled.now) }
 {
     let mut asked = StatesAsked {
@@ -65,7 +70,8 @@ fn asked_in(
     requires leave { (state : ℕ) × AllLeave automaton.now state numbers.now }
     ensures questions { IfOk result (λ questions. AreQuestionsOf automaton.now controlled.now
         numbers.now questions.letters.items questions.answers.items) }
-    ensures refused { IfErr result (IsUnmade automaton.now controlled.now) }
+    ensures few { OnOk result (HaveFewInputs automaton.now controlled.now numbers.now) }
+    ensures refused { IfErr result (IsUnasked automaton.now controlled.now numbers.now) }
 {
     questions_of(alloc, automaton, places, numbers, controlled)
 }

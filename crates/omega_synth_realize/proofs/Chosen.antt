@@ -14,7 +14,7 @@ use Rattle.omega_synth_rounds.specs.declared.rounds.Rounds.{Rounds}
 use Rattle.omega_synth_rounds.proofs.Placing.{in_range, range_has}
 
 -- members of a filter, and of lists joined end to end
-filter_has : (p : ℕ → Bool) (xs : List ℕ) (x : ℕ) → Contains xs x → p x ≡ true → Contains (filter p xs) x
+pub filter_has : (p : ℕ → Bool) (xs : List ℕ) (x : ℕ) → Contains xs x → p x ≡ true → Contains (filter p xs) x
 filter_has p [] x has is = absurd (omega (arith, has.1))
 filter_has p (y ∷ ys) x (zero, below, here) is =
     subst (λ (list : List ℕ). Contains list x) (sym (cond-true (p y) (y ∷ filter p ys) (filter p ys) (ap p here ∙ is))) (0, omega arith, here)
@@ -25,7 +25,7 @@ filter_has p (y ∷ ys) x (suc k, below, here) is =
       | inr dropped ↦ subst (λ (list : List ℕ). Contains list x) (sym (cond-false (p y) (y ∷ filter p ys) (filter p ys) dropped)) rest
     ]
 
-filter_from : (p : ℕ → Bool) (xs : List ℕ) (x : ℕ) → Contains (filter p xs) x → Contains xs x × (p x ≡ true)
+pub filter_from : (p : ℕ → Bool) (xs : List ℕ) (x : ℕ) → Contains (filter p xs) x → Contains xs x × (p x ≡ true)
 filter_from p [] x has = absurd (omega (arith, has.1))
 filter_from p (y ∷ ys) x has = elim (cases_Bool (p y)) [
   | inl kept ↦ first kept (subst (λ (list : List ℕ). Contains list x) (cond-true (p y) (y ∷ filter p ys) (filter p ys) kept) has) (λ later. filter_from p ys x later)
@@ -58,12 +58,12 @@ flat_from f (x ∷ xs) y has =
     split_contains (f x) (flat_map f xs) y has (λ here. (x, (0, omega arith, refl), here))
     (λ later. (let rest = flat_from f xs y later in (rest.0, (suc rest.1.0, omega (arith, rest.1.1), rest.1.2), rest.2)))
 
-any_has : (p : ℕ → Bool) (xs : List ℕ) (x : ℕ) → Contains xs x → p x ≡ true → list_any p xs ≡ true
+pub any_has : (p : ℕ → Bool) (xs : List ℕ) (x : ℕ) → Contains xs x → p x ≡ true → list_any p xs ≡ true
 any_has p [] x has is = absurd (omega (arith, has.1))
 any_has p (y ∷ ys) x (zero, below, here) is = or_left (p y) (list_any p ys) (ap p here ∙ is)
 any_has p (y ∷ ys) x (suc k, below, here) is = or_right (p y) (list_any p ys) (any_has p ys x (k, omega arith, here) is)
 
-any_from : (p : ℕ → Bool) (xs : List ℕ) → list_any p xs ≡ true → (x : ℕ) × Contains xs x × (p x ≡ true)
+pub any_from : (p : ℕ → Bool) (xs : List ℕ) → list_any p xs ≡ true → (x : ℕ) × Contains xs x × (p x ≡ true)
 any_from p [] is = absurd (false≢true is)
 any_from p (y ∷ ys) is = elim (or_cases (p y) (list_any p ys) is) [
   | inl here ↦ (y, (0, omega arith, refl), here)

@@ -1,5 +1,5 @@
 -- Games of rounds: how many nodes they have, and their refusals.
-use Rattle.std.proofs.Common.{◌≡◌, ℕ, inl, inr, List, length, map, Result, Ok, Err, sym, subst, arith}
+use Rattle.std.proofs.Common.{◌≡◌, ℕ, List, length, map, Result, Ok, Err, sym, subst, arith}
 use Rattle.std.specs.Prelude.{IfErr, IsOkUnless}
 use Rattle.std.proofs.lemmas.List.{length-map}
 use Rattle.std.proofs.lemmas.List.FromFn.{length-map-range_with_len}
@@ -17,7 +17,8 @@ use Rattle.omega_synth_rounds.specs.RoundsGame.{IsRoundsFault, IsRoundsRefusal, 
 use Rattle.omega_synth_rounds.specs.declared.rounds.Rounds.{Rounds}
 use Rattle.omega_synth_game.specs.Laws.{IsParted}
 use Rattle.omega_synth_realize.specs.Gaming.{IsUngamed, no_rounds}
-use Rattle.omega_synth_realize.specs.Refusing.{IsUnparted}
+use Rattle.omega_synth_realize.specs.Refusing.{IsJudgeable, IsUnparted}
+use Rattle.omega_synth_realize.proofs.Sized.{large}
 
 -- the game has a node for each place
 pub named_count : (rounds : Rounds) (game : List Node) → IsNamedGame rounds game → length game ≡ node_count rounds
@@ -31,22 +32,21 @@ named_count rounds game named =
 
 module _ (a : Description) (controlled : List ℕ) where
   pub unparted_ungamed : (e : Refusal) → IsUnparted a controlled e → IsUngamed a controlled e
-  unparted_ungamed (Game fault) refused = inl refused
+  unparted_ungamed (Game fault) refused = refused
   unparted_ungamed (Task fault) refused = refused
   unparted_ungamed Memory refused = refused
   unparted_ungamed (Text fault) refused = absurd refused
   unparted_ungamed (Automaton fault) refused = absurd refused
   unparted_ungamed Io refused = absurd refused
 
-  pub rounds_ungamed : (rounds : Rounds) (letters : List (List ℕ)) (start : ℕ) → IsParted a controlled rounds letters start → (e : Refusal)
-      → IsRoundsRefusal rounds e → IsUngamed a controlled e
-  rounds_ungamed rounds letters start parted (Game fault) refused =
-      inr (record { rounds = rounds; letters = letters; start = start; parted = parted; is = refused })
-  rounds_ungamed rounds letters start parted Memory refused = refused
-  rounds_ungamed rounds letters start parted (Text fault) refused = absurd refused
-  rounds_ungamed rounds letters start parted (Automaton fault) refused = absurd refused
-  rounds_ungamed rounds letters start parted (Task fault) refused = absurd refused
-  rounds_ungamed rounds letters start parted Io refused = absurd refused
+  pub rounds_ungamed : (rounds : Rounds) (letters : List (List ℕ)) (start : ℕ) → IsParted a controlled rounds letters start → IsJudgeable a
+      → (e : Refusal) → IsRoundsRefusal rounds e → IsUngamed a controlled e
+  rounds_ungamed rounds letters start parted judgeable (Game fault) refused = large a controlled rounds letters start parted judgeable fault refused
+  rounds_ungamed rounds letters start parted judgeable Memory refused = refused
+  rounds_ungamed rounds letters start parted judgeable (Text fault) refused = absurd refused
+  rounds_ungamed rounds letters start parted judgeable (Automaton fault) refused = absurd refused
+  rounds_ungamed rounds letters start parted judgeable (Task fault) refused = absurd refused
+  rounds_ungamed rounds letters start parted judgeable Io refused = absurd refused
 
   none_faultless : (fault : GameFault) → IsRoundsFault no_rounds fault → ⊥
   none_faultless TooManyNodes many = omega (arith, many)

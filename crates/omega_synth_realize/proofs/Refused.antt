@@ -18,9 +18,11 @@ use Rattle.omega_hoa_edges.specs.Determinism.{IsDeterministic}
 use Rattle.omega_hoa_edges.specs.Refusing.{AreUnjudged, IsFirstUndecided, IsStartRefusal, IsStatesFault}
 use Rattle.omega_synth_rounds.specs.declared.rounds.Rounds.{Rounds}
 use Rattle.omega_synth_realize.specs.Solving.{IsUndecided, LiftsRounds}
+use Rattle.omega_synth_realize.proofs.Sized.{large, many_nodes}
 use Rattle.omega_synth_realize.proofs.Strategies.{lifted_refused}
 use Rattle.omega_synth_game.specs.Laws.{IsParted}
 use Rattle.omega_synth_game.specs.Making.{IsMakingFault, IsUnmade}
+use Rattle.omega_synth_game.specs.Sizes.{IsSizeFault}
 use Rattle.omega_synth_realize.specs.Lifting.{LiftsAutomaton, LiftsParted}
 use Rattle.omega_synth_realize.specs.Refusing.{HasNoClash, HasParityKind, IsJudgeable, IsJudgingFault, IsPartingFault, IsPosed, IsSingle, IsUndecidedRounds, IsUnjudgeable, IsUnparted, IsUnrealized, branches, clash, no_kind, second_start, undecided, unjudged, unmade}
 use Rattle.omega_synth_realize.specs.private.Undecided.{is_undecided}
@@ -90,7 +92,7 @@ module _ (a : Description) (controlled : List ℕ) where
   unjudgeable_unparted Io refused = absurd refused
 
   pub unmade_unparted : IsPosed a → (e : Refusal) → IsUnmade a controlled e → IsUnparted a controlled e
-  unmade_unparted posed (Game fault) refused = (refused.0, posed, refused.1)
+  unmade_unparted posed (Game fault) refused = (posed, subst (IsSizeFault a controlled) (sym refused.0) (many_nodes a controlled refused.1))
   unmade_unparted posed (Task fault) refused = unmade fault posed refused
   unmade_unparted posed Memory refused = refused
   unmade_unparted posed (Text fault) refused = absurd refused
@@ -98,7 +100,7 @@ module _ (a : Description) (controlled : List ℕ) where
   unmade_unparted posed Io refused = absurd refused
 
   pub unparted_unrealized : (budget : ℕ) (e : Refusal) → IsUnparted a controlled e → IsUnrealized a controlled budget e
-  unparted_unrealized budget (Game fault) refused = inl refused
+  unparted_unrealized budget (Game fault) refused = refused
   unparted_unrealized budget (Task fault) refused = inl refused
   unparted_unrealized budget Memory refused = refused
   unparted_unrealized budget (Text fault) refused = absurd refused
@@ -108,7 +110,7 @@ module _ (a : Description) (controlled : List ℕ) where
   pub undecided_unrealized : {X : Type 0} (budget : ℕ) (r : Result X Refusal) → IfErr r (IsUndecidedRounds a controlled budget)
       → IfErr r (IsUnrealized a controlled budget)
   undecided_unrealized budget (Ok x) refused = tt
-  undecided_unrealized budget (Err (Game fault)) refused = inr refused
+  undecided_unrealized budget (Err (Game fault)) refused = refused
   undecided_unrealized budget (Err (Task fault)) refused = inr refused
   undecided_unrealized budget (Err Memory) refused = refused
   undecided_unrealized budget (Err (Text fault)) refused = absurd refused
@@ -116,14 +118,14 @@ module _ (a : Description) (controlled : List ℕ) where
   undecided_unrealized budget (Err Io) refused = absurd refused
 
   module _ (rounds : Rounds) (letters : List (List ℕ)) (start budget : ℕ) where
-    pub rounds_undecided : (e : Refusal) → IsParted a controlled rounds letters start → IsUndecided rounds budget e
+    pub rounds_undecided : (e : Refusal) → IsParted a controlled rounds letters start → IsJudgeable a → IsUndecided rounds start budget e
         → IsUndecidedRounds a controlled budget e
-    rounds_undecided (Game fault) parted hard = record { rounds = rounds; letters = letters; start = start; parted = parted; is = hard }
-    rounds_undecided (Task fault) parted hard = record { rounds = rounds; letters = letters; start = start; parted = parted; is = hard }
-    rounds_undecided Memory parted hard = hard
-    rounds_undecided (Text fault) parted hard = absurd hard
-    rounds_undecided (Automaton fault) parted hard = absurd hard
-    rounds_undecided Io parted hard = absurd hard
+    rounds_undecided (Game fault) parted judgeable hard = large a controlled rounds letters start parted judgeable fault hard
+    rounds_undecided (Task fault) parted judgeable hard = record { rounds = rounds; letters = letters; start = start; parted = parted; is = hard }
+    rounds_undecided Memory parted judgeable hard = hard
+    rounds_undecided (Text fault) parted judgeable hard = absurd hard
+    rounds_undecided (Automaton fault) parted judgeable hard = absurd hard
+    rounds_undecided Io parted judgeable hard = absurd hard
 
     -- runs in the game of the rounds are runs in a game of rounds of the automaton
     pub lifts_parted : IsParted a controlled rounds letters start → (refusal : Option Refusal) (nodes : List Node) (players : List Player)
@@ -141,6 +143,11 @@ module _ (a : Description) (controlled : List ℕ) where
     is = (lifted.is.0, lifted_refused refusal other players lifted.is.1);
   }
 
+  pub lifts_refused : (refusal : Refusal) → refusal ≢ Task Budget → (nodes : List Node) (players : List Player)
+      → LiftsAutomaton a controlled None nodes players → LiftsAutomaton a controlled (Some refusal) nodes players
+  lifts_refused refusal other nodes players (inl none) = inl none
+  lifts_refused refusal other nodes players (inr lifted) = inr (parted_refused refusal other nodes players lifted)
+
   -- before there are rounds no budget is used up
   judging_spares : (fault : TaskFault) → IsJudgingFault a fault → fault ≡ Budget → ⊥
   judging_spares fault (branches is) e = cc
@@ -156,7 +163,7 @@ module _ (a : Description) (controlled : List ℕ) where
   making_spares fault making e = elim making.asking [
     | inl wide ↦ (let is = wide.0 in cc)
     | inr some ↦ elim some.5 [
-      | inl large ↦ (let is = large.0 in cc)
+      | inl deep ↦ (let is = deep.0 in cc)
       | inr hard ↦ (let is = hard.0 in cc)
     ]
   ]

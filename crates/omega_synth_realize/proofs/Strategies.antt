@@ -18,7 +18,7 @@ use Rattle.omega_game_values.specs.declared.solution.Solution.{Solution}
 use Rattle.omega_game_region_laws.specs.Laws.{RegionsCover}
 use Rattle.omega_solve.specs.Headline.{IsExact}
 use Rattle.omega_measure.specs.Table.{is_too_wide}
-use Rattle.omega_solve.specs.budget.Within.{IsSolvingRefusal}
+use Rattle.omega_solve.specs.budget.Within.{GoesOnAfter, IsSolvingRefusal}
 use Rattle.omega_solve.specs.budget.Observing.{ReportsSolving}
 use Rattle.omega_solve.specs.declared.budget.found.Found.{Found}
 use Rattle.omega_solve.specs.declared.budget.observing.Progress.{Progress}
@@ -26,7 +26,7 @@ use Rattle.omega_solve.proofs.within_budget.Observed.{made_refused}
 use Rattle.omega_synth_rounds.specs.Extracting.{IsWinningFrom}
 use Rattle.omega_synth_rounds.specs.RoundsGame.{IsRoundsGame, node_count, node_for, table}
 use Rattle.omega_synth_rounds.specs.declared.rounds.Rounds.{Rounds}
-use Rattle.omega_synth_realize.specs.Solving.{AreLifted, IsLiftingFault, IsLiftingRefusal, IsNarrow, IsUndecided, IsWide}
+use Rattle.omega_synth_realize.specs.Solving.{AreLifted, IsLiftingFault, IsLiftingRefusal, IsNarrow, IsBudgetShort, IsUndecided, IsWide}
 use Rattle.omega_synth_realize.specs.declared.outcome.Outcome.{Outcome}
 
 -- the game has a node for each place
@@ -53,47 +53,46 @@ pub by_player : (game : List Node) → is_too_wide Zero (priorities game) ≡ fa
 by_player game zero one Zero = zero
 by_player game zero one One = one
 
--- a fault of lifting for a player is a fault of lifting
-pub player_refused : (r : Result Found Refusal) (game : List Node) (player : Player) (budget : ℕ) → IsNarrow game
-    → IfErr r (IsSolvingRefusal game player budget) → IfErr r (IsLiftingRefusal game budget)
-player_refused (Ok found) game player budget narrow refused = tt
-player_refused (Err (Text fault)) game player budget narrow refused = absurd refused
-player_refused (Err (Game fault)) game player budget narrow refused = absurd refused
-player_refused (Err (Automaton fault)) game player budget narrow refused = absurd refused
-player_refused (Err (Task TooWide)) game player budget narrow refused = (player, refused)
-player_refused (Err (Task Budget)) game player budget narrow refused = (narrow, (player, refused.1))
-player_refused (Err (Task NotParity)) game player budget narrow refused = refused
-player_refused (Err (Task UniversalBranch)) game player budget narrow refused = refused
-player_refused (Err (Task TooManyPropositions)) game player budget narrow refused = refused
-player_refused (Err (Task BadSolution)) game player budget narrow refused = refused
-player_refused (Err (Task UnknownNode)) game player budget narrow refused = refused
-player_refused (Err (Task TooLarge)) game player budget narrow refused = refused
-player_refused (Err (Task Controllable)) game player budget narrow refused = refused
-player_refused (Err (Task (NotDeterministic state))) game player budget narrow refused = refused
-player_refused (Err Memory) game player budget narrow refused = refused
-player_refused (Err Io) game player budget narrow refused = absurd refused
+-- a fault of lifting for a player is a fault of lifting, if the player is lifted for when it is decided
+pub player_refused : (e : Refusal) (game : List Node) (player : Player) (start budget : ℕ) → IsNarrow game
+    → (GoesOnAfter game player budget → IsBudgetShort game start budget) → IsSolvingRefusal game player budget e → IsLiftingRefusal game start budget e
+player_refused (Text fault) game player start budget narrow spent refused = absurd refused
+player_refused (Game fault) game player start budget narrow spent refused = absurd refused
+player_refused (Automaton fault) game player start budget narrow spent refused = absurd refused
+player_refused (Task TooWide) game player start budget narrow spent refused = (player, refused)
+player_refused (Task Budget) game player start budget narrow spent refused = (narrow, spent refused.1)
+player_refused (Task NotParity) game player start budget narrow spent refused = refused
+player_refused (Task UniversalBranch) game player start budget narrow spent refused = refused
+player_refused (Task TooManyPropositions) game player start budget narrow spent refused = refused
+player_refused (Task BadSolution) game player start budget narrow spent refused = refused
+player_refused (Task UnknownNode) game player start budget narrow spent refused = refused
+player_refused (Task TooLarge) game player start budget narrow spent refused = refused
+player_refused (Task Controllable) game player start budget narrow spent refused = refused
+player_refused (Task (NotDeterministic state)) game player start budget narrow spent refused = refused
+player_refused Memory game player start budget narrow spent refused = refused
+player_refused Io game player start budget narrow spent refused = absurd refused
 
 -- and of the rounds
-pub lifting_refused : (r : Result Outcome Refusal) (rounds : Rounds) (game : List Node) (budget : ℕ) → IsRoundsGame rounds game
-    → IfErr r (IsLiftingRefusal game budget) → IfErr r (IsUndecided rounds budget)
-lifting_refused (Ok found) rounds game budget made refused = tt
-lifting_refused (Err (Text fault)) rounds game budget made refused = absurd refused
-lifting_refused (Err (Game fault)) rounds game budget made refused = absurd refused
-lifting_refused (Err (Automaton fault)) rounds game budget made refused = absurd refused
-lifting_refused (Err (Task fault)) rounds game budget made refused = record { game = game; game_is = made; lifting = refused }
-lifting_refused (Err Memory) rounds game budget made refused = refused
-lifting_refused (Err Io) rounds game budget made refused = absurd refused
+pub lifting_refused : (r : Result Outcome Refusal) (rounds : Rounds) (game : List Node) (start budget : ℕ) → IsRoundsGame rounds game
+    → IfErr r (IsLiftingRefusal game start budget) → IfErr r (IsUndecided rounds start budget)
+lifting_refused (Ok found) rounds game start budget made refused = tt
+lifting_refused (Err (Text fault)) rounds game start budget made refused = absurd refused
+lifting_refused (Err (Game fault)) rounds game start budget made refused = absurd refused
+lifting_refused (Err (Automaton fault)) rounds game start budget made refused = absurd refused
+lifting_refused (Err (Task fault)) rounds game start budget made refused = record { game = game; game_is = made; lifting = refused }
+lifting_refused (Err Memory) rounds game start budget made refused = refused
+lifting_refused (Err Io) rounds game start budget made refused = absurd refused
 
 -- so is that of a game that is too wide
-pub wide_refused : (e : Refusal) (rounds : Rounds) (game : List Node) (budget : ℕ) → IsRoundsGame rounds game → IsWide game e
-    → IsUndecided rounds budget e
-wide_refused (Text fault) rounds game budget made refused = absurd refused
-wide_refused (Game fault) rounds game budget made refused = absurd refused
-wide_refused (Automaton fault) rounds game budget made refused = absurd refused
-wide_refused (Task fault) rounds game budget made refused =
-    record { game = game; game_is = made; lifting = subst (IsLiftingFault game budget) (sym refused.0) refused.1 }
-wide_refused Memory rounds game budget made refused = absurd refused
-wide_refused Io rounds game budget made refused = absurd refused
+pub wide_refused : (e : Refusal) (rounds : Rounds) (game : List Node) (start budget : ℕ) → IsRoundsGame rounds game → IsWide game e
+    → IsUndecided rounds start budget e
+wide_refused (Text fault) rounds game start budget made refused = absurd refused
+wide_refused (Game fault) rounds game start budget made refused = absurd refused
+wide_refused (Automaton fault) rounds game start budget made refused = absurd refused
+wide_refused (Task fault) rounds game start budget made refused =
+    record { game = game; game_is = made; lifting = subst (IsLiftingFault game start budget) (sym refused.0) refused.1 }
+wide_refused Memory rounds game start budget made refused = absurd refused
+wide_refused Io rounds game start budget made refused = absurd refused
 
 -- runs that were made stay so, whatever refuses later but the budget
 pub lifted_refused : (refusal : Refusal) → refusal ≢ Task Budget → (players : List Player) → AreLifted None players → AreLifted (Some refusal) players

@@ -9,7 +9,7 @@ use Rattle.omega_synth_rounds.specs.Naming.{IsNamedGame}
 use Rattle.omega_synth_rounds.specs.Rounds.{IsRounds}
 use Rattle.omega_synth_rounds.specs.declared.rounds.Rounds.{Rounds}
 use Rattle.omega_synth_game.specs.Laws.{IsParted}
-use Rattle.omega_synth_realize.specs.Refusing.{IsPartingFault, IsRealizingGameFault}
+use Rattle.omega_synth_realize.specs.Refusing.{IsLargeFault, IsPartingFault}
 
 -- rounds without states
 abbrev pub no_rounds : Rounds
@@ -33,5 +33,5 @@ IsRealizabilityGame a controlled game =
 
 -- the refusal of the game: it is too large, there are no rounds, or want of memory
 abbrev pub IsUngamed : Description → List ℕ → Refusal → Type 0
-IsUngamed a controlled = or_game (IsRealizingGameFault a controlled)
+IsUngamed a controlled = or_game (IsLargeFault a controlled)
     (or_task (IsPartingFault a controlled) (or_memory never))

@@ -1,22 +1,14 @@
--- The game of an automaton decides whether it is realizable: one player wins its start's node, player 0 exactly if
--- there is a controller, and player 1 exactly if there is a counter-strategy.
+-- An automaton has a controller or a counter-strategy. Its game decides which: one player wins its start's node, player 0
+-- exactly if there is a controller, and player 1 exactly if there is a counter-strategy.
 use Rattle.std.specs.Prelude.{◌↔◌, ◌⊎◌, ℕ, Bool, List}
-use Rattle.omega_hoa_automaton.specs.Automaton.{Description}
+use Rattle.omega_hoa_automaton.specs.Automaton.{Description, IsAutomaton}
 use Rattle.omega_game_values.specs.Game.{Node}
 use Rattle.omega_game_values.specs.Places.{new_place}
 use Rattle.omega_game_values.specs.Winning.{InRegion}
 use Rattle.omega_game_values.specs.declared.player.Player.TheVariants.{One, Zero}
-use Rattle.omega_synth_controllers.specs.Controllers.{IsController, IsCounterStrategy}
+use Rattle.omega_synth_controllers.specs.Controllers.{HasController, HasCounterStrategy}
 use Rattle.omega_synth_realize.specs.Gaming.{IsPartedGame}
-
--- there is a controller
-abbrev pub HasController : Description → List ℕ → Type 0
-HasController a controlled = (kept : List ℕ) × IsController a controlled kept
-
--- there is a counter-strategy
-abbrev pub HasCounterStrategy : Description → List ℕ → Type 0
-HasCounterStrategy a controlled =
-    (kept : List ℕ) × (letters : ℕ → ℕ → Bool) × IsCounterStrategy a controlled kept letters
+use Rattle.omega_synth_realize.specs.Refusing.{HasNoLargeGame, IsJudgeable}
 
 -- there is one or the other, and not both
 pub record IsDecided (a : Description) (controlled : List ℕ) : Type 0 where
@@ -33,6 +25,11 @@ pub record DecidesAt (a : Description) (controlled : List ℕ) (game : List Node
 abbrev pub start_place : (a : Description) (controlled : List ℕ) (game : List Node)
     → IsPartedGame a controlled game → ℕ
 start_place a controlled game parted = new_place parted.part.0 parted.start
+
+-- a deterministic parity automaton whose game is not too large has one or the other, and not both
+abbrev pub AutomataAreDecided : Type 0
+AutomataAreDecided = (a : Description) (controlled : List ℕ) → IsAutomaton a → IsJudgeable a
+    → HasNoLargeGame a controlled → IsDecided a controlled
 
 -- the start's node decides, and so it is decided
 abbrev pub GamesDecide : Type 0

@@ -1,18 +1,19 @@
 -- Whether an automaton is realizable, with a controller or a counter-strategy.
-use Rattle.std.specs.Prelude.{List, ℕ}
+use Rattle.std.specs.Prelude.{◌≡◌, List, ℕ, length}
 use Rattle.std.specs.List.Sorted.{IsStrictlyIncreasing}
 use Rattle.omega_hoa_automaton.specs.Automaton.{Description}
-use Rattle.omega_synth_controllers.specs.Controllers.{IsController, IsCounterStrategy}
+use Rattle.omega_synth_controllers.specs.Controllers.{AreEdgesMet, IsController, IsCounterStrategy}
 use Rattle.omega_synth_game.specs.RoundsOf.{AreLeastLetters, letters_by_state}
 use Rattle.omega_synth_realize.specs.declared.realizability.Realizability.{Realizability}
 use Rattle.omega_synth_realize.specs.declared.realizability.Realizability.TheVariants.{Realizable}
 use Rattle.omega_synth_realize.specs.declared.realizability.Realizability.TheVariants.{Unrealizable}
 
--- the answer is right: its edges are a controller, or with its letters a counter-strategy, each letter the first of
--- those that the same edges answer; the edges are listed in rising order, each once
+-- the answer is right: its edges are a controller, or with its letters, one for each state, a counter-strategy, each
+-- letter the first of those that the same edges answer. The edges are listed in rising order, each once, and leave
+-- states that are met
 abbrev pub IsRealizability : Description → List ℕ → Realizability → Type 0
 IsRealizability a controlled (Realizable kept) =
-    IsController a controlled kept × IsStrictlyIncreasing kept
+    IsController a controlled kept × IsStrictlyIncreasing kept × AreEdgesMet a kept
 IsRealizability a controlled (Unrealizable kept letters) =
     IsCounterStrategy a controlled kept (letters_by_state letters) × IsStrictlyIncreasing kept
-    × AreLeastLetters a controlled kept letters
+    × AreLeastLetters a controlled kept letters × (length letters ≡ a.states) × AreEdgesMet a kept

@@ -1,11 +1,10 @@
 -- The refusal of the question whether an automaton is realizable, in the order of the steps. These are universal
 -- branching, a second start, two edges at one letter, no parity kind, labels that are not judged, what hinders the
--- making of the rounds, and what hinders solving them. Want of memory may come at each step.
-use Rattle.std.specs.Prelude.{◌≡◌, ◌⊎◌, ℕ, ◌≤◌, false, true, List, length}
+-- making of the rounds, a game that is too large, and what hinders solving it. Want of memory may come at each step.
+use Rattle.std.specs.Prelude.{◌≡◌, ◌⊎◌, ℕ, ◌≤◌, false, true, List, [], length}
 use Rattle.omega_text.specs.Cases.{never, or_game, or_memory, or_task}
 use Rattle.omega_text.specs.declared.refusal.Refusal.{Refusal}
 use Rattle.omega_text.specs.declared.refusal.game.GameFault.{GameFault}
-use Rattle.omega_text.specs.declared.refusal.game.GameFault.TheVariants.{TooManyNodes}
 use Rattle.omega_text.specs.declared.refusal.task.TaskFault.{TaskFault}
 use Rattle.omega_text.specs.declared.refusal.task.TaskFault.TheVariants.{NotDeterministic}
 use Rattle.omega_text.specs.declared.refusal.task.TaskFault.TheVariants.{NotParity, UniversalBranch}
@@ -17,11 +16,11 @@ use Rattle.omega_hoa_automaton.specs.Branching.{has_universal_branching}
 use Rattle.omega_lang_runs.specs.Lasso.{IsStart}
 use Rattle.omega_hoa_edges.specs.Determinism.{AreExclusiveBelow, IsDeterministic}
 use Rattle.omega_hoa_edges.specs.Refusing.{IsFirstClash, IsFirstUndecided, IsSecondStart}
-use Rattle.omega_synth_rounds.specs.RoundsGame.{IsRoundsFault}
 use Rattle.omega_synth_rounds.specs.declared.rounds.Rounds.{Rounds}
 use Rattle.omega_synth_realize.specs.Solving.{IsUnsolved}
 use Rattle.omega_synth_game.specs.Laws.{IsParted}
-use Rattle.omega_synth_game.specs.Making.{HasManyQuestions, IsMakingFault}
+use Rattle.omega_synth_game.specs.Making.{IsMakingFault}
+use Rattle.omega_synth_game.specs.Sizes.{IsGameSmall, IsSizeFault}
 
 -- no start and no edge branches universally, and there is at most one start
 pub record IsSingle (a : Description) : Type 0 where
@@ -74,41 +73,39 @@ pub data IsPartingFault (a : Description) (controlled : List ℕ) : TaskFault �
   unmade : (fault : TaskFault) → IsPosed a → IsMakingFault a controlled fault
       → IsPartingFault a controlled fault
 
--- the states have more questions than a game may have nodes
-abbrev pub IsQuestionsFault : Description → List ℕ → GameFault → Type 0
-IsQuestionsFault a controlled fault =
-    (fault ≡ TooManyNodes) × IsPosed a × HasManyQuestions a controlled
+-- the game is too large, by the classes of letters in the states
+abbrev pub IsLargeFault : Description → List ℕ → GameFault → Type 0
+IsLargeFault a controlled fault = IsPosed a × IsSizeFault a controlled fault
+
+-- there is no start, and so no game; or the game is not too large
+abbrev pub HasNoLargeGame : Description → List ℕ → Type 0
+HasNoLargeGame a controlled = (a.starts ≡ []) ⊎ IsGameSmall a controlled
 
 -- the refusal by which there are no rounds
 abbrev pub IsUnparted : Description → List ℕ → Refusal → Type 0
 IsUnparted a controlled =
-    or_game (IsQuestionsFault a controlled) (or_task (IsPartingFault a controlled) (or_memory never))
+    or_game (IsLargeFault a controlled) (or_task (IsPartingFault a controlled) (or_memory never))
 
--- lifting in the game of the rounds within the budget has this fault
-abbrev pub IsUnsolvedFault : Description → List ℕ → ℕ → TaskFault → Type 0
-IsUnsolvedFault a controlled budget fault =
-    OfRounds a controlled (λ rounds. IsUnsolved rounds budget fault)
-
--- the game of the rounds is too large
-abbrev pub IsLargeFault : Description → List ℕ → GameFault → Type 0
-IsLargeFault a controlled fault = OfRounds a controlled (λ rounds. IsRoundsFault rounds fault)
+-- lifting in the game of rounds of the automaton, from its start, within the budget has this fault
+pub record IsUnsolvedFault (a : Description) (controlled : List ℕ) (budget : ℕ)
+    (fault : TaskFault) : Type 0 where
+  pub rounds : Rounds
+  pub letters : List (List ℕ)
+  pub start : ℕ
+  pub parted : IsParted a controlled rounds letters start
+  pub is : IsUnsolved rounds start budget fault
 
 -- the refusal of rounds that are not decided
 abbrev pub IsUndecidedRounds : Description → List ℕ → ℕ → Refusal → Type 0
 IsUndecidedRounds a controlled budget = or_game (IsLargeFault a controlled)
     (or_task (IsUnsolvedFault a controlled budget) (or_memory never))
 
--- a fault of the game: too many questions, or too large in all
-abbrev pub IsRealizingGameFault : Description → List ℕ → GameFault → Type 0
-IsRealizingGameFault a controlled fault =
-    IsQuestionsFault a controlled fault ⊎ IsLargeFault a controlled fault
-
 -- a fault of the task: there are no rounds, or they are not solved within the budget
 abbrev pub IsRealizingFault : Description → List ℕ → ℕ → TaskFault → Type 0
 IsRealizingFault a controlled budget fault =
     IsPartingFault a controlled fault ⊎ IsUnsolvedFault a controlled budget fault
 
--- the refusal: such a fault, or want of memory
+-- the refusal: the game is too large, or such a fault, or want of memory
 abbrev pub IsUnrealized : Description → List ℕ → ℕ → Refusal → Type 0
-IsUnrealized a controlled budget = or_game (IsRealizingGameFault a controlled)
+IsUnrealized a controlled budget = or_game (IsLargeFault a controlled)
     (or_task (IsRealizingFault a controlled budget) (or_memory never))

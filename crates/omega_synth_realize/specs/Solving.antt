@@ -6,36 +6,42 @@ use Rattle.omega_text.specs.declared.refusal.Refusal.{Refusal}
 use Rattle.omega_text.specs.declared.refusal.task.TaskFault.{TaskFault}
 use Rattle.omega_text.specs.declared.refusal.task.TaskFault.TheVariants.{Budget, TooWide}
 use Rattle.omega_game_values.specs.Game.{Node, priorities}
+use Rattle.omega_game_values.specs.Winning.{InRegion}
 use Rattle.omega_game_values.specs.declared.player.Player.{Player}
 use Rattle.omega_game_values.specs.declared.player.Player.TheVariants.{One, Zero}
 use Rattle.omega_measure.specs.Table.{is_too_wide}
 use Rattle.omega_solve.specs.budget.Observing.{AreMade}
 use Rattle.omega_solve.specs.budget.Within.{GoesOnAfter}
-use Rattle.omega_synth_rounds.specs.Rounds.{IsAnswering, IsAsking}
+use Rattle.omega_synth_rounds.specs.Rounds.{AreMetAnswers, IsAnswering, IsAsking}
 use Rattle.omega_synth_rounds.specs.RoundsGame.{IsRoundsFault, IsRoundsGame}
 use Rattle.omega_synth_rounds.specs.declared.rounds.Rounds.{Rounds}
 use Rattle.omega_synth_realize.specs.declared.outcome.Outcome.{Outcome}
 use Rattle.omega_synth_realize.specs.declared.outcome.Outcome.TheVariants.{Answered, Asked}
 
--- an outcome is right: player 0 wins by the kept edges, or player 1 by the questions asked; the kept edges are listed
--- in rising order, each once
+-- an outcome is right: player 0 wins by the kept edges, or player 1 by the questions asked. The kept edges answer
+-- questions in states to which they lead, and are listed in rising order, each once
 abbrev pub IsOutcome : Rounds → ℕ → Outcome → Type 0
-IsOutcome rounds start (Answered kept) = IsAnswering rounds start kept × IsStrictlyIncreasing kept
+IsOutcome rounds start (Answered kept) = IsAnswering rounds start kept
+    × IsStrictlyIncreasing kept × AreMetAnswers rounds start kept
 IsOutcome rounds start (Asked kept asked) =
-    IsAsking rounds start kept asked × IsStrictlyIncreasing kept
+    IsAsking rounds start kept asked × IsStrictlyIncreasing kept × AreMetAnswers rounds start kept
 
 -- the game is too wide for neither player
 abbrev pub IsNarrow : List Node → Type 0
 IsNarrow game = (player : Player) → is_too_wide player (priorities game) ≡ false
 
--- lifting in the game within the budget has this fault: the game is too wide for one of the players, or else a lift is
--- due when a player's budget is used up
-abbrev pub IsLiftingFault : List Node → ℕ → TaskFault → Type 0
-IsLiftingFault game budget TooWide =
+-- a lift is due when the budget is used up: for player 0, or for player 1 where player 0 does not win from the start
+abbrev pub IsBudgetShort : List Node → ℕ → ℕ → Type 0
+IsBudgetShort game start budget = GoesOnAfter game Zero budget
+    ⊎ ((¬ InRegion game Zero start) × GoesOnAfter game One budget)
+
+-- lifting in the game from a start within the budget has this fault: the game is too wide for one of the players, or
+-- else a lift is due when the budget is used up
+abbrev pub IsLiftingFault : List Node → ℕ → ℕ → TaskFault → Type 0
+IsLiftingFault game start budget TooWide =
     (player : Player) × (is_too_wide player (priorities game) ≡ true)
-IsLiftingFault game budget Budget =
-    IsNarrow game × ((player : Player) × GoesOnAfter game player budget)
-IsLiftingFault game budget fault = ⊥
+IsLiftingFault game start budget Budget = IsNarrow game × IsBudgetShort game start budget
+IsLiftingFault game start budget fault = ⊥
 
 -- the refusal of a game that is too wide for one of the players
 abbrev pub IsWide : List Node → Refusal → Type 0
@@ -43,19 +49,20 @@ IsWide game = or_task (λ fault. (fault ≡ TooWide)
     × ((player : Player) × (is_too_wide player (priorities game) ≡ true))) never
 
 -- the refusal of lifting in the game: such a fault, or want of memory
-abbrev pub IsLiftingRefusal : List Node → ℕ → Refusal → Type 0
-IsLiftingRefusal game budget = or_task (IsLiftingFault game budget) (or_memory never)
+abbrev pub IsLiftingRefusal : List Node → ℕ → ℕ → Refusal → Type 0
+IsLiftingRefusal game start budget =
+    or_task (IsLiftingFault game start budget) (or_memory never)
 
--- lifting in the game of the rounds has this fault
-pub record IsUnsolved (rounds : Rounds) (budget : ℕ) (fault : TaskFault) : Type 0 where
+-- lifting in the game of the rounds from a start has this fault
+pub record IsUnsolved (rounds : Rounds) (start budget : ℕ) (fault : TaskFault) : Type 0 where
   pub game : List Node
   pub game_is : IsRoundsGame rounds game
-  pub lifting : IsLiftingFault game budget fault
+  pub lifting : IsLiftingFault game start budget fault
 
 -- the refusal of rounds that are not decided: the game is too large, or lifting has a fault, or want of memory
-abbrev pub IsUndecided : Rounds → ℕ → Refusal → Type 0
-IsUndecided rounds budget =
-    or_game (IsRoundsFault rounds) (or_task (IsUnsolved rounds budget) (or_memory never))
+abbrev pub IsUndecided : Rounds → ℕ → ℕ → Refusal → Type 0
+IsUndecided rounds start budget =
+    or_game (IsRoundsFault rounds) (or_task (IsUnsolved rounds start budget) (or_memory never))
 
 -- runs were made for player 0 alone, or for player 0 and then for player 1
 abbrev pub AreLifted : Option Refusal → List Player → Type 0

@@ -5,9 +5,11 @@ ghost use Rattle.omega_solve.specs.Limits.{most_lifts};
 ghost use Rattle.omega_solve.specs.budget.Observing.{IsObserved, refusal_in};
 ghost use Rattle.omega_synth_rounds.specs.Rounds.{IsRounds};
 ghost use Rattle.omega_synth_game.specs.Laws.{IsParted};
+ghost use Rattle.omega_synth_game.specs.Sizes.{IsGameSmall};
 ghost use Rattle.omega_synth_realize.specs.Lifting.{LiftsAutomaton, LiftsParted};
 ghost use Rattle.omega_synth_realize.specs.Realizing.{IsRealizability};
-ghost use Rattle.omega_synth_realize.specs.Refusing.{IsJudgeable, IsUndecidedRounds, IsUnrealized};
+ghost use Rattle.omega_synth_realize.specs.Refusing.{HasNoLargeGame, IsJudgeable};
+ghost use Rattle.omega_synth_realize.specs.Refusing.{IsUndecidedRounds, IsUnrealized};
 
 use crate::parting::{Parted, parted_rounds};
 use crate::realizability::Realizability;
@@ -44,11 +46,12 @@ pub fn realize(
 ) -> Result<Realizability, Refusal>
     ensures realizability { IfOk result (IsRealizability automaton.now controlled.now) }
     ensures judgeable { OnOk result (IsJudgeable automaton.now) }
+    ensures small { OnOk result (HasNoLargeGame automaton.now controlled.now) }
     ensures refused { IfErr result (IsUnrealized automaton.now controlled.now most_lifts) }
 {
     let found = parted_rounds(alloc, automaton, controlled)?;
     match found {
-        None => Ok(without_start(alloc, automaton, controlled)),
+        None => without_start(alloc, automaton, controlled),
         Some(parted) => realize_parted(alloc, automaton, controlled, &parted),
     }
 }
@@ -63,7 +66,9 @@ fn realize_parted(
     requires parted { IsParted automaton.now controlled.now parted.now.rounds
         parted.now.letters parted.now.start }
     requires rounds { IsRounds parted.now.rounds }
+    requires judgeable { IsJudgeable automaton.now }
     ensures realizability { IfOk result (IsRealizability automaton.now controlled.now) }
+    ensures small { OnOk result (IsGameSmall automaton.now controlled.now) }
     ensures refused { IfErr result (IsUndecidedRounds automaton.now controlled.now most_lifts) }
 {
     let outcome = solve_rounds(alloc, &parted.rounds, parted.start)?;
@@ -86,13 +91,14 @@ pub fn realize_by_lifting<L, W: Reporter<L>>(
     requires { budget ≤ most_lifts }
     ensures realizability { IfOk result (IsRealizability automaton.now controlled.now) }
     ensures judgeable { OnOk result (IsJudgeable automaton.now) }
+    ensures small { OnOk result (HasNoLargeGame automaton.now controlled.now) }
     ensures refused { IfErr result (IsUnrealized automaton.now controlled.now budget) }
     ensures reported { IsObserved (LiftsAutomaton automaton.now controlled.now) (refusal_in result)
         (W.tells reporter.now) (W.pace reporter.now) budget observer.old observer.new }
 {
     let found = parted_rounds(alloc, automaton, controlled)?;
     match found {
-        None => Ok(without_start(alloc, automaton, controlled)),
+        None => without_start(alloc, automaton, controlled),
         Some(parted) => lift_parted(
             alloc, automaton, controlled, &parted, budget, reporter, observer,
         ),
@@ -112,8 +118,10 @@ fn lift_parted<L, W: Reporter<L>>(
     requires parted { IsParted automaton.now controlled.now parted.now.rounds
         parted.now.letters parted.now.start }
     requires rounds { IsRounds parted.now.rounds }
+    requires judgeable { IsJudgeable automaton.now }
     requires budget { budget ≤ most_lifts }
     ensures realizability { IfOk result (IsRealizability automaton.now controlled.now) }
+    ensures small { OnOk result (IsGameSmall automaton.now controlled.now) }
     ensures refused { IfErr result (IsUndecidedRounds automaton.now controlled.now budget) }
     ensures reported { IsObserved (LiftsParted automaton.now controlled.now) (refusal_in result)
         (W.tells reporter.now) (W.pace reporter.now) budget observer.old observer.new }

@@ -1,10 +1,12 @@
 //! The game in which it is decided whether an automaton is realizable.
 
-ghost use Rattle.std.specs.Prelude.{◌≡◌, [], IfErr, IfOk};
+ghost use Rattle.std.specs.Prelude.{◌≡◌, [], IfErr, IfOk, OnOk};
 ghost use Rattle.omega_synth_rounds.specs.Naming.{IsNamedGame};
 ghost use Rattle.omega_synth_rounds.specs.Rounds.{IsRounds};
 ghost use Rattle.omega_synth_game.specs.Laws.{IsParted};
+ghost use Rattle.omega_synth_game.specs.Sizes.{IsGameSmall};
 ghost use Rattle.omega_synth_realize.specs.Gaming.{IsPartedGame, IsRealizabilityGame, IsUngamed, no_rounds};
+ghost use Rattle.omega_synth_realize.specs.Refusing.{HasNoLargeGame, IsJudgeable};
 
 use crate::parting::{Parted, parted_rounds};
 use omega_game_reaching::part;
@@ -25,6 +27,7 @@ pub fn realizability_game(
     controlled: &[u32],
 ) -> Result<Game, Refusal>
     ensures game { IfOk result (IsRealizabilityGame automaton.now controlled.now) }
+    ensures small { OnOk result (HasNoLargeGame automaton.now controlled.now) }
     ensures refused { IfErr result (IsUngamed automaton.now controlled.now) }
 {
     let found = parted_rounds(alloc, automaton, controlled)?;
@@ -44,7 +47,9 @@ fn game_from(
     requires parted { IsParted automaton.now _controlled.now parted.now.rounds
         parted.now.letters parted.now.start }
     requires rounds { IsRounds parted.now.rounds }
+    requires judgeable { IsJudgeable automaton.now }
     ensures game { IfOk result (IsPartedGame automaton.now _controlled.now) }
+    ensures small { OnOk result (IsGameSmall automaton.now _controlled.now) }
     ensures refused { IfErr result (IsUngamed automaton.now _controlled.now) }
 {
     let whole = named_rounds_game(alloc, &parted.rounds)?;

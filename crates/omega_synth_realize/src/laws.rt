@@ -1,12 +1,14 @@
-//! Laws of the game of an automaton.
+//! Laws of automata and of their games.
 
-ghost use Rattle.omega_synth_realize.specs.Laws.{GamesDecide};
+ghost use Rattle.omega_synth_realize.specs.Laws.{AutomataAreDecided, GamesDecide};
 
 use omega_game_reaching::parts_keep_nodes;
 use omega_game_region_laws::{regions_cover, regions_of_parts};
 use omega_game_values::choices_are_entries;
 use omega_synth_controllers::controllers_exclude_counter_strategies;
-use omega_synth_game::{answerings_are_controllers, askings_are_counter_strategies};
+use omega_synth_game::{
+    answerings_are_controllers, askings_are_counter_strategies, no_start_is_refused,
+};
 use omega_synth_rounds::{chosen_answers_win, chosen_questions_win};
 
 /// States that the game that `realizability_game` returns of an automaton with a start decides whether it is
@@ -23,5 +25,20 @@ pub fn games_decide()
     chosen_questions_win();
     answerings_are_controllers();
     askings_are_counter_strategies();
+    controllers_exclude_counter_strategies();
+}
+
+/// States that a deterministic automaton of a parity kind has a controller or a counter-strategy, and never both, if its
+/// game is not too large, as it is not where `realize` answers.
+pub fn automata_are_decided()
+    ensures { AutomataAreDecided }
+{
+    choices_are_entries();
+    regions_cover();
+    chosen_answers_win();
+    chosen_questions_win();
+    answerings_are_controllers();
+    askings_are_counter_strategies();
+    no_start_is_refused();
     controllers_exclude_counter_strategies();
 }

@@ -12,6 +12,7 @@ mod deciding;
 mod games;
 mod laws;
 mod lifting;
+mod met;
 mod outcome;
 mod parting;
 mod posing;
@@ -22,7 +23,7 @@ mod winning;
 
 pub use deciding::{realize, realize_by_lifting};
 pub use games::realizability_game;
-pub use laws::games_decide;
+pub use laws::{automata_are_decided, games_decide};
 pub use lifting::lift_rounds;
 pub use omega_hoa_automaton::{Automaton, Refusal};
 pub use omega_synth_rounds::{Game, QuestionRange, RoundEdge, Rounds};

@@ -1,12 +1,13 @@
 ghost use Rattle.std.specs.Prelude.{◌≡◌, ◌≤◌, ◌<◌, ◌↔◌, ℕ, IfErr, IfOk, IsOk};
-ghost use Rattle.std.specs.Prelude.{IsTrue, Some, false, true, length, slice_get};
+ghost use Rattle.std.specs.Prelude.{IsTrue, OnOk, Some, false, true, length, slice_get};
 ghost use Rattle.omega_game_values.specs.Game.{priorities};
 ghost use Rattle.omega_measure.specs.Table.{is_too_wide};
 ghost use Rattle.omega_solve.specs.Headline.{IsExact};
 ghost use Rattle.omega_solve.specs.Limits.{most_lifts};
 ghost use Rattle.omega_solve.specs.budget.Observing.{IsObserved, ReportsSolving, refusal_in};
+ghost use Rattle.omega_solve.specs.budget.Within.{IsSolvingRefusal};
 ghost use Rattle.omega_synth_rounds.specs.Rounds.{IsRounds};
-ghost use Rattle.omega_synth_rounds.specs.RoundsGame.{IsRoundsGame};
+ghost use Rattle.omega_synth_rounds.specs.RoundsGame.{FitsAGame, IsRoundsGame};
 ghost use Rattle.omega_synth_realize.specs.Solving.{IsLiftingRefusal, IsNarrow, IsOutcome};
 ghost use Rattle.omega_synth_realize.specs.Solving.{IsUndecided, IsWide, LiftsGame, LiftsRounds};
 
@@ -26,7 +27,8 @@ use std::alloc::Global;
 ///
 /// Fails with [GameFault::TooManyNodes] or [GameFault::TooManyEdges] if the game is too large. Or else fails with
 /// [TaskFault::TooWide] if the table of measures would be too wide for one of the players, or else with
-/// [TaskFault::Budget] if a lift is due when the budget is used up.
+/// [TaskFault::Budget] if a lift is due when the budget is used up: for player 0, or for player 1 if player 0 does not
+/// win.
 pub fn lift_rounds<L, W: Reporter<L>>(
     alloc: Global,
     rounds: &Rounds,
@@ -39,7 +41,8 @@ pub fn lift_rounds<L, W: Reporter<L>>(
     requires start { start < length rounds.now.states }
     requires budget { budget ≤ most_lifts }
     ensures outcome { IfOk result (IsOutcome rounds.now start) }
-    ensures refused { IfErr result (IsUndecided rounds.now budget) }
+    ensures fits { OnOk result (FitsAGame rounds.now) }
+    ensures refused { IfErr result (IsUndecided rounds.now start budget) }
     ensures reported { IsObserved (LiftsRounds rounds.now) (refusal_in result)
         (W.tells reporter.now) (W.pace reporter.now) budget observer.old observer.new }
 {
@@ -63,7 +66,7 @@ pub(crate) fn lift_in<L, W: Reporter<L>>(
     requires start { start < length rounds.now.states }
     requires budget { budget ≤ most_lifts }
     ensures outcome { IfOk result (IsOutcome rounds.now start) }
-    ensures refused { IfErr result (IsUndecided rounds.now budget) }
+    ensures refused { IfErr result (IsUndecided rounds.now start budget) }
     ensures reported { IsObserved (LiftsGame game.now) (refusal_in result)
         (W.tells reporter.now) (W.pace reporter.now) budget observer.old observer.new }
 {
@@ -113,7 +116,7 @@ fn lifted_outcome<L, W: Reporter<L>>(
     requires narrow { IsNarrow game.now }
     requires budget { budget ≤ most_lifts }
     ensures outcome { IfOk result (IsOutcome rounds.now start) }
-    ensures refused { IfErr result (IsLiftingRefusal game.now budget) }
+    ensures refused { IfErr result (IsLiftingRefusal game.now start budget) }
     ensures reported { IsObserved (LiftsGame game.now) (refusal_in result)
         (W.tells reporter.now) (W.pace reporter.now) budget observer.old observer.new }
 {
@@ -158,7 +161,7 @@ fn found_for<L, W: Reporter<L>>(
     requires budget { budget ≤ most_lifts }
     ensures exact { IfOk result
         (λ found. IsExact _game.now player found.won.items found.choice.items) }
-    ensures refused { IfErr result (IsLiftingRefusal _game.now budget) }
+    ensures refused { IfErr result (IsSolvingRefusal _game.now player budget) }
     ensures reported { ReportsSolving (W.tells reporter.now) (W.pace reporter.now)
         _game.now player budget result observer.old observer.new }
 {

@@ -1,4 +1,4 @@
-ghost use Rattle.std.specs.Prelude.{◌≡◌, [], IfOk, IsOkUnless, map};
+ghost use Rattle.std.specs.Prelude.{◌≡◌, [], IfOk, IsOkUnless, length, map};
 ghost use Rattle.std.specs.List.{range_with_len};
 ghost use Rattle.omega_synth_rounds.specs.Rounds.{asked_in};
 ghost use Rattle.omega_synth_realize.specs.Solving.{IsOutcome};
@@ -11,7 +11,8 @@ use crate::parting::Parted;
 use crate::realizability::Realizability;
 use omega_hoa_automaton::Automaton;
 use omega_synth_game::{
-    answerings_are_controllers, askings_are_counter_strategies, no_start_is_refused,
+    answerings_are_controllers, askings_are_counter_strategies, met_answers_are_met,
+    no_start_is_refused,
 };
 use omega_text::{Numbers, Refusal, Seq};
 use std::alloc::Global;
@@ -32,6 +33,7 @@ pub(crate) fn realizability_of(
 {
     answerings_are_controllers();
     askings_are_counter_strategies();
+    met_answers_are_met();
     match outcome {
         Outcome::Answered { kept } => Ok(Realizability::Realizable { kept }),
         Outcome::Asked { kept, asked } => {
@@ -47,20 +49,22 @@ pub(crate) fn realizability_of(
     }
 }
 
-/// Returns the counter-strategy of an automaton without a start, which keeps no edges.
+/// Returns the counter-strategy of an automaton without a start, which keeps no edges. Its letters are empty.
 pub(crate) fn without_start(
     alloc: Global,
-    _automaton: &Automaton,
+    automaton: &Automaton,
     _controlled: &[u32],
-) -> Realizability
-    requires { _automaton.now.starts ≡ [] }
-    ensures { IsRealizability _automaton.now _controlled.now result }
+) -> Result<Realizability, Refusal>
+    requires { automaton.now.starts ≡ [] }
+    ensures realizability { IfOk result (IsRealizability automaton.now _controlled.now) }
+    ensures memory { IsOkUnless result Refusal.Memory }
 {
     no_start_is_refused();
-    Realizability::Unrealizable {
+    let letters = letters_by_state(alloc, automaton.state_count(), &[], &[])?;
+    Ok(Realizability::Unrealizable {
         kept: Seq::new(alloc),
-        letters: Seq::new(alloc),
-    }
+        letters,
+    })
 }
 
 /// Returns for each of `count` states the letter of the question `asked` in it.
@@ -72,6 +76,7 @@ fn letters_by_state(
 ) -> Result<Seq<Numbers>, Refusal>
     ensures letters { IfOk result (λ found. found ≡ map
         (λ state. letter_of letters.now (asked_in asked.now state)) (range_with_len 0 count)) }
+    ensures entries { IfOk result (λ found. length found ≡ count) }
     ensures memory { IsOkUnless result Refusal.Memory }
 {
     let mut found = Vec::new(alloc);

@@ -7,6 +7,7 @@ ghost use Rattle.omega_synth_rounds.specs.Rounds.{IsRounds};
 ghost use Rattle.omega_synth_rounds.specs.RoundsGame.{IsRoundsGame};
 ghost use Rattle.omega_synth_realize.specs.Solving.{IsOutcome};
 
+use crate::met::met_edges;
 use crate::outcome::Outcome;
 use omega_synth_rounds::{
     Game, Rounds, asked_questions, chosen_answers, chosen_answers_win, chosen_questions_win,
@@ -31,7 +32,8 @@ pub(crate) fn controller_outcome(
 {
     chosen_answers_win();
     game.keeps_limits();
-    let kept = chosen_answers(alloc, rounds, choices)?;
+    let chosen = chosen_answers(alloc, rounds, choices)?;
+    let kept = met_edges(alloc, rounds, start, chosen.as_slice())?;
     Ok(Outcome::Answered {
         kept: Seq::from_vec(kept),
     })
@@ -55,8 +57,9 @@ pub(crate) fn counter_strategy_outcome(
     chosen_questions_win();
     game.keeps_limits();
     let found = asked_questions(alloc, rounds, choices)?;
+    let kept = met_edges(alloc, rounds, start, found.kept.as_slice())?;
     Ok(Outcome::Asked {
-        kept: Seq::from_vec(found.kept),
+        kept: Seq::from_vec(kept),
         asked: Seq::from_vec(found.asked),
     })
 }

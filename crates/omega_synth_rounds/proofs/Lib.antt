@@ -5,3 +5,4 @@ pub mod Winning
 pub mod Making
 pub mod Named
 pub mod Found
+pub mod Successors

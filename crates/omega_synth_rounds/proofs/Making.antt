@@ -1,9 +1,9 @@
 -- The specifications of the game of rounds as they are added, and that they have no fault but their numbers.
 use Rattle.std.proofs.Common.{◌≡◌, ◌==◌, ℕ, ◌+◌, ◌-◌, ◌<◌, ◌≤◌, Bool, true, false, cond, List, [], ◌∷◌, ◌++◌, length, map, take, get_or, nat_lt, Contains, Option, Some, None, Result, Ok, Err, sym, ap, refl, ◌∙◌, subst, arith}
-use Rattle.std.specs.Prelude.{IfErr}
+use Rattle.std.specs.Prelude.{IfErr, OnOk}
 use Rattle.std.specs.List.{range_with_len}
 use Rattle.std.specs.List.Sorted.{IsStrictlyIncreasing}
-use Rattle.std.proofs.lemmas.Bool.{eq-eqb, le-ltb, ltb-true, ne_eqb}
+use Rattle.std.proofs.lemmas.Bool.{eq-eqb, le-ltb, ltb-false, ltb-true, ne_eqb}
 use Rattle.std.proofs.lemmas.List.{get_or-map, length-map, length_push, map_push, take_more}
 use Rattle.std.proofs.lemmas.List.Elements.{Contains-get_or}
 use Rattle.std.proofs.lemmas.List.FromFn.{length-map-range_with_len, map-range_with_len_more}
@@ -20,7 +20,7 @@ use Rattle.omega_game_values.specs.Limits.{most_nodes, most_successors}
 use Rattle.omega_game_values.specs.declared.node_spec.NodeSpec.{NodeSpec}
 use Rattle.omega_game_values.specs.declared.player.Player.{Player}
 use Rattle.omega_synth_rounds.specs.Rounds.{IsRounds, answers_of}
-use Rattle.omega_synth_rounds.specs.RoundsGame.{IsRoundsFault, IsRoundsRefusal, node_count, node_for, table}
+use Rattle.omega_synth_rounds.specs.RoundsGame.{FitsAGame, IsRoundsFault, IsRoundsRefusal, node_count, node_for, table}
 use Rattle.omega_synth_rounds.specs.declared.rounds.Rounds.{Rounds}
 use Rattle.omega_synth_rounds.proofs.Placing.{id_is, in_range, low_at, range_has, range_rises}
 
@@ -149,3 +149,25 @@ module _ (rounds : Rounds) (is_rounds : IsRounds rounds) where
   made_refused (Err refusal) specs count fits is all refused =
       refusal_is fits refusal
       (subst (λ (s : List NodeSpec). IsBuildRefusal s refusal) (is ∙ ap (λ n. map (node_for rounds) (range_with_len 0 n)) all) refused)
+
+  -- without a fault it fits
+  faultless_fits : node_count rounds ≤ most_nodes → game_fault_of (table rounds) ≡ None → FitsAGame rounds
+  faultless_fits fits is = go (nat_lt most_successors (listed_successors (table rounds))) refl (rw (once, defined, few fits) at is)
+    where
+      go : (b : Bool) → nat_lt most_successors (listed_successors (table rounds)) ≡ b
+          → ◌≡◌ {A = Option GameFault} (cond b (Some faults.TooManyEdges) None) None → FitsAGame rounds
+      go true many same = absurd (some_none same)
+        where
+          some_none : ◌≡◌ {A = Option GameFault} (Some faults.TooManyEdges) None → ⊥
+          some_none e = cc
+      go false few_listed same = record {
+        nodes = fits;
+        successors = ltb-false most_successors (listed_successors (table rounds)) few_listed;
+      }
+
+  pub made_fits : (r : Result (List Node) Refusal) (specs : List NodeSpec) (count : ℕ) → node_count rounds ≤ most_nodes
+      → specs ≡ map (node_for rounds) (range_with_len 0 count) → count ≡ node_count rounds
+      → OnOk r (game_fault_of specs ≡ None) → OnOk r (FitsAGame rounds)
+  made_fits (Ok game) specs count fits is all faultless =
+      faultless_fits fits (sym (ap game_fault_of (is ∙ ap (λ n. map (node_for rounds) (range_with_len 0 n)) all)) ∙ faultless)
+  made_fits (Err refusal) specs count fits is all faultless = tt

@@ -1,5 +1,5 @@
 -- Names of nodes, and that games with names have the faults of those without.
-use Rattle.std.proofs.Common.{◌≡◌, ◌==◌, ℕ, ◌+◌, ◌-◌, ◌^◌, ◌<◌, ◌≤◌, ◌%◌, inl, inr, Bool, cond, List, [], ◌∷◌, ◌++◌, length, map, nat_lt, Option, Some, Result, Ok, Err, sym, ap, refl, ◌∙◌, subst, arith}
+use Rattle.std.proofs.Common.{◌≡◌, ◌==◌, ℕ, ◌+◌, ◌-◌, ◌^◌, ◌<◌, ◌≤◌, ◌%◌, inl, inr, Bool, cond, List, [], ◌∷◌, ◌++◌, length, map, nat_lt, Option, Some, None, Result, Ok, Err, sym, ap, refl, ◌∙◌, subst, arith}
 use Rattle.std.specs.Prelude.{IfErr, OnOk, codes, decimal, slice_index_or, sum_by}
 use Rattle.std.specs.List.{All, list_any, range_with_len}
 use Rattle.std.proofs.lemmas.Bool.{cases_eq, cases_lt, eq-eqb, le-ltb, lt-ltb, ne_eqb}
@@ -15,11 +15,11 @@ use Rattle.omega_game_values.specs.Limits.{most_nodes}
 use Rattle.omega_game_values.specs.declared.node_spec.NodeSpec.{NodeSpec}
 use Rattle.omega_synth_rounds.specs.Naming.{IsNodeName, edge_name, edge_named, question_named, sink_named, state_name, state_named}
 use Rattle.omega_synth_rounds.specs.Rounds.{IsAskedIn, IsRounds, range_at}
-use Rattle.omega_synth_rounds.specs.RoundsGame.{IsRoundsRefusal, edge_place, node_count, node_for, question_place, sink_place}
+use Rattle.omega_synth_rounds.specs.RoundsGame.{FitsAGame, IsRoundsRefusal, edge_place, node_count, node_for, question_place, sink_place}
 use Rattle.omega_synth_rounds.specs.declared.rounds.QuestionRange.{QuestionRange}
 use Rattle.omega_synth_rounds.specs.declared.rounds.Rounds.{Rounds}
 use Rattle.omega_synth_rounds.specs.private.Naming.{AreStatesBelow, AreStatesOf, named_node, node_name, question_name, state_of}
-use Rattle.omega_synth_rounds.proofs.Making.{made_refused}
+use Rattle.omega_synth_rounds.proofs.Making.{made_fits, made_refused}
 use Rattle.omega_synth_rounds.proofs.Placing.{IsPlace, of_edge, of_question, of_sink, of_state, place_of}
 
 -- the states of questions
@@ -303,6 +303,17 @@ named_refused rounds is_rounds states r specs count fits is all refused =
         → IfErr r (IsBuildRefusal xs) → IfErr r (IsBuildRefusal ys)
     unnamed_refused r xs ys same refused =
         subst (λ (f : Option GameFault). IfErr r (or_game (λ fault. f ≡ Some fault) (or_memory never))) same refused
+
+-- without a fault it fits
+pub named_fits : (rounds : Rounds) → IsRounds rounds → (states : List ℕ) (r : Result (List Node) Refusal) (specs : List NodeSpec) (count : ℕ)
+    → node_count rounds ≤ most_nodes → specs ≡ map (named_node rounds states) (range_with_len 0 count) → count ≡ node_count rounds
+    → OnOk r (game_fault_of specs ≡ None) → OnOk r (FitsAGame rounds)
+named_fits rounds is_rounds states r specs count fits is all faultless =
+    let named : List NodeSpec = map (named_node rounds states) (range_with_len 0 count) in
+    let plain : List NodeSpec = map (node_for rounds) (range_with_len 0 count) in
+    made_fits rounds is_rounds r plain count fits refl all
+    (subst (λ (f : Option GameFault). OnOk r (f ≡ None))
+    (ap game_fault_of is ∙ fault_alike named plain (named_alike rounds states (range_with_len 0 count))) faultless)
 
 -- what an answer makes of a list is the same as what is wanted
 pub on_ok_same : {X E : Type 0} (r : Result X E) (new made wanted : List NodeSpec) → OnOk r (new ≡ made) → made ≡ wanted → OnOk r (new ≡ wanted)

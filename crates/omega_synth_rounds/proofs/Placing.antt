@@ -215,7 +215,7 @@ module _ (rounds : Rounds) where
         ∙ map_agrees (λ v. specified nodes_of (as_node (node_for rounds v))) (node_for rounds) 0 (node_count rounds)
         (λ v low high. specified_is v (omega arith))
 
-    nodes_made : IsRoundsGame rounds nodes_of
+    pub nodes_made : IsRoundsGame rounds nodes_of
     nodes_made = record {
       game = nodes_game;
       rearranged = subst (IsPermutation (table rounds)) (sym table_is) (IsPermutation-refl (table rounds));

@@ -7,7 +7,7 @@ use Rattle.omega_game_values.specs.Winning.{Chooses, Leaves, Wins, greatest_on}
 use Rattle.omega_game_values.specs.declared.player.Player.TheVariants.{One, Zero}
 use Rattle.omega_synth_rounds.specs.Extracting.{AreChosenAnswers, AreChosenQuestions, IsChosenAnswer, IsChosenQuestion, IsKeptAnswer, IsWinningFrom}
 use Rattle.omega_synth_rounds.specs.Laws.{ChosenAnswersWin, ChosenQuestionsWin}
-use Rattle.omega_synth_rounds.specs.Rounds.{IsAnswering, IsAskedIn, IsAsking, IsKeptRound, IsReached, IsRoundStep, IsRounds, LeadOn, answers_of, asked_in, greatest_priority}
+use Rattle.omega_synth_rounds.specs.Rounds.{AreAnswers, IsAnswering, IsAskedIn, IsAsking, IsKeptRound, IsReached, IsRoundStep, IsRounds, LeadOn, answers_of, asked_in, greatest_priority}
 use Rattle.omega_synth_rounds.specs.RoundsGame.{edge_place, question_place, sink_place}
 use Rattle.omega_synth_rounds.specs.declared.rounds.Rounds.{Rounds}
 use Rattle.omega_synth_rounds.proofs.Placing.{asked_below, game_is, nodes_count, nodes_of}
@@ -123,6 +123,19 @@ module _ (rounds : Rounds) (is_rounds : IsRounds rounds) (choices : List (Option
   pub answering : IsAnswering rounds start kept
   answering = record { answered = answered_at; even = even_round }
 
+  pub answers_all : AreAnswers rounds kept
+  answers_all number has =
+      let chosen : IsChosenAnswer rounds choices number = (are number).0 has in
+      let edge : HasEdge (nodes_of rounds) (question_place rounds chosen.0) (edge_place rounds number) =
+      winning.strategy.listed (question_place rounds chosen.0) (edge_place rounds number) chosen.1.chosen in
+      let owner = is_rounds.owned chosen.0 chosen.1.asked in
+      record {
+        state = owner.0;
+        question = chosen.0;
+        asked = owner.1;
+        answers = question_answer rounds is_rounds chosen.0 number chosen.1.asked chosen.1.below edge;
+      }
+
 -- player 1
 module _ (rounds : Rounds) (is_rounds : IsRounds rounds) (choices : List (Option ℕ)) (kept asked : List ℕ) (start : ℕ)
     (start_below : start < length rounds.states) (winning : IsWinningFrom (nodes_of rounds) One choices start)
@@ -226,12 +239,24 @@ module _ (rounds : Rounds) (is_rounds : IsRounds rounds) (choices : List (Option
   pub asking : IsAsking rounds start kept asked
   asking = record { asks = asks_at; keeps = keeps_at; odd = odd_round }
 
+  pub kept_all : AreAnswers rounds kept
+  kept_all number has =
+      let answer : IsKeptAnswer rounds choices number = (are.answers number).0 has in
+      record {
+        state = answer.state;
+        question = answer.question;
+        asked = asked_by answer.state answer.question answer.chosen;
+        answers = answer.answers;
+      }
+
 pub chosen_answers_win : SpecificationsHaveOneGame → ChosenAnswersWin
 chosen_answers_win one rounds game choices kept start is_rounds made start_below winning are =
-    answering rounds is_rounds choices kept start start_below
-    (subst (λ (nodes : List Node). IsWinningFrom nodes Zero choices start) (game_is rounds is_rounds one game made) winning) are
+    let here : IsWinningFrom (nodes_of rounds) Zero choices start =
+    subst (λ (nodes : List Node). IsWinningFrom nodes Zero choices start) (game_is rounds is_rounds one game made) winning in
+    (answering rounds is_rounds choices kept start start_below here are, answers_all rounds is_rounds choices kept start start_below here are)
 
 pub chosen_questions_win : SpecificationsHaveOneGame → ChosenQuestionsWin
 chosen_questions_win one rounds game choices kept asked start is_rounds made start_below winning are =
-    asking rounds is_rounds choices kept asked start start_below
-    (subst (λ (nodes : List Node). IsWinningFrom nodes One choices start) (game_is rounds is_rounds one game made) winning) are
+    let here : IsWinningFrom (nodes_of rounds) One choices start =
+    subst (λ (nodes : List Node). IsWinningFrom nodes One choices start) (game_is rounds is_rounds one game made) winning in
+    (asking rounds is_rounds choices kept asked start start_below here are, kept_all rounds is_rounds choices kept asked start start_below here are)

@@ -73,11 +73,31 @@ greatest_priority rounds [] = 0
 greatest_priority rounds (number ∷ numbers) =
     max (edge_at rounds number).priority (greatest_priority rounds numbers)
 
+-- the edge answers one of a state's questions
+pub record IsAnswer (rounds : Rounds) (number : ℕ) : Type 0 where
+  pub state : ℕ
+  pub question : ℕ
+  pub asked : IsAskedIn rounds state question
+  pub answers : Contains (answers_of rounds question) number
+
+-- each of the edges, given by number, answers a question
+abbrev pub AreAnswers : Rounds → List ℕ → Type 0
+AreAnswers rounds numbers = (number : ℕ) → Contains numbers number → IsAnswer rounds number
+
 -- kept edges lead from the start to the state
 pub record IsReached (rounds : Rounds) (kept : List ℕ) (start state : ℕ) : Type 0 where
   pub numbers : List ℕ
   pub all_kept : All (Contains kept) numbers
   pub leads : LeadOn rounds start numbers state
+
+-- the state that the edge leaves is reached
+abbrev pub IsMetEdge : Rounds → List ℕ → ℕ → ℕ → Type 0
+IsMetEdge rounds kept start number = IsReached rounds kept start (edge_at rounds number).source
+
+-- each kept edge answers a question, and leaves a state that is reached
+abbrev pub AreMetAnswers : Rounds → ℕ → List ℕ → Type 0
+AreMetAnswers rounds start kept = (number : ℕ) → Contains kept number
+    → IsAnswer rounds number × IsMetEdge rounds kept start number
 
 -- a closed walk of at least one kept edge, from a state that is reached back to it
 pub record IsKeptRound (rounds : Rounds) (kept : List ℕ) (start state : ℕ)

@@ -58,6 +58,11 @@ question_node rounds question =
     unnamed_spec (question_place rounds question) 0 Zero
     (or_sink (sink_place rounds) (map (edge_place rounds) (answers_of rounds question)))
 
+-- how many successors the node of a question with these answers has: its answers, or the sink alone
+abbrev pub answer_count : List ℕ → ℕ
+answer_count [] = 1
+answer_count (first ∷ rest) = length (first ∷ rest)
+
 -- the node at a place
 abbrev pub node_for : Rounds → ℕ → NodeSpec
 node_for rounds place =
@@ -73,6 +78,11 @@ table rounds = map (node_for rounds) (range_with_len 0 (node_count rounds))
 -- the game is that of the rounds
 abbrev pub IsRoundsGame : Rounds → List Node → Type 0
 IsRoundsGame rounds game = IsGameOf (table rounds) game
+
+-- the game has no more nodes and lists no more successors than a game may have
+pub record FitsAGame (rounds : Rounds) : Type 0 where
+  pub nodes : node_count rounds ≤ most_nodes
+  pub successors : listed_successors (table rounds) ≤ most_successors
 
 -- the game has more nodes or lists more successors than a game may have
 abbrev pub IsRoundsFault : Rounds → GameFault → Type 0

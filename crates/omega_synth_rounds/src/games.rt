@@ -2,7 +2,7 @@ ghost use Rattle.std.specs.Prelude.{◌≡◌, ◌++◌, ◌∷◌, [], ◌≤�
 ghost use Rattle.omega_game_values.specs.Limits.{most_nodes};
 ghost use Rattle.omega_synth_rounds.specs.Naming.{IsNamedGame};
 ghost use Rattle.omega_synth_rounds.specs.Rounds.{IsRounds};
-ghost use Rattle.omega_synth_rounds.specs.RoundsGame.{IsRoundsGame, IsRoundsRefusal, node_count};
+ghost use Rattle.omega_synth_rounds.specs.RoundsGame.{FitsAGame, IsRoundsGame, IsRoundsRefusal, node_count};
 ghost use Rattle.omega_synth_rounds.specs.private.Naming.{AreStatesOf, named_node};
 
 use crate::naming::{name_at, question_states};
@@ -19,6 +19,7 @@ use std::alloc::Global;
 pub fn rounds_game(alloc: Global, rounds: &Rounds) -> Result<Game, Refusal>
     requires { IsRounds rounds.now }
     ensures game { IfOk result (IsRoundsGame rounds.now) }
+    ensures fits { OnOk result (FitsAGame rounds.now) }
     ensures refused { IfErr result (IsRoundsRefusal rounds.now) }
 {
     if !fits(rounds) {
@@ -39,6 +40,7 @@ pub fn rounds_game(alloc: Global, rounds: &Rounds) -> Result<Game, Refusal>
 pub fn named_rounds_game(alloc: Global, rounds: &Rounds) -> Result<Game, Refusal>
     requires { IsRounds rounds.now }
     ensures game { IfOk result (IsNamedGame rounds.now) }
+    ensures fits { OnOk result (FitsAGame rounds.now) }
     ensures refused { IfErr result (IsRoundsRefusal rounds.now) }
 {
     if !fits(rounds) {
@@ -54,6 +56,7 @@ fn named_game(alloc: Global, rounds: &Rounds, states: &[u32]) -> Result<Game, Re
     requires fits { node_count rounds.now ≤ most_nodes }
     requires states { AreStatesOf rounds.now states.now }
     ensures game { IfOk result (IsNamedGame rounds.now) }
+    ensures fits { OnOk result (FitsAGame rounds.now) }
     ensures refused { IfErr result (IsRoundsRefusal rounds.now) }
 {
     let count = node_count(rounds);

@@ -9,7 +9,7 @@ use Rattle.omega_hoa_automaton.specs.Branching.{has_universal_branching}
 use Rattle.omega_synth_controllers.specs.Controllers.{Answers}
 use Rattle.omega_synth_game.specs.RoundsOf.{holds_in}
 use Rattle.omega_synth_check.specs.Judging.{IsAnswered, IsLack, IsReached}
-use Rattle.omega_synth_check.specs.Refusing.{AcceptsAll}
+use Rattle.omega_synth_check.specs.Refusing.{AcceptsAll, HasManyStates, IsHardEdge, MentionsFew}
 use Rattle.omega_synth_check.specs.declared.judgement.Lack.{Lack}
 use Rattle.omega_synth_check.specs.declared.searching.Lacking.{Lacking}
 use Rattle.omega_synth_check.specs.declared.search.ControllerSearch.{ControllerSearch}
@@ -36,30 +36,34 @@ SomeAnswers a controlled numbers given =
 abbrev pub AnswersEach : Description → List ℕ → ℕ → Type 0
 AnswersEach a controlled state = (given : ℕ → Bool) → IsAnswered a controlled state given
 
+-- so it does, and its labels mention few of the environment's propositions
+abbrev pub IsSettled : Description → List ℕ → ℕ → Type 0
+IsSettled a controlled state = AnswersEach a controlled state × MentionsFew a controlled state
+
 -- the state at a place does not answer the letter
 abbrev pub IsLackingIn : Description → (controlled states : List ℕ) → Lacking → Type 0
 IsLackingIn a controlled states lacking =
     (lacking.place < length states)
     × ¬ IsAnswered a controlled (state_at states lacking.place) (holds_in lacking.letter)
 
--- each state that is reached answers each letter
-abbrev pub ReachedAnswer : Description → List ℕ → Type 0
-ReachedAnswer a controlled = (state : ℕ) (given : ℕ → Bool) → IsReached a state
-    → IsAnswered a controlled state given
+-- the states that are reached are not too many, and each is settled
+abbrev pub AreReachedSettled : Description → List ℕ → Type 0
+AreReachedSettled a controlled = (HasManyStates a → ⊥)
+    × ((state : ℕ) → IsReached a state → IsSettled a controlled state)
 
 -- what a state that was visited lacks: a letter that it does not answer, or nothing
 abbrev pub IsVisited : Description → List ℕ → ℕ → Option (List ℕ) → Type 0
-IsVisited a controlled state None = AnswersEach a controlled state
+IsVisited a controlled state None = IsSettled a controlled state
 IsVisited a controlled state (Some letter) = ¬ IsAnswered a controlled state (holds_in letter)
 
 -- what a search found: a state that lacks an answer, or that none does
 abbrev pub IsSearched : Description → (controlled states : List ℕ) → Option Lacking → Type 0
-IsSearched a controlled states None = ReachedAnswer a controlled
+IsSearched a controlled states None = AreReachedSettled a controlled
 IsSearched a controlled states (Some lacking) = IsLackingIn a controlled states lacking
 
 -- a lack is one, or each state that is reached answers each letter
 abbrev pub IsLackOf : Description → List ℕ → Option Lack → Type 0
-IsLackOf a controlled None = ReachedAnswer a controlled
+IsLackOf a controlled None = AreReachedSettled a controlled
 IsLackOf a controlled (Some lack) = IsLack a controlled lack
 
 -- the fault of an automaton that cannot be read as a controller
@@ -71,3 +75,7 @@ IsFormFault controller fault =
 -- its refusal
 abbrev pub IsFormRefusal : Description → Refusal → Type 0
 IsFormRefusal controller = or_task (IsFormFault controller) never
+
+-- one of these edges may be given up undecided
+abbrev pub HaveHardEdge : Description → List ℕ → Type 0
+HaveHardEdge a numbers = (number : ℕ) × Contains numbers number × IsHardEdge a number

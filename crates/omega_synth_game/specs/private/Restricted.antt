@@ -2,7 +2,7 @@
 use Rattle.std.specs.Prelude.{ℕ, if◌then◌else◌, List}
 use Rattle.omega_hoa_label.specs.declared.label.LabelNode.{LabelNode}
 use Rattle.omega_hoa_label.specs.declared.label.LabelNode.TheVariants.{Constant, Proposition}
-use Rattle.omega_synth_game.specs.Answering.{is_controlled}
+use Rattle.omega_synth_controllers.specs.Strategies.{is_controlled}
 use Rattle.omega_synth_game.specs.Letters.{holds_in}
 
 -- a node with a constant in place of an input: whether it holds in the letter

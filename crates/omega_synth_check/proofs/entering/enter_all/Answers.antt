@@ -7,6 +7,7 @@ use Rattle.omega_lang_runs.specs.Lasso.{IsStep}
 use Rattle.omega_synth_game.specs.Making.{IsLeaving}
 use Rattle.omega_synth_check.specs.private.Meeting.{HasEntered, state_at}
 use Rattle.omega_synth_check.proofs.MetStates.{entered_more, extends_not, extends_on, longer, state_kept}
+use Rattle.omega_synth_check.proofs.Refusals.{hard_among}
 use Rattle.omega_synth_check.proofs.entering.enter_all.Goals as goal
 
 pub loop-number-init : goal.loop-number-init
@@ -47,4 +48,9 @@ returns-clause-entered c =
     (take_all c.loop-number.number-index c.args.numbers.now (omega (arith, c.loop-number-test.false))) c.loop-number.invariant.2
 
 pub returns-in_err-enter-clause-refused : goal.returns-in_err-enter-clause-refused
-returns-in_err-enter-clause-refused c = passed_on c.from_residual.result _ _ c.from_residual.ensures.1 c.in_err-enter.ensures.refused
+returns-in_err-enter-clause-refused c =
+    let numbers : List ℕ = c.args.numbers.now in
+    let index : ℕ = c.loop-number.number-index in
+    let below : index < length numbers = omega (arith, c.loop-number-test.true) in
+    passed_on c.from_residual.result _ _ c.from_residual.ensures.1
+    (hard_among c.args.search.now.automaton.now numbers (get_or numbers index 0) (Contains-get_or numbers index 0 below) _ c.in_err-enter.ensures.refused)

@@ -4,11 +4,12 @@ use Rattle.std.proofs.lemmas.Bool.{false≢true}
 use Rattle.omega_hoa_edges.proofs.Refusals.{passed_on}
 use Rattle.omega_hoa_automaton.specs.declared.edge.Edge.{Edge}
 use Rattle.omega_hoa_automaton.specs.declared.state.State.{State}
-use Rattle.omega_lang_runs.specs.Judging.{HasHardLabel, IsHard}
+use Rattle.omega_lang_runs.specs.Judging.{IsHard}
+use Rattle.omega_synth_check.specs.Refusing.{IsHardEdge}
 use Rattle.omega_lang_runs.specs.Lasso.{IsUsable}
 use Rattle.omega_lang_runs.specs.Places.{EdgeStandsAt}
 use Rattle.omega_lang_runs.specs.declared.place.EdgePlace.{EdgePlace}
-use Rattle.omega_lang_runs.proofs.Flat.{hard_label, wide_refused}
+use Rattle.omega_lang_runs.proofs.Flat.{wide_refused}
 use Rattle.omega_synth_game.proofs.Whole.{edge_is, edge_within, state_is, state_within}
 use Rattle.omega_synth_check.proofs.Steps.{step_of, target_there, usable_of}
 use Rattle.omega_synth_check.proofs.entering.target_at.Goals as goal
@@ -88,10 +89,15 @@ returns-in_err-judged_state-clause-refused c =
     let place : EdgePlace = c.args.place in
     let stands : EdgeStandsAt a c.args._number place = c.requires.stands in
     let state : State = c.index-defined-place.result in
-    let here : state ≡ get_or a.defined place.state state =
-    c.index-defined-place.is ∙ ap (λ (list : List State). get_or list place.state state) c.defined.ensures in
+    let state_same : state ≡ stands.state =
+    c.index-defined-place.is ∙ ap (λ (list : List State). get_or list place.state state) c.defined.ensures ∙ state_is a c.args._number place stands state in
     passed_on c.from_residual.result _ _ c.from_residual.ensures.1
-    (wide_refused (IsHard state.label) (HasHardLabel a) (λ hard. hard_label a place.state state (state_within a c.args._number place stands) here (inl hard))
+    (wide_refused (IsHard state.label) (IsHardEdge a c.args._number)
+    (λ hard. record {
+      edge = record { source = stands.state; edge = stands.edge };
+      numbered = stands.numbered;
+      hard = inl (subst (λ (s : State). IsHard s.label) state_same hard);
+    })
     _ c.in_err-judged_state.ensures.refused)
 
 pub returns-in_err-usable-clause-refused : goal.returns-in_err-usable-clause-refused
@@ -101,12 +107,15 @@ returns-in_err-usable-clause-refused c =
     let stands : EdgeStandsAt a c.args._number place = c.requires.stands in
     let state : State = c.index-defined-place.result in
     let edge : Edge = c.edge-edge.result in
-    let here : state ≡ get_or a.defined place.state state =
-    c.index-defined-place.is ∙ ap (λ (list : List State). get_or list place.state state) c.defined.ensures in
-    let state_same : state ≡ stands.state = here ∙ state_is a c.args._number place stands state in
-    let inside : place.index < length state.edges =
-    subst (λ (s : State). place.index < length s.edges) (sym state_same) (edge_within a c.args._number place stands) in
+    let state_same : state ≡ stands.state =
+    c.index-defined-place.is ∙ ap (λ (list : List State). get_or list place.state state) c.defined.ensures ∙ state_is a c.args._number place stands state in
+    let edge_same : edge ≡ stands.edge =
+    c.edge-edge.ensures ∙ ap (λ (s : State). get_or s.edges place.index edge) state_same ∙ edge_is a c.args._number place stands edge in
     passed_on c.from_residual-in_err-usable.result _ _ c.from_residual-in_err-usable.ensures.1
-    (wide_refused (IsHard edge.label) (HasHardLabel a)
-    (λ hard. hard_label a place.state state (state_within a c.args._number place stands) here (inr (edge, (place.index, inside, sym c.edge-edge.ensures), hard)))
+    (wide_refused (IsHard edge.label) (IsHardEdge a c.args._number)
+    (λ hard. record {
+      edge = record { source = stands.state; edge = stands.edge };
+      numbered = stands.numbered;
+      hard = inr (subst (λ (e : Edge). IsHard e.label) edge_same hard);
+    })
     _ c.in_err-usable.ensures.refused)

@@ -4,9 +4,9 @@ use Rattle.omega_hoa_edges.specs.Limits.{most_states}
 use Rattle.omega_synth_game.specs.RoundsOf.{holds_in}
 use Rattle.omega_synth_check.specs.Judging.{IsAnswered}
 use Rattle.omega_synth_check.specs.private.Meeting.{state_at}
-use Rattle.omega_synth_check.specs.private.Searching.{IsVisited}
+use Rattle.omega_synth_check.specs.private.Searching.{IsSettled, IsVisited}
 use Rattle.omega_synth_check.proofs.MetStates.{longer, state_kept}
-use Rattle.omega_synth_check.proofs.Searches.{answers_more, next_more, reached_answer, starts_kept, too_many}
+use Rattle.omega_synth_check.proofs.Searches.{all_settled, next_more, settled_more, starts_kept, too_many}
 use Rattle.omega_synth_check.proofs.searching.first_lacking.Goals as goal
 
 pub loop-at-init : goal.loop-at-init
@@ -15,7 +15,7 @@ loop-at-init c = record {
   starts = c.requires.starts;
   few = omega arith;
   next = λ place low. absurd (omega (arith, low));
-  answered = λ place low. absurd (omega (arith, low));
+  settled = λ place low. absurd (omega (arith, low));
 }
 
 pub returns-then-len-gt-MOST_STATES-clause-refused : goal.returns-then-len-gt-MOST_STATES-clause-refused
@@ -40,7 +40,7 @@ loop-at-preserved c =
       starts = starts_kept a states more c.in_ok-letter.ensures.extends c.loop-at.invariant.starts;
       few = omega (arith, below, few);
       next = next_more a states more at c.in_ok-letter.ensures.extends below c.loop-at.invariant.next c.in_ok-letter.ensures.next;
-      answered = answers_more a controlled states more at c.in_ok-letter.ensures.extends below c.loop-at.invariant.answered
+      settled = settled_more (IsSettled a controlled) states more at c.in_ok-letter.ensures.extends below c.loop-at.invariant.settled
           (subst (IsVisited a controlled (state_at states at)) c.in-None.is c.in_ok-letter.ensures.letter);
     }
 
@@ -63,5 +63,5 @@ pub returns-clause-lacking : goal.returns-clause-lacking
 returns-clause-lacking c =
     let states : List ℕ = c.loop-at.met.states.keys in
     let past : length states < c.loop-at.at + 1 = omega (arith, c.loop-at-test.false, c.len.ensures) in
-    reached_answer c.args.search.now.automaton.now c.args.search.now.controlled.now states c.loop-at.at past c.loop-at.invariant.starts c.loop-at.invariant.next
-    c.loop-at.invariant.answered
+    all_settled c.args.search.now.automaton.now c.args.search.now.controlled.now states c.loop-at.at past c.loop-at.invariant.few c.loop-at.invariant.starts
+    c.loop-at.invariant.next c.loop-at.invariant.settled

@@ -1,8 +1,8 @@
--- the states so far answer each letter, and what they lead to is met
+-- the states so far are settled, and what they lead to is met
 use Rattle.std.proofs.Common.{ℕ, ◌-◌, ◌<◌, ◌≤◌}
 use Rattle.omega_hoa_edges.specs.Limits.{most_states}
 use Rattle.omega_synth_check.specs.private.Meeting.{HasNext, HasStarts, IsMetOf, state_at}
-use Rattle.omega_synth_check.specs.private.Searching.{AnswersEach}
+use Rattle.omega_synth_check.specs.private.Searching.{IsSettled}
 use Rattle.omega_synth_check.proofs.searching.first_lacking.Given as goal
 
 abbrev pub invariant-loop-at : goal.invariant-loop-at
@@ -11,7 +11,7 @@ invariant-loop-at l = record {
   starts : HasStarts l.search.automaton.now l.met.states.keys;
   few : l.at ≤ most_states;
   next : (place : ℕ) → place < l.at → HasNext l.search.automaton.now (state_at l.met.states.keys place) l.met.states.keys;
-  answered : (place : ℕ) → place < l.at → AnswersEach l.search.automaton.now l.search.controlled.now (state_at l.met.states.keys place);
+  settled : (place : ℕ) → place < l.at → IsSettled l.search.automaton.now l.search.controlled.now (state_at l.met.states.keys place);
 }
 
 abbrev pub decreases-loop-at : goal.decreases-loop-at

@@ -33,7 +33,11 @@ unanswered_letter-requires-clause-numbers c =
 pub returns-in_err-enter_all-clause-refused : goal.returns-in_err-enter_all-clause-refused
 returns-in_err-enter_all-clause-refused c =
     passed_on c.from_residual.result _ _ c.from_residual.ensures.1
-    (hard_refused c.args.search.now.automaton.now c.args.search.now.controlled.now _ c.in_err-enter_all.ensures.refused)
+    (hard_refused c.args.search.now.automaton.now c.args.search.now.controlled.now (state_at c.args.met.now.states.keys c.args.at) c.of_state-numbers.result.now
+    (met_reached c.args.search.now.automaton.now c.args.met.now.states.keys c.args.met.now.entries.items c.requires.met c.args.at c.requires.at)
+    (subst (λ (s : ℕ). AllLeave c.args.search.now.automaton.now s c.of_state-numbers.result.now) c.state_at-state.ensures
+    (λ number has. (c.of_state-numbers.ensures number).0 has))
+    _ c.in_err-enter_all.ensures.refused)
 
 pub returns-in_err-letter-clause-refused : goal.returns-in_err-letter-clause-refused
 returns-in_err-letter-clause-refused c =
@@ -59,6 +63,6 @@ returns-clause-letter c =
     let controlled : List ℕ = c.args.search.now.controlled.now in
     let numbers : List ℕ = c.of_state-numbers.result.now in
     subst (λ (s : ℕ). IsVisited a controlled s c.in_ok-letter.letter) c.state_at-state.ensures
-    (visited a c.requires.search.automaton c.requires.search.plain controlled c.state_at-state.result numbers c.of_state-numbers.ensures c.in_ok-letter.letter
+    (visited a c.requires.search.automaton c.requires.search.plain controlled c.state_at-state.result numbers c.of_state-numbers.ensures c.in_ok-letter.letter c.in_ok-letter.ensures.few
     (λ letter is. subst (λ (found : Option (List ℕ)). IfSome found (λ letter. NoneAnswers a controlled numbers letter)) is c.in_ok-letter.ensures.unanswered)
     (λ is. subst (λ (found : Option (List ℕ)). IfNone found ((given : ℕ → Bool) → SomeAnswers a controlled numbers given)) is c.in_ok-letter.ensures.answered))

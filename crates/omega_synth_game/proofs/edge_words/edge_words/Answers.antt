@@ -4,8 +4,8 @@ use Rattle.std.proofs.lemmas.List.Elements.{Contains-get_or}
 use Rattle.std.proofs.lemmas.Result.{err_from_is_err_and}
 use Rattle.omega_lang_runs.specs.declared.place.EdgePlace.{EdgePlace}
 use Rattle.omega_synth_game.specs.Classes.{label_of_number}
-use Rattle.omega_synth_game.specs.EdgeWords.{AreEdgeWords}
-use Rattle.omega_synth_game.specs.Lanes.{AreInputsFor}
+use Rattle.omega_synth_game.specs.private.EdgeWords.{AreEdgeWords}
+use Rattle.omega_synth_game.specs.private.Lanes.{AreInputsFor}
 use Rattle.omega_synth_game.proofs.AllInputs.{inputs_for}
 use Rattle.omega_synth_game.proofs.EdgesInLanes.{edge_refused, words_more}
 use Rattle.omega_synth_game.proofs.Listing.{stands_at}

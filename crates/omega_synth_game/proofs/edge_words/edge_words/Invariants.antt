@@ -1,4 +1,4 @@
-use Rattle.omega_synth_game.specs.EdgeWords.{AreEdgeWords}
+use Rattle.omega_synth_game.specs.private.EdgeWords.{AreEdgeWords}
 use Rattle.omega_synth_game.proofs.edge_words.edge_words.Given as goal
 
 abbrev pub invariant-loop-number : goal.invariant-loop-number

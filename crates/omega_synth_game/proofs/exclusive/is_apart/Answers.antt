@@ -1,6 +1,6 @@
 -- one block more
 use Rattle.std.proofs.Common.{◌≡◌, true, length, below_more, arith, rules}
-use Rattle.omega_synth_game.specs.Exclusive.{AreApartIn}
+use Rattle.omega_synth_game.specs.private.Exclusive.{AreApartIn}
 use Rattle.omega_synth_game.proofs.ExclusiveStates.{exclusive}
 use Rattle.omega_synth_game.proofs.exclusive.is_apart.Goals as goal
 

@@ -1,6 +1,6 @@
 -- the blocks so far are apart
 use Rattle.std.proofs.Common.{ℕ, ◌<◌, length}
-use Rattle.omega_synth_game.specs.Exclusive.{AreApartIn}
+use Rattle.omega_synth_game.specs.private.Exclusive.{AreApartIn}
 use Rattle.omega_synth_game.proofs.exclusive.is_apart.Given as goal
 
 abbrev pub invariant-loop-block : goal.invariant-loop-block

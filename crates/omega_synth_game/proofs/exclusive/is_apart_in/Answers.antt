@@ -1,7 +1,7 @@
 -- one label more
 use Rattle.std.proofs.Common.{◌≡◌, ◌<◌, ◌∙◌, List, ℕ, Some, length, sym, ap, subst, arith}
 use Rattle.std.proofs.lemmas.Option.{slice_get-get_or}
-use Rattle.omega_synth_game.specs.Exclusive.{AreApartIn, HasLabelAt}
+use Rattle.omega_synth_game.specs.private.Exclusive.{AreApartIn, HasLabelAt}
 use Rattle.omega_synth_game.proofs.ExclusiveStates.{apart_more, covered_more}
 use Rattle.omega_synth_game.proofs.exclusive.is_apart_in.Goals as goal
 

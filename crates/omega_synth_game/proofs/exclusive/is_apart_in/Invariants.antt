@@ -1,8 +1,8 @@
 -- the labels so far are apart, and what they have is seen
 use Rattle.std.proofs.Common.{◌≡◌, ℕ, ◌<◌, true}
 use Rattle.omega_hoa_label.specs.Label.{LabelTree}
-use Rattle.omega_synth_game.specs.Exclusive.{AreApartIn, HasLabelAt, block_word}
-use Rattle.omega_synth_game.specs.Lanes.{is_set}
+use Rattle.omega_synth_game.specs.private.Exclusive.{AreApartIn, HasLabelAt, block_word}
+use Rattle.omega_synth_game.specs.private.Lanes.{is_set}
 use Rattle.omega_synth_game.proofs.exclusive.is_apart_in.Given as goal
 
 abbrev pub invariant-loop-at : goal.invariant-loop-at

@@ -1,7 +1,7 @@
 -- the propositions of one label more
 use Rattle.std.proofs.Common.{◌+◌, ◌<◌, ◌∙◌, List, ℕ, Some, length, sym, ap, subst, arith}
 use Rattle.std.proofs.lemmas.Option.{slice_get-get_or}
-use Rattle.omega_synth_game.specs.Exclusive.{AreMentionedBelow, HasLabelAt}
+use Rattle.omega_synth_game.specs.private.Exclusive.{AreMentionedBelow, HasLabelAt}
 use Rattle.omega_synth_game.proofs.ExclusiveStates.{mentioned_more}
 use Rattle.omega_synth_game.proofs.exclusive.mentioned_in.Goals as goal
 

@@ -1,7 +1,7 @@
 -- a list that is there already, or one that is new
 use Rattle.std.proofs.Common.{◌≡◌, ◌<◌, [], ℕ, List, length, Bor, ◌∙◌}
 use Rattle.std.proofs.lemmas.List.{get_or_read}
-use Rattle.omega_synth_game.specs.Firsts.{list_at}
+use Rattle.omega_synth_game.specs.private.Firsts.{list_at}
 use Rattle.omega_synth_game.proofs.FirstPlaces.{seen_before, seen_first}
 use Rattle.omega_synth_game.proofs.firsts.places_of_new.Goals as goal
 use Rattle.omega_synth_game.proofs.firsts.places_of_new.Goals.{then-branch+in_ok-push, else-branch}

@@ -1,6 +1,6 @@
 -- the lists seen are those at the first places so far
 use Rattle.std.proofs.Common.{◌≡◌, List, ℕ, map, Bor}
-use Rattle.omega_synth_game.specs.Firsts.{AreFirstPlaces, list_at}
+use Rattle.omega_synth_game.specs.private.Firsts.{AreFirstPlaces, list_at}
 use Rattle.omega_synth_game.proofs.firsts.places_of_new.Given as goal
 
 abbrev pub invariant-loop-place : goal.invariant-loop-place

@@ -3,7 +3,7 @@ use Rattle.std.proofs.Common.{◌≡◌, drop, not}
 use Rattle.std.specs.Prelude.{filter}
 use Rattle.omega_hoa_satisfiable.specs.Satisfiable.{each_once}
 use Rattle.omega_hoa_satisfiable.specs.private.Words.{propositions_of}
-use Rattle.omega_synth_game.specs.Answering.{is_controlled}
+use Rattle.omega_synth_controllers.specs.Strategies.{is_controlled}
 use Rattle.omega_synth_game.specs.Classes.{input_mentions}
 use Rattle.omega_synth_game.proofs.inputs.add_inputs_of.Given as goal
 

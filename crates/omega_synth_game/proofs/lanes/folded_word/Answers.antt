@@ -3,7 +3,7 @@ use Rattle.std.proofs.Common.{◌≡◌, ◌+◌, ◌-◌, ◌*◌, ◌/◌, ◌
 use Rattle.std.specs.Prelude.{bit_or}
 use Rattle.std.proofs.Math.Pow.{pow_mono}
 use Rattle.std.proofs.lemmas.Nat.{pow-add}
-use Rattle.omega_synth_game.specs.Lanes.{IsFolded}
+use Rattle.omega_synth_game.specs.private.Lanes.{IsFolded}
 use Rattle.omega_synth_game.proofs.Choices.{folded_more, folded_none}
 use Rattle.omega_synth_game.proofs.lanes.folded_word.Goals as goal
 

@@ -1,6 +1,6 @@
 -- folded at the digits so far
 use Rattle.std.proofs.Common.{◌≤◌, ◌-◌, ◌^◌}
-use Rattle.omega_synth_game.specs.Lanes.{IsFolded}
+use Rattle.omega_synth_game.specs.private.Lanes.{IsFolded}
 use Rattle.omega_synth_game.proofs.lanes.folded_word.Given as goal
 
 abbrev pub invariant-loop-place : goal.invariant-loop-place

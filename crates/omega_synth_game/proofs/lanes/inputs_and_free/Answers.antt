@@ -4,7 +4,7 @@ use Rattle.std.specs.Prelude.{filter}
 use Rattle.omega_hoa_satisfiable.specs.Satisfiable.{each_once}
 use Rattle.omega_hoa_satisfiable.specs.private.Words.{propositions_of}
 use Rattle.omega_hoa_satisfiable.proofs.WordLemmas.{propositions_of-label}
-use Rattle.omega_synth_game.specs.Answering.{is_controlled}
+use Rattle.omega_synth_controllers.specs.Strategies.{is_controlled}
 use Rattle.omega_synth_game.proofs.lanes.inputs_and_free.Goals as goal
 
 pub loop-node-init : goal.loop-node-init

@@ -5,8 +5,8 @@ use Rattle.std.specs.Prelude.{filter}
 use Rattle.omega_hoa_label.specs.Label.{propositions}
 use Rattle.omega_hoa_satisfiable.specs.Satisfiable.{each_once}
 use Rattle.omega_hoa_satisfiable.specs.private.Words.{propositions_of}
-use Rattle.omega_synth_game.specs.Answering.{is_controlled}
-use Rattle.omega_synth_game.specs.Lanes.{most_free}
+use Rattle.omega_synth_controllers.specs.Strategies.{is_controlled}
+use Rattle.omega_synth_game.specs.private.Lanes.{most_free}
 use Rattle.omega_synth_game.proofs.lanes.inputs_and_free.Given as goal
 
 abbrev pub invariant-loop-node : goal.invariant-loop-node

@@ -2,7 +2,7 @@
 use Rattle.std.proofs.Common.{◌≡◌, ◌+◌, ◌<◌, ℕ, List, length, get_or, sym, refl, subst, arith}
 use Rattle.omega_synth_rounds.specs.Rounds.{no_edge}
 use Rattle.omega_synth_rounds.specs.declared.rounds.RoundEdge.{RoundEdge}
-use Rattle.omega_synth_game.specs.Making.{AreLeaving}
+use Rattle.omega_synth_game.specs.private.Making.{AreLeaving}
 use Rattle.omega_synth_game.proofs.Leavers.{leaving_more}
 use Rattle.omega_synth_game.proofs.leaving.leaving_edges.Goals as goal
 

@@ -2,7 +2,7 @@
 use Rattle.std.proofs.Common.{ℕ, List, length, sym, ap, subst, arith}
 use Rattle.omega_hoa_automaton.specs.Automaton.{edge_count}
 use Rattle.omega_synth_rounds.specs.declared.rounds.RoundEdge.{RoundEdge}
-use Rattle.omega_synth_game.specs.Making.{AreLeaving, AreRoundEdges, StatesLeave}
+use Rattle.omega_synth_game.specs.private.Making.{AreLeaving, AreRoundEdges, StatesLeave}
 use Rattle.omega_synth_game.proofs.Rounding.{gathered, states_leave}
 use Rattle.omega_synth_game.proofs.making.rounds_of.Goals as goal
 
@@ -26,7 +26,7 @@ returns-clause-rounds_of c =
     let all = gathered a c.args.kind c.args.controlled.now c.in_ok-edges.edges.items c.as_slice-2.result.now c.from_vec-2.result c.as_slice-2.ensures.value c.from_vec-2.ensures
     c.in_ok-edges.ensures.edges c.state_count-count.result c.state_count-count.ensures c.in_ok-leaving.leaving.items c.as_slice-4.result.now c.as_slice-4.ensures.value
     c.in_ok-leaving.ensures.leaving c.in_ok-asked.asked.ranges.items c.from_vec.result c.from_vec.ensures c.in_ok-asked.asked.answers.items c.from_vec-3.result c.from_vec-3.ensures
-    c.in_ok-asked.asked.letters.items c.from_vec-4.result c.from_vec-4.ensures c.in_ok-asked.ensures.asked in
+    c.in_ok-asked.asked.letters.items c.from_vec-4.result c.from_vec-4.ensures c.in_ok-asked.ensures.asked c.in_ok-asked.ensures.in_turn in
     all.0
 
 pub returns-clause-rounds : goal.returns-clause-rounds
@@ -35,5 +35,14 @@ returns-clause-rounds c =
     let all = gathered a c.args.kind c.args.controlled.now c.in_ok-edges.edges.items c.as_slice-2.result.now c.from_vec-2.result c.as_slice-2.ensures.value c.from_vec-2.ensures
     c.in_ok-edges.ensures.edges c.state_count-count.result c.state_count-count.ensures c.in_ok-leaving.leaving.items c.as_slice-4.result.now c.as_slice-4.ensures.value
     c.in_ok-leaving.ensures.leaving c.in_ok-asked.asked.ranges.items c.from_vec.result c.from_vec.ensures c.in_ok-asked.asked.answers.items c.from_vec-3.result c.from_vec-3.ensures
-    c.in_ok-asked.asked.letters.items c.from_vec-4.result c.from_vec-4.ensures c.in_ok-asked.ensures.asked in
+    c.in_ok-asked.asked.letters.items c.from_vec-4.result c.from_vec-4.ensures c.in_ok-asked.ensures.asked c.in_ok-asked.ensures.in_turn in
     all.1
+
+pub returns-clause-by_state : goal.returns-clause-by_state
+returns-clause-by_state c =
+    let a = c.args.automaton.now in
+    let all = gathered a c.args.kind c.args.controlled.now c.in_ok-edges.edges.items c.as_slice-2.result.now c.from_vec-2.result c.as_slice-2.ensures.value c.from_vec-2.ensures
+    c.in_ok-edges.ensures.edges c.state_count-count.result c.state_count-count.ensures c.in_ok-leaving.leaving.items c.as_slice-4.result.now c.as_slice-4.ensures.value
+    c.in_ok-leaving.ensures.leaving c.in_ok-asked.asked.ranges.items c.from_vec.result c.from_vec.ensures c.in_ok-asked.asked.answers.items c.from_vec-3.result c.from_vec-3.ensures
+    c.in_ok-asked.asked.letters.items c.from_vec-4.result c.from_vec-4.ensures c.in_ok-asked.ensures.asked c.in_ok-asked.ensures.in_turn in
+    all.2

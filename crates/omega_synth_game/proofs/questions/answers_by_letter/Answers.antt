@@ -1,9 +1,9 @@
 -- one letter more
 use Rattle.std.proofs.Common.{◌≡◌, ◌+◌, ◌<◌, ◌*◌, ◌/◌, ◌%◌, ◌^◌, ℕ, List, length, sym, ap, ◌∙◌, subst, arith}
 use Rattle.omega_synth_game.specs.Answering.{AreAnswersInOrder}
-use Rattle.omega_synth_game.specs.EdgeWords.{AreEdgeWords, set_in_lane}
+use Rattle.omega_synth_game.specs.private.EdgeWords.{AreEdgeWords, set_in_lane}
 use Rattle.omega_synth_game.specs.Letters.{holds_in, letter_numbered}
-use Rattle.omega_synth_game.specs.Making.{AreAnswersByLetter}
+use Rattle.omega_synth_game.specs.private.Making.{AreAnswersByLetter}
 use Rattle.omega_synth_game.proofs.Asking.{by_letter_more}
 use Rattle.omega_synth_game.proofs.EdgesInLanes.{lane_answers}
 use Rattle.omega_synth_game.proofs.questions.answers_by_letter.Goals as goal

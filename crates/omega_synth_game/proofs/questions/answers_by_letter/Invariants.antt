@@ -1,7 +1,7 @@
 -- the letters so far, and the words of the block of the next letter unless that is a new one
 use Rattle.std.proofs.Common.{◌<◌, ◌/◌, ◌%◌, length}
-use Rattle.omega_synth_game.specs.EdgeWords.{AreEdgeWords}
-use Rattle.omega_synth_game.specs.Making.{AreAnswersByLetter}
+use Rattle.omega_synth_game.specs.private.EdgeWords.{AreEdgeWords}
+use Rattle.omega_synth_game.specs.private.Making.{AreAnswersByLetter}
 use Rattle.omega_synth_game.proofs.questions.answers_by_letter.Given as goal
 
 abbrev pub invariant-loop-letter : goal.invariant-loop-letter

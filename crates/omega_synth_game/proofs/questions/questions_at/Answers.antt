@@ -1,7 +1,7 @@
 -- one question more
 use Rattle.std.proofs.Common.{◌≡◌, ◌<◌, [], ℕ, List, length, get_or, take, ◌∙◌, arith}
 use Rattle.std.proofs.lemmas.List.{get_or_read, map_push, take_more}
-use Rattle.omega_synth_game.specs.Firsts.{list_at}
+use Rattle.omega_synth_game.specs.private.Firsts.{list_at}
 use Rattle.omega_synth_game.specs.Letters.{letter_numbered}
 use Rattle.omega_synth_game.proofs.questions.questions_at.Goals as goal
 

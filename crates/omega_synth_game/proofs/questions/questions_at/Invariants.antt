@@ -1,6 +1,6 @@
 -- the questions of the first places so far
 use Rattle.std.proofs.Common.{◌≡◌, map, take}
-use Rattle.omega_synth_game.specs.Firsts.{list_at}
+use Rattle.omega_synth_game.specs.private.Firsts.{list_at}
 use Rattle.omega_synth_game.specs.Letters.{letter_numbered}
 use Rattle.omega_synth_game.proofs.questions.questions_at.Given as goal
 

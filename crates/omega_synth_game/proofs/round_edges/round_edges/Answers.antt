@@ -1,7 +1,7 @@
 -- one edge more
 use Rattle.std.proofs.Common.{◌+◌, ℕ, List, sym, subst}
 use Rattle.omega_synth_rounds.specs.declared.rounds.RoundEdge.{RoundEdge}
-use Rattle.omega_synth_game.specs.Making.{AreRoundEdges}
+use Rattle.omega_synth_game.specs.private.Making.{AreRoundEdges}
 use Rattle.omega_synth_game.proofs.EdgesMade.{edges_more}
 use Rattle.omega_synth_game.proofs.round_edges.round_edges.Goals as goal
 

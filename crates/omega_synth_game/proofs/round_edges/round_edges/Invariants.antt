@@ -1,4 +1,4 @@
-use Rattle.omega_synth_game.specs.Making.{AreRoundEdges}
+use Rattle.omega_synth_game.specs.private.Making.{AreRoundEdges}
 use Rattle.omega_synth_game.proofs.round_edges.round_edges.Given as goal
 
 abbrev pub invariant-loop-number : goal.invariant-loop-number

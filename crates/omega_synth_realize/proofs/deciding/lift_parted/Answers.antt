@@ -4,7 +4,8 @@ use Rattle.std.proofs.lemmas.Result.{err_from_is_err_and}
 use Rattle.omega_text.specs.declared.refusal.Refusal.TheVariants.{Memory}
 use Rattle.omega_solve.proofs.within_budget.Observed.{observed_after, observed_alike, observed_as}
 use Rattle.omega_synth_realize.proofs.Realized.{start_is_state}
-use Rattle.omega_synth_realize.proofs.Refused.{lifts_parted, parted_refused, rounds_undecided}
+use Rattle.omega_synth_realize.proofs.Refused.{lifts_parted, on_ok_of, parted_refused, rounds_undecided}
+use Rattle.omega_synth_realize.proofs.Sized.{small}
 use Rattle.omega_synth_realize.proofs.deciding.lift_parted.Goals as goal
 
 pub lift_rounds-requires-clause-start : goal.lift_rounds-requires-clause-start
@@ -16,7 +17,7 @@ returns-in_err-outcome-clause-refused g c =
     let p = err_from_is_err_and c.from_residual.result c.from_residual.ensures.1 in
     rw (p.1, p.2)
     (rounds_undecided c.args.automaton.now c.args.controlled.now c.args.parted.now.rounds c.args.parted.now.letters c.args.parted.now.start c.args.budget
-    c.in_err-outcome.field-0.0 c.requires.parted c.in_err-outcome.ensures.refused)
+    c.in_err-outcome.field-0.0 c.requires.parted c.requires.judgeable c.in_err-outcome.ensures.refused)
 
 pub returns-in_err-outcome-clause-reported : goal.returns-in_err-outcome-clause-reported
 returns-in_err-outcome-clause-reported g c =
@@ -34,3 +35,9 @@ returns-clause-reported g c =
     (lifts_parted c.args.automaton.now c.args.controlled.now c.args.parted.now.rounds c.args.parted.now.letters c.args.parted.now.start c.args.budget
     c.requires.parted None)
     (rw c.in_ok-outcome.was at c.lift_rounds.ensures.reported))
+
+pub returns-clause-small : goal.returns-clause-small
+returns-clause-small g c =
+    on_ok_of c.realizability_of.result _
+    (small c.args.automaton.now c.args.controlled.now c.args.parted.now.rounds c.args.parted.now.letters c.args.parted.now.start c.requires.parted
+    c.in_ok-outcome.ensures.fits)

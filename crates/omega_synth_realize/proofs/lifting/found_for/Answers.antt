@@ -1,16 +1,15 @@
--- what was found is exact, and a fault for the player is one of lifting
+-- what was found is exact, and so is a fault
 use Rattle.std.proofs.Common.{List, subst}
 use Rattle.std.specs.Prelude.{IfErr}
 use Rattle.omega_game_values.specs.Game.{Node}
 use Rattle.omega_solve.specs.budget.Within.{IsSolvingRefusal}
-use Rattle.omega_synth_realize.proofs.Strategies.{player_refused, reported_for}
+use Rattle.omega_synth_realize.proofs.Strategies.{reported_for}
 use Rattle.omega_synth_realize.proofs.lifting.found_for.Goals as goal
 
 pub returns-clause-refused : goal.returns-clause-refused
 returns-clause-refused g c =
-    player_refused c.solve.result c.args._game.now c.args.player c.args.budget c.requires.narrow
-    (subst (λ (nodes : List Node). IfErr c.solve.result (IsSolvingRefusal nodes c.args.player c.args.budget)) c.requires.given
-    c.solve.ensures.refused)
+    subst (λ (nodes : List Node). IfErr c.solve.result (IsSolvingRefusal nodes c.args.player c.args.budget)) c.requires.given
+    c.solve.ensures.refused
 
 pub returns-clause-reported : goal.returns-clause-reported
 returns-clause-reported g c =

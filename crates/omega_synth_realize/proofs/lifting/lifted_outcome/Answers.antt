@@ -1,12 +1,13 @@
 -- player 0 wins where found, and else player 1
 use Rattle.std.proofs.Common.{◌≡◌, ◌<◌, List, Option, ℕ, None, Ok, Err, inl, inr, length, refl, sym, ◌∙◌, subst, arith}
 use Rattle.std.proofs.lemmas.Bool.{false≢true}
+use Rattle.std.proofs.lemmas.Result.{err_from_is_err_and}
 use Rattle.omega_game_values.specs.Winning.{InRegion}
 use Rattle.omega_game_values.specs.declared.player.Player.TheVariants.{One, Zero}
 use Rattle.omega_text.specs.declared.refusal.Refusal.TheVariants.{Memory}
 use Rattle.omega_solve.proofs.within_budget.Observed.{first_made, observed_after, observed_alike, one_made, one_solved, two_made, two_observed, two_solved}
 use Rattle.omega_synth_rounds.specs.Extracting.{IsWinningFrom}
-use Rattle.omega_synth_realize.proofs.Strategies.{answer_wins, game_count, lifted_refused, other_wins}
+use Rattle.omega_synth_realize.proofs.Strategies.{answer_wins, game_count, lifted_refused, other_wins, player_refused}
 use Rattle.omega_synth_realize.proofs.lifting.lifted_outcome.Goals as goal
 
 pub has_won-requires : goal.has_won-requires
@@ -55,3 +56,17 @@ returns-clause-reported g c =
     (λ refusal other nodes players lifted. (lifted.0, lifted_refused refusal other players lifted.1))
     (two_observed _ _ _ c.args.game.now Zero One c.args.budget _ _ _ _ _ _ (refl, inr (two_made Zero One None))
     (rw c.in_ok-zero.was at c.found_for.ensures.reported) (rw c.in_ok-one.was at c.found_for-2.ensures.reported))
+
+pub returns-in_err-zero-clause-refused : goal.returns-in_err-zero-clause-refused
+returns-in_err-zero-clause-refused g c =
+    let p = err_from_is_err_and c.from_residual.result c.from_residual.ensures.1 in
+    rw (p.1, p.2)
+    (player_refused c.in_err-zero.field-0.0 c.args.game.now Zero c.args.start c.args.budget c.requires.narrow (λ on. inl on) c.in_err-zero.ensures.refused)
+
+pub returns-in_err-one-clause-refused : goal.returns-in_err-one-clause-refused
+returns-in_err-one-clause-refused g c =
+    let lost : ¬ InRegion c.args.game.now Zero c.args.start =
+    λ region. false≢true (sym c.if-has_won.false ∙ c.has_won.ensures.1 ((c.in_ok-zero.ensures.exact.exactly c.args.start).1 region)) in
+    let p = err_from_is_err_and c.from_residual-in_err-one.result c.from_residual-in_err-one.ensures.1 in
+    rw (p.1, p.2)
+    (player_refused c.in_err-one.field-0.0 c.args.game.now One c.args.start c.args.budget c.requires.narrow (λ on. inr (lost, on)) c.in_err-one.ensures.refused)

@@ -18,4 +18,5 @@ returns-clause-parted c = record {
   begins = c.requires.start;
   one_start = c.requires.judgeable.deterministic.one_start;
   rounds_are = c.in_ok-made.ensures.rounds_of;
+  by_state = c.in_ok-made.ensures.by_state;
 }

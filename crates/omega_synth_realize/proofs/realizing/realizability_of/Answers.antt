@@ -5,7 +5,7 @@ use Rattle.omega_synth_rounds.specs.Rounds.{asked_in}
 use Rattle.omega_synth_realize.specs.Solving.{IsOutcome}
 use Rattle.omega_synth_realize.specs.declared.outcome.Outcome.{Outcome}
 use Rattle.omega_synth_game.specs.RoundsOf.{letter_of}
-use Rattle.omega_synth_realize.proofs.Realized.{letters_are}
+use Rattle.omega_synth_realize.proofs.Realized.{letters_are, letters_count}
 use Rattle.omega_synth_realize.proofs.realizing.realizability_of.Goals as goal
 
 pub returns-in-Answered-clause-realizability : goal.returns-in-Answered-clause-realizability
@@ -15,6 +15,8 @@ returns-in-Answered-clause-realizability c =
       c.answerings_are_controllers.ensures c.args.automaton.now c.args._controlled.now parted.rounds parted.letters parted.start
           c.in-Answered.kept c.requires.parted won.0,
       won.1,
+      c.met_answers_are_met.ensures c.args.automaton.now c.args._controlled.now parted.rounds parted.letters parted.start
+          c.in-Answered.kept c.requires.parted won.2,
     )
 
 pub returns-in_ok-letters-in-Asked-clause-realizability :
@@ -32,4 +34,10 @@ returns-in_ok-letters-in-Asked-clause-realizability c =
     let won_by =
     c.askings_are_counter_strategies.ensures a c.args._controlled.now parted.rounds letters parted.start
     c.in-Asked.kept c.in-Asked.asked c.in_ok-letters-in-Asked.letters c.requires.parted won.0
-    (letters_are a.states letters c.in-Asked.asked c.in_ok-letters-in-Asked.letters found) in (won_by.0, won.1, won_by.1)
+    (letters_are a.states letters c.in-Asked.asked c.in_ok-letters-in-Asked.letters found) in (
+      won_by.0,
+      won.1,
+      won_by.1,
+      letters_count a.states letters c.in-Asked.asked c.in_ok-letters-in-Asked.letters found,
+      c.met_answers_are_met.ensures a c.args._controlled.now parted.rounds letters parted.start c.in-Asked.kept c.requires.parted won.2,
+    )

@@ -7,7 +7,7 @@ use Rattle.omega_game_values.specs.Building.{IsGameOf}
 use Rattle.omega_game_values.specs.declared.node_spec.NodeSpec.{NodeSpec}
 use Rattle.omega_synth_rounds.specs.RoundsGame.{node_count}
 use Rattle.omega_synth_rounds.specs.private.Naming.{named_node, node_name}
-use Rattle.omega_synth_rounds.proofs.Named.{named_refused, name_is}
+use Rattle.omega_synth_rounds.proofs.Named.{named_fits, named_refused, name_is}
 use Rattle.omega_synth_rounds.proofs.games.named_game.Goals as goal
 
 pub loop-place-preserved : goal.loop-place-preserved
@@ -37,3 +37,8 @@ pub returns-clause-refused : goal.returns-clause-refused
 returns-clause-refused c =
     named_refused c.args.rounds.now c.requires.rounds c.args.states.now c.finish.result c.loop-place.builder c.loop-place.place c.requires.fits
     c.loop-place.invariant (omega (arith, c.node_count-count.ensures, c.loop-place.auto.place-end)) c.finish.ensures.refused
+
+pub returns-clause-fits : goal.returns-clause-fits
+returns-clause-fits c =
+    named_fits c.args.rounds.now c.requires.rounds c.args.states.now c.finish.result c.loop-place.builder c.loop-place.place c.requires.fits
+    c.loop-place.invariant (omega (arith, c.node_count-count.ensures, c.loop-place.auto.place-end)) c.finish.ensures.faultless

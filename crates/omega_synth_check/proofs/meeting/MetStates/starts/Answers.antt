@@ -1,7 +1,8 @@
 -- one start more
 use Rattle.std.proofs.Common.{◌≡◌, ◌+◌, ◌<◌, ℕ, List, [], ◌∷◌, length, get_or, Contains, sym, ap, subst, ◌∙◌, arith}
 use Rattle.std.proofs.lemmas.List.{get_or_default, take_all}
-use Rattle.omega_synth_check.proofs.MetStates.{met_none, one_start, starts_more}
+use Rattle.omega_synth_controllers.proofs.Starts.{one_start}
+use Rattle.omega_synth_check.proofs.MetStates.{met_none, starts_more}
 use Rattle.omega_synth_check.proofs.meeting.MetStates.starts.Goals as goal
 
 pub loop-start-init : goal.loop-start-init

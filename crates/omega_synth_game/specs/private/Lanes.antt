@@ -4,7 +4,8 @@ use Rattle.std.specs.Prelude.{true, false, IsTrue, List, [], ◌∷◌, length}
 use Rattle.std.specs.Int.{bit_at}
 use Rattle.std.specs.List.{list_any}
 use Rattle.omega_hoa_label.specs.Label.{LabelTree, propositions}
-use Rattle.omega_synth_game.specs.Answering.{CanAnswer, is_controlled}
+use Rattle.omega_synth_game.specs.Answering.{CanAnswer}
+use Rattle.omega_synth_controllers.specs.Strategies.{is_controlled}
 use Rattle.omega_synth_game.specs.Letters.{holds_in, letter_numbered}
 
 -- the most propositions of the system in a label whose valuations are all tried

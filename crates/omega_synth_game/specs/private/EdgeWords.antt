@@ -6,7 +6,7 @@ use Rattle.omega_text.specs.declared.refusal.Refusal.{Refusal}
 use Rattle.omega_hoa_automaton.specs.Automaton.{BodyEdge, Description, edge_at}
 use Rattle.omega_synth_controllers.specs.Controllers.{Answers}
 use Rattle.omega_synth_game.specs.Answering.{IsUnjudged, whole_label}
-use Rattle.omega_synth_game.specs.Lanes.{is_set}
+use Rattle.omega_synth_game.specs.private.Lanes.{is_set}
 use Rattle.omega_synth_game.specs.Letters.{holds_in, letter_numbered}
 
 -- in the lane of each letter over the inputs a word says whether the edge with a number answers the letter

@@ -4,7 +4,7 @@ use Rattle.omega_hoa_label.specs.Label.{LabelTree, propositions}
 use Rattle.omega_hoa_satisfiable.specs.private.Words.{word_among, word_of}
 use Rattle.omega_hoa_automaton.specs.declared.edge.Edge.{Edge}
 use Rattle.omega_hoa_automaton.specs.declared.state.State.{State}
-use Rattle.omega_synth_game.specs.Lanes.{AreApart, is_one_of, is_set}
+use Rattle.omega_synth_game.specs.private.Lanes.{AreApart, is_one_of, is_set}
 
 -- the edge at an index of the state has the label
 pub record HasLabelAt (state : State) (at : ℕ) (label : LabelTree) : Type 0 where

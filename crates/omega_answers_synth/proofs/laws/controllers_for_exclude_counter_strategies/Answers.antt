@@ -1,0 +1,5 @@
+use Rattle.omega_answers_synth.proofs.Excluding.{controllers_for_exclude_counter_strategies}
+use Rattle.omega_answers_synth.proofs.laws.controllers_for_exclude_counter_strategies.Goals as goal
+
+pub returns : goal.returns
+returns c = controllers_for_exclude_counter_strategies c.controllers_realize_specifications.ensures c.counter_strategies_beat.ensures
