@@ -13,6 +13,7 @@ impl<'g> Decomposition<'g> {
         self.win_loops_of(Player::One)
     }
 
+    /// Takes out the nodes whose owner is `player` and wins in a loop there, and what the player attracts to these.
     fn win_loops_of(&mut self, player: Player) -> Result<(), AllocError> {
         let game = self.game;
         let from = number_of(self.won.len());

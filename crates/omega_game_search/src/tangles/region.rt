@@ -11,7 +11,7 @@ pub(crate) const WON_BY_ZERO: u32 = NONE - 1;
 /// What stands for the region of a node that is in none yet.
 pub(crate) const FREE: u32 = NONE - 2;
 
-/// What stands for the region of a node that its opponent can leave.
+/// What stands for the region of a node that is not in its closed part.
 pub(crate) const LEAVING: u32 = NONE - 3;
 
 /// Whether a node with this region is not won.
@@ -32,7 +32,7 @@ pub(crate) struct Region {
 }
 
 impl Region {
-    /// Returns the player of its level, for whom it is.
+    /// Returns the player whose region it is.
     #[inline(always)]
     pub(crate) fn player(self) -> Player {
         player_of(self.level)
