@@ -1,4 +1,5 @@
-//! What the answers to questions about automata share: two texts are read, and one of them is refused, or both together.
+//! What the answers to questions about automata share: two texts are read, and one of them is refused, or both
+//! together.
 //!
 //! A question about two automata reads them by [read_two], and asks.
 #![tactic(auto)]

@@ -1,4 +1,5 @@
--- The verdicts on an automaton tell who wins it: some strategy of the system realizes it, or some of the environment beats it.
+-- The verdicts on an automaton tell who wins it: some strategy of the system realizes it, or some of the environment
+-- beats it.
 use Rattle.std.proofs.Common.{◌≡◌, ◌↔◌, ℕ, Bool, List, refl, sym, subst, ◌∙◌}
 use Rattle.std.specs.Prelude.{codes}
 use Rattle.omega_hoa_automaton.specs.Automaton.{Description, IsAutomaton}

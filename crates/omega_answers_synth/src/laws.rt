@@ -21,9 +21,9 @@ pub fn controller_answers_are_exact()
     judgements_are_exact();
 }
 
-/// States that `decide_realizability` returns `realizable` exactly if some strategy of the system realizes the automaton
-/// of the text, and `unrealizable` exactly if some strategy of the environment beats it. It has the premise of
-/// `controllers_realize`.
+/// States that `decide_realizability` returns `realizable` exactly if some strategy of the system realizes the
+/// automaton of the text, and `unrealizable` exactly if some strategy of the environment beats it. It has the premise
+/// of `controllers_realize`.
 pub fn realize_answers_are_exact()
     ensures { RealizeAnswersAreExact }
 {

@@ -21,8 +21,8 @@ use std::alloc::Global;
 /// at most `MOST_MENTIONED` propositions by [`satisfiable`]; both take no memory. For others a DPLL-like search assumes
 /// the first literal that it needs and goes on; if this fails it backtracks. It visits at most
 /// [`MOST_VISITED`](crate::MOST_VISITED) steps. It needs at most two for each literal of the label's disjunctive normal
-/// form, and one more. Fails with [`TaskFault::TooManyPropositions`] if the steps do not suffice. They do for each label
-/// that is in that form ([`normal_forms_are_decided`](crate::normal_forms_are_decided)).
+/// form, and one more. Fails with [`TaskFault::TooManyPropositions`] if the steps do not suffice. They do for each
+/// label that is in that form ([`normal_forms_are_decided`](crate::normal_forms_are_decided)).
 pub fn is_satisfiable(alloc: Global, label: &Label) -> Result<bool, Refusal>
     ensures ok { IfOk result (λ possible. IsTrue possible ↔ IsSatisfiable label.now) }
     ensures err { IfErr result (IsUndecidedLabel label.now) }

@@ -1,5 +1,5 @@
-//! Inputs and outputs of the program, with their failures counted and why they came, and reports of how it ended: answers of
-//! yes or no, exit statuses, the lines of refusals, and the text or file that a refusal is about.
+//! Inputs and outputs of the program, with their failures counted and why they came, and reports of how it ended:
+//! answers of yes or no, exit statuses, the lines of refusals, and the text or file that a refusal is about.
 //!
 //! docs/formats.md says when each `Refusal` comes.
 #![tactic(auto)]

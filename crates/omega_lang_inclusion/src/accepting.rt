@@ -71,9 +71,9 @@ fn membership(alloc: Global, one: &Automaton, automaton: &Automaton) -> Result<M
     }
 }
 
-/// Returns whether `automaton` accepts each word that `one` does, the automaton of a symbolic word, of which containment
-/// was refused with `refusal`: asks for one word if that is for a choice, or for a size and there is a choice. Fails as
-/// [accepts] does.
+/// Returns whether `automaton` accepts each word that `one` does, the automaton of a symbolic word, of which
+/// containment was refused with `refusal`: asks for one word if that is for a choice, or for a size and there is a
+/// choice. Fails as [accepts] does.
 fn membership_refused(
     alloc: Global,
     one: &Automaton,

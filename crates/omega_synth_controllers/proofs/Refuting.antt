@@ -38,7 +38,8 @@ module _ (a : Description) (is_automaton : IsAutomaton a) where
       let below : AreBelow a.states (to ∷ []) = subst (AreBelow a.states) step.enters (edge_kept a is_automaton number step.edge step.numbered).1.targets.below in
       All-contains (λ (m : ℕ). m < a.states) (to ∷ []) to below (0, omega arith, refl)
 
--- a play in which the environment gives the letter of the state that the automaton has come to, whatever the system gives
+-- a play in which the environment gives the letter of the state that the automaton has come to, whatever the system
+-- gives
 module _ (a : Description) (controlled kept : List ℕ) (letters : ℕ → ℕ → Bool) (is_automaton : IsAutomaton a) (deterministic : IsDeterministic a)
     (counter : IsCounterStrategy a controlled kept letters) (own : ℕ → ℕ → Bool) (at : ℕ → ℕ) (first : at 0 ≡ start_of a)
     (goes_on : (i : ℕ) → at (suc i) ≡ next_state a (at i) (joined controlled (own i) (letters (at i))))

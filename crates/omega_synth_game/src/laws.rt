@@ -1,7 +1,7 @@
 //! Laws of the rounds of an automaton.
 
-ghost use Rattle.omega_synth_game.specs.Laws.{AnsweringsAreControllers};
-ghost use Rattle.omega_synth_game.specs.Laws.{AskingsAreCounterStrategies, MetAnswersAreMet, NoStartIsRefused};
+ghost use Rattle.omega_synth_game.specs.Laws.{AnsweringsAreControllers, AskingsAreCounterStrategies};
+ghost use Rattle.omega_synth_game.specs.Laws.{MetAnswersAreMet, NoStartIsRefused};
 
 use omega_hoa_acceptance::parity_is_priority;
 

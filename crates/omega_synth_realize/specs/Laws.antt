@@ -1,5 +1,5 @@
--- An automaton has a controller or a counter-strategy. Its game decides which: one player wins its start's node, player 0
--- exactly if there is a controller, and player 1 exactly if there is a counter-strategy.
+-- An automaton has a controller or a counter-strategy. Its game decides which: one player wins its start's node, player
+-- 0 exactly if there is a controller, and player 1 exactly if there is a counter-strategy.
 use Rattle.std.specs.Prelude.{◌↔◌, ◌⊎◌, ℕ, Bool, List}
 use Rattle.omega_hoa_automaton.specs.Automaton.{Description, IsAutomaton}
 use Rattle.omega_game_values.specs.Game.{Node}

@@ -28,8 +28,8 @@ pub fn games_decide()
     controllers_exclude_counter_strategies();
 }
 
-/// States that a deterministic automaton of a parity kind has a controller or a counter-strategy, and never both, if its
-/// game is not too large, as it is not where `realize` answers.
+/// States that a deterministic automaton of a parity kind has a controller or a counter-strategy, and never both, if
+/// its game is not too large, as it is not where `realize` answers.
 pub fn automata_are_decided()
     ensures { AutomataAreDecided }
 {

@@ -98,8 +98,8 @@ pub record AreStatesAsked (a : Description) (controlled : List ℕ) (leaving : L
   pub rising : (question : ℕ) → question < length answers
       → IsStrictlyIncreasing (slice_index_or answers question [])
 
--- the questions of the first states, which the edges with the numbers listed leave, are the classes of these states, one
--- state after another
+-- the questions of the first states, which the edges with the numbers listed leave, are the classes of these states,
+-- one state after another
 pub record AreAskedInTurn (a : Description) (controlled : List ℕ) (leaving : List (List ℕ))
     (states : ℕ) (ranges : List QuestionRange) (answers : List (List ℕ)) : Type 0 where
   pub classes : List (List (List ℕ))
