@@ -15,7 +15,8 @@ use std::alloc::Global;
 /// Two searchers take turns on a game of n nodes and m edges. The first is Zielonka's recursive algorithm with
 /// attractors (Zielonka 1998), which takes exponential time at worst. It may visit about 16 · (n + m) edges, which
 /// suffices for most games. The second is tangle learning (van Dijk 2018), whose time may be exponential too. It may
-/// visit about 10,000,000 + 4,000 · (n + m) edges, at most 4,000,000,000, and store 64 · (n + m) words of 4 bytes.
+/// visit about 10,000,000 + 4,000 · (n + m) edges, at most 4,000,000,000, and store 64 · (n + m) words of 4 bytes. It
+/// gives up on some random games of 540,000 nodes, each of another priority.
 ///
 /// With its answer a searcher suggests an order of the places, by which the answer is judged in time n + m. A second
 /// run gives the same result.
