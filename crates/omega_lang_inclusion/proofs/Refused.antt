@@ -2,7 +2,7 @@
 use Rattle.std.proofs.Common.{◌≡◌, ◌⊎◌, inl, inr, ℕ, true, false, List, Option, Some, None, refl, sym, ap, subst, ◌∙◌}
 use Rattle.omega_hoa_automaton.specs.Automaton.{Description}
 use Rattle.omega_hoa_edges.specs.AutomatonLabels.{labels_at}
-use Rattle.omega_hoa_edges.specs.Refusing.{AreUnjudged, IsFirstClash, IsSecondStart, IsStartRefusal, IsUndecidedFault}
+use Rattle.omega_hoa_edges.specs.Refusing.{AreUnjudged, IsFirstClash, IsFirstUndecided, IsSecondStart, IsStartRefusal, IsUndecidedFault}
 use Rattle.omega_lang_complement.specs.Refusing.{IsComplementFault}
 use Rattle.omega_lang_inclusion.specs.Refusing.{IsContainmentRefusal, no_memory, not_complemented, not_met}
 use Rattle.omega_hoa_label.specs.Label.{LabelTree}
@@ -50,19 +50,20 @@ start_choice a Memory h = absurd h
 start_choice a Io h = absurd h
 
 -- the refusal of judging the states names a state of which two edges can be taken at one letter, or none
-pub clash_choice : (a : Description) (refusal : Refusal) → AreUnjudged a refusal
-    → ((state : ℕ) × (choice_in refusal ≡ Some state) × IsFirstClash a state) ⊎ (choice_in refusal ≡ None)
-clash_choice a (Task fault) (inl (state, is, clash)) = inl (state, ap (λ (f : TaskFault). choice_in (Task f)) is, clash)
-clash_choice a (Task fault) (inr first) = inr (undecided first.undecided)
+pub clash_choice : (a : Description) (refusal : Refusal) → AreUnjudged a refusal → (refusal ≡ Memory → ⊥)
+    → ((state : ℕ) × (choice_in refusal ≡ Some state) × IsFirstClash a state)
+    ⊎ ((choice_in refusal ≡ None) × ((fault : TaskFault) × IsFirstUndecided a fault))
+clash_choice a (Task fault) (inl (state, is, clash)) other = inl (state, ap (λ (f : TaskFault). choice_in (Task f)) is, clash)
+clash_choice a (Task fault) (inr first) other = inr (undecided first.undecided, (fault, first))
   where
     undecided : IsUndecidedFault (labels_at a first.number) fault → choice_in (Task fault) ≡ None
     undecided (inl many) = ap (λ (f : TaskFault). choice_in (Task f)) many.0
     undecided (inr large) = ap (λ (f : TaskFault). choice_in (Task f)) large.0
-clash_choice a (Text fault) h = absurd h
-clash_choice a (Game fault) h = absurd h
-clash_choice a (Automaton fault) h = absurd h
-clash_choice a Memory h = inr refl
-clash_choice a Io h = absurd h
+clash_choice a (Text fault) h other = absurd h
+clash_choice a (Game fault) h other = absurd h
+clash_choice a (Automaton fault) h other = absurd h
+clash_choice a Memory h other = absurd (other refl)
+clash_choice a Io h other = absurd h
 
 -- the refusal of containment for a choice is that of the automaton's complement
 pub has_choice : (one a : Description) (state : ℕ) → IsContainmentRefusal one a (Task (NotDeterministic state)) → HasChoice a state

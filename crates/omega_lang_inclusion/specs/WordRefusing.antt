@@ -3,13 +3,14 @@
 use Rattle.std.specs.Prelude.{◌≡◌, ◌≤◌, ◌⊎◌, ℕ, length}
 use Rattle.omega_hoa_automaton.specs.Automaton.{Description}
 use Rattle.omega_hoa_edges.specs.Determinism.{AreExclusiveBelow}
-use Rattle.omega_hoa_edges.specs.Refusing.{AreUnjudged, IsFirstClash, IsSecondStart}
+use Rattle.omega_hoa_edges.specs.Refusing.{IsFirstClash, IsFirstUndecided, IsSecondStart}
 use Rattle.omega_lang_inclusion.specs.Refusing.{IsContainmentRefusal}
 use Rattle.omega_lang_lasso_search.specs.Searching.{IsSearchRefusal}
 use Rattle.omega_lang_product.specs.Refusing.{IsGraphRefusal}
 use Rattle.omega_lang_lasso_word.specs.declared.symbolic_word.SymbolicWord.{SymbolicWord}
 use Rattle.omega_text.specs.declared.refusal.Refusal.{Refusal}
 use Rattle.omega_text.specs.declared.refusal.Refusal.TheVariants.{Memory, Task}
+use Rattle.omega_text.specs.declared.refusal.task.TaskFault.{TaskFault}
 use Rattle.omega_text.specs.declared.refusal.task.TaskFault.TheVariants.{NotDeterministic, TooLarge}
 use Rattle.omega_lang_inclusion.specs.OneWord.{HasOpenLetter, IsOneWordFor}
 use Rattle.omega_lang_inclusion.specs.Opening.{HasUnjudgedName}
@@ -25,11 +26,10 @@ abbrev pub IsNoChoice : Refusal → Type 0
 IsNoChoice refusal = (state : ℕ) → ¬ (refusal ≡ Task (NotDeterministic state))
 
 -- no choice of the automaton is found: there is one start at most, and no two edges of a state can be taken at one
--- letter, or it is refused to judge that
+-- letter, or that is not judged of some state before which there is none with such edges
 pub record HasNoFoundChoice (a : Description) : Type 0 where
   pub one_start : length a.starts ≤ 1
-  pub apart : AreExclusiveBelow a a.states
-      ⊎ ((refusal : Refusal) × AreUnjudged a refusal × IsNoChoice refusal)
+  pub apart : AreExclusiveBelow a a.states ⊎ ((fault : TaskFault) × IsFirstUndecided a fault)
 
 -- the refusal of the question whether `a` accepts the one word of the automaton `one`: that of the graph of the product
 -- of both, else that of the search in `one`
